@@ -1,0 +1,22 @@
+-- Digits and their values.
+use Rattle.std.specs.Prelude.{ℕ, ◌-◌, Bool, List, Option, Some, None, codes, position, unwrap_or, ◌==◌, nat_le, nat_lt, ◌&&◌, if◌then◌else◌}
+
+-- the 36 figures, each at the place of its value
+abbrev pub figures : List ℕ
+figures = codes "0123456789ABCDEFGHIJKLMNOPQRSTUVWXYZ"
+
+-- whether a byte is a small letter, a to z
+abbrev pub is_small_letter : ℕ → Bool
+is_small_letter byte = nat_le 97 byte && nat_le byte 122
+
+-- the capital of a small letter; any other byte stays as it is
+abbrev pub capital : ℕ → ℕ
+capital byte = if is_small_letter byte then byte - 32 else byte
+
+-- the value of a byte: its place in the figures, a small letter having that of its capital, and 255 for any other byte
+unfoldable pub value : ℕ → ℕ
+value byte = unwrap_or (position (λ figure. figure == capital byte) figures) 255
+
+-- the digit that a byte is in a radix: its value, if that is below the radix
+abbrev pub digit_of : ℕ → ℕ → Option ℕ
+digit_of byte radix = if nat_lt (value byte) radix then Some (value byte) else None

@@ -1,0 +1,751 @@
+//! The outcomes of reading a number, and of checking a number format or its options.
+//!
+//! A parser or a checker answers one [`Error`], and [`Error::Success`] where nothing is wrong. This
+//! crate answers none itself: it names them for the crates that stand on it.
+ghost use Rattle.std.specs.Prelude.{◌≡◌, ◌↔◌, ◌<◌, IsTrue, IsSome, Some};
+ghost use Rattle.std.specs.Option.{option_copied};
+ghost use Rattle.std.specs.Cmp.{partial_order_from_own_ties};
+ghost use Rattle.std.specs.Cmp.Rules.{comparing};
+ghost use Rattle.std.specs.Ordering.{as_partial_cmp, ordering_reverse};
+ghost use Rattle.std.proofs.Common.{rules};
+ghost use Rattle.lexical_base.specs.Outcomes.{rank_of, index_of, held_index, description_of, printed_text};
+ghost use Rattle.lexical_base.specs.OutcomeOrder.{compare_outcomes, same_outcome};
+
+use std::cmp::Ordering;
+use std::fmt;
+
+#[cfg(test)]
+mod tests;
+
+// The rank of the first error of formats; the parse errors stand before it.
+const FIRST_FORMAT_ERROR: u8 = 19;
+
+// The rank of the first error of options.
+const FIRST_OPTIONS_ERROR: u8 = 36;
+
+// The rank of `Success`, which is the last.
+const SUCCESS: u8 = 48;
+
+/// One of the 49 outcomes.
+///
+/// The variants stand in the order of their ranks, from 0 to 48. A value has one rank, and each
+/// test `is_..` says whether that is the rank of its variant, so exactly one test is true of a
+/// value.
+///
+/// Values are ordered by rank, and of one rank by the number that they hold. This is a total order,
+/// and two values are equal in it exactly if they are the same.
+///
+/// A parse error holds the index of the byte at which the fault was found, counted from 0.
+#[derive(Clone, Copy, Debug)]
+pub enum Error {
+    // Parse errors, with the index of the byte at which the fault was found.
+    /// A parser answers this where the digits name a number above the largest one of its type.
+    Overflow(usize),
+    /// A parser answers this where the digits name a number below the smallest one of its type.
+    Underflow(usize),
+    /// A parser answers this at a byte that stands where a digit was due, and is none.
+    InvalidDigit(usize),
+    /// A parser answers this where it was given no byte to read.
+    Empty(usize),
+    /// A parser answers this where the significant part has no digit, and the format wants one.
+    EmptyMantissa(usize),
+    /// A parser answers this where no digit follows the symbol of an exponent.
+    EmptyExponent(usize),
+    /// A parser answers this where no digit stands before the decimal point, and the format wants
+    /// one.
+    EmptyInteger(usize),
+    /// A parser answers this where no digit stands after the decimal point, and the format wants
+    /// one.
+    EmptyFraction(usize),
+    /// A parser answers this at a `+` before the significant digits, in a format that forbids it.
+    InvalidPositiveMantissaSign(usize),
+    /// A parser answers this at significant digits with no sign, in a format that wants one there.
+    MissingMantissaSign(usize),
+    /// A parser answers this at an exponent, in a format that has none.
+    InvalidExponent(usize),
+    /// A parser answers this at a `+` in an exponent, in a format that forbids it.
+    InvalidPositiveExponentSign(usize),
+    /// A parser answers this at an exponent with no sign, in a format that wants one there.
+    MissingExponentSign(usize),
+    /// A parser answers this at an exponent after a number with no fraction, in a format that wants
+    /// one first.
+    ExponentWithoutFraction(usize),
+    /// A parser answers this at a zero that leads further digits, in a format that forbids it.
+    InvalidLeadingZeros(usize),
+    /// A parser answers this at a number with no exponent, in a format that wants one in each
+    /// number.
+    MissingExponent(usize),
+    /// A parser of whole numbers answers this at digits with no sign, in a format that wants one.
+    MissingSign(usize),
+    /// A parser of whole numbers answers this at a leading `+`, in a format that forbids it.
+    InvalidPositiveSign(usize),
+    /// A parser of whole numbers answers this at a leading `-`, where its type has no negative
+    /// numbers.
+    InvalidNegativeSign(usize),
+
+    // Errors of number formats.
+    /// A checker of formats answers this where the radix of the significant digits is not 2 to 36.
+    InvalidMantissaRadix,
+    /// A checker of formats answers this where the base that an exponent raises is not 2 to 36.
+    InvalidExponentBase,
+    /// A checker of formats answers this where the radix of an exponent's digits is not 2 to 36.
+    InvalidExponentRadix,
+    /// A checker of formats answers this where the byte that separates digits is a digit, a sign or
+    /// no ASCII that is allowed.
+    InvalidDigitSeparator,
+    /// A checker answers this where the byte for the decimal point is a digit, a sign or no ASCII
+    /// that is allowed.
+    InvalidDecimalPoint,
+    /// A checker answers this where the byte for an exponent is a digit, a sign or no ASCII that is
+    /// allowed.
+    InvalidExponentSymbol,
+    /// A checker of formats answers this where the byte of a prefix, as the `x` of `0x`, is a
+    /// digit, a sign or no ASCII that is allowed.
+    InvalidBasePrefix,
+    /// A checker of formats answers this where the byte of a suffix, as the `h` of `1h`, is a
+    /// digit, a sign or no ASCII that is allowed.
+    InvalidBaseSuffix,
+    /// A checker of formats answers this where one byte would have two meanings, such as separator
+    /// and prefix.
+    InvalidPunctuation,
+    /// A checker of formats answers this where a flag wants an exponent, and another one forbids
+    /// it.
+    InvalidExponentFlags,
+    /// A checker of formats answers this where significant digits need a sign, and `+` is forbidden
+    /// there.
+    InvalidMantissaSign,
+    /// A checker of formats answers this where an exponent needs a sign, and `+` is forbidden
+    /// there.
+    InvalidExponentSign,
+    /// A checker of formats answers this where a flag speaks of NaN and infinity, and another one
+    /// forbids both.
+    InvalidSpecial,
+    /// A checker of formats answers this where an integer may have separators in a row, and no
+    /// place for one.
+    InvalidConsecutiveIntegerDigitSeparator,
+    /// A checker of formats answers this where a fraction may have separators in a row, and no
+    /// place for one.
+    InvalidConsecutiveFractionDigitSeparator,
+    /// A checker of formats answers this where an exponent may have separators in a row, and no
+    /// place for one.
+    InvalidConsecutiveExponentDigitSeparator,
+    /// A checker of formats answers this where a bit is set that has no meaning.
+    InvalidFlags,
+
+    // Errors of options.
+    /// A checker of options answers this where the word for NaN does not begin with the letter `n`.
+    InvalidNanString,
+    /// A checker of options answers this where the word for NaN is longer than its limit.
+    NanStringTooLong,
+    /// A checker of options answers this where the short word for infinity does not begin with the
+    /// letter `i`.
+    InvalidInfString,
+    /// A checker of options answers this where the short word for infinity is longer than its
+    /// limit.
+    InfStringTooLong,
+    /// A checker of options answers this where the long word for infinity does not begin with the
+    /// letter `i`.
+    InvalidInfinityString,
+    /// A checker of options answers this where the long word for infinity is longer than its limit.
+    InfinityStringTooLong,
+    /// A checker of options answers this where the long word for infinity is shorter than the short
+    /// one.
+    InfinityStringTooShort,
+    /// A checker of options answers this where two ways to read floats are asked for that exclude
+    /// each other.
+    InvalidFloatParseAlgorithm,
+    /// A checker of options answers this where the radix that is asked for is none that it has.
+    InvalidRadix,
+    /// A checker of options answers this where the fewest digits to write are more than the most.
+    InvalidFloatPrecision,
+    /// A checker of options answers this where the exponent below which a number is written with
+    /// one is above 0.
+    InvalidNegativeExponentBreak,
+    /// A checker of options answers this where the exponent above which a number is written with
+    /// one is below 0.
+    InvalidPositiveExponentBreak,
+
+    // No error.
+    /// A checker answers this where it found nothing wrong.
+    Success,
+}
+
+impl Error {
+    /// What went wrong, in words between single quotes. It names no place: see [`Error::index`].
+    pub fn description(&self) -> &'static str
+        ensures { result.now ≡ description_of self.now }
+    {
+        match self {
+            Error::Overflow(_) => "'numeric overflow occurred'",
+            Error::Underflow(_) => "'numeric underflow occurred'",
+            Error::InvalidDigit(_) => "'invalid digit found'",
+            Error::Empty(_) => "'the string to parse was empty'",
+            Error::EmptyMantissa(_) => "'no significant digits found'",
+            Error::EmptyExponent(_) => "'exponent notation found without an exponent'",
+            Error::EmptyInteger(_) => "'invalid float with no integer digits'",
+            Error::EmptyFraction(_) => "'invalid float with no fraction digits'",
+            Error::InvalidPositiveMantissaSign(_) => "'invalid `+` sign before significant digits'",
+            Error::MissingMantissaSign(_) => "'missing required `+/-` sign for significant digits'",
+            Error::InvalidExponent(_) => "'exponent found but not allowed'",
+            Error::InvalidPositiveExponentSign(_) => "'invalid `+` sign in exponent'",
+            Error::MissingExponentSign(_) => "'missing required `+/-` sign for exponent'",
+            Error::ExponentWithoutFraction(_) =>
+                "'invalid float containing exponent without fraction'",
+            Error::InvalidLeadingZeros(_) => "'invalid number with leading zeros before digits'",
+            Error::MissingExponent(_) => "'missing required exponent'",
+            Error::MissingSign(_) => "'missing required `+/-` sign for integer'",
+            Error::InvalidPositiveSign(_) => "'invalid `+` sign for an integer was found'",
+            Error::InvalidNegativeSign(_) => "'invalid `-` sign for an unsigned type was found'",
+            Error::InvalidMantissaRadix => "'invalid radix for mantissa digits'",
+            Error::InvalidExponentBase => "'invalid exponent base'",
+            Error::InvalidExponentRadix => "'invalid radix for exponent digits'",
+            Error::InvalidDigitSeparator =>
+                "'invalid digit separator: must be ASCII and not a digit or a `+/-` sign'",
+            Error::InvalidDecimalPoint =>
+                "'invalid decimal point: must be ASCII and not a digit or a `+/-` sign'",
+            Error::InvalidExponentSymbol =>
+                "'invalid exponent symbol: must be ASCII and not a digit or a `+/-` sign'",
+            Error::InvalidBasePrefix => "'invalid base prefix character'",
+            Error::InvalidBaseSuffix => "'invalid base suffix character'",
+            Error::InvalidPunctuation => "'invalid punctuation: multiple characters overlap'",
+            Error::InvalidExponentFlags => "'exponent flags set while disabling exponent notation'",
+            Error::InvalidMantissaSign =>
+                "'disabled the `+` sign while requiring a sign for significant digits'",
+            Error::InvalidExponentSign =>
+                "'disabled the `+` sign while requiring a sign for exponent digits'",
+            Error::InvalidSpecial => "'special flags set while disabling special floats'",
+            Error::InvalidConsecutiveIntegerDigitSeparator =>
+                "'enabled consecutive digit separators in the integer without setting a valid location'",
+            Error::InvalidConsecutiveFractionDigitSeparator =>
+                "'enabled consecutive digit separators in the fraction without setting a valid location'",
+            Error::InvalidConsecutiveExponentDigitSeparator =>
+                "'enabled consecutive digit separators in the exponent without setting a valid location'",
+            Error::InvalidFlags => "'invalid flags enabled without the format feature'",
+            Error::InvalidNanString => "'NaN string must started with `n`'",
+            Error::NanStringTooLong => "'NaN string is too long'",
+            Error::InvalidInfString => "'short infinity string must started with `i`'",
+            Error::InfStringTooLong => "'short infinity string is too long'",
+            Error::InvalidInfinityString => "'long infinity string must started with `i`'",
+            Error::InfinityStringTooLong => "'long infinity string is too long'",
+            Error::InfinityStringTooShort => "'long infinity string is too short'",
+            Error::InvalidFloatParseAlgorithm => "'invalid combination of float parse algorithms'",
+            Error::InvalidRadix => "'invalid radix for significant digits'",
+            Error::InvalidFloatPrecision =>
+                "'invalid float precision: min digits is larger than max digits'",
+            Error::InvalidNegativeExponentBreak =>
+                "'invalid negative exponent break: value is above 0'",
+            Error::InvalidPositiveExponentBreak =>
+                "'invalid positive exponent break: value is below 0'",
+            Error::Success => "'not actually an error'",
+        }
+    }
+
+    /// The index of the byte at which a parser found the fault: `Some` of it for the parse errors,
+    /// and `None` for every other outcome.
+    pub fn index(&self) -> Option<&usize>
+        ensures value { option_copied result ≡ index_of self.now }
+        ensures held { IsSome result ↔ (rank_of self.now < 19) }
+    {
+        match self {
+            Error::Overflow(index) => Some(index),
+            Error::Underflow(index) => Some(index),
+            Error::InvalidDigit(index) => Some(index),
+            Error::Empty(index) => Some(index),
+            Error::EmptyMantissa(index) => Some(index),
+            Error::EmptyExponent(index) => Some(index),
+            Error::EmptyInteger(index) => Some(index),
+            Error::EmptyFraction(index) => Some(index),
+            Error::InvalidPositiveMantissaSign(index) => Some(index),
+            Error::MissingMantissaSign(index) => Some(index),
+            Error::InvalidExponent(index) => Some(index),
+            Error::InvalidPositiveExponentSign(index) => Some(index),
+            Error::MissingExponentSign(index) => Some(index),
+            Error::ExponentWithoutFraction(index) => Some(index),
+            Error::InvalidLeadingZeros(index) => Some(index),
+            Error::MissingExponent(index) => Some(index),
+            Error::MissingSign(index) => Some(index),
+            Error::InvalidPositiveSign(index) => Some(index),
+            Error::InvalidNegativeSign(index) => Some(index),
+            _ => None,
+        }
+    }
+
+    /// Whether this is [`Error::Overflow`], at any place.
+    pub fn is_overflow(&self) -> bool
+        ensures { IsTrue result ↔ (rank_of self.now ≡ 0) }
+    {
+        matches!(self, Error::Overflow(_))
+    }
+
+    /// Whether this is [`Error::Underflow`], at any place.
+    pub fn is_underflow(&self) -> bool
+        ensures { IsTrue result ↔ (rank_of self.now ≡ 1) }
+    {
+        matches!(self, Error::Underflow(_))
+    }
+
+    /// Whether this is [`Error::InvalidDigit`], at any place.
+    pub fn is_invalid_digit(&self) -> bool
+        ensures { IsTrue result ↔ (rank_of self.now ≡ 2) }
+    {
+        matches!(self, Error::InvalidDigit(_))
+    }
+
+    /// Whether this is [`Error::Empty`], at any place.
+    pub fn is_empty(&self) -> bool
+        ensures { IsTrue result ↔ (rank_of self.now ≡ 3) }
+    {
+        matches!(self, Error::Empty(_))
+    }
+
+    /// Whether this is [`Error::EmptyMantissa`], at any place.
+    pub fn is_empty_mantissa(&self) -> bool
+        ensures { IsTrue result ↔ (rank_of self.now ≡ 4) }
+    {
+        matches!(self, Error::EmptyMantissa(_))
+    }
+
+    /// Whether this is [`Error::EmptyExponent`], at any place.
+    pub fn is_empty_exponent(&self) -> bool
+        ensures { IsTrue result ↔ (rank_of self.now ≡ 5) }
+    {
+        matches!(self, Error::EmptyExponent(_))
+    }
+
+    /// Whether this is [`Error::EmptyInteger`], at any place.
+    pub fn is_empty_integer(&self) -> bool
+        ensures { IsTrue result ↔ (rank_of self.now ≡ 6) }
+    {
+        matches!(self, Error::EmptyInteger(_))
+    }
+
+    /// Whether this is [`Error::EmptyFraction`], at any place.
+    pub fn is_empty_fraction(&self) -> bool
+        ensures { IsTrue result ↔ (rank_of self.now ≡ 7) }
+    {
+        matches!(self, Error::EmptyFraction(_))
+    }
+
+    /// Whether this is [`Error::InvalidPositiveMantissaSign`], at any place.
+    pub fn is_invalid_positive_mantissa_sign(&self) -> bool
+        ensures { IsTrue result ↔ (rank_of self.now ≡ 8) }
+    {
+        matches!(self, Error::InvalidPositiveMantissaSign(_))
+    }
+
+    /// Whether this is [`Error::MissingMantissaSign`], at any place.
+    pub fn is_missing_mantissa_sign(&self) -> bool
+        ensures { IsTrue result ↔ (rank_of self.now ≡ 9) }
+    {
+        matches!(self, Error::MissingMantissaSign(_))
+    }
+
+    /// Whether this is [`Error::InvalidExponent`], at any place.
+    pub fn is_invalid_exponent(&self) -> bool
+        ensures { IsTrue result ↔ (rank_of self.now ≡ 10) }
+    {
+        matches!(self, Error::InvalidExponent(_))
+    }
+
+    /// Whether this is [`Error::InvalidPositiveExponentSign`], at any place.
+    pub fn is_invalid_positive_exponent_sign(&self) -> bool
+        ensures { IsTrue result ↔ (rank_of self.now ≡ 11) }
+    {
+        matches!(self, Error::InvalidPositiveExponentSign(_))
+    }
+
+    /// Whether this is [`Error::MissingExponentSign`], at any place.
+    pub fn is_missing_exponent_sign(&self) -> bool
+        ensures { IsTrue result ↔ (rank_of self.now ≡ 12) }
+    {
+        matches!(self, Error::MissingExponentSign(_))
+    }
+
+    /// Whether this is [`Error::ExponentWithoutFraction`], at any place.
+    pub fn is_exponent_without_fraction(&self) -> bool
+        ensures { IsTrue result ↔ (rank_of self.now ≡ 13) }
+    {
+        matches!(self, Error::ExponentWithoutFraction(_))
+    }
+
+    /// Whether this is [`Error::InvalidLeadingZeros`], at any place.
+    pub fn is_invalid_leading_zeros(&self) -> bool
+        ensures { IsTrue result ↔ (rank_of self.now ≡ 14) }
+    {
+        matches!(self, Error::InvalidLeadingZeros(_))
+    }
+
+    /// Whether this is [`Error::MissingExponent`], at any place.
+    pub fn is_missing_exponent(&self) -> bool
+        ensures { IsTrue result ↔ (rank_of self.now ≡ 15) }
+    {
+        matches!(self, Error::MissingExponent(_))
+    }
+
+    /// Whether this is [`Error::MissingSign`], at any place.
+    pub fn is_missing_sign(&self) -> bool
+        ensures { IsTrue result ↔ (rank_of self.now ≡ 16) }
+    {
+        matches!(self, Error::MissingSign(_))
+    }
+
+    /// Whether this is [`Error::InvalidPositiveSign`], at any place.
+    pub fn is_invalid_positive_sign(&self) -> bool
+        ensures { IsTrue result ↔ (rank_of self.now ≡ 17) }
+    {
+        matches!(self, Error::InvalidPositiveSign(_))
+    }
+
+    /// Whether this is [`Error::InvalidNegativeSign`], at any place.
+    pub fn is_invalid_negative_sign(&self) -> bool
+        ensures { IsTrue result ↔ (rank_of self.now ≡ 18) }
+    {
+        matches!(self, Error::InvalidNegativeSign(_))
+    }
+
+    /// Whether this is [`Error::InvalidMantissaRadix`].
+    pub fn is_invalid_mantissa_radix(&self) -> bool
+        ensures { IsTrue result ↔ (rank_of self.now ≡ 19) }
+    {
+        matches!(self, Error::InvalidMantissaRadix)
+    }
+
+    /// Whether this is [`Error::InvalidExponentBase`].
+    pub fn is_invalid_exponent_base(&self) -> bool
+        ensures { IsTrue result ↔ (rank_of self.now ≡ 20) }
+    {
+        matches!(self, Error::InvalidExponentBase)
+    }
+
+    /// Whether this is [`Error::InvalidExponentRadix`].
+    pub fn is_invalid_exponent_radix(&self) -> bool
+        ensures { IsTrue result ↔ (rank_of self.now ≡ 21) }
+    {
+        matches!(self, Error::InvalidExponentRadix)
+    }
+
+    /// Whether this is [`Error::InvalidDigitSeparator`].
+    pub fn is_invalid_digit_separator(&self) -> bool
+        ensures { IsTrue result ↔ (rank_of self.now ≡ 22) }
+    {
+        matches!(self, Error::InvalidDigitSeparator)
+    }
+
+    /// Whether this is [`Error::InvalidDecimalPoint`].
+    pub fn is_invalid_decimal_point(&self) -> bool
+        ensures { IsTrue result ↔ (rank_of self.now ≡ 23) }
+    {
+        matches!(self, Error::InvalidDecimalPoint)
+    }
+
+    /// Whether this is [`Error::InvalidExponentSymbol`].
+    pub fn is_invalid_exponent_symbol(&self) -> bool
+        ensures { IsTrue result ↔ (rank_of self.now ≡ 24) }
+    {
+        matches!(self, Error::InvalidExponentSymbol)
+    }
+
+    /// Whether this is [`Error::InvalidBasePrefix`].
+    pub fn is_invalid_base_prefix(&self) -> bool
+        ensures { IsTrue result ↔ (rank_of self.now ≡ 25) }
+    {
+        matches!(self, Error::InvalidBasePrefix)
+    }
+
+    /// Whether this is [`Error::InvalidBaseSuffix`].
+    pub fn is_invalid_base_suffix(&self) -> bool
+        ensures { IsTrue result ↔ (rank_of self.now ≡ 26) }
+    {
+        matches!(self, Error::InvalidBaseSuffix)
+    }
+
+    /// Whether this is [`Error::InvalidPunctuation`].
+    pub fn is_invalid_punctuation(&self) -> bool
+        ensures { IsTrue result ↔ (rank_of self.now ≡ 27) }
+    {
+        matches!(self, Error::InvalidPunctuation)
+    }
+
+    /// Whether this is [`Error::InvalidExponentFlags`].
+    pub fn is_invalid_exponent_flags(&self) -> bool
+        ensures { IsTrue result ↔ (rank_of self.now ≡ 28) }
+    {
+        matches!(self, Error::InvalidExponentFlags)
+    }
+
+    /// Whether this is [`Error::InvalidMantissaSign`].
+    pub fn is_invalid_mantissa_sign(&self) -> bool
+        ensures { IsTrue result ↔ (rank_of self.now ≡ 29) }
+    {
+        matches!(self, Error::InvalidMantissaSign)
+    }
+
+    /// Whether this is [`Error::InvalidExponentSign`].
+    pub fn is_invalid_exponent_sign(&self) -> bool
+        ensures { IsTrue result ↔ (rank_of self.now ≡ 30) }
+    {
+        matches!(self, Error::InvalidExponentSign)
+    }
+
+    /// Whether this is [`Error::InvalidSpecial`].
+    pub fn is_invalid_special(&self) -> bool
+        ensures { IsTrue result ↔ (rank_of self.now ≡ 31) }
+    {
+        matches!(self, Error::InvalidSpecial)
+    }
+
+    /// Whether this is [`Error::InvalidConsecutiveIntegerDigitSeparator`].
+    pub fn is_invalid_consecutive_integer_digit_separator(&self) -> bool
+        ensures { IsTrue result ↔ (rank_of self.now ≡ 32) }
+    {
+        matches!(self, Error::InvalidConsecutiveIntegerDigitSeparator)
+    }
+
+    /// Whether this is [`Error::InvalidConsecutiveFractionDigitSeparator`].
+    pub fn is_invalid_consecutive_fraction_digit_separator(&self) -> bool
+        ensures { IsTrue result ↔ (rank_of self.now ≡ 33) }
+    {
+        matches!(self, Error::InvalidConsecutiveFractionDigitSeparator)
+    }
+
+    /// Whether this is [`Error::InvalidConsecutiveExponentDigitSeparator`].
+    pub fn is_invalid_consecutive_exponent_digit_separator(&self) -> bool
+        ensures { IsTrue result ↔ (rank_of self.now ≡ 34) }
+    {
+        matches!(self, Error::InvalidConsecutiveExponentDigitSeparator)
+    }
+
+    /// Whether this is [`Error::InvalidFlags`].
+    pub fn is_invalid_flags(&self) -> bool
+        ensures { IsTrue result ↔ (rank_of self.now ≡ 35) }
+    {
+        matches!(self, Error::InvalidFlags)
+    }
+
+    /// Whether this is [`Error::InvalidNanString`].
+    pub fn is_invalid_nan_string(&self) -> bool
+        ensures { IsTrue result ↔ (rank_of self.now ≡ 36) }
+    {
+        matches!(self, Error::InvalidNanString)
+    }
+
+    /// Whether this is [`Error::NanStringTooLong`].
+    pub fn is_nan_string_too_long(&self) -> bool
+        ensures { IsTrue result ↔ (rank_of self.now ≡ 37) }
+    {
+        matches!(self, Error::NanStringTooLong)
+    }
+
+    /// Whether this is [`Error::InvalidInfString`].
+    pub fn is_invalid_inf_string(&self) -> bool
+        ensures { IsTrue result ↔ (rank_of self.now ≡ 38) }
+    {
+        matches!(self, Error::InvalidInfString)
+    }
+
+    /// Whether this is [`Error::InfStringTooLong`].
+    pub fn is_inf_string_too_long(&self) -> bool
+        ensures { IsTrue result ↔ (rank_of self.now ≡ 39) }
+    {
+        matches!(self, Error::InfStringTooLong)
+    }
+
+    /// Whether this is [`Error::InvalidInfinityString`].
+    pub fn is_invalid_infinity_string(&self) -> bool
+        ensures { IsTrue result ↔ (rank_of self.now ≡ 40) }
+    {
+        matches!(self, Error::InvalidInfinityString)
+    }
+
+    /// Whether this is [`Error::InfinityStringTooLong`].
+    pub fn is_infinity_string_too_long(&self) -> bool
+        ensures { IsTrue result ↔ (rank_of self.now ≡ 41) }
+    {
+        matches!(self, Error::InfinityStringTooLong)
+    }
+
+    /// Whether this is [`Error::InfinityStringTooShort`].
+    pub fn is_infinity_string_too_short(&self) -> bool
+        ensures { IsTrue result ↔ (rank_of self.now ≡ 42) }
+    {
+        matches!(self, Error::InfinityStringTooShort)
+    }
+
+    /// Whether this is [`Error::InvalidFloatParseAlgorithm`].
+    pub fn is_invalid_float_parse_algorithm(&self) -> bool
+        ensures { IsTrue result ↔ (rank_of self.now ≡ 43) }
+    {
+        matches!(self, Error::InvalidFloatParseAlgorithm)
+    }
+
+    /// Whether this is [`Error::InvalidRadix`].
+    pub fn is_invalid_radix(&self) -> bool
+        ensures { IsTrue result ↔ (rank_of self.now ≡ 44) }
+    {
+        matches!(self, Error::InvalidRadix)
+    }
+
+    /// Whether this is [`Error::InvalidFloatPrecision`].
+    pub fn is_invalid_float_precision(&self) -> bool
+        ensures { IsTrue result ↔ (rank_of self.now ≡ 45) }
+    {
+        matches!(self, Error::InvalidFloatPrecision)
+    }
+
+    /// Whether this is [`Error::InvalidNegativeExponentBreak`].
+    pub fn is_invalid_negative_exponent_break(&self) -> bool
+        ensures { IsTrue result ↔ (rank_of self.now ≡ 46) }
+    {
+        matches!(self, Error::InvalidNegativeExponentBreak)
+    }
+
+    /// Whether this is [`Error::InvalidPositiveExponentBreak`].
+    pub fn is_invalid_positive_exponent_break(&self) -> bool
+        ensures { IsTrue result ↔ (rank_of self.now ≡ 47) }
+    {
+        matches!(self, Error::InvalidPositiveExponentBreak)
+    }
+
+    /// Whether this is [`Error::Success`].
+    pub fn is_success(&self) -> bool
+        ensures rank { IsTrue result ↔ (rank_of self.now ≡ 48) }
+        ensures same { IsTrue result ↔ (self.now ≡ Error.Success) }
+    {
+        matches!(self, Error::Success)
+    }
+
+    // The place in the order of the variants.
+    fn rank(&self) -> u8
+        ensures value { result ≡ rank_of self.now }
+        ensures last { result < 49 }
+    {
+        match self {
+            Error::Overflow(_) => 0,
+            Error::Underflow(_) => 1,
+            Error::InvalidDigit(_) => 2,
+            Error::Empty(_) => 3,
+            Error::EmptyMantissa(_) => 4,
+            Error::EmptyExponent(_) => 5,
+            Error::EmptyInteger(_) => 6,
+            Error::EmptyFraction(_) => 7,
+            Error::InvalidPositiveMantissaSign(_) => 8,
+            Error::MissingMantissaSign(_) => 9,
+            Error::InvalidExponent(_) => 10,
+            Error::InvalidPositiveExponentSign(_) => 11,
+            Error::MissingExponentSign(_) => 12,
+            Error::ExponentWithoutFraction(_) => 13,
+            Error::InvalidLeadingZeros(_) => 14,
+            Error::MissingExponent(_) => 15,
+            Error::MissingSign(_) => 16,
+            Error::InvalidPositiveSign(_) => 17,
+            Error::InvalidNegativeSign(_) => 18,
+            Error::InvalidMantissaRadix => 19,
+            Error::InvalidExponentBase => 20,
+            Error::InvalidExponentRadix => 21,
+            Error::InvalidDigitSeparator => 22,
+            Error::InvalidDecimalPoint => 23,
+            Error::InvalidExponentSymbol => 24,
+            Error::InvalidBasePrefix => 25,
+            Error::InvalidBaseSuffix => 26,
+            Error::InvalidPunctuation => 27,
+            Error::InvalidExponentFlags => 28,
+            Error::InvalidMantissaSign => 29,
+            Error::InvalidExponentSign => 30,
+            Error::InvalidSpecial => 31,
+            Error::InvalidConsecutiveIntegerDigitSeparator => 32,
+            Error::InvalidConsecutiveFractionDigitSeparator => 33,
+            Error::InvalidConsecutiveExponentDigitSeparator => 34,
+            Error::InvalidFlags => 35,
+            Error::InvalidNanString => 36,
+            Error::NanStringTooLong => 37,
+            Error::InvalidInfString => 38,
+            Error::InfStringTooLong => 39,
+            Error::InvalidInfinityString => 40,
+            Error::InfinityStringTooLong => 41,
+            Error::InfinityStringTooShort => 42,
+            Error::InvalidFloatParseAlgorithm => 43,
+            Error::InvalidRadix => 44,
+            Error::InvalidFloatPrecision => 45,
+            Error::InvalidNegativeExponentBreak => 46,
+            Error::InvalidPositiveExponentBreak => 47,
+            Error::Success => 48,
+        }
+    }
+
+    // The index that a parse error holds, and 0 for every other outcome.
+    fn held_index(&self) -> usize
+        ensures { result ≡ held_index self.now }
+    {
+        self.index().copied().unwrap_or(0)
+    }
+}
+
+impl PartialEq for Error {
+    ghost eq = { same_outcome };
+
+    ghost laws = { Prim.search (comparing, rules) };
+
+    fn eq(&self, other: &Error) -> bool
+        ensures value { result ≡ same_outcome self.now other.now }
+        ensures equal { IsTrue result ↔ (self.now ≡ other.now) }
+    {
+        self.rank() == other.rank() && self.held_index() == other.held_index()
+    }
+}
+
+impl Eq for Error {
+    ghost laws = { Prim.search (comparing, rules) };
+}
+
+impl Ord for Error {
+    ghost cmp = { compare_outcomes };
+
+    // A total order: turned round it answers the reverse, and it is transitive.
+    ghost total = { Prim.search (comparing, rules) };
+
+    ghost matches_partial_cmp = { Prim.search (comparing, rules) };
+
+    ghost matches_eq = { Prim.search (comparing, rules) };
+
+    fn cmp(&self, other: &Error) -> Ordering
+        ensures value { result ≡ compare_outcomes self.now other.now }
+        ensures equal { (result ≡ Ordering.Equal) ↔ (self.now ≡ other.now) }
+        ensures turned { compare_outcomes other.now self.now ≡ ordering_reverse result }
+    {
+        self.rank()
+            .cmp(&other.rank())
+            .then(self.held_index().cmp(&other.held_index()))
+    }
+}
+
+impl PartialOrd for Error {
+    ghost partial_cmp = { as_partial_cmp compare_outcomes };
+
+    ghost laws = { partial_order_from_own_ties (Prim.search (comparing, rules)) (Prim.search (comparing, rules)) };
+
+    fn partial_cmp(&self, other: &Error) -> Option<Ordering> {
+        Some(self.cmp(other))
+    }
+}
+
+/// The class of the error and its description, and for a parse error its index besides; of
+/// [`Error::Success`] the description alone. Width, fill and alignment change nothing, and a fault
+/// comes only from the formatter.
+impl fmt::Display for Error {
+    ghost output = { λ error. Some (printed_text error) };
+
+    fn fmt<W: fmt::Write>(&self, f: &mut fmt::Formatter<W>) -> fmt::Result {
+        let description = self.description();
+        let rank = self.rank();
+        if rank < FIRST_FORMAT_ERROR {
+            let index = self.held_index();
+            write!(f, "lexical parse error: {description} at index {index}")
+        } else if rank < FIRST_OPTIONS_ERROR {
+            write!(f, "lexical number format error: {description}")
+        } else if rank < SUCCESS {
+            write!(f, "lexical options error: {description}")
+        } else {
+            write!(f, "{description}")
+        }
+    }
+}

@@ -1,0 +1,4 @@
+pub mod OptionByteLemmas
+pub mod WriteLemmas
+pub mod Distance
+pub mod FieldWrites

@@ -1,0 +1,3 @@
+pub mod OptionByte
+pub mod Writes
+pub mod View

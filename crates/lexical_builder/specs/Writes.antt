@@ -1,0 +1,99 @@
+-- Writes of fields, and the record that they leave.
+use Rattle.std.specs.Prelude.{◌≡◌, ℕ, ◌<◌, ◌==◌, Bool, true, false, not, if◌then◌else◌, List, Option, Some, None, map, unwrap_or, filter_map, ⊤}
+use Rattle.std.specs.List.{last_or}
+use Rattle.std.proofs.Math.Bool.{beq}
+use Rattle.lexical_flags.specs.Layout.{Flag, Byte, bit, shift}
+use Rattle.lexical_flags.specs.Record.{Record, flag_of, byte_of, tabulate}
+
+-- the record of a new builder: radix 10, and digits required in the mantissa and the exponent
+abbrev pub new_record : Record
+new_record = record {
+  required_integer_digits = false;
+  required_fraction_digits = false;
+  required_exponent_digits = true;
+  required_mantissa_digits = true;
+  no_positive_mantissa_sign = false;
+  required_mantissa_sign = false;
+  no_exponent_notation = false;
+  no_positive_exponent_sign = false;
+  required_exponent_sign = false;
+  no_exponent_without_fraction = false;
+  no_special = false;
+  case_sensitive_special = false;
+  no_integer_leading_zeros = false;
+  no_float_leading_zeros = false;
+  required_exponent_notation = false;
+  case_sensitive_exponent = false;
+  case_sensitive_base_prefix = false;
+  case_sensitive_base_suffix = false;
+  integer_internal_digit_separator = false;
+  fraction_internal_digit_separator = false;
+  exponent_internal_digit_separator = false;
+  integer_leading_digit_separator = false;
+  fraction_leading_digit_separator = false;
+  exponent_leading_digit_separator = false;
+  integer_trailing_digit_separator = false;
+  fraction_trailing_digit_separator = false;
+  exponent_trailing_digit_separator = false;
+  integer_consecutive_digit_separator = false;
+  fraction_consecutive_digit_separator = false;
+  exponent_consecutive_digit_separator = false;
+  special_digit_separator = false;
+  digit_separator = 0;
+  base_prefix = 0;
+  base_suffix = 0;
+  mantissa_radix = 10;
+  exponent_base = 0;
+  exponent_radix = 0;
+}
+
+-- that record with one radix for mantissa, exponent base and exponent
+abbrev pub radix_record : ℕ → Record
+radix_record radix = record new_record { mantissa_radix = radix; exponent_base = radix; exponent_radix = radix }
+
+-- a field and the value that it gets
+pub data Write : Type 0 where
+  write_flag : Flag → Bool → Write
+  write_byte : Byte → ℕ → Write
+
+-- a byte is 0 to 255
+abbrev pub IsLegal : Write → Type 0
+IsLegal (write_flag f value) = ⊤
+IsLegal (write_byte b value) = value < 256
+
+-- the same value for several flags
+abbrev pub write_flags : List Flag → Bool → List Write
+write_flags fs value = map (λ f. write_flag f value) fs
+
+-- what one write gives a flag, if it is a write to that flag
+abbrev pub flag_in : Write → Flag → Option Bool
+flag_in (write_flag g value) f = if bit g == bit f then Some value else None
+flag_in (write_byte b value) f = None
+
+-- what one write gives a byte, if it is a write to that byte
+abbrev pub byte_in : Write → Byte → Option ℕ
+byte_in (write_flag f value) b = None
+byte_in (write_byte c value) b = if shift c == shift b then Some value else None
+
+-- the last value that the writes give a flag, if there is one
+abbrev pub last_flag : List Write → Flag → Option Bool
+last_flag writes f = last_or None (filter_map (λ x. flag_in x f) writes)
+
+-- the last value that the writes give a byte, if there is one
+abbrev pub last_byte : List Write → Byte → Option ℕ
+last_byte writes b = last_or None (filter_map (λ x. byte_in x b) writes)
+
+-- each field has the value of the last write to it, or the record's own
+unfoldable pub after : Record → List Write → Record
+after r writes =
+    tabulate (λ f. unwrap_or (last_flag writes f) (flag_of r f)) (λ b. unwrap_or (last_byte writes b) (byte_of r b))
+
+-- whether the write changes the record
+abbrev pub changes : Record → Write → Bool
+changes r (write_flag f value) = not (beq (flag_of r f) value)
+changes r (write_byte b value) = not (byte_of r b == value)
+
+-- the lists write the same fields, each with the same last value
+pub record SameWrites (writes others : List Write) : Type 0 where
+  pub same_flags : (f : Flag) → last_flag writes f ≡ last_flag others f
+  pub same_bytes : (b : Byte) → last_byte writes b ≡ last_byte others b

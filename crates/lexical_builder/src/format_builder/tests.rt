@@ -1,0 +1,287 @@
+use super::*;
+
+// Sets each flag of a builder with no fields, and clears it again.
+macro_rules! check_flags {
+    ($rt:ident; $($flag:ident $getter:ident $bit:literal;)*) => {$(
+        let set = NumberFormatBuilder::rebuild(0).$flag(true);
+        assert!($rt; set.$getter());
+        assert_eq!($rt; set.build_unchecked(), 1 << $bit);
+        let cleared = set.$flag(false);
+        assert!($rt; !cleared.$getter());
+        assert_eq!($rt; cleared.build_unchecked(), 0);
+    )*};
+}
+
+#[test]
+fn flags_of_digits_and_signs(rt: HostRuntime) {
+    check_flags! { rt;
+        required_integer_digits get_required_integer_digits 0;
+        required_fraction_digits get_required_fraction_digits 1;
+        required_exponent_digits get_required_exponent_digits 2;
+        required_mantissa_digits get_required_mantissa_digits 3;
+        no_positive_mantissa_sign get_no_positive_mantissa_sign 4;
+        required_mantissa_sign get_required_mantissa_sign 5;
+        no_exponent_notation get_no_exponent_notation 6;
+        no_positive_exponent_sign get_no_positive_exponent_sign 7;
+        required_exponent_sign get_required_exponent_sign 8;
+    }
+}
+
+#[test]
+fn flags_of_notation_and_case(rt: HostRuntime) {
+    check_flags! { rt;
+        no_exponent_without_fraction get_no_exponent_without_fraction 9;
+        no_special get_no_special 10;
+        case_sensitive_special get_case_sensitive_special 11;
+        no_integer_leading_zeros get_no_integer_leading_zeros 12;
+        no_float_leading_zeros get_no_float_leading_zeros 13;
+        required_exponent_notation get_required_exponent_notation 14;
+        case_sensitive_exponent get_case_sensitive_exponent 15;
+        case_sensitive_base_prefix get_case_sensitive_base_prefix 16;
+        case_sensitive_base_suffix get_case_sensitive_base_suffix 17;
+    }
+}
+
+#[test]
+fn flags_of_separators_between_and_before_digits(rt: HostRuntime) {
+    check_flags! { rt;
+        integer_internal_digit_separator get_integer_internal_digit_separator 32;
+        fraction_internal_digit_separator get_fraction_internal_digit_separator 33;
+        exponent_internal_digit_separator get_exponent_internal_digit_separator 34;
+        integer_leading_digit_separator get_integer_leading_digit_separator 35;
+        fraction_leading_digit_separator get_fraction_leading_digit_separator 36;
+        exponent_leading_digit_separator get_exponent_leading_digit_separator 37;
+    }
+}
+
+#[test]
+fn flags_of_separators_after_digits_and_in_a_row(rt: HostRuntime) {
+    check_flags! { rt;
+        integer_trailing_digit_separator get_integer_trailing_digit_separator 38;
+        fraction_trailing_digit_separator get_fraction_trailing_digit_separator 39;
+        exponent_trailing_digit_separator get_exponent_trailing_digit_separator 40;
+        integer_consecutive_digit_separator get_integer_consecutive_digit_separator 41;
+        fraction_consecutive_digit_separator get_fraction_consecutive_digit_separator 42;
+        exponent_consecutive_digit_separator get_exponent_consecutive_digit_separator 43;
+        special_digit_separator get_special_digit_separator 44;
+    }
+}
+
+// Sets each byte of a builder with no fields but all digit separator flags, and clears it again.
+macro_rules! check_bytes {
+    ($rt:ident; $($byte:ident $getter:ident $shift:literal;)*) => {$(
+        let flags = 0x1FFF_0000_0000;
+        let set = NumberFormatBuilder::rebuild(flags).$byte(NonZeroU8::new(0xA5));
+        assert_eq!($rt; byte_or_zero(set.$getter()), 0xA5);
+        assert_eq!($rt; set.build_unchecked(), flags | 0xA5 << $shift);
+        let cleared = set.$byte(None);
+        assert!($rt; cleared.$getter().is_none());
+        assert_eq!($rt; cleared.build_unchecked(), flags);
+    )*};
+}
+
+#[test]
+fn bytes(rt: HostRuntime) {
+    check_bytes! { rt;
+        digit_separator get_digit_separator 64;
+        base_prefix get_base_prefix 88;
+        base_suffix get_base_suffix 96;
+        exponent_base get_exponent_base 112;
+        exponent_radix get_exponent_radix 120;
+    }
+    let set = NumberFormatBuilder::rebuild(0).mantissa_radix(0xA5);
+    assert_eq!(rt; set.get_mantissa_radix(), 0xA5);
+    assert_eq!(rt; set.build_unchecked(), 0xA5 << 104);
+    let same = NumberFormatBuilder::rebuild(0).radix(0xA5);
+    assert_eq!(rt; same.build_unchecked(), 0xA5 << 104);
+}
+
+// Sets each group of a builder with no fields, and clears it again.
+macro_rules! check_groups {
+    ($rt:ident; $($group:ident $mask:literal;)*) => {$(
+        let set = NumberFormatBuilder::rebuild(0).$group(true);
+        assert_eq!($rt; set.build_unchecked(), $mask);
+        assert_eq!($rt; set.$group(false).build_unchecked(), 0);
+    )*};
+}
+
+#[test]
+fn groups(rt: HostRuntime) {
+    check_groups! { rt;
+        required_digits 0xF;
+        internal_digit_separator 0x7_0000_0000;
+        leading_digit_separator 0x38_0000_0000;
+        trailing_digit_separator 0x1C0_0000_0000;
+        consecutive_digit_separator 0xE00_0000_0000;
+        digit_separator_flags 0x1FFF_0000_0000;
+        integer_digit_separator_flags 0x249_0000_0000;
+        fraction_digit_separator_flags 0x492_0000_0000;
+        exponent_digit_separator_flags 0x924_0000_0000;
+    }
+}
+
+fn new() -> NumberFormatBuilder {
+    NumberFormatBuilder::new()
+}
+
+// A new builder with `_` for the digit separator.
+fn separated() -> NumberFormatBuilder {
+    new().digit_separator(NonZeroU8::new(95))
+}
+
+#[test]
+fn words_of_builders(rt: HostRuntime) {
+    assert_eq!(rt; byte_or_zero(separated().get_digit_separator()), 95);
+    let cases = [
+        (new(), 0x00000A00_00000000_00000000_0000000C),
+        (
+            NumberFormatBuilder::default(),
+            0x00000A00_00000000_00000000_0000000C,
+        ),
+        (new().radix(16), 0x00001000_00000000_00000000_0000000C),
+        (separated(), 0x00000A00_00000000_00000000_0000000C),
+        (
+            separated().special_digit_separator(true),
+            0x00000A00_0000005F_00001000_0000000C,
+        ),
+        (
+            separated().exponent_digit_separator_flags(true),
+            0x00000A00_0000005F_00000924_0000000C,
+        ),
+        (
+            new().required_digits(true).required_exponent_digits(false),
+            0x00000A00_00000000_00000000_0000000B,
+        ),
+        (
+            new().required_exponent_digits(false).required_digits(true),
+            0x00000A00_00000000_00000000_0000000F,
+        ),
+    ];
+    for (builder, want) in cases {
+        assert_eq!(rt; builder.build_unchecked(), want);
+        assert_eq!(rt; builder.build(), want);
+    }
+}
+
+#[test]
+fn words_of_builders_with_bytes(rt: HostRuntime) {
+    let fives = new()
+        .radix(2)
+        .digit_separator(NonZeroU8::new(0x35))
+        .digit_separator_flags(true);
+    assert_eq!(rt;
+        fives.build_unchecked(),
+        0x00000200_00000035_00001FFF_0000000C
+    );
+    let based = fives.exponent_base(NonZeroU8::new(10));
+    assert_eq!(rt;
+        based.build_unchecked(),
+        0x000A0200_00000035_00001FFF_0000000C
+    );
+    let affixed = new()
+        .base_prefix(NonZeroU8::new(b'h'))
+        .base_suffix(NonZeroU8::new(b'H'));
+    assert_eq!(rt;
+        affixed.build_unchecked(),
+        0x00000A48_68000000_00000000_0000000C
+    );
+    let consecutive = new().integer_consecutive_digit_separator(true);
+    assert_eq!(rt;
+        consecutive.build_unchecked(),
+        0x00000A00_00000000_00000200_0000000C
+    );
+    let special = consecutive.no_special(true).case_sensitive_special(true);
+    assert_eq!(rt;
+        special.build_unchecked(),
+        0x00000A00_00000000_00000200_00000C0C
+    );
+    let plain = new().no_exponent_notation(true).no_special(true);
+    assert_eq!(rt;
+        plain.build_unchecked(),
+        0x00000A00_00000000_00000000_0000044C
+    );
+}
+
+#[test]
+fn words_of_radixes(rt: HostRuntime) {
+    let cases = [
+        (0, 0x00000000_00000000_00000000_0000000C),
+        (32, 0x20202000_00000000_00000000_0000000C),
+        (37, 0x25252500_00000000_00000000_0000000C),
+    ];
+    for (radix, want) in cases {
+        assert_eq!(rt; NumberFormatBuilder::from_radix(radix), want);
+    }
+    assert_eq!(rt;
+        NumberFormatBuilder::binary(),
+        0x02020200_00000000_00000000_0000000C
+    );
+    assert_eq!(rt;
+        NumberFormatBuilder::octal(),
+        0x08080800_00000000_00000000_0000000C
+    );
+    assert_eq!(rt;
+        NumberFormatBuilder::decimal(),
+        0x0A0A0A00_00000000_00000000_0000000C
+    );
+    assert_eq!(rt;
+        NumberFormatBuilder::hexadecimal(),
+        0x10101000_00000000_00000000_0000000C
+    );
+}
+
+#[test]
+fn bytes_that_are_not_zero(rt: HostRuntime) {
+    assert!(rt; NonZeroU8::new(0).is_none());
+    for value in 1..=255 {
+        assert_eq!(rt; NonZeroU8::new(value).map(|byte| byte.get()), Some(value));
+    }
+    assert!(rt; NonZeroU8::new(1) < NonZeroU8::new(255));
+    assert_eq!(rt; NonZeroU8::new(95), NonZeroU8::new(95));
+}
+
+#[test]
+fn strict_builds(rt: HostRuntime) {
+    let affixed = |suffix: u8| -> NumberFormatBuilder {
+        new()
+            .base_prefix(NonZeroU8::new(b'h'))
+            .base_suffix(NonZeroU8::new(suffix))
+    };
+    let consecutive = new().integer_consecutive_digit_separator(true);
+    let special = new()
+        .integer_consecutive_digit_separator(true)
+        .no_special(true);
+    let cases = [
+        (new(), Ok(0x00000A00_00000000_00000000_0000000C)),
+        (affixed(b'H'), Ok(0x00000A48_68000000_00000000_0000000C)),
+        (affixed(b'h'), Err(Error::InvalidPunctuation)),
+        (
+            consecutive,
+            Err(Error::InvalidConsecutiveIntegerDigitSeparator),
+        ),
+        (
+            special.case_sensitive_special(true),
+            Err(Error::InvalidSpecial),
+        ),
+        (
+            new().no_exponent_notation(true).no_special(true),
+            Ok(0x00000A00_00000000_00000000_0000044C),
+        ),
+        (new().radix(37), Err(Error::InvalidMantissaRadix)),
+    ];
+    for (builder, want) in cases {
+        assert_eq!(rt; builder.build_strict(), want);
+    }
+}
+
+// A separator that is a digit of the new radix.
+#[test]
+fn rebuilt_with_another_radix(rt: HostRuntime) {
+    let format = 0x00000A00_00000065_00001FFF_0000000C;
+    assert!(rt; flags::is_valid_digit_separator(format));
+    let rebuilt = NumberFormatBuilder::rebuild(format)
+        .radix(16)
+        .build_unchecked();
+    assert_eq!(rt; rebuilt, 0x0A0A1000_00000065_00001FFF_0000000C);
+    assert!(rt; !flags::is_valid_digit_separator(rebuilt));
+}

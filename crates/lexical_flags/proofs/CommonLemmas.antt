@@ -1,0 +1,62 @@
+-- What two words have in common is their `&`.
+use Rattle.std.proofs.Common.{ℕ, ℤ, ◌≡◌, unsigned_abs, w32, SFits, of_z, to_z, ◌≤◌, ◌<◌, ◌+◌, ◌*◌, ◌/◌, ◌%◌, ◌^◌, ◌==◌, ◌&&◌, min, true, not, if◌then◌else◌, List, [], ◌∷◌, sum_by, bit_and, refl, ap, sym, ◌∙◌, arith}
+use Rattle.std.specs.List.{range_with_len, list_any, fold}
+use Rattle.std.proofs.Math.Nat.{mod-eq_of_lt, mod-lt, pow-le-pow_right, lt_of_le_of_lt, one-mul}
+use Rattle.std.proofs.lemmas.Nat.{and_mask, and_le_r, pow_pos}
+use Rattle.std.proofs.lemmas.Int.{to_z-of_z}
+use Rattle.std.proofs.lemmas.Nat.Bits.{bit_at_and}
+use Rattle.std.proofs.lemmas.Bool.Decides.{nat_tests}
+use Rattle.lexical_flags.specs.Layout.{part, Flag, bit}
+use Rattle.lexical_flags.specs.Layout as layout
+use Rattle.lexical_flags.specs.Record.{flag_of, raw}
+use Rattle.lexical_flags.specs.Constants.{mask_of}
+use Rattle.lexical_flags.specs.Common.{common, common_at}
+use Rattle.lexical_flags.proofs.Masks.{ascends, above, and_all, sum-below}
+use Rattle.lexical_flags.proofs.FlagBits.{mask_test}
+
+-- two bits are both one exactly where the lesser is
+both_bits : (a b unit : ℕ) → a < 2 → b < 2 → (if (a == 1) && (b == 1) then unit else 0) ≡ min a b * unit
+both_bits a b unit la lb = grind (arith, nat_tests)
+
+common_at-bit : (v w place : ℕ) → common_at v w place ≡ part (bit_and v w) place 1 * 2 ^ place
+common_at-bit v w place =
+    both_bits (part v place 1) (part w place 1) (2 ^ place) (mod-lt _ (pow_pos 1)) (mod-lt _ (pow_pos 1))
+    ∙ ap (λ b. b * 2 ^ place) (sym (bit_at_and v w place))
+
+-- what two words have in common is their `&`, where the second has 128 bits
+pub common-bit_and : (v w : ℕ) → w < 2 ^ 128 → common v w ≡ bit_and v w
+unfolding common
+common-bit_and v w fits =
+    (λ i. sum_by (λ place. common_at-bit v w place i) (range_with_len 0 128))
+    ∙ sym (and_all (λ place. place) (range_with_len 0 128) (bit_and v w) refl)
+    ∙ and_mask (bit_and v w) 128
+    ∙ mod-eq_of_lt (lt_of_le_of_lt (and_le_r v w) fits)
+
+-- every flag stands below the place 45
+below_45 : (f : Flag) → bit f + 1 ≤ 45
+below_45 layout.required_integer_digits = omega arith
+below_45 _ = omega arith
+
+above-le : (fs : List Flag) (s : ℕ) → s ≤ 45 → above bit 1 s fs ≤ 45
+above-le [] s l = l
+above-le (f ∷ fs) s l = above-le fs (bit f + 1) (below_45 f)
+
+-- the mask of some flags has 128 bits
+pub mask_of-lt : (fs : List Flag) → ascends bit 1 0 fs ≡ true → mask_of fs < 2 ^ 128
+mask_of-lt fs up =
+    let below : fold (λ a f. a + 1 * 2 ^ bit f) 0 fs < 2 ^ above bit 1 0 fs = sum-below bit (λ _. 1) 1 (λ _. omega arith) fs 0 0 (omega arith) up in
+    let same : fold (λ a f. a + 1 * 2 ^ bit f) 0 fs ≡ mask_of fs = λ i. fold (λ a f. a + one-mul (2 ^ bit f) i) 0 fs in
+    let room : 2 ^ above bit 1 0 fs ≤ 2 ^ 45 = pow-le-pow_right {n = 2} (omega arith) (above-le fs 0 (omega arith)) in
+    omega arith
+
+-- a word has something in common with the mask of some flags exactly where one of them is set
+pub common-mask_of : (fs : List Flag) (word : ℕ) → ascends bit 1 0 fs ≡ true → (common word (mask_of fs) == 0) ≡ not (list_any (flag_of (raw word)) fs)
+common-mask_of fs word up = ap (λ n. n == 0) (common-bit_and word (mask_of fs) (mask_of-lt fs up)) ∙ mask_test fs word up
+
+-- what `radix_from_flags` reads before it looks at the mantissa radix
+pub common_part : (v w : ℕ) (z : ℤ) → w < 2 ^ 128 → SFits w32 z →
+    bit_and (bit_and v w / 2 ^ unsigned_abs (to_z w32 (of_z w32 z))) 0xFFFF_FFFF ≡ common v w / 2 ^ unsigned_abs z % 2 ^ 32
+common_part v w z fits sfits =
+    ap (λ s. bit_and (bit_and v w / 2 ^ unsigned_abs s) 0xFFFF_FFFF) (to_z-of_z w32 z sfits)
+    ∙ and_mask _ 32
+    ∙ ap (λ n. n / 2 ^ unsigned_abs z % 2 ^ 32) (sym (common-bit_and v w fits))

@@ -1,0 +1,111 @@
+-- The flags of a word under a mask, and the fields of a record joined by `|`.
+use Rattle.std.proofs.Common.{ℕ, ◌≡◌, ◌≢◌, ◌+◌, ◌*◌, ◌^◌, ◌<◌, ◌==◌, Bool, true, false, not, ◌||◌, ◌&&◌, inl, inr, List, [], ◌∷◌, sum_by, bit_and, bit_or, refl, ap, sym, ◌∙◌, arith}
+use Rattle.std.specs.List.{fold, list_any}
+use Rattle.std.proofs.Math.Nat.{mod-lt, zero-mul}
+use Rattle.std.proofs.lemmas.List.Sums.{sum_by-cons, sum_by_from}
+use Rattle.std.proofs.lemmas.Nat.{pow_pos}
+use Rattle.std.proofs.lemmas.Nat.Bits.{and_pow}
+use Rattle.std.proofs.lemmas.Bool.{cases_lt, ne_eqb, eq-eqb}
+use Rattle.std.proofs.lemmas.Bool.Decides.{nat_tests}
+use Rattle.lexical_flags.specs.Layout.{part, Flag, bit, shift, flags, bytes, digit_separator_flags}
+use Rattle.lexical_flags.specs.Record.{Record, tabulate, flag_of, byte_of, raw, word_of, flag_bits, byte_bits, separator_on, HasBytes}
+use Rattle.lexical_flags.specs.Constants.{mask_of}
+use Rattle.lexical_flags.proofs.RecordLemmas.{flag_of-raw}
+use Rattle.lexical_flags.proofs.Packing.{bit_value, bit_value-lt, flag_bits-value, raw-word_of, HasBytes-by_name}
+use Rattle.lexical_flags.proofs.Masks.{ascends, and_all, or_all, sum-below}
+
+-- a bit that is moved up is 0 exactly where it was
+moved_bit-zero : (n p : ℕ) → n < 2 → 0 < p → (n * p == 0) ≡ not (n == 1)
+moved_bit-zero n p small high = elim (cases_lt n 1) [
+  | inl l ↦ let none : n ≡ 0 = omega arith in rw none (rw (zero-mul p) refl)
+  | inr l ↦ let one : n ≡ 1 = omega arith in rw one (grind (arith, nat_tests))
+]
+
+not-not : (a : Bool) → not (not a) ≡ a
+not-not true = refl
+not-not false = refl
+
+-- the test of one flag, as the code writes it
+pub flag_test : (word place : ℕ) → not (bit_and word (2 ^ place) == 0) ≡ (part word place 1 == 1)
+flag_test word place =
+    ap (λ n. not (n == 0)) (and_pow word place)
+    ∙ ap not (moved_bit-zero (part word place 1) (2 ^ place) (mod-lt _ (omega arith)) (pow_pos place))
+    ∙ not-not (part word place 1 == 1)
+
+sum-zero : (m n : ℕ) → (m + n == 0) ≡ ((m == 0) && (n == 0))
+sum-zero m n = grind (arith, nat_tests)
+
+not_either : (a b : Bool) → (not a && not b) ≡ not (a || b)
+not_either true b = refl
+not_either false b = refl
+
+-- a sum of bits is 0 exactly where none of the flags is set
+sum_by-zero : (fs : List Flag) (word : ℕ) → (sum_by (λ f. part word (bit f) 1 * 2 ^ bit f) fs == 0) ≡ not (list_any (flag_of (raw word)) fs)
+sum_by-zero [] word = refl
+sum_by-zero (f ∷ fs) word =
+    let here : (part word (bit f) 1 * 2 ^ bit f == 0) ≡ not (flag_of (raw word) f) =
+    moved_bit-zero (part word (bit f) 1) (2 ^ bit f) (mod-lt _ (omega arith)) (pow_pos (bit f)) ∙ ap not (sym (flag_of-raw word f)) in
+    ap (λ n. n == 0) (sum_by-cons (λ f. part word (bit f) 1 * 2 ^ bit f) f fs)
+    ∙ sum-zero (part word (bit f) 1 * 2 ^ bit f) (sum_by (λ f. part word (bit f) 1 * 2 ^ bit f) fs)
+    ∙ (λ i. here i && sum_by-zero fs word i)
+    ∙ not_either (flag_of (raw word) f) (list_any (flag_of (raw word)) fs)
+
+-- a word shares no bit with the mask of some flags exactly where none of them is set
+pub mask_test : (fs : List Flag) (word : ℕ) → ascends bit 1 0 fs ≡ true → (bit_and word (mask_of fs) == 0) ≡ not (list_any (flag_of (raw word)) fs)
+mask_test fs word up = ap (λ n. n == 0) (and_all bit fs word up) ∙ sum_by-zero fs word
+
+negated : (a b : Bool) → a ≡ not b → b ≡ not a
+negated a b e = sym (not-not b) ∙ ap not (sym e)
+
+pub any_set : (fs : List Flag) (word : ℕ) → ascends bit 1 0 fs ≡ true → bit_and word (mask_of fs) ≢ 0 → list_any (flag_of (raw word)) fs ≡ true
+any_set fs word up some =
+    let test : (bit_and word (mask_of fs) == 0) ≡ false = ne_eqb _ _ some in
+    negated _ _ (mask_test fs word up) ∙ ap not test
+
+pub none_set : (fs : List Flag) (word : ℕ) → ascends bit 1 0 fs ≡ true → bit_and word (mask_of fs) ≡ 0 → list_any (flag_of (raw word)) fs ≡ false
+none_set fs word up none =
+    let test : (bit_and word (mask_of fs) == 0) ≡ true = eq-eqb _ _ none in
+    negated _ _ (mask_test fs word up) ∙ ap not test
+
+-- whether a digit separator may stand somewhere, as the code asks it
+pub separator_flag_set : (word : ℕ) → bit_and word 0x1FFF_0000_0000 ≢ 0 → separator_on (raw word) ≡ true
+separator_flag_set word = any_set digit_separator_flags word refl
+
+pub no_separator_flag_set : (word : ℕ) → bit_and word 0x1FFF_0000_0000 ≡ 0 → separator_on (raw word) ≡ false
+no_separator_flag_set word = none_set digit_separator_flags word refl
+
+-- the flags of a record joined by `|`
+pub flags_joined : (r : Record) → fold (λ bits f. bit_or bits (flag_bits r f)) 0 flags ≡ sum_by (flag_bits r) flags
+flags_joined r =
+    (λ i. fold (λ bits f. bit_or bits (flag_bits-value (flag_of r f) (bit f) i)) 0 flags)
+    ∙ or_all bit (λ f. bit_value (flag_of r f)) 1 (λ f. bit_value-lt (flag_of r f)) flags 0 0 (omega arith) refl
+    ∙ sym (λ i. fold (λ bits f. bits + flag_bits-value (flag_of r f) (bit f) i) 0 flags)
+
+flags-lt : (r : Record) → sum_by (flag_bits r) flags < 2 ^ 64
+flags-lt r =
+    let below : fold (λ bits f. bits + bit_value (flag_of r f) * 2 ^ bit f) 0 flags < 2 ^ 45 =
+    sum-below bit (λ f. bit_value (flag_of r f)) 1 (λ f. bit_value-lt (flag_of r f)) flags 0 0 (omega arith) refl in
+    let same : fold (λ bits f. bits + bit_value (flag_of r f) * 2 ^ bit f) 0 flags ≡ sum_by (flag_bits r) flags =
+    sym (λ i. fold (λ bits f. bits + flag_bits-value (flag_of r f) (bit f) i) 0 flags) in
+    omega arith
+
+-- the bytes joined above them
+pub fields_joined : (r : Record) → HasBytes r → fold (λ bits b. bit_or bits (byte_bits r b)) (sum_by (flag_bits r) flags) bytes ≡ word_of r
+unfolding word_of
+fields_joined r h =
+    or_all shift (byte_of r) 8 h.each bytes 64 (sum_by (flag_bits r) flags) (flags-lt r) refl
+    ∙ sum_by_from (byte_bits r) (sum_by (flag_bits r) flags) bytes
+
+-- the record with no bytes
+abbrev flags_only : Record → Record
+flags_only r = tabulate (flag_of r) (λ b. 0)
+
+word_of-flags_only : (r : Record) → sum_by (flag_bits r) flags ≡ word_of (flags_only r)
+unfolding word_of
+word_of-flags_only r = omega arith
+
+-- the flags by themselves tell whether a separator may stand somewhere
+pub separator_on-flags : (r : Record) → separator_on (raw (sum_by (flag_bits r) flags)) ≡ separator_on r
+separator_on-flags r =
+    let none : HasBytes (flags_only r) = HasBytes-by_name (flags_only r) (omega arith) (omega arith) (omega arith) (omega arith) (omega arith) (omega arith) in
+    ap (λ word. separator_on (raw word)) (word_of-flags_only r) ∙ ap separator_on (raw-word_of (flags_only r) none)

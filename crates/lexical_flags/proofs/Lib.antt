@@ -1,0 +1,12 @@
+pub mod ByteParts
+pub mod RecordLemmas
+pub mod Segments
+pub mod Packing
+pub mod Masks
+pub mod FlagBits
+pub mod FlagTests
+pub mod CommonLemmas
+pub mod DigitLemmas
+pub mod RuleLemmas
+pub mod OptionLemmas
+pub mod LawfulTest

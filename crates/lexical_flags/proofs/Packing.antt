@@ -1,0 +1,231 @@
+-- A packed record, and the record that a word holds.
+use Rattle.std.proofs.Common.{ℕ, zero, suc, ◌≡◌, ◌+◌, ◌*◌, ◌^◌, ◌<◌, ◌==◌, ◌⊎◌, ◌↔◌, Bool, true, false, IsTrue, if◌then◌else◌, List, [], ◌∷◌, ◌++◌, map, drop, get_or, sum_by, refl, ap, sym, ◌∙◌, subst, inl, inr, arith}
+use Rattle.std.proofs.Math.Nat.{mod-eq_of_lt, mod-lt}
+use Rattle.std.proofs.lemmas.Nat.{pow_pos}
+use Rattle.std.proofs.lemmas.Bool.Decides.{nat_tests}
+use Rattle.lexical_flags.specs.Layout.{part, Flag, Byte, bit, flags, bytes, base_flags, digit_separator_flags, shift, IsClean}
+use Rattle.lexical_flags.specs.Layout as layout
+use Rattle.lexical_flags.specs.Record.{Record, tabulate, flag_of, byte_of, raw, fill, trim, pack, word_of, byte_bits, effective, separator_on, HasBytes, IsBuilt}
+use Rattle.lexical_flags.proofs.Segments.{joined, segments, segments-joined, joined-segments, joined-below, Fit}
+
+-- the widths of a word's segments from the lowest on, those that no field takes among them
+abbrev widths : List ℕ
+widths = map (λ _. 1) base_flags ++ 14 ∷ (map (λ _. 1) digit_separator_flags ++ 19 ∷ 8 ∷ 16 ∷ 8 ∷ 8 ∷ 8 ∷ 8 ∷ 8 ∷ [])
+
+-- the values of all segments: of flags, of bytes, and of the three that no field takes
+abbrev laid : (Flag → ℕ) → (Byte → ℕ) → ℕ → ℕ → ℕ → List ℕ
+laid flag byte low middle high =
+    map flag base_flags ++ low ∷ (map flag digit_separator_flags ++ middle ∷ byte layout.digit_separator ∷ high
+    ∷ byte layout.base_prefix ∷ byte layout.base_suffix ∷ byte layout.mantissa_radix
+    ∷ byte layout.exponent_base ∷ byte layout.exponent_radix ∷ [])
+
+-- which segment is a flag's
+abbrev flag_place : Flag → ℕ
+flag_place layout.required_integer_digits = 0
+flag_place layout.required_fraction_digits = 1
+flag_place layout.required_exponent_digits = 2
+flag_place layout.required_mantissa_digits = 3
+flag_place layout.no_positive_mantissa_sign = 4
+flag_place layout.required_mantissa_sign = 5
+flag_place layout.no_exponent_notation = 6
+flag_place layout.no_positive_exponent_sign = 7
+flag_place layout.required_exponent_sign = 8
+flag_place layout.no_exponent_without_fraction = 9
+flag_place layout.no_special = 10
+flag_place layout.case_sensitive_special = 11
+flag_place layout.no_integer_leading_zeros = 12
+flag_place layout.no_float_leading_zeros = 13
+flag_place layout.required_exponent_notation = 14
+flag_place layout.case_sensitive_exponent = 15
+flag_place layout.case_sensitive_base_prefix = 16
+flag_place layout.case_sensitive_base_suffix = 17
+flag_place layout.integer_internal_digit_separator = 19
+flag_place layout.fraction_internal_digit_separator = 20
+flag_place layout.exponent_internal_digit_separator = 21
+flag_place layout.integer_leading_digit_separator = 22
+flag_place layout.fraction_leading_digit_separator = 23
+flag_place layout.exponent_leading_digit_separator = 24
+flag_place layout.integer_trailing_digit_separator = 25
+flag_place layout.fraction_trailing_digit_separator = 26
+flag_place layout.exponent_trailing_digit_separator = 27
+flag_place layout.integer_consecutive_digit_separator = 28
+flag_place layout.fraction_consecutive_digit_separator = 29
+flag_place layout.exponent_consecutive_digit_separator = 30
+flag_place layout.special_digit_separator = 31
+
+-- which segment is a byte's
+abbrev byte_place : Byte → ℕ
+byte_place layout.digit_separator = 33
+byte_place layout.base_prefix = 35
+byte_place layout.base_suffix = 36
+byte_place layout.mantissa_radix = 37
+byte_place layout.exponent_base = 38
+byte_place layout.exponent_radix = 39
+
+-- a truth value as a bit
+abbrev pub bit_value : Bool → ℕ
+bit_value b = if b then 1 else 0
+
+-- a record's values, with 0 where no field is
+abbrev values : Record → List ℕ
+values r = laid (λ f. bit_value (flag_of r f)) (byte_of r) 0 0 0
+
+-- the record with these values
+abbrev from_values : List ℕ → Record
+from_values vs = tabulate (λ f. get_or vs (flag_place f) 0 == 1) (λ b. get_or vs (byte_place b) 0)
+
+bit_value-one : (b : Bool) → (bit_value b == 1) ≡ b
+bit_value-one true = refl
+bit_value-one false = refl
+
+from_values-values : (r : Record) → from_values (values r) ≡ r
+from_values-values r = λ i. tabulate (λ f. bit_value-one (flag_of r f) i) (byte_of r)
+
+pub flag_bits-value : (b : Bool) (k : ℕ) → (if b then 2 ^ k else 0) ≡ bit_value b * 2 ^ k
+flag_bits-value true k = omega arith
+flag_bits-value false k = omega arith
+
+word_of-joined : (r : Record) → word_of r ≡ joined 0 widths (values r)
+unfolding word_of
+word_of-joined r =
+    (λ i. sum_by (λ f. flag_bits-value (flag_of r f) (bit f) i) flags + sum_by (byte_bits r) bytes) ∙ omega arith
+
+pub bit_value-lt : (b : Bool) → bit_value b < 2
+bit_value-lt true = omega arith
+bit_value-lt false = omega arith
+
+fit_bits : (g : Flag → Bool) (fs : List Flag) (ns vs : List ℕ) → Fit ns vs → Fit (map (λ _. 1) fs ++ ns) (map (λ f. bit_value (g f)) fs ++ vs)
+fit_bits g [] ns vs fit = fit
+fit_bits g (f ∷ fs) ns vs fit = (bit_value-lt (g f), fit_bits g fs ns vs fit)
+
+values-fit : (r : Record) → HasBytes r → Fit widths (values r)
+values-fit r h =
+    let byte = h.each in
+    let bytes_fit : Fit (drop 32 widths) (drop 32 (values r)) = (
+      omega arith,
+      (
+        byte layout.digit_separator,
+        (
+          omega arith,
+          (
+            byte layout.base_prefix,
+            (
+              byte layout.base_suffix,
+              (byte layout.mantissa_radix, (byte layout.exponent_base, (byte layout.exponent_radix, tt))),
+            ),
+          ),
+        ),
+      ),
+    ) in
+    let higher = fit_bits (flag_of r) digit_separator_flags (drop 32 widths) (drop 32 (values r)) bytes_fit in
+    fit_bits (flag_of r) base_flags (drop 18 widths) (drop 18 (values r)) (omega arith, higher)
+
+-- a word of fields, segment by segment
+segments-word_of : (r : Record) → HasBytes r → segments 0 widths (word_of r) ≡ values r
+segments-word_of r h =
+    ap (segments 0 widths) (word_of-joined r ∙ omega arith) ∙ segments-joined 0 widths (values r) 0 (omega arith) (values-fit r h)
+
+pub raw-word_of : (r : Record) → HasBytes r → raw (word_of r) ≡ r
+raw-word_of r h = ap from_values (segments-word_of r h) ∙ from_values-values r
+
+word_of-clean : (r : Record) → HasBytes r → IsClean (word_of r)
+word_of-clean r h =
+    let at : (k : ℕ) → get_or (segments 0 widths (word_of r)) k 0 ≡ get_or (values r) k 0 = λ k. ap (λ vs. get_or vs k 0) (segments-word_of r h) in
+    record { below_separator_flags = at 18; below_separator = at 32; below_prefix = at 34 }
+
+word_of-lt : (r : Record) → HasBytes r → word_of r < 2 ^ 128
+word_of-lt r h = omega (arith, word_of-joined r, joined-below 0 widths (values r) 0 (omega arith) (values-fit r h))
+
+-- a part of one bit, as a truth value and back
+bit_value-test : (n : ℕ) → n < 2 → bit_value (n == 1) ≡ n
+bit_value-test zero l = refl
+bit_value-test (suc n) l = let none : n ≡ 0 = omega arith in rw none refl
+
+values-raw : (w : ℕ) → IsClean w → values (raw w) ≡ segments 0 widths w
+values-raw w clean =
+    λ i. laid (λ f. bit_value-test (part w (bit f) 1) (mod-lt _ (pow_pos 1)) i) (λ b. part w (shift b) 8)
+    (sym clean.below_separator_flags i) (sym clean.below_separator i) (sym clean.below_prefix i)
+
+word_of-raw : (w : ℕ) → w < 2 ^ 128 → IsClean w → word_of (raw w) ≡ w
+word_of-raw w l clean =
+    word_of-joined (raw w) ∙ ap (joined 0 widths) (values-raw w clean) ∙ omega (arith, joined-segments 0 widths w, mod-eq_of_lt l)
+
+-- the bytes of a record, by their names
+by_name : (r : Record) → r.digit_separator < 256 → r.base_prefix < 256 → r.base_suffix < 256 → r.mantissa_radix < 256 → r.exponent_base < 256 → r.exponent_radix < 256
+    → (b : Byte) → byte_of r b < 256
+by_name r separator prefix suffix radix base exponent layout.digit_separator = separator
+by_name r separator prefix suffix radix base exponent layout.base_prefix = prefix
+by_name r separator prefix suffix radix base exponent layout.base_suffix = suffix
+by_name r separator prefix suffix radix base exponent layout.mantissa_radix = radix
+by_name r separator prefix suffix radix base exponent layout.exponent_base = base
+by_name r separator prefix suffix radix base exponent layout.exponent_radix = exponent
+
+pub HasBytes-by_name : (r : Record) → r.digit_separator < 256 → r.base_prefix < 256 → r.base_suffix < 256 → r.mantissa_radix < 256 → r.exponent_base < 256 → r.exponent_radix < 256
+    → HasBytes r
+HasBytes-by_name r separator prefix suffix radix base exponent = record { each = by_name r separator prefix suffix radix base exponent }
+
+pub HasBytes-raw : (w : ℕ) → HasBytes (raw w)
+HasBytes-raw w =
+    HasBytes-by_name (raw w) (mod-lt _ (pow_pos 8)) (mod-lt _ (pow_pos 8)) (mod-lt _ (pow_pos 8)) (mod-lt _ (pow_pos 8)) (mod-lt _ (pow_pos 8)) (mod-lt _ (pow_pos 8))
+
+effective-lt : (own radix : ℕ) → own < 256 → radix < 256 → effective own radix < 256
+effective-lt own radix own_fits radix_fits = grind (arith, nat_tests)
+
+pub HasBytes-fill : (r : Record) → HasBytes r → HasBytes (fill r)
+HasBytes-fill r h =
+    let byte = h.each in
+    let radix = byte layout.mantissa_radix in
+    HasBytes-by_name (fill r) (byte layout.digit_separator) (byte layout.base_prefix) (byte layout.base_suffix) radix
+    (effective-lt r.exponent_base r.mantissa_radix (byte layout.exponent_base) radix)
+    (effective-lt r.exponent_radix r.mantissa_radix (byte layout.exponent_radix) radix)
+
+kept-lt : (b : Bool) (n : ℕ) → n < 256 → (if b then n else 0) < 256
+kept-lt true n l = l
+kept-lt false n l = omega arith
+
+pub HasBytes-trim : (r : Record) → HasBytes r → HasBytes (trim r)
+HasBytes-trim r h =
+    let byte = h.each in
+    HasBytes-by_name (trim r) (kept-lt (separator_on r) r.digit_separator (byte layout.digit_separator)) (byte layout.base_prefix)
+    (byte layout.base_suffix) (byte layout.mantissa_radix) (byte layout.exponent_base) (byte layout.exponent_radix)
+
+pub raw-pack : (r : Record) → HasBytes r → raw (pack r) ≡ trim r
+raw-pack r h = raw-word_of (trim r) (HasBytes-trim r h)
+
+pub pack-clean : (r : Record) → HasBytes r → IsClean (pack r)
+pack-clean r h = word_of-clean (trim r) (HasBytes-trim r h)
+
+pub pack-lt : (r : Record) → HasBytes r → pack r < 2 ^ 128
+pack-lt r h = word_of-lt (trim r) (HasBytes-trim r h)
+
+kept_same : (b : Bool) (n : ℕ) → IsTrue b ⊎ (n ≡ 0) → (if b then n else 0) ≡ n
+kept_same true n h = refl
+kept_same false n (inl on) = cc
+kept_same false n (inr absent) = sym absent
+
+-- where the separator is used, or absent, nothing is trimmed
+pub trim-same : (r : Record) → IsTrue (separator_on r) ⊎ (r.digit_separator ≡ 0) → trim r ≡ r
+trim-same r h = ap (λ n. record r { digit_separator = n }) (kept_same (separator_on r) r.digit_separator h)
+
+trimmed_unused : (b : Bool) (n : ℕ) → n ≡ (if b then n else 0) → IsTrue b ⊎ (n ≡ 0)
+trimmed_unused true n e = inl refl
+trimmed_unused false n e = inr e
+
+-- a word is packed from its own fields exactly if packing can give it
+pub pack-raw : (w : ℕ) → w < 2 ^ 128 → (pack (raw w) ≡ w) ↔ IsBuilt w
+pack-raw w l = (
+  λ e.
+      let trimmed : raw w ≡ trim (raw w) = ap raw (sym e) ∙ raw-pack (raw w) (HasBytes-raw w) in
+      record {
+        clean = subst IsClean e (pack-clean (raw w) (HasBytes-raw w));
+        separator_used = trimmed_unused (separator_on (raw w)) (raw w).digit_separator (ap (λ (r : Record). r.digit_separator) trimmed);
+      },
+  λ built. ap word_of (trim-same (raw w) built.separator_used) ∙ word_of-raw w l built.clean,
+)
+
+-- two clean words with the same fields are one
+pub raw-injective : (v w : ℕ) → v < 2 ^ 128 → w < 2 ^ 128 → IsClean v → IsClean w → raw v ≡ raw w → v ≡ w
+raw-injective v w fits fits' clean clean' same = sym (word_of-raw v fits clean) ∙ ap word_of same ∙ word_of-raw w fits' clean'
+
+pub pack-injective : (r s : Record) → HasBytes r → HasBytes s → (pack s ≡ pack r) ↔ (trim s ≡ trim r)
+pack-injective r s h k = (λ e. sym (raw-pack s k) ∙ ap raw e ∙ raw-pack r h, λ e. ap word_of e)

@@ -1,0 +1,78 @@
+-- A number as segments that stand one above the other, given by their widths from the lowest on.
+use Rattle.std.proofs.Common.{ℕ, ◌≡◌, ◌+◌, ◌*◌, ◌/◌, ◌%◌, ◌^◌, ◌<◌, List, [], ◌∷◌, refl, ap, sym, ◌∙◌, add_assoc, arith}
+use Rattle.std.proofs.Math.Nat.{add_comm, mul-le-mul_left}
+use Rattle.std.proofs.lemmas.Nat.{pow-add, shr_high, mod_low, mod-pow-add}
+use Rattle.lexical_flags.specs.Layout.{part}
+
+-- the sum of the values, each at its place, from place s on
+abbrev pub joined : ℕ → List ℕ → List ℕ → ℕ
+joined s [] values = 0
+joined s (n ∷ widths) [] = 0
+joined s (n ∷ widths) (v ∷ values) = v * 2 ^ s + joined (s + n) widths values
+
+-- the values in w, from place s on
+abbrev pub segments : ℕ → List ℕ → ℕ → List ℕ
+segments s [] w = []
+segments s (n ∷ widths) w = part w s n ∷ segments (s + n) widths w
+
+-- the place above the last segment
+abbrev pub top : ℕ → List ℕ → ℕ
+top s [] = s
+top s (n ∷ widths) = top (s + n) widths
+
+-- each value fits its segment
+abbrev pub Fit : List ℕ → List ℕ → Type 0
+Fit [] [] = Unit {0}
+Fit [] (v ∷ values) = ⊥
+Fit (n ∷ widths) [] = ⊥
+Fit (n ∷ widths) (v ∷ values) = (v < 2 ^ n) × Fit widths values
+
+-- what is joined from place s on is a multiple of 2 ^ s
+joined-multiple : (s : ℕ) (widths values : List ℕ) → (q : ℕ) × (joined s widths values ≡ q * 2 ^ s)
+joined-multiple s [] values = (0, omega arith)
+joined-multiple s (n ∷ widths) [] = (0, omega arith)
+joined-multiple s (n ∷ widths) (v ∷ values) =
+    let above = joined-multiple (s + n) widths values in
+    (v + above.0 * 2 ^ n, rw (above.1, pow-add 2 s n) (omega arith))
+
+-- a value is found at its place, between what is below and a multiple of what is above
+part_between : (s n v low q : ℕ) → low < 2 ^ s → v < 2 ^ n → part (low + (v * 2 ^ s + q * 2 ^ (s + n))) s n ≡ v
+part_between s n v low q l fits =
+    let shape : low + (v * 2 ^ s + q * 2 ^ (s + n)) ≡ (q * 2 ^ n + v) * 2 ^ s + low = rw (pow-add 2 s n) (omega arith) in
+    ap (λ x. part x s n) shape ∙ ap (λ x. x % 2 ^ n) (shr_high (q * 2 ^ n + v) s low l) ∙ mod_low q n v fits
+
+-- what is below the next segment, with a value in this one
+below_next : (s n v low : ℕ) → low < 2 ^ s → v < 2 ^ n → low + v * 2 ^ s < 2 ^ (s + n)
+below_next s n v low l fits =
+    let room = mul-le-mul_left (2 ^ s) fits in
+    rw (pow-add 2 s n) (omega arith)
+
+pub segments-joined : (s : ℕ) (widths values : List ℕ) (low : ℕ) → low < 2 ^ s → Fit widths values → segments s widths (low + joined s widths values) ≡ values
+segments-joined s [] [] low l fit = refl
+segments-joined s [] (v ∷ values) low l fit = absurd fit
+segments-joined s (n ∷ widths) [] low l fit = absurd fit
+segments-joined s (n ∷ widths) (v ∷ values) low l fit =
+    let above = joined-multiple (s + n) widths values in
+    let here : part (low + (v * 2 ^ s + joined (s + n) widths values)) s n ≡ v =
+    ap (λ x. part (low + (v * 2 ^ s + x)) s n) above.1 ∙ part_between s n v low above.0 l fit.0 in
+    let rest : segments (s + n) widths (low + (v * 2 ^ s + joined (s + n) widths values)) ≡ values =
+    ap (λ x. segments (s + n) widths x) (sym (add_assoc low (v * 2 ^ s) (joined (s + n) widths values)))
+    ∙ segments-joined (s + n) widths values (low + v * 2 ^ s) (below_next s n v low l fit.0) fit.1 in
+    λ i. here i ∷ rest i
+
+pub joined-segments : (s : ℕ) (widths : List ℕ) (w : ℕ) → w % 2 ^ s + joined s widths (segments s widths w) ≡ w % 2 ^ top s widths
+joined-segments s [] w = omega arith
+joined-segments s (n ∷ widths) w =
+    let low : w % 2 ^ (s + n) ≡ (w / 2 ^ s % 2 ^ n) * 2 ^ s + w % 2 ^ s = rw (add_comm s n) (mod-pow-add w n s) in
+    let above = joined-segments (s + n) widths w in
+    omega arith
+
+-- what is joined stays below the top of the last segment
+pub joined-below : (s : ℕ) (widths values : List ℕ) (low : ℕ) → low < 2 ^ s → Fit widths values → low + joined s widths values < 2 ^ top s widths
+joined-below s [] [] low l fit = omega arith
+joined-below s [] (v ∷ values) low l fit = absurd fit
+joined-below s (n ∷ widths) [] low l fit = absurd fit
+joined-below s (n ∷ widths) (v ∷ values) low l fit =
+    let rest : low + v * 2 ^ s + joined (s + n) widths values < 2 ^ top (s + n) widths =
+    joined-below (s + n) widths values (low + v * 2 ^ s) (below_next s n v low l fit.0) fit.1 in
+    omega arith

@@ -1,0 +1,8 @@
+use Rattle.lexical_flags.proofs.RuleLemmas.{Success-lawful, IsErrorOf-unique}
+use Rattle.lexical_flags.proofs.format_flags.format_error_impl.Goals as goal
+
+pub returns-clause-lawful : goal.returns-clause-lawful
+returns-clause-lawful c = Success-lawful c.args.format c.first_broken.result c.first_broken.ensures
+
+pub returns-clause-only : goal.returns-clause-only
+returns-clause-only c = λ other is. IsErrorOf-unique c.args.format other c.first_broken.result is c.first_broken.ensures

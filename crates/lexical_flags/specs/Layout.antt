@@ -1,0 +1,186 @@
+-- Where each field stands in a format word.
+use Rattle.std.specs.Prelude.{ℕ, ◌≡◌, ◌/◌, ◌%◌, ◌^◌, List, [], ◌∷◌, ◌++◌}
+
+-- the n bits of a word from place s on
+abbrev pub part : ℕ → ℕ → ℕ → ℕ
+part word s n = word / 2 ^ s % 2 ^ n
+
+-- the 31 flags
+pub data Flag : Type 0 where
+  required_integer_digits : Flag
+  required_fraction_digits : Flag
+  required_exponent_digits : Flag
+  required_mantissa_digits : Flag
+  no_positive_mantissa_sign : Flag
+  required_mantissa_sign : Flag
+  no_exponent_notation : Flag
+  no_positive_exponent_sign : Flag
+  required_exponent_sign : Flag
+  no_exponent_without_fraction : Flag
+  no_special : Flag
+  case_sensitive_special : Flag
+  no_integer_leading_zeros : Flag
+  no_float_leading_zeros : Flag
+  required_exponent_notation : Flag
+  case_sensitive_exponent : Flag
+  case_sensitive_base_prefix : Flag
+  case_sensitive_base_suffix : Flag
+  integer_internal_digit_separator : Flag
+  fraction_internal_digit_separator : Flag
+  exponent_internal_digit_separator : Flag
+  integer_leading_digit_separator : Flag
+  fraction_leading_digit_separator : Flag
+  exponent_leading_digit_separator : Flag
+  integer_trailing_digit_separator : Flag
+  fraction_trailing_digit_separator : Flag
+  exponent_trailing_digit_separator : Flag
+  integer_consecutive_digit_separator : Flag
+  fraction_consecutive_digit_separator : Flag
+  exponent_consecutive_digit_separator : Flag
+  special_digit_separator : Flag
+
+-- the six bytes
+pub data Byte : Type 0 where
+  digit_separator : Byte
+  base_prefix : Byte
+  base_suffix : Byte
+  mantissa_radix : Byte
+  exponent_base : Byte
+  exponent_radix : Byte
+
+-- the place of a flag
+abbrev pub bit : Flag → ℕ
+bit required_integer_digits = 0
+bit required_fraction_digits = 1
+bit required_exponent_digits = 2
+bit required_mantissa_digits = 3
+bit no_positive_mantissa_sign = 4
+bit required_mantissa_sign = 5
+bit no_exponent_notation = 6
+bit no_positive_exponent_sign = 7
+bit required_exponent_sign = 8
+bit no_exponent_without_fraction = 9
+bit no_special = 10
+bit case_sensitive_special = 11
+bit no_integer_leading_zeros = 12
+bit no_float_leading_zeros = 13
+bit required_exponent_notation = 14
+bit case_sensitive_exponent = 15
+bit case_sensitive_base_prefix = 16
+bit case_sensitive_base_suffix = 17
+bit integer_internal_digit_separator = 32
+bit fraction_internal_digit_separator = 33
+bit exponent_internal_digit_separator = 34
+bit integer_leading_digit_separator = 35
+bit fraction_leading_digit_separator = 36
+bit exponent_leading_digit_separator = 37
+bit integer_trailing_digit_separator = 38
+bit fraction_trailing_digit_separator = 39
+bit exponent_trailing_digit_separator = 40
+bit integer_consecutive_digit_separator = 41
+bit fraction_consecutive_digit_separator = 42
+bit exponent_consecutive_digit_separator = 43
+bit special_digit_separator = 44
+
+-- the lowest place of a byte
+abbrev pub shift : Byte → ℕ
+shift digit_separator = 64
+shift base_prefix = 88
+shift base_suffix = 96
+shift mantissa_radix = 104
+shift exponent_base = 112
+shift exponent_radix = 120
+
+-- the flags at the places 0 to 17
+abbrev pub base_flags : List Flag
+base_flags =
+    required_integer_digits ∷ required_fraction_digits ∷ required_exponent_digits ∷
+    required_mantissa_digits ∷ no_positive_mantissa_sign ∷ required_mantissa_sign ∷
+    no_exponent_notation ∷ no_positive_exponent_sign ∷ required_exponent_sign ∷
+    no_exponent_without_fraction ∷ no_special ∷ case_sensitive_special ∷ no_integer_leading_zeros ∷
+    no_float_leading_zeros ∷ required_exponent_notation ∷ case_sensitive_exponent ∷
+    case_sensitive_base_prefix ∷ case_sensitive_base_suffix ∷ []
+
+-- the flags that ask for digits
+abbrev pub required_digits : List Flag
+required_digits =
+    required_integer_digits ∷ required_fraction_digits ∷ required_exponent_digits ∷
+    required_mantissa_digits ∷ []
+
+-- the flags that let a digit separator stand between digits
+abbrev pub internal_digit_separator : List Flag
+internal_digit_separator =
+    integer_internal_digit_separator ∷ fraction_internal_digit_separator ∷
+    exponent_internal_digit_separator ∷ []
+
+-- the flags that let it stand before digits
+abbrev pub leading_digit_separator : List Flag
+leading_digit_separator =
+    integer_leading_digit_separator ∷ fraction_leading_digit_separator ∷
+    exponent_leading_digit_separator ∷ []
+
+-- the flags that let it stand after digits
+abbrev pub trailing_digit_separator : List Flag
+trailing_digit_separator =
+    integer_trailing_digit_separator ∷ fraction_trailing_digit_separator ∷
+    exponent_trailing_digit_separator ∷ []
+
+-- the flags that let several stand in a row
+abbrev pub consecutive_digit_separator : List Flag
+consecutive_digit_separator =
+    integer_consecutive_digit_separator ∷ fraction_consecutive_digit_separator ∷
+    exponent_consecutive_digit_separator ∷ []
+
+-- the flags at the places 32 to 44: all that let a digit separator stand somewhere
+abbrev pub digit_separator_flags : List Flag
+digit_separator_flags =
+    internal_digit_separator ++ leading_digit_separator ++ trailing_digit_separator ++
+    consecutive_digit_separator ++ special_digit_separator ∷ []
+
+-- those of integer digits
+abbrev pub integer_digit_separator_flags : List Flag
+integer_digit_separator_flags =
+    integer_internal_digit_separator ∷ integer_leading_digit_separator ∷
+    integer_trailing_digit_separator ∷ integer_consecutive_digit_separator ∷ []
+
+-- those of fraction digits
+abbrev pub fraction_digit_separator_flags : List Flag
+fraction_digit_separator_flags =
+    fraction_internal_digit_separator ∷ fraction_leading_digit_separator ∷
+    fraction_trailing_digit_separator ∷ fraction_consecutive_digit_separator ∷ []
+
+-- those of exponent digits
+abbrev pub exponent_digit_separator_flags : List Flag
+exponent_digit_separator_flags =
+    exponent_internal_digit_separator ∷ exponent_leading_digit_separator ∷
+    exponent_trailing_digit_separator ∷ exponent_consecutive_digit_separator ∷ []
+
+-- the flags that the interface of a parser looks at
+abbrev pub interface_flags : List Flag
+interface_flags =
+    required_digits ++
+    no_exponent_notation ∷ no_positive_exponent_sign ∷ required_exponent_sign ∷ no_exponent_without_fraction ∷
+    no_float_leading_zeros ∷ required_exponent_notation ∷ [] ++
+    internal_digit_separator ++ leading_digit_separator ++ trailing_digit_separator ++ consecutive_digit_separator
+
+-- the flags of exponents, but for the case of the exponent character
+abbrev pub exponent_flags : List Flag
+exponent_flags =
+    required_exponent_digits ∷ no_exponent_notation ∷ no_positive_exponent_sign ∷
+    required_exponent_sign ∷ no_exponent_without_fraction ∷ required_exponent_notation ∷
+    exponent_internal_digit_separator ∷ exponent_leading_digit_separator ∷
+    exponent_trailing_digit_separator ∷ exponent_consecutive_digit_separator ∷ []
+
+-- all flags, in the order of their places
+abbrev pub flags : List Flag
+flags = base_flags ++ digit_separator_flags
+
+-- all bytes, in the order of their places
+abbrev pub bytes : List Byte
+bytes = digit_separator ∷ base_prefix ∷ base_suffix ∷ mantissa_radix ∷ exponent_base ∷ exponent_radix ∷ []
+
+-- the places that no field takes are 0
+pub record IsClean (word : ℕ) : Type 0 where
+  pub below_separator_flags : part word 18 14 ≡ 0
+  pub below_separator : part word 45 19 ≡ 0
+  pub below_prefix : part word 72 16 ≡ 0

@@ -1,0 +1,28 @@
+-- An exponent character and a decimal point that are chosen beside a format.
+use Rattle.std.specs.Prelude.{ℕ, IsTrue}
+use Rattle.std.specs.List.{AllByRecursion}
+use Rattle.lexical_base.specs.Ascii.{allowed_ascii}
+use Rattle.lexical_flags.specs.Record.{raw}
+use Rattle.lexical_flags.specs.Pairs.{ArePairwise}
+use Rattle.lexical_flags.specs.Roles.{Disjoint, exponent, point, own_roles, seven_roles}
+use Rattle.lexical_flags.specs.Rules.{IsPunctuation}
+
+-- both bytes are punctuation, they differ, and neither has a role that the format names
+pub record AreAccepted (word exponent_byte point_byte : ℕ) : Type 0 where
+  pub exponent_is_punctuation : IsPunctuation (raw word) exponent_byte
+  pub point_is_punctuation : IsPunctuation (raw word) point_byte
+  pub apart : Disjoint (exponent (raw word) exponent_byte) (point point_byte)
+  pub exponent_is_new : AllByRecursion (Disjoint (exponent (raw word) exponent_byte)) (own_roles (raw word))
+  pub point_is_new : AllByRecursion (Disjoint (point point_byte)) (own_roles (raw word))
+
+-- both bytes are text, and with them no byte of the format has two roles
+pub record HaveOneRole (word exponent_byte point_byte : ℕ) : Type 0 where
+  pub exponent_is_text : IsTrue (allowed_ascii exponent_byte)
+  pub point_is_text : IsTrue (allowed_ascii point_byte)
+  pub roles : ArePairwise Disjoint (seven_roles (raw word) exponent_byte point_byte)
+
+-- some two bytes can be chosen so
+pub record LeavesRoom (word : ℕ) : Type 0 where
+  pub exponent_byte : ℕ
+  pub point_byte : ℕ
+  pub fit : HaveOneRole word exponent_byte point_byte

@@ -1,0 +1,57 @@
+-- The roles that bytes play in the numbers of a format, each as the set of the bytes that play it.
+use Rattle.std.specs.Prelude.{ℕ, IsTrue, min, nat_lt, ◌==◌, ◌&&◌, ◌||◌, not, List, [], ◌∷◌, ◌++◌}
+use Rattle.lexical_base.specs.Ascii.{ByteSet}
+use Rattle.lexical_base.specs.Digits.{value}
+use Rattle.lexical_flags.specs.Record.{Record, effective_exponent_radix}
+
+-- no byte is in both sets
+unfoldable pub Disjoint : ByteSet → ByteSet → Type 0
+Disjoint A B = (byte : ℕ) → IsTrue (A byte) → IsTrue (B byte) → ⊥
+
+-- this byte alone; no byte where it is 0, since 0 stands for none
+unfoldable pub only : ℕ → ByteSet
+only own byte = not (own == 0) && (byte == own)
+
+-- the digits of a radix; above 36 there are no more than the 36 figures and letters
+abbrev pub digits_of : ℕ → ByteSet
+digits_of radix byte = nat_lt (value byte) (min radix 36)
+
+-- the digits of the mantissa and those of the exponent
+abbrev pub digits : Record → ByteSet
+digits r byte = digits_of r.mantissa_radix byte || digits_of (effective_exponent_radix r) byte
+
+-- + and -
+abbrev pub signs : ByteSet
+signs byte = (byte == 43) || (byte == 45)
+
+-- the digit separator
+abbrev pub separator : Record → ByteSet
+separator r = only r.digit_separator
+
+-- the base prefix
+abbrev pub prefix : Record → ByteSet
+prefix r = only r.base_prefix
+
+-- the base suffix
+abbrev pub suffix : Record → ByteSet
+suffix r = only r.base_suffix
+
+-- the character of an exponent, which a caller chooses beside the format
+abbrev pub exponent : Record → ℕ → ByteSet
+exponent r chosen = only chosen
+
+-- the decimal point, which a caller chooses beside the format
+abbrev pub point : ℕ → ByteSet
+point chosen = only chosen
+
+-- the roles of the bytes that a format names
+abbrev pub own_roles : Record → List ByteSet
+own_roles r = separator r ∷ prefix r ∷ suffix r ∷ []
+
+-- all roles in a format
+abbrev pub five_roles : Record → List ByteSet
+five_roles r = digits r ∷ signs ∷ own_roles r
+
+-- all roles in a format beside which an exponent character and a decimal point are chosen
+abbrev pub seven_roles : Record → ℕ → ℕ → List ByteSet
+seven_roles r exponent_byte point_byte = five_roles r ++ exponent r exponent_byte ∷ point point_byte ∷ []

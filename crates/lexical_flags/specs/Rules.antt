@@ -1,0 +1,141 @@
+-- The rules that a format word has to keep, and what is answered where it breaks one.
+use Rattle.std.specs.Prelude.{ℕ, Bool, ◌≡◌, ◌≤◌, ◌⊎◌, ◌&&◌, ◌||◌, IsTrue, IsFalse, List, [], ◌∷◌, ◌++◌}
+use Rattle.std.specs.List.{AllByRecursion}
+use Rattle.lexical_base.specs.Ascii.{allowed_ascii}
+use Rattle.lexical_base.specs.declared.error.Error.{Error}
+use Rattle.lexical_base.specs.declared.error.Error.TheVariants.{InvalidMantissaRadix, InvalidExponentBase, InvalidExponentRadix, InvalidDigitSeparator, InvalidBasePrefix, InvalidBaseSuffix, InvalidPunctuation, InvalidExponentFlags, InvalidMantissaSign, InvalidExponentSign, InvalidSpecial, InvalidConsecutiveIntegerDigitSeparator, InvalidConsecutiveFractionDigitSeparator, InvalidConsecutiveExponentDigitSeparator, Success}
+use Rattle.lexical_flags.specs.Record.{Record, raw, effective_exponent_base, effective_exponent_radix}
+use Rattle.lexical_flags.specs.Pairs.{ArePairwise}
+use Rattle.lexical_flags.specs.Roles.{Disjoint, digits, signs, own_roles, five_roles}
+
+-- numbers can be written in this radix
+abbrev pub IsRadix : ℕ → Type 0
+IsRadix radix = (2 ≤ radix) × (radix ≤ 36)
+
+-- a byte of text that is no digit of the format and no sign
+unfoldable pub IsPunctuation : Record → ℕ → Type 0
+IsPunctuation r byte = IsTrue (allowed_ascii byte) × (IsTrue (digits r byte) → ⊥) × (IsTrue (signs byte) → ⊥)
+
+-- such a byte, or none
+abbrev pub IsFree : Record → ℕ → Type 0
+IsFree r byte = (byte ≡ 0) ⊎ IsPunctuation r byte
+
+-- a byte of text, or none
+abbrev pub IsTextOrNone : ℕ → Type 0
+IsTextOrNone byte = (byte ≡ 0) ⊎ IsTrue (allowed_ascii byte)
+
+-- at most one of two flags is set
+abbrev pub NotBoth : Bool → Bool → Type 0
+NotBoth a b = IsFalse (a && b)
+
+-- separators may stand in a row only where one may stand between, before or after digits
+abbrev pub HasPlace : Bool → Bool → Bool → Bool → Type 0
+HasPlace consecutive internal leading trailing = IsTrue consecutive → IsTrue (internal || leading || trailing)
+
+-- the rules
+pub data Rule : Type 0 where
+  mantissa_radix_in_range : Rule
+  exponent_base_in_range : Rule
+  exponent_radix_in_range : Rule
+  digit_separator_is_free : Rule
+  base_prefix_is_free : Rule
+  base_suffix_is_free : Rule
+  punctuation_differs : Rule
+  exponent_flags_agree : Rule
+  mantissa_sign_flags_agree : Rule
+  exponent_sign_flags_agree : Rule
+  special_case_flags_agree : Rule
+  special_separator_flags_agree : Rule
+  integer_consecutive_has_place : Rule
+  fraction_consecutive_has_place : Rule
+  exponent_consecutive_has_place : Rule
+
+-- what a rule demands of the fields of a word
+abbrev pub Demands : Rule → Record → Type 0
+Demands mantissa_radix_in_range r = IsRadix r.mantissa_radix
+Demands exponent_base_in_range r = IsRadix (effective_exponent_base r)
+Demands exponent_radix_in_range r = IsRadix (effective_exponent_radix r)
+Demands digit_separator_is_free r = IsFree r r.digit_separator
+Demands base_prefix_is_free r = IsFree r r.base_prefix
+Demands base_suffix_is_free r = IsFree r r.base_suffix
+Demands punctuation_differs r = ArePairwise Disjoint (own_roles r)
+Demands exponent_flags_agree r = NotBoth r.no_exponent_notation r.required_exponent_notation
+Demands mantissa_sign_flags_agree r = NotBoth r.no_positive_mantissa_sign r.required_mantissa_sign
+Demands exponent_sign_flags_agree r = NotBoth r.no_positive_exponent_sign r.required_exponent_sign
+Demands special_case_flags_agree r = NotBoth r.no_special r.case_sensitive_special
+Demands special_separator_flags_agree r = NotBoth r.no_special r.special_digit_separator
+Demands integer_consecutive_has_place r =
+    HasPlace r.integer_consecutive_digit_separator r.integer_internal_digit_separator
+    r.integer_leading_digit_separator r.integer_trailing_digit_separator
+Demands fraction_consecutive_has_place r =
+    HasPlace r.fraction_consecutive_digit_separator r.fraction_internal_digit_separator
+    r.fraction_leading_digit_separator r.fraction_trailing_digit_separator
+Demands exponent_consecutive_has_place r =
+    HasPlace r.exponent_consecutive_digit_separator r.exponent_internal_digit_separator
+    r.exponent_leading_digit_separator r.exponent_trailing_digit_separator
+
+-- a word keeps a rule
+unfoldable pub Holds : Rule → ℕ → Type 0
+Holds rule word = Demands rule (raw word)
+
+-- what is answered to a word that breaks a rule
+abbrev pub answer : Rule → Error
+answer mantissa_radix_in_range = InvalidMantissaRadix
+answer exponent_base_in_range = InvalidExponentBase
+answer exponent_radix_in_range = InvalidExponentRadix
+answer digit_separator_is_free = InvalidDigitSeparator
+answer base_prefix_is_free = InvalidBasePrefix
+answer base_suffix_is_free = InvalidBaseSuffix
+answer punctuation_differs = InvalidPunctuation
+answer exponent_flags_agree = InvalidExponentFlags
+answer mantissa_sign_flags_agree = InvalidMantissaSign
+answer exponent_sign_flags_agree = InvalidExponentSign
+answer special_case_flags_agree = InvalidSpecial
+answer special_separator_flags_agree = InvalidSpecial
+answer integer_consecutive_has_place = InvalidConsecutiveIntegerDigitSeparator
+answer fraction_consecutive_has_place = InvalidConsecutiveFractionDigitSeparator
+answer exponent_consecutive_has_place = InvalidConsecutiveExponentDigitSeparator
+
+-- the rules of radixes, in the order in which they are asked
+abbrev pub radix_rules : List Rule
+radix_rules = mantissa_radix_in_range ∷ exponent_base_in_range ∷ exponent_radix_in_range ∷ []
+
+-- those of separator, prefix and suffix
+abbrev pub punctuation_rules : List Rule
+punctuation_rules = digit_separator_is_free ∷ base_prefix_is_free ∷ base_suffix_is_free ∷ punctuation_differs ∷ []
+
+-- those of flags
+abbrev pub flag_rules : List Rule
+flag_rules =
+    exponent_flags_agree ∷ mantissa_sign_flags_agree ∷ exponent_sign_flags_agree ∷
+    special_case_flags_agree ∷ special_separator_flags_agree ∷
+    integer_consecutive_has_place ∷ fraction_consecutive_has_place ∷ exponent_consecutive_has_place ∷ []
+
+-- all rules, in the order in which they are asked
+abbrev pub rules_in_order : List Rule
+rules_in_order = radix_rules ++ punctuation_rules ++ flag_rules
+
+-- the answer to the first of some rules that a word breaks, and Success where it breaks none
+abbrev pub IsFirstBroken : List Rule → ℕ → Error → Type 0
+IsFirstBroken [] word error = error ≡ Success
+IsFirstBroken (rule ∷ rules) word error =
+    ((Holds rule word → ⊥) × (error ≡ answer rule)) ⊎ (Holds rule word × IsFirstBroken rules word error)
+
+-- the answer to a word by all rules
+unfoldable pub IsErrorOf : ℕ → Error → Type 0
+IsErrorOf word error = IsFirstBroken rules_in_order word error
+
+-- what makes a word lawful: its radixes and flags are sound, its bytes are text, and no byte has two roles
+pub record LawfulParts (word : ℕ) : Type 0 where
+  pub mantissa_radix : IsRadix (raw word).mantissa_radix
+  pub exponent_base : IsRadix (effective_exponent_base (raw word))
+  pub exponent_radix : IsRadix (effective_exponent_radix (raw word))
+  pub flags : AllByRecursion (λ rule. Holds rule word) flag_rules
+  pub digit_separator : IsTextOrNone (raw word).digit_separator
+  pub base_prefix : IsTextOrNone (raw word).base_prefix
+  pub base_suffix : IsTextOrNone (raw word).base_suffix
+  pub roles : ArePairwise Disjoint (five_roles (raw word))
+
+-- a word that describes numbers with one reading
+unfoldable pub Lawful : ℕ → Type 0
+Lawful word = LawfulParts word

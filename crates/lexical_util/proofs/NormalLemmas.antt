@@ -1,0 +1,131 @@
+-- Normal forms: which words are their own, what one keeps of a word, and when two words have the same.
+use Rattle.std.proofs.Common.{◌≡◌, ℕ, ◌<◌, ◌^◌, ◌⊎◌, ◌↔◌, inl, inr, Bool, true, false, cond, eqb, eq-eqb, eqb-true, IsTrue, refl, sym, ap, ◌∙◌, subst, List, [], ◌∷◌}
+use Rattle.std.specs.List.{list_any}
+use Rattle.std.proofs.lemmas.Bool.{cases_Bool, cond-true, cond-false, false≢true}
+use Rattle.lexical_flags.specs.Layout.{Flag, Byte, digit_separator_flags, IsClean}
+use Rattle.lexical_flags.specs.Layout as layout
+use Rattle.lexical_flags.specs.Record.{Record, flag_of, byte_of, raw, trim, fill, pack, word_of, effective, separator_on}
+use Rattle.lexical_flags.proofs.RecordLemmas.{record_same}
+use Rattle.lexical_flags.proofs.Packing.{raw-pack, pack-clean, pack-lt, raw-injective, HasBytes-raw, HasBytes-fill}
+use Rattle.lexical_builder.proofs.WriteLemmas.{after_none}
+use Rattle.lexical_util.specs.Normal.{normal_form_of, SameFormat, IsNormal}
+
+pub flag_of-trim-fill : (R : Record) (f : Flag) → flag_of (trim (fill R)) f ≡ flag_of R f
+flag_of-trim-fill R layout.required_integer_digits = refl
+flag_of-trim-fill R _ = refl
+
+list_any_same : (p q : Flag → Bool) (fs : List Flag) → ((f : Flag) → p f ≡ q f) → list_any p fs ≡ list_any q fs
+list_any_same p q fs h = λ i. list_any (λ f. h f i) fs
+
+-- the separator with its condition
+use_same : (p q : Bool) (x y : ℕ) → p ≡ q → (IsTrue p → x ≡ y) → cond p x 0 ≡ cond q y 0
+use_same true true x y e h = h refl
+use_same true false x y e h = absurd (false≢true (sym e))
+use_same false true x y e h = absurd (false≢true e)
+use_same false false x y e h = refl
+
+used_same : (p q : Bool) (x y : ℕ) → p ≡ q → cond p x 0 ≡ cond q y 0 → IsTrue p → x ≡ y
+used_same p q x y e h t = sym (cond-true p x 0 t) ∙ h ∙ cond-true q y 0 (sym e ∙ t)
+
+pub trim-same_format : (R S : Record) → SameFormat R S → trim (fill R) ≡ trim (fill S)
+trim-same_format R S s = record_same _ _ (λ f. flag_of-trim-fill R f ∙ s.flags f ∙ sym (flag_of-trim-fill S f)) on_byte where
+  on_byte : (b : Byte) → byte_of (trim (fill R)) b ≡ byte_of (trim (fill S)) b
+  on_byte layout.digit_separator = use_same (separator_on R) (separator_on S) R.digit_separator S.digit_separator (list_any_same (flag_of R) (flag_of S) digit_separator_flags s.flags) s.digit_separator
+  on_byte layout.base_prefix = s.base_prefix
+  on_byte layout.base_suffix = s.base_suffix
+  on_byte layout.mantissa_radix = s.mantissa_radix
+  on_byte layout.exponent_base = s.exponent_base
+  on_byte layout.exponent_radix = s.exponent_radix
+
+pub SameFormat-from_trim : (R S : Record) → trim (fill R) ≡ trim (fill S) → SameFormat R S
+SameFormat-from_trim R S e =
+    let flags_agree : (f : Flag) → flag_of R f ≡ flag_of S f = λ f. sym (flag_of-trim-fill R f) ∙ ap (λ (T : Record). flag_of T f) e ∙ flag_of-trim-fill S f in
+    record {
+      flags = flags_agree;
+      base_prefix = ap (λ (T : Record). T.base_prefix) e;
+      base_suffix = ap (λ (T : Record). T.base_suffix) e;
+      mantissa_radix = ap (λ (T : Record). T.mantissa_radix) e;
+      exponent_base = ap (λ (T : Record). T.exponent_base) e;
+      exponent_radix = ap (λ (T : Record). T.exponent_radix) e;
+      digit_separator = used_same (separator_on R) (separator_on S) R.digit_separator S.digit_separator (list_any_same (flag_of R) (flag_of S) digit_separator_flags flags_agree) (ap (λ (T : Record). T.digit_separator) e);
+    }
+
+pub normal_form-is : (w : ℕ) → normal_form_of w ≡ pack (fill (raw w))
+normal_form-is w = ap pack (after_none (fill (raw w)))
+
+pub normal_same : (a b : ℕ) → SameFormat (raw a) (raw b) → normal_form_of a ≡ normal_form_of b
+normal_same a b s = normal_form-is a ∙ ap word_of (trim-same_format (raw a) (raw b) s) ∙ sym (normal_form-is b)
+
+pub SameFormat-from_normal : (a b : ℕ) → normal_form_of a ≡ normal_form_of b → SameFormat (raw a) (raw b)
+SameFormat-from_normal a b e = SameFormat-from_trim (raw a) (raw b)
+    (sym (raw-pack (fill (raw a)) (HasBytes-fill (raw a) (HasBytes-raw a)))
+    ∙ ap raw (sym (normal_form-is a) ∙ e ∙ normal_form-is b)
+    ∙ raw-pack (fill (raw b)) (HasBytes-fill (raw b) (HasBytes-raw b)))
+
+effective_again : (own radix : ℕ) → effective own radix ≡ effective (effective own radix) radix
+effective_again own radix = elim (cases_Bool (eqb own 0)) [
+  | inl t ↦ cond-true (eqb own 0) radix own t ∙ sym (ap (λ n. effective n radix) (cond-true (eqb own 0) radix own t) ∙ same (eqb radix 0))
+  | inr n ↦ ap (λ n. effective n radix) (sym (cond-false (eqb own 0) radix own n))
+] where
+  same : (t : Bool) → cond t radix radix ≡ radix
+  same true = refl
+  same false = refl
+
+pub SameFormat-normal : (R : Record) → SameFormat R (trim (fill R))
+SameFormat-normal R = record {
+  flags = λ f. sym (flag_of-trim-fill R f);
+  base_prefix = refl;
+  base_suffix = refl;
+  mantissa_radix = refl;
+  exponent_base = effective_again R.exponent_base R.mantissa_radix;
+  exponent_radix = effective_again R.exponent_radix R.mantissa_radix;
+  digit_separator = λ t. sym (cond-true (separator_on R) R.digit_separator 0 t);
+}
+
+module _ (w : ℕ) where
+  raw_normal : raw (normal_form_of w) ≡ trim (fill (raw w))
+  raw_normal = ap raw (normal_form-is w) ∙ raw-pack (fill (raw w)) (HasBytes-fill (raw w) (HasBytes-raw w))
+
+  pub clean_normal : IsClean (normal_form_of w)
+  clean_normal = subst IsClean (sym (normal_form-is w)) (pack-clean (fill (raw w)) (HasBytes-fill (raw w) (HasBytes-raw w)))
+
+  normal_fits : normal_form_of w < 2 ^ 128
+  normal_fits = subst (λ n. n < 2 ^ 128) (sym (normal_form-is w)) (pack-lt (fill (raw w)) (HasBytes-fill (raw w) (HasBytes-raw w)))
+
+  pub normal_keeps : SameFormat (raw w) (raw (normal_form_of w))
+  normal_keeps = subst (λ (S : Record). SameFormat (raw w) S) (sym raw_normal) (SameFormat-normal (raw w))
+
+  pub normal_again : normal_form_of (normal_form_of w) ≡ normal_form_of w
+  normal_again = sym (normal_same w (normal_form_of w) normal_keeps)
+
+  pub normal_from_fixed : normal_form_of w ≡ w → IsNormal w
+  normal_from_fixed e =
+      let R : Record = raw w in
+      let fields : trim (fill R) ≡ R = sym raw_normal ∙ ap raw e in
+      record {
+        clean = subst IsClean e clean_normal;
+        separator_used = elim (cases_Bool (separator_on R)) [ inl t ↦ inl t | inr n ↦ inr (sym (ap (λ (S : Record). S.digit_separator) fields) ∙ cond-false (separator_on R) R.digit_separator 0 n) ];
+        exponent_base = filled R.exponent_base R.mantissa_radix (ap (λ (S : Record). S.exponent_base) fields);
+        exponent_radix = filled R.exponent_radix R.mantissa_radix (ap (λ (S : Record). S.exponent_radix) fields);
+      } where
+        filled : (own radix : ℕ) → effective own radix ≡ own → own ≡ 0 → radix ≡ 0
+        filled own radix e z = sym (cond-true (eqb own 0) radix own (eq-eqb own 0 z)) ∙ e ∙ z
+
+  pub fixed_from_normal : w < 2 ^ 128 → IsNormal w → normal_form_of w ≡ w
+  fixed_from_normal fits n = raw-injective (normal_form_of w) w normal_fits fits clean_normal n.clean (raw_normal ∙ record_same (trim (fill (raw w))) (raw w) (λ f. flag_of-trim-fill (raw w) f) on_byte) where
+    full : (own radix : ℕ) → (own ≡ 0 → radix ≡ 0) → effective own radix ≡ own
+    full own radix h = elim (cases_Bool (eqb own 0)) [
+      | inl t ↦ cond-true (eqb own 0) radix own t ∙ h (eqb-true own 0 t) ∙ sym (eqb-true own 0 t)
+      | inr n ↦ cond-false (eqb own 0) radix own n
+    ]
+
+    kept : (t : Bool) (n : ℕ) → IsTrue t ⊎ (n ≡ 0) → cond t n 0 ≡ n
+    kept true n k = refl
+    kept false n (inl k) = cc
+    kept false n (inr k) = sym k
+
+    on_byte : (b : Byte) → byte_of (trim (fill (raw w))) b ≡ byte_of (raw w) b
+    on_byte layout.digit_separator = kept (separator_on (raw w)) (raw w).digit_separator n.separator_used
+    on_byte layout.exponent_base = full (raw w).exponent_base (raw w).mantissa_radix n.exponent_base
+    on_byte layout.exponent_radix = full (raw w).exponent_radix (raw w).mantissa_radix n.exponent_radix
+    on_byte _ = refl

@@ -1,0 +1,57 @@
+-- What a mask reads of a word, for a mask that is written as a number.
+use Rattle.std.proofs.Common.{ℕ, ◌≡◌, ◌+◌, ◌*◌, ◌/◌, ◌%◌, ◌^◌, ◌<◌, ◌==◌, inl, inr, Bool, true, false, not, zero, suc, if◌then◌else◌, List, [], ◌∷◌, sum_by, bit_and, refl, ap, sym, ◌∙◌, arith}
+use Rattle.std.specs.List.{list_any}
+use Rattle.std.proofs.Math.Nat.{mod-lt}
+use Rattle.std.proofs.lemmas.Bool.{cases_eq, ne_eqb}
+use Rattle.std.proofs.lemmas.Nat.{pow-add}
+use Rattle.lexical_flags.specs.Layout.{part, Flag, bit, flags}
+use Rattle.lexical_flags.specs.Record.{flag_of, raw, flag_bits}
+use Rattle.lexical_flags.specs.Constants.{mask_of}
+use Rattle.lexical_flags.proofs.RecordLemmas.{flag_of-raw}
+use Rattle.lexical_flags.proofs.Masks.{ascends, and_all}
+use Rattle.lexical_flags.proofs.FlagBits.{flag_test, mask_test}
+use Rattle.lexical_util.specs.View.{any_flag, bits_of}
+
+-- whether a number is the mask of one flag
+abbrev pub is_flag_mask : ℕ → Bool
+is_flag_mask mask = list_any (λ f. 2 ^ bit f == mask) flags
+
+at_flag : (fs : List Flag) (word mask : ℕ) → list_any (λ f. 2 ^ bit f == mask) fs ≡ true → not (bit_and word mask == 0) ≡ (word / mask % 2 == 1)
+at_flag [] word mask h = cc
+at_flag (f ∷ fs) word mask h = elim (cases_eq (2 ^ bit f) mask) [
+  | inl same ↦ rw (← same) (flag_test word (bit f))
+  | inr differ ↦ at_flag fs word mask (rw (let other : (2 ^ bit f == mask) ≡ false = ne_eqb _ _ differ in other) at h)
+]
+
+-- one flag
+pub flag_by_mask : (word mask : ℕ) → is_flag_mask mask ≡ true → not (bit_and word mask == 0) ≡ (word / mask % 2 == 1)
+flag_by_mask word mask is = at_flag flags word mask is
+
+not-not : (a : Bool) → not (not a) ≡ a
+not-not true = refl
+not-not false = refl
+
+-- whether any of several flags is set
+pub any_by_mask : (word mask : ℕ) (fs : List Flag) → mask ≡ mask_of fs → ascends bit 1 0 fs ≡ true → not (bit_and word mask == 0) ≡ any_flag word fs
+unfolding any_flag
+any_by_mask word mask fs is up = rw is (ap not (mask_test fs word up) ∙ not-not (list_any (flag_of (raw word)) fs))
+
+one_bit : (n k : ℕ) → n < 2 → n * 2 ^ k ≡ (if n == 1 then 2 ^ k else 0)
+one_bit zero k small = omega arith
+one_bit (suc zero) k small = omega arith
+one_bit (suc (suc n)) k small = absurd (omega arith)
+
+flag_bits-raw : (word : ℕ) (f : Flag) → part word (bit f) 1 * 2 ^ bit f ≡ flag_bits (raw word) f
+flag_bits-raw word f = one_bit (part word (bit f) 1) (bit f) (mod-lt _ (omega arith)) ∙ ap (λ set. if set then 2 ^ bit f else 0) (sym (flag_of-raw word f))
+
+-- the bits of several flags
+pub bits_by_mask : (word mask : ℕ) (fs : List Flag) → mask ≡ mask_of fs → ascends bit 1 0 fs ≡ true → bit_and word mask ≡ bits_of word fs
+unfolding bits_of
+bits_by_mask word mask fs is up = rw is (and_all bit fs word up ∙ (λ i. sum_by (λ f. flag_bits-raw word f i) fs))
+
+-- powers by squaring
+pub fourth_power : (n : ℕ) → n ^ 2 * n ^ 2 ≡ n ^ 4
+fourth_power n = sym (pow-add n 2 2)
+
+pub eighth_power : (n : ℕ) → n ^ 4 * n ^ 4 ≡ n ^ 8
+eighth_power n = sym (pow-add n 4 4)

@@ -1,0 +1,4 @@
+use Rattle.lexical_util.proofs.edits.apply_flag.Goals as goal
+
+pub returns-in-DigitSeparatorFlags : goal.returns-in-DigitSeparatorFlags
+returns-in-DigitSeparatorFlags c = rw c.in-DigitSeparatorFlags.is c.digit_separator_flags.ensures

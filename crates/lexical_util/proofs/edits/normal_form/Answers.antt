@@ -1,0 +1,20 @@
+use Rattle.std.proofs.Common.{◌∙◌, sym, ap, subst, arith}
+use Rattle.lexical_flags.specs.Record.{raw, pack, trim}
+use Rattle.lexical_util.specs.Normal.{normal_form_of, SameFormat}
+use Rattle.lexical_util.proofs.NormalLemmas.{normal_form-is, normal_again, normal_from_fixed, fixed_from_normal, normal_keeps}
+use Rattle.lexical_util.proofs.edits.normal_form.Goals as goal
+
+pub returns-clause-word : goal.returns-clause-word
+returns-clause-word c = c.build_unchecked.ensures.word ∙ ap pack c.rebuild.ensures ∙ sym (normal_form-is c.args.format)
+
+pub returns-clause-again : goal.returns-clause-again
+returns-clause-again c = ap normal_form_of (returns-clause-word c) ∙ normal_again c.args.format ∙ sym (returns-clause-word c)
+
+pub returns-clause-unchanged : goal.returns-clause-unchanged
+returns-clause-unchanged c = (
+  λ e. normal_from_fixed c.args.format (sym (returns-clause-word c) ∙ e),
+  λ n. returns-clause-word c ∙ fixed_from_normal c.args.format (omega arith) n,
+)
+
+pub returns-clause-same : goal.returns-clause-same
+returns-clause-same c = subst (λ u. SameFormat (raw c.args.format) (raw u)) (sym (returns-clause-word c)) (normal_keeps c.args.format)

@@ -1,0 +1,4 @@
+pub mod Edits
+pub mod Normal
+pub mod View
+pub mod Listing

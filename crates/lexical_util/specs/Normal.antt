@@ -1,0 +1,26 @@
+-- Normal forms, and the words that have the same one.
+use Rattle.std.specs.Prelude.{◌≡◌, ℕ, ◌⊎◌, IsTrue, []}
+use Rattle.lexical_flags.specs.Layout.{Flag, IsClean}
+use Rattle.lexical_flags.specs.Record.{Record, flag_of, raw, separator_on, effective_exponent_base, effective_exponent_radix}
+use Rattle.lexical_util.specs.Edits.{edited}
+
+-- the word that no writes make of a word
+abbrev pub normal_form_of : ℕ → ℕ
+normal_form_of word = edited word []
+
+-- two records that mean the same: all fields agree, an exponent byte by its effective value, and the separator where it may stand somewhere
+pub record SameFormat (r s : Record) : Type 0 where
+  pub flags : (f : Flag) → flag_of r f ≡ flag_of s f
+  pub base_prefix : r.base_prefix ≡ s.base_prefix
+  pub base_suffix : r.base_suffix ≡ s.base_suffix
+  pub mantissa_radix : r.mantissa_radix ≡ s.mantissa_radix
+  pub exponent_base : effective_exponent_base r ≡ effective_exponent_base s
+  pub exponent_radix : effective_exponent_radix r ≡ effective_exponent_radix s
+  pub digit_separator : IsTrue (separator_on r) → r.digit_separator ≡ s.digit_separator
+
+-- a word that is its own normal form: clean, a separator only where it may stand, and no exponent byte that could be filled
+pub record IsNormal (word : ℕ) : Type 0 where
+  pub clean : IsClean word
+  pub separator_used : IsTrue (separator_on (raw word)) ⊎ ((raw word).digit_separator ≡ 0)
+  pub exponent_base : (raw word).exponent_base ≡ 0 → (raw word).mantissa_radix ≡ 0
+  pub exponent_radix : (raw word).exponent_radix ≡ 0 → (raw word).mantissa_radix ≡ 0

@@ -1,0 +1,13 @@
+-- Several flags of a word at once.
+use Rattle.std.specs.Prelude.{ℕ, Bool, List, sum_by}
+use Rattle.std.specs.List.{list_any}
+use Rattle.lexical_flags.specs.Layout.{Flag}
+use Rattle.lexical_flags.specs.Record.{raw, flag_of, flag_bits}
+
+-- whether any of these flags is set
+unfoldable pub any_flag : ℕ → List Flag → Bool
+any_flag word fs = list_any (flag_of (raw word)) fs
+
+-- the word's bits of these flags, each at its place
+unfoldable pub bits_of : ℕ → List Flag → ℕ
+bits_of word fs = sum_by (flag_bits (raw word)) fs

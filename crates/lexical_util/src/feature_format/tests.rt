@@ -1,0 +1,200 @@
+use super::*;
+use crate::format::{format_error, format_is_valid};
+use std::test::Fail;
+
+const ALL_ONES: u128 = 0xFFFFFFFF_FFFFFFFF_FFFFFFFF_FFFFFFFF;
+
+// The flag alone is seen, and all but the flag are not.
+macro_rules! check_flags {
+    ($rt:ident; $($flag:ident $bit:literal;)*) => {$(
+        assert!($rt; NumberFormat::new(1 << $bit).$flag());
+        assert!($rt; !NumberFormat::new(ALL_ONES ^ (1 << $bit)).$flag());
+    )*};
+}
+
+#[test]
+fn flags_of_digits_and_signs(rt: HostRuntime) {
+    check_flags! { rt;
+        required_integer_digits 0;
+        required_fraction_digits 1;
+        required_exponent_digits 2;
+        required_mantissa_digits 3;
+        no_positive_mantissa_sign 4;
+        required_mantissa_sign 5;
+        no_exponent_notation 6;
+        no_positive_exponent_sign 7;
+        required_exponent_sign 8;
+    }
+}
+
+#[test]
+fn flags_of_notation_and_case(rt: HostRuntime) {
+    check_flags! { rt;
+        no_exponent_without_fraction 9;
+        no_special 10;
+        case_sensitive_special 11;
+        no_integer_leading_zeros 12;
+        no_float_leading_zeros 13;
+        required_exponent_notation 14;
+        case_sensitive_exponent 15;
+        case_sensitive_base_prefix 16;
+        case_sensitive_base_suffix 17;
+    }
+}
+
+#[test]
+fn flags_of_separators_between_and_before_digits(rt: HostRuntime) {
+    check_flags! { rt;
+        integer_internal_digit_separator 32;
+        fraction_internal_digit_separator 33;
+        exponent_internal_digit_separator 34;
+        integer_leading_digit_separator 35;
+        fraction_leading_digit_separator 36;
+        exponent_leading_digit_separator 37;
+    }
+}
+
+#[test]
+fn flags_of_separators_after_digits_and_in_a_row(rt: HostRuntime) {
+    check_flags! { rt;
+        integer_trailing_digit_separator 38;
+        fraction_trailing_digit_separator 39;
+        exponent_trailing_digit_separator 40;
+        integer_consecutive_digit_separator 41;
+        fraction_consecutive_digit_separator 42;
+        exponent_consecutive_digit_separator 43;
+        special_digit_separator 44;
+    }
+}
+
+// Each member alone is seen, and all but the members are not.
+macro_rules! check_groups {
+    ($rt:ident; $($group:ident $mask:literal $($bit:literal)*;)*) => {$(
+        $(assert!($rt; NumberFormat::new(1 << $bit).$group());)*
+        assert!($rt; !NumberFormat::new(ALL_ONES ^ $mask).$group());
+    )*};
+}
+
+#[test]
+fn groups(rt: HostRuntime) {
+    check_groups! { rt;
+        required_digits 0xF 0 1 2 3;
+        internal_digit_separator 0x7_0000_0000 32 33 34;
+        leading_digit_separator 0x38_0000_0000 35 36 37;
+        trailing_digit_separator 0x1C0_0000_0000 38 39 40;
+        consecutive_digit_separator 0xE00_0000_0000 41 42 43;
+    }
+}
+
+#[test]
+fn flag_groups(rt: HostRuntime) {
+    let view = NumberFormat::new(ALL_ONES);
+    assert_eq!(rt; view.flags(), 0x1FFF_0003_FFFF);
+    assert_eq!(rt; view.interface_flags(), 0xFFF_0000_63CF);
+    assert_eq!(rt; view.digit_separator_flags(), 0x1FFF_0000_0000);
+    assert_eq!(rt; view.exponent_flags(), 0x924_0000_43C4);
+    assert_eq!(rt; view.integer_digit_separator_flags(), 0x249_0000_0000);
+    assert_eq!(rt; view.fraction_digit_separator_flags(), 0x492_0000_0000);
+    assert_eq!(rt; view.exponent_digit_separator_flags(), 0x924_0000_0000);
+}
+
+#[test]
+fn bytes(rt: HostRuntime) {
+    let view = NumberFormat::new(0x06050403_02000001_00000000_0000000C);
+    assert_eq!(rt; view.digit_separator(), 1);
+    assert_eq!(rt; view.base_prefix(), 2);
+    assert_eq!(rt; view.base_suffix(), 3);
+    assert_eq!(rt; view.mantissa_radix(), 4);
+    assert_eq!(rt; view.radix(), 4);
+    assert_eq!(rt; view.exponent_base(), 5);
+    assert_eq!(rt; view.exponent_radix(), 6);
+    assert!(rt; view.has_digit_separator() && view.has_base_prefix() && view.has_base_suffix());
+    let bare = NumberFormat::default();
+    assert_eq!(rt; bare.exponent_base(), 10);
+    assert_eq!(rt; bare.exponent_radix(), 10);
+    assert!(rt; !bare.has_digit_separator() && !bare.has_base_prefix() && !bare.has_base_suffix());
+}
+
+#[test]
+fn separators_in_a_row(rt: HostRuntime) {
+    let view = NumberFormat::new(0x00000A00_00000000_00000200_0000000C);
+    assert!(rt; view.consecutive_digit_separator());
+    assert!(rt; !view.internal_digit_separator());
+    assert!(rt; !view.has_digit_separator());
+}
+
+#[test]
+fn powers_of_the_radix(rt: HostRuntime) {
+    let cases = [
+        (15, 225, 50625, 2562890625),
+        (16, 256, 65536, 0),
+        (36, 1296, 1679616, 3611361280),
+        (255, 65025, 4228250625, 3357276161),
+    ];
+    for (radix, second, fourth, eighth) in cases {
+        let view = NumberFormat::new(radix << 104);
+        assert_eq!(rt; view.radix2(), second, "radix {radix}");
+        assert_eq!(rt; view.radix4(), fourth, "radix {radix}");
+        assert_eq!(rt; view.radix8(), eighth, "radix {radix}");
+    }
+}
+
+#[test]
+fn errors(rt: HostRuntime) {
+    let cases = [
+        (0x0A0A0A00_00000000_00000000_0000000C, Error::Success),
+        (0x00000A00_00000000_00000000_0000000C, Error::Success),
+        (0, Error::InvalidMantissaRadix),
+        (ALL_ONES, Error::InvalidMantissaRadix),
+        (0x0A0A0A00_0000005F_00000000_0000000C, Error::Success),
+        (
+            0x0A0A0A00_00000035_00000000_0000000C,
+            Error::InvalidDigitSeparator,
+        ),
+        (0x00000A00_00000000_00000000_8000000C, Error::Success),
+        (
+            0x0A010A00_00000000_00000000_0000000C,
+            Error::InvalidExponentBase,
+        ),
+    ];
+    for (format, want) in cases {
+        let view = NumberFormat::new(format);
+        assert_eq!(rt; view.error(), want, "{format:x}");
+        assert_eq!(rt; format_error(format), want, "{format:x}");
+        assert_eq!(rt; view.is_valid(), want.is_success(), "{format:x}");
+        assert_eq!(rt; format_is_valid(format), want.is_success(), "{format:x}");
+    }
+}
+
+#[test]
+fn errors_of_radixes(rt: HostRuntime) {
+    let cases = [
+        (0x0A0A0A00_00000035_00000000_0000000C, Error::Success),
+        (0, Error::InvalidMantissaRadix),
+        (
+            0x0A010A00_00000000_00000000_0000000C,
+            Error::InvalidExponentBase,
+        ),
+        (
+            0x250A0A00_00000000_00000000_0000000C,
+            Error::InvalidExponentRadix,
+        ),
+    ];
+    for (format, want) in cases {
+        let view = NumberFormat::new(format);
+        assert_eq!(rt; view.error_radix(), want, "{format:x}");
+        assert_eq!(rt; view.is_valid_radix(), want.is_success(), "{format:x}");
+    }
+}
+
+#[test]
+fn builders(rt: HostRuntime) -> Result<(), Fail> {
+    let decimal = 0x0A0A0A00_00000000_00000000_0000000C;
+    assert_eq!(rt;
+        NumberFormat::default().rebuild().build_unchecked(),
+        decimal
+    );
+    assert_eq!(rt; NumberFormat::builder().build_unchecked(), STANDARD);
+    assert_eq!(rt; NumberFormat::new(12).clone()?.flags(), 12);
+    Ok(())
+}

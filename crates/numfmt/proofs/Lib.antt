@@ -1,0 +1,3 @@
+pub mod HexLemmas
+pub mod FigureLemmas
+pub mod TextLemmas

@@ -1,0 +1,2 @@
+pub mod WordText
+pub mod Program

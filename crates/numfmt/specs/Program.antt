@@ -1,0 +1,18 @@
+-- What the answers of the program say.
+use Rattle.numfmt.specs.declared.program.Answer.{Answer}
+use Rattle.numfmt.specs.declared.program.Answer.TheVariants as answers
+use Rattle.numfmt.specs.declared.program.Status.{Status}
+use Rattle.numfmt.specs.declared.program.Status.TheVariants as statuses
+use Rattle.std.specs.Prelude.{true, false}
+use Rattle.lexical_base.specs.declared.error.Error.TheVariants.{Success}
+
+-- how a run with this answer ends: with status 1 where the answer is no
+abbrev pub status_of : Answer → Status
+status_of (answers.Fields format) = statuses.Done
+status_of (answers.Word word) = statuses.Done
+status_of (answers.Sameness true) = statuses.Done
+status_of (answers.Sameness false) = statuses.Negative
+status_of (answers.Outcome Success) = statuses.Done
+status_of (answers.Outcome _) = statuses.Negative
+status_of (answers.Acceptance true) = statuses.Done
+status_of (answers.Acceptance false) = statuses.Negative

@@ -1,0 +1,112 @@
+//! Edits as text: `NAME=VALUE`.
+ghost use Rattle.std.specs.Prelude.{◌<◌, IfSome};
+
+use lexical_util::digit::char_to_digit;
+use lexical_util::edits::{Edit, FlagSetter};
+use lexical_util::format_builder::{NonZeroU8, OptionU8};
+
+/// The edit that `text` names, if it is NAME=VALUE, parted at the first `=`. NAME is that of a
+/// setter of a builder. VALUE is `true` or `false` for a flag or a group, a byte for a radix that
+/// cannot be absent, and `none` or a byte, where 0 is the same as `none`, for any other.
+pub fn read_edit(text: &str) -> Option<Edit> {
+    let (name, value) = text.split_once('=')?;
+    match flag_setter(name) {
+        Some(setter) => Some(Edit::Flag(setter, read_bool(value)?)),
+        None => read_byte_edit(name, value),
+    }
+}
+
+// The edit of a byte.
+fn read_byte_edit(name: &str, value: &str) -> Option<Edit> {
+    Some(match name {
+        "mantissa_radix" => Edit::MantissaRadix(read_byte(value)?),
+        "radix" => Edit::Radix(read_byte(value)?),
+        "digit_separator" => Edit::DigitSeparator(read_optional_byte(value)?),
+        "base_prefix" => Edit::BasePrefix(read_optional_byte(value)?),
+        "base_suffix" => Edit::BaseSuffix(read_optional_byte(value)?),
+        "exponent_base" => Edit::ExponentBase(read_optional_byte(value)?),
+        "exponent_radix" => Edit::ExponentRadix(read_optional_byte(value)?),
+        _ => return None,
+    })
+}
+
+// The setter of a flag or a group by its name.
+fn flag_setter(name: &str) -> Option<FlagSetter> {
+    Some(match name {
+        "required_integer_digits" => FlagSetter::RequiredIntegerDigits,
+        "required_fraction_digits" => FlagSetter::RequiredFractionDigits,
+        "required_exponent_digits" => FlagSetter::RequiredExponentDigits,
+        "required_mantissa_digits" => FlagSetter::RequiredMantissaDigits,
+        "no_positive_mantissa_sign" => FlagSetter::NoPositiveMantissaSign,
+        "required_mantissa_sign" => FlagSetter::RequiredMantissaSign,
+        "no_exponent_notation" => FlagSetter::NoExponentNotation,
+        "no_positive_exponent_sign" => FlagSetter::NoPositiveExponentSign,
+        "required_exponent_sign" => FlagSetter::RequiredExponentSign,
+        "no_exponent_without_fraction" => FlagSetter::NoExponentWithoutFraction,
+        "no_special" => FlagSetter::NoSpecial,
+        "case_sensitive_special" => FlagSetter::CaseSensitiveSpecial,
+        "no_integer_leading_zeros" => FlagSetter::NoIntegerLeadingZeros,
+        "no_float_leading_zeros" => FlagSetter::NoFloatLeadingZeros,
+        "required_exponent_notation" => FlagSetter::RequiredExponentNotation,
+        "case_sensitive_exponent" => FlagSetter::CaseSensitiveExponent,
+        "case_sensitive_base_prefix" => FlagSetter::CaseSensitiveBasePrefix,
+        "case_sensitive_base_suffix" => FlagSetter::CaseSensitiveBaseSuffix,
+        "integer_internal_digit_separator" => FlagSetter::IntegerInternalDigitSeparator,
+        "fraction_internal_digit_separator" => FlagSetter::FractionInternalDigitSeparator,
+        "exponent_internal_digit_separator" => FlagSetter::ExponentInternalDigitSeparator,
+        "integer_leading_digit_separator" => FlagSetter::IntegerLeadingDigitSeparator,
+        "fraction_leading_digit_separator" => FlagSetter::FractionLeadingDigitSeparator,
+        "exponent_leading_digit_separator" => FlagSetter::ExponentLeadingDigitSeparator,
+        "integer_trailing_digit_separator" => FlagSetter::IntegerTrailingDigitSeparator,
+        "fraction_trailing_digit_separator" => FlagSetter::FractionTrailingDigitSeparator,
+        "exponent_trailing_digit_separator" => FlagSetter::ExponentTrailingDigitSeparator,
+        "integer_consecutive_digit_separator" => FlagSetter::IntegerConsecutiveDigitSeparator,
+        "fraction_consecutive_digit_separator" => FlagSetter::FractionConsecutiveDigitSeparator,
+        "exponent_consecutive_digit_separator" => FlagSetter::ExponentConsecutiveDigitSeparator,
+        "special_digit_separator" => FlagSetter::SpecialDigitSeparator,
+        "required_digits" => FlagSetter::RequiredDigits,
+        "internal_digit_separator" => FlagSetter::InternalDigitSeparator,
+        "leading_digit_separator" => FlagSetter::LeadingDigitSeparator,
+        "trailing_digit_separator" => FlagSetter::TrailingDigitSeparator,
+        "consecutive_digit_separator" => FlagSetter::ConsecutiveDigitSeparator,
+        "digit_separator_flags" => FlagSetter::DigitSeparatorFlags,
+        "integer_digit_separator_flags" => FlagSetter::IntegerDigitSeparatorFlags,
+        "fraction_digit_separator_flags" => FlagSetter::FractionDigitSeparatorFlags,
+        "exponent_digit_separator_flags" => FlagSetter::ExponentDigitSeparatorFlags,
+        _ => return None,
+    })
+}
+
+fn read_bool(text: &str) -> Option<bool> {
+    match text {
+        "true" => Some(true),
+        "false" => Some(false),
+        _ => None,
+    }
+}
+
+// A byte that may be absent: `none`, or a byte, of which 0 stands for none.
+fn read_optional_byte(text: &str) -> Option<OptionU8> {
+    match text {
+        "none" => Some(None),
+        _ => Some(NonZeroU8::new(read_byte(text)?)),
+    }
+}
+
+/// The byte that `text` writes, if it is one to three figures whose value is at most 255.
+pub fn read_byte(text: &str) -> Option<u8> {
+    let (hundreds, tens, ones) = match text.as_bytes() {
+        [ones] => (b'0', b'0', *ones),
+        [tens, ones] => (b'0', *tens, *ones),
+        [hundreds, tens, ones] => (*hundreds, *tens, *ones),
+        _ => return None,
+    };
+    let value = figure(hundreds)? * 100 + figure(tens)? * 10 + figure(ones)?;
+    u8::try_from(value).ok()
+}
+
+fn figure(byte: u8) -> Option<u32>
+    ensures { IfSome result (λ figure. figure < 10) }
+{
+    char_to_digit(byte, 10)
+}

@@ -1,0 +1,40 @@
+//! The example of the README. A user of the library names `lexical_util` alone.
+
+use lexical_util::edits::{Edit, edit_word, same_format};
+use lexical_util::error::Error;
+use lexical_util::feature_format::NumberFormat;
+use lexical_util::format::{NonZeroU8, NumberFormatBuilder, format_error};
+use std::test::Fail;
+
+#[test]
+fn builds_reads_edits_and_checks(rt: HostRuntime) -> Result<(), Fail> {
+    // Build a format whose digits may be grouped, as in `1_000_000`, or learn what is wrong with it.
+    let format = NumberFormatBuilder::new()
+        .digit_separator(NonZeroU8::new(b'_'))
+        .internal_digit_separator(true)
+        .build_strict()?;
+
+    // Read its fields.
+    let view = NumberFormat::new(format);
+    assert_eq!(rt; view.digit_separator(), b'_');
+    assert!(rt; view.integer_internal_digit_separator());
+    assert_eq!(rt; view.radix(), 10);
+
+    // Edit the word: all fields that are not named stay as they were.
+    let hexadecimal = edit_word(
+        format,
+        &[
+            Edit::Radix(16),
+            Edit::ExponentBase(NonZeroU8::new(2)),
+            Edit::BasePrefix(NonZeroU8::new(b'x')),
+        ],
+    );
+    assert_eq!(rt; hexadecimal, 0x0A021000_7800005F_00000007_0000000C);
+    assert!(rt; !same_format(format, hexadecimal));
+
+    // Check it.
+    assert_eq!(rt; format_error(hexadecimal), Error::Success);
+    let clash = edit_word(hexadecimal, &[Edit::DigitSeparator(NonZeroU8::new(b'a'))]);
+    assert_eq!(rt; format_error(clash), Error::InvalidDigitSeparator);
+    Ok(())
+}

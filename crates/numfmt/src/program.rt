@@ -1,0 +1,254 @@
+//! The program over its arguments and a writer.
+
+ghost use Rattle.std.specs.Prelude.{◌≡◌, ◌≢◌, ◌<◌, ◌≤◌, ◌↔◌, ◌+◌, IfOk, IfErr, length, string_bytes};
+ghost use Rattle.std.specs.Result.{OkIff};
+ghost use Rattle.numfmt.specs.WordText.{IsWordText, hex};
+ghost use Rattle.numfmt.specs.Program.{status_of};
+
+use crate::edit::{read_byte, read_edit};
+use crate::word::{read_word, word_text};
+use lexical_util::edits::{Edit, edit_word, same_format};
+use lexical_util::error::Error;
+use lexical_util::format::{STANDARD, format_error};
+use lexical_util::format_flags as flags;
+use std::io;
+use std::io::Write;
+
+/// How many edits one command takes.
+const MAX_EDITS: usize = 64;
+
+/// Does what `args`, the words after the program's name, ask for, and answers the exit status: 0
+/// where it was done, 1 where the answer is no, 2 where the arguments are refused, and 3 where `out`
+/// failed. All text goes to `out`, which is flushed at the end; after a write or a flush that fails
+/// nothing more is written.
+pub fn run<W: Write>(args: &[String], out: &mut W) -> u8
+    ensures { result ≤ 3 }
+{
+    respond(args, out).unwrap_or(Status::Failed).code()
+}
+
+/// How a run ends.
+#[derive(Clone, Copy, Debug, PartialEq, Eq)]
+pub enum Status {
+    /// It was done, and the answer, if there is one, is yes.
+    Done,
+    /// The answer is no.
+    Negative,
+    /// The arguments are refused.
+    Refused,
+    /// The writer failed.
+    Failed,
+}
+
+impl Status {
+    // The exit status.
+    fn code(self) -> u8
+        ensures { result ≤ 3 }
+    {
+        match self {
+            Status::Done => 0,
+            Status::Negative => 1,
+            Status::Refused => 2,
+            Status::Failed => 3,
+        }
+    }
+}
+
+fn respond<W: Write>(args: &[String], out: &mut W) -> io::Result<Status>
+    ensures { IfOk result (λ status. status ≢ Status.Failed) }
+{
+    let status = match answer_to(args) {
+        Ok(answer) => answer.print(out)?,
+        Err(refusal) => refusal.print(out)?,
+    };
+    out.flush()?;
+    Ok(status)
+}
+
+/// What the arguments ask for, worked out and ready to be printed.
+#[derive(Clone, Copy, Debug, PartialEq, Eq)]
+pub enum Answer {
+    /// The fields of a word.
+    Fields(u128),
+    /// A word.
+    Word(u128),
+    /// Whether two words mean the same.
+    Sameness(bool),
+    /// The first rule that a word breaks, or `Success`.
+    Outcome(Error),
+    /// Whether an exponent byte and a point fit a word.
+    Acceptance(bool),
+}
+
+/// Why arguments are refused.
+#[derive(Clone, Copy, Debug, PartialEq, Eq)]
+pub enum Refusal {
+    /// The first word is no command.
+    UnknownCommand,
+    /// The command takes another number of arguments.
+    WrongNumberOfArguments,
+    /// There are more edits than one command takes.
+    TooManyEdits,
+    /// An argument is not the text of a word.
+    BadWord,
+    /// An argument is not an edit.
+    BadEdit,
+    /// An argument is not a byte.
+    BadByte,
+}
+
+fn answer_to(args: &[String]) -> Result<Answer, Refusal>
+    ensures { length args.now ≡ 0 → result ≡ Ok (Answer.Fields STANDARD) }
+{
+    match args {
+        [] => Ok(Answer::Fields(STANDARD)),
+        [command, args @ ..] => match command.as_str() {
+            "show" => show(args),
+            "edit" => edit(args),
+            "check" => check(args),
+            "same" => same(args),
+            "options" => options(args),
+            _ => Err(Refusal::UnknownCommand),
+        },
+    }
+}
+
+fn show(args: &[String]) -> Result<Answer, Refusal>
+    ensures { (result ≡ Err Refusal.WrongNumberOfArguments) ↔ (length args.now ≢ 1) }
+{
+    let [word] = args else {
+        return Err(Refusal::WrongNumberOfArguments);
+    };
+    Ok(Answer::Fields(word_of(word)?))
+}
+
+fn edit(args: &[String]) -> Result<Answer, Refusal>
+    ensures wrong_number { (result ≡ Err Refusal.WrongNumberOfArguments) ↔ (length args.now ≡ 0) }
+    ensures too_many { (result ≡ Err Refusal.TooManyEdits) ↔ (MAX_EDITS + 1 < length args.now) }
+{
+    let [word, texts @ ..] = args else {
+        return Err(Refusal::WrongNumberOfArguments);
+    };
+    if texts.len() > MAX_EDITS {
+        return Err(Refusal::TooManyEdits);
+    }
+    let format = word_of(word)?;
+    let mut edits = [Edit::Radix(0); MAX_EDITS];
+    for (i, text) in texts.iter().enumerate() {
+        edits[i] = read_edit(text.as_str()).ok_or(Refusal::BadEdit)?;
+    }
+    Ok(Answer::Word(edit_word(format, &edits[..texts.len()])))
+}
+
+fn check(args: &[String]) -> Result<Answer, Refusal>
+    ensures { (result ≡ Err Refusal.WrongNumberOfArguments) ↔ (length args.now ≢ 1) }
+{
+    let [word] = args else {
+        return Err(Refusal::WrongNumberOfArguments);
+    };
+    Ok(Answer::Outcome(format_error(word_of(word)?)))
+}
+
+fn same(args: &[String]) -> Result<Answer, Refusal>
+    ensures { (result ≡ Err Refusal.WrongNumberOfArguments) ↔ (length args.now ≢ 2) }
+{
+    let [a, b] = args else {
+        return Err(Refusal::WrongNumberOfArguments);
+    };
+    Ok(Answer::Sameness(same_format(word_of(a)?, word_of(b)?)))
+}
+
+fn options(args: &[String]) -> Result<Answer, Refusal>
+    ensures { (result ≡ Err Refusal.WrongNumberOfArguments) ↔ (length args.now ≢ 3) }
+{
+    let [word, exponent, decimal_point] = args else {
+        return Err(Refusal::WrongNumberOfArguments);
+    };
+    let format = word_of(word)?;
+    let exponent = byte_of(exponent)?;
+    let decimal_point = byte_of(decimal_point)?;
+    Ok(Answer::Acceptance(flags::is_valid_options_punctuation(format, exponent, decimal_point)))
+}
+
+// The word that an argument writes.
+fn word_of(text: &String) -> Result<u128, Refusal>
+    ensures word { OkIff result (IsWordText (string_bytes text.now)) (hex (string_bytes text.now)) }
+    ensures refusal { IfErr result (λ refusal. refusal ≡ Refusal.BadWord) }
+{
+    read_word(text.as_str()).ok_or(Refusal::BadWord)
+}
+
+// The byte that an argument writes.
+fn byte_of(text: &String) -> Result<u8, Refusal>
+    ensures { IfErr result (λ refusal. refusal ≡ Refusal.BadByte) }
+{
+    read_byte(text.as_str()).ok_or(Refusal::BadByte)
+}
+
+impl Refusal {
+    // What is printed behind the program's name.
+    fn text(self) -> &'static str {
+        match self {
+            Refusal::UnknownCommand => "unknown command",
+            Refusal::WrongNumberOfArguments => "wrong number of arguments",
+            Refusal::TooManyEdits => "too many edits",
+            Refusal::BadWord => "bad word",
+            Refusal::BadEdit => "bad edit",
+            Refusal::BadByte => "bad byte",
+        }
+    }
+
+    fn print<W: Write>(self, out: &mut W) -> io::Result<Status>
+        ensures { IfOk result (λ status. status ≡ Status.Refused) }
+    {
+        writeln!(out, "numfmt: {}", self.text())?;
+        Ok(Status::Refused)
+    }
+}
+
+impl Answer {
+    fn print<W: Write>(self, out: &mut W) -> io::Result<Status>
+        ensures { IfOk result (λ status. status ≡ status_of self) }
+    {
+        match self {
+            Answer::Fields(format) => print_fields(format, out)?,
+            Answer::Word(word) => print_word(word, out)?,
+            Answer::Sameness(true) => out.write_all(b"same\n")?,
+            Answer::Sameness(false) => out.write_all(b"different\n")?,
+            Answer::Outcome(error) => writeln!(out, "{error}")?,
+            Answer::Acceptance(true) => out.write_all(b"accepted\n")?,
+            Answer::Acceptance(false) => out.write_all(b"refused\n")?,
+        }
+        Ok(self.status())
+    }
+
+    // How a run with this answer ends.
+    fn status(self) -> Status
+        ensures { result ≡ status_of self }
+    {
+        match self {
+            Answer::Fields(_) | Answer::Word(_) | Answer::Sameness(true) => Status::Done,
+            Answer::Outcome(Error::Success) | Answer::Acceptance(true) => Status::Done,
+            _ => Status::Negative,
+        }
+    }
+}
+
+fn print_fields<W: Write>(format: u128, out: &mut W) -> io::Result<()> {
+    out.write_all(b"flags ")?;
+    print_word(format & flags::FLAG_MASK, out)?;
+    writeln!(out, "digit_separator {}", flags::digit_separator(format))?;
+    writeln!(out, "base_prefix {}", flags::base_prefix(format))?;
+    writeln!(out, "base_suffix {}", flags::base_suffix(format))?;
+    writeln!(out, "mantissa_radix {}", flags::mantissa_radix(format))?;
+    writeln!(out, "exponent_base {}", flags::exponent_base(format))?;
+    writeln!(out, "exponent_radix {}", flags::exponent_radix(format))
+}
+
+fn print_word<W: Write>(word: u128, out: &mut W) -> io::Result<()> {
+    out.write_all(&word_text(word))?;
+    out.write_all(b"\n")
+}
+
+#[cfg(test)]
+mod tests;

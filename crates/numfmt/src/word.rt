@@ -1,0 +1,52 @@
+//! Words as text: `0x` and hexadecimal digits.
+
+ghost use Rattle.std.specs.Prelude.{◌≡◌, ℕ, List};
+ghost use Rattle.std.specs.Option.{SomeIff};
+ghost use Rattle.numfmt.specs.WordText.{IsHexNumeral, IsWordText, IsPrintedForm, hex, hex_sum};
+
+use lexical_base::digit::{char_to_digit, digit_to_char};
+
+/// The word that `text` writes: `Some` exactly if `text` is `0x` and 1 to 32 hexadecimal digits, of
+/// either case.
+pub fn read_word(text: &str) -> Option<u128>
+    ensures { SomeIff result (IsWordText text.now) (hex text.now) }
+{
+    match text.as_bytes() {
+        [b'0', b'x', digits @ ..] => read_digits(digits),
+        _ => None,
+    }
+}
+
+// The number that 1 to 32 hexadecimal digits write.
+fn read_digits(digits: &[u8]) -> Option<u128>
+    ensures { SomeIff result (IsHexNumeral digits.now) (hex_sum digits.now) }
+{
+    if digits.is_empty() || digits.len() > 32 {
+        return None;
+    }
+    let mut word = 0;
+    for digit in digits {
+        word = word * 16 + char_to_digit(*digit, 16)? as u128;
+    }
+    Some(word)
+}
+
+/// The text of `word` as it is printed: `0x` and 32 hexadecimal digits with capital letters. To
+/// `read_word` it is the text of `word` again.
+pub fn word_text(word: u128) -> [u8; 34]
+    ensures form { IsPrintedForm result }
+    ensures value { hex result ≡ word }
+    ensures word_text { IsWordText result }
+
+    // No other text has this form and this number.
+    ensures only { (text : List ℕ) → IsPrintedForm text → hex text ≡ word → text ≡ result }
+{
+    let mut text = [b'0'; 34];
+    text[1] = b'x';
+    let mut rest = word;
+    for place in 0..32usize {
+        text[33 - place] = digit_to_char((rest % 16) as u32);
+        rest /= 16;
+    }
+    text
+}
