@@ -1,5 +1,5 @@
 -- What writes leave in a record, and that one list of writes after another is both lists in a row.
-use Rattle.std.proofs.Common.{◌≡◌, ℕ, Bool, List, [], ◌∷◌, ◌++◌, Option, Some, None, unwrap_or, filter_map, refl, sym, ap, subst, ◌∙◌, ◌<◌, cond, eqb, arith, All}
+use Rattle.std.proofs.Common.{◌≡◌, ℕ, List, [], ◌∷◌, ◌++◌, Option, Some, None, unwrap_or, filter_map, refl, sym, ap, subst, ◌∙◌, ◌<◌, eqb, arith, All}
 use Rattle.std.proofs.lemmas.Bool.{cond_both}
 use Rattle.std.proofs.lemmas.List.Elements.{All-head, All-tail}
 use Rattle.std.specs.List.{last_or, cons_option}
@@ -7,7 +7,7 @@ use Rattle.lexical_flags.specs.Layout.{Flag, Byte, shift}
 use Rattle.lexical_flags.specs.Record.{Record, flag_of, byte_of, HasBytes}
 use Rattle.lexical_flags.specs.Layout as layout
 use Rattle.lexical_flags.proofs.RecordLemmas.{flag_of-tabulate, byte_of-tabulate, record_same}
-use Rattle.lexical_builder.specs.Writes.{Write, write_flag, write_byte, IsLegal, new_record, flag_in, byte_in, last_flag, last_byte, after, SameWrites}
+use Rattle.lexical_builder.specs.Writes.{Write, write_flag, write_byte, IsLegal, new_record, flag_in, byte_in, after, SameWrites}
 
 -- the value that writes leave in a field that began with d, where h says what one write gives it
 abbrev pub left_by : {T : Type 0} → (Write → Option T) → List Write → T → T

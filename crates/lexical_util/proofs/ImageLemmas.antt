@@ -1,5 +1,5 @@
 -- The words that a builder can pack, and the least number of writes to one.
-use Rattle.std.proofs.Common.{◌≡◌, ℕ, ◌<◌, ◌≤◌, ◌^◌, ◌⊎◌, inl, inr, Bool, IsTrue, length, List, sym, ap, ◌∙◌, subst, All, le_trans}
+use Rattle.std.proofs.Common.{◌≡◌, ℕ, ◌<◌, ◌≤◌, ◌^◌, ◌⊎◌, inl, inr, IsTrue, length, List, sym, ap, ◌∙◌, subst, All, le_trans}
 use Rattle.std.proofs.lemmas.Bool.{cases_Bool, cond-false}
 use Rattle.lexical_flags.specs.Record.{Record, raw, trim, pack, separator_on, HasBytes, IsBuilt}
 use Rattle.lexical_flags.proofs.Packing.{raw-pack, pack-clean, pack-raw, HasBytes-raw}

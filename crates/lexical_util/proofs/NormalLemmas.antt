@@ -1,5 +1,5 @@
 -- Normal forms: which words are their own, what one keeps of a word, and when two words have the same.
-use Rattle.std.proofs.Common.{◌≡◌, ℕ, ◌<◌, ◌^◌, ◌⊎◌, ◌↔◌, inl, inr, Bool, true, false, cond, eqb, eq-eqb, eqb-true, IsTrue, refl, sym, ap, ◌∙◌, subst, List, [], ◌∷◌}
+use Rattle.std.proofs.Common.{◌≡◌, ℕ, ◌<◌, ◌^◌, ◌⊎◌, inl, inr, Bool, true, false, cond, eqb, eq-eqb, eqb-true, IsTrue, refl, sym, ap, ◌∙◌, subst, List}
 use Rattle.std.specs.List.{list_any}
 use Rattle.std.proofs.lemmas.Bool.{cases_Bool, cond-true, cond-false, false≢true}
 use Rattle.lexical_flags.specs.Layout.{Flag, Byte, digit_separator_flags, IsClean}

@@ -1,5 +1,5 @@
 -- Sums of hexadecimal digits.
-use Rattle.std.proofs.Common.{◌≡◌, ℕ, zero, suc, ◌+◌, ◌-◌, ◌*◌, ◌/◌, ◌%◌, ◌^◌, ◌<◌, ◌≤◌, Bool, true, false, List, [], ◌∷◌, ◌++◌, length, take, drop, get_or, nat_lt, nat_le, ◌&&◌, refl, sym, ap, ◌∙◌, arith, length-append, Option, Some, None, if◌then◌else◌, ◌⊎◌, ⊎_elim}
+use Rattle.std.proofs.Common.{◌≡◌, ℕ, suc, ◌+◌, ◌*◌, ◌^◌, ◌<◌, ◌≤◌, Bool, true, false, List, [], ◌∷◌, ◌++◌, length, take, get_or, nat_lt, nat_le, refl, sym, ap, ◌∙◌, arith, length-append, Some, None, if◌then◌else◌}
 use Rattle.std.proofs.Math.Nat.{pow-suc, mul_assoc}
 use Rattle.std.proofs.lemmas.Bool.Decides.{nat_tests}
 use Rattle.std.proofs.lemmas.List.{take_more}
@@ -7,7 +7,7 @@ use Rattle.std.proofs.lemmas.List.Elements.{All-from_get_or}
 use Rattle.std.proofs.lemmas.List.{take_all}
 use borrow.Author.Count.{below_more}
 use Rattle.lexical_base.specs.Digits.{value, digit_of}
-use Rattle.lexical_base.proofs.Finite.{passes_below, passes_at}
+use Rattle.lexical_base.proofs.Finite.{passes_at}
 use Rattle.numfmt.specs.WordText.{hex_sum, is_hex_digit, IsHexNumeral}
 
 -- one more digit at the right

@@ -1,5 +1,5 @@
 -- What `word_text` has written so far, and that no other text has the same form and number.
-use Rattle.std.proofs.Common.{◌≡◌, ◌≢◌, ℕ, ◌+◌, ◌-◌, ◌*◌, ◌/◌, ◌%◌, ◌^◌, ◌<◌, ◌≤◌, Bool, true, false, List, [], ◌∷◌, ◌++◌, take, drop, get_or, length, codes, nat_lt, ◌||◌, Some, slice_get, slice_index_or, refl, sym, ap, ◌∙◌, arith, replicate, ◌⊎◌, ⊎_elim, length-drop}
+use Rattle.std.proofs.Common.{◌≡◌, ◌≢◌, ℕ, ◌+◌, ◌-◌, ◌*◌, ◌/◌, ◌%◌, ◌^◌, ◌<◌, ◌≤◌, Bool, true, List, [], ◌∷◌, ◌++◌, take, drop, get_or, length, codes, nat_lt, ◌||◌, Some, slice_get, slice_index_or, refl, sym, ap, ◌∙◌, arith, replicate, ◌⊎◌, ⊎_elim, length-drop}
 use Rattle.std.proofs.Math.ListN.{set}
 use Rattle.std.proofs.Math.Nat.{mul-le-mul_left, pow-suc}
 use Rattle.std.proofs.lemmas.Nat.{div-mul-add}
@@ -10,7 +10,7 @@ use Rattle.std.proofs.lemmas.List.Sums.{AllPass-from_list_all, list_all-from_All
 use Rattle.std.specs.List.{AllPass, list_all}
 use Rattle.lexical_base.specs.Digits.{value, figures}
 use Rattle.lexical_base.proofs.Finite.{passes_at}
-use Rattle.numfmt.specs.WordText.{hex, hex_sum, hex_digits, is_hex_digit, is_capital_hex_digit, IsHexNumeral, IsWordText, IsPrintedForm}
+use Rattle.numfmt.specs.WordText.{hex, hex_sum, hex_digits, is_hex_digit, is_capital_hex_digit, IsWordText, IsPrintedForm}
 use Rattle.numfmt.proofs.HexLemmas.{power_next}
 use Rattle.numfmt.proofs.FigureLemmas.{both_pass, figure_from_value, hex_from_capital, capital_from_figure}
 

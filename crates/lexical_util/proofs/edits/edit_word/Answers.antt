@@ -1,4 +1,4 @@
-use Rattle.std.proofs.Common.{◌≡◌, ◌<◌, ◌^◌, sym, ap, ◌∙◌, arith}
+use Rattle.std.proofs.Common.{sym, ap, ◌∙◌, arith}
 use Rattle.lexical_flags.specs.Record.{fill, raw, trim, pack}
 use Rattle.lexical_util.proofs.EditLemmas.{writes_end}
 use Rattle.lexical_util.proofs.EditLemmas.{edited-same}

@@ -1,4 +1,4 @@
-use Rattle.std.proofs.Common.{◌≡◌, ◌≤◌, ℕ, length, ◌∙◌, sym, ap, arith, subst}
+use Rattle.std.proofs.Common.{◌≤◌, length, ◌∙◌, sym, ap, arith, subst}
 use Rattle.lexical_flags.specs.Record.{raw}
 use Rattle.lexical_flags.proofs.Packing.{HasBytes-raw, pack-raw}
 use Rattle.lexical_util.proofs.ListingLemmas.{length-field_edits, length-changing}

@@ -1,4 +1,4 @@
-use Rattle.std.proofs.Common.{◌≡◌, rules}
+use Rattle.std.proofs.Common.{rules}
 use Rattle.lexical_flags.proofs.ByteParts.{exponent_base_part, exponent_radix_part}
 use Rattle.lexical_util.proofs.edits.field_edits_of.Goals as goal
 

@@ -1,4 +1,4 @@
-use Rattle.std.proofs.Common.{◌<◌, ◌^◌, arith}
+use Rattle.std.proofs.Common.{arith}
 use Rattle.lexical_util.proofs.ImageLemmas.{IsMade-built, IsBuilt-made}
 use Rattle.lexical_util.proofs.edits.is_built.Goals as goal
 

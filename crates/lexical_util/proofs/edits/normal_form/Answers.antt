@@ -1,5 +1,5 @@
 use Rattle.std.proofs.Common.{◌∙◌, sym, ap, subst, arith}
-use Rattle.lexical_flags.specs.Record.{raw, pack, trim}
+use Rattle.lexical_flags.specs.Record.{raw, pack}
 use Rattle.lexical_util.specs.Normal.{normal_form_of, SameFormat}
 use Rattle.lexical_util.proofs.NormalLemmas.{normal_form-is, normal_again, normal_from_fixed, fixed_from_normal, normal_keeps}
 use Rattle.lexical_util.proofs.edits.normal_form.Goals as goal

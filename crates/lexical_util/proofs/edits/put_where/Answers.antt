@@ -1,4 +1,4 @@
-use Rattle.std.proofs.Common.{◌<◌, ◌≡◌, ◌∙◌, sym, ap, arith, length, filter, take, true, false}
+use Rattle.std.proofs.Common.{◌∙◌, sym, ap, arith}
 use Rattle.std.proofs.Math.Bool.{beq}
 use Rattle.lexical_util.specs.Listing.{changes_new}
 use Rattle.lexical_util.proofs.PutLemmas.{put_below, put_none, put_more_yes, put_more_no, put_all}

@@ -1,6 +1,6 @@
-use Rattle.std.proofs.Common.{◌≡◌, ◌∙◌, ap, sym, subst}
+use Rattle.std.proofs.Common.{◌∙◌, ap, sym, subst}
 use Rattle.lexical_flags.specs.Layout.{IsClean}
-use Rattle.lexical_flags.specs.Record.{Record, raw, pack}
+use Rattle.lexical_flags.specs.Record.{raw}
 use Rattle.lexical_flags.proofs.Packing.{raw-pack, pack-clean, pack-injective}
 use Rattle.lexical_builder.proofs.format_builder.NumberFormatBuilder.build_unchecked.Goals as goal
 

@@ -1,4 +1,4 @@
-use Rattle.std.proofs.Common.{◌≡◌, ◌∙◌, ap}
+use Rattle.std.proofs.Common.{◌≡◌}
 use Rattle.lexical_flags.specs.Layout.{bit}
 use Rattle.lexical_flags.specs.Record.{Record, raw, tabulate, byte_of, effective_exponent_base, effective_exponent_radix}
 use Rattle.lexical_flags.proofs.FlagBits.{flag_test}
