@@ -1,5 +1,6 @@
 -- Digits and their values.
-use Rattle.std.specs.Prelude.{ℕ, ◌-◌, Bool, List, Option, Some, None, codes, position, unwrap_or, ◌==◌, nat_le, nat_lt, ◌&&◌, if◌then◌else◌}
+use Rattle.std.specs.Prelude.{ℕ, ◌-◌, Bool, List, Option, Some, None, codes, position, unwrap_or, ◌==◌, nat_lt, if◌then◌else◌}
+use Rattle.lexical_base.specs.Ascii.{between}
 
 -- the 36 figures, each at the place of its value
 abbrev pub figures : List ℕ
@@ -7,7 +8,7 @@ figures = codes "0123456789ABCDEFGHIJKLMNOPQRSTUVWXYZ"
 
 -- whether a byte is a small letter, a to z
 abbrev pub is_small_letter : ℕ → Bool
-is_small_letter byte = nat_le 97 byte && nat_le byte 122
+is_small_letter = between 97 122
 
 -- the capital of a small letter; any other byte stays as it is
 abbrev pub capital : ℕ → ℕ

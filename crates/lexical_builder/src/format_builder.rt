@@ -337,103 +337,77 @@ impl NumberFormatBuilder {
     fn packed_flags(&self) -> u128
         ensures { result ≡ sum_by (flag_bits self.now) layout.flags }
     {
-        bits_where(self.required_integer_digits, flags::REQUIRED_INTEGER_DIGITS)
-            | bits_where(
-                self.required_fraction_digits,
-                flags::REQUIRED_FRACTION_DIGITS,
-            )
-            | bits_where(
-                self.required_exponent_digits,
-                flags::REQUIRED_EXPONENT_DIGITS,
-            )
-            | bits_where(
-                self.required_mantissa_digits,
-                flags::REQUIRED_MANTISSA_DIGITS,
-            )
-            | bits_where(
-                self.no_positive_mantissa_sign,
-                flags::NO_POSITIVE_MANTISSA_SIGN,
-            )
-            | bits_where(self.required_mantissa_sign, flags::REQUIRED_MANTISSA_SIGN)
-            | bits_where(self.no_exponent_notation, flags::NO_EXPONENT_NOTATION)
-            | bits_where(
-                self.no_positive_exponent_sign,
-                flags::NO_POSITIVE_EXPONENT_SIGN,
-            )
-            | bits_where(self.required_exponent_sign, flags::REQUIRED_EXPONENT_SIGN)
-            | bits_where(
+        use lexical_flags::format_flags::*;
+        bits_if(self.required_integer_digits, REQUIRED_INTEGER_DIGITS)
+            | bits_if(self.required_fraction_digits, REQUIRED_FRACTION_DIGITS)
+            | bits_if(self.required_exponent_digits, REQUIRED_EXPONENT_DIGITS)
+            | bits_if(self.required_mantissa_digits, REQUIRED_MANTISSA_DIGITS)
+            | bits_if(self.no_positive_mantissa_sign, NO_POSITIVE_MANTISSA_SIGN)
+            | bits_if(self.required_mantissa_sign, REQUIRED_MANTISSA_SIGN)
+            | bits_if(self.no_exponent_notation, NO_EXPONENT_NOTATION)
+            | bits_if(self.no_positive_exponent_sign, NO_POSITIVE_EXPONENT_SIGN)
+            | bits_if(self.required_exponent_sign, REQUIRED_EXPONENT_SIGN)
+            | bits_if(
                 self.no_exponent_without_fraction,
-                flags::NO_EXPONENT_WITHOUT_FRACTION,
+                NO_EXPONENT_WITHOUT_FRACTION,
             )
-            | bits_where(self.no_special, flags::NO_SPECIAL)
-            | bits_where(self.case_sensitive_special, flags::CASE_SENSITIVE_SPECIAL)
-            | bits_where(
-                self.no_integer_leading_zeros,
-                flags::NO_INTEGER_LEADING_ZEROS,
-            )
-            | bits_where(self.no_float_leading_zeros, flags::NO_FLOAT_LEADING_ZEROS)
-            | bits_where(
-                self.required_exponent_notation,
-                flags::REQUIRED_EXPONENT_NOTATION,
-            )
-            | bits_where(self.case_sensitive_exponent, flags::CASE_SENSITIVE_EXPONENT)
-            | bits_where(
-                self.case_sensitive_base_prefix,
-                flags::CASE_SENSITIVE_BASE_PREFIX,
-            )
-            | bits_where(
-                self.case_sensitive_base_suffix,
-                flags::CASE_SENSITIVE_BASE_SUFFIX,
-            )
-            | bits_where(
+            | bits_if(self.no_special, NO_SPECIAL)
+            | bits_if(self.case_sensitive_special, CASE_SENSITIVE_SPECIAL)
+            | bits_if(self.no_integer_leading_zeros, NO_INTEGER_LEADING_ZEROS)
+            | bits_if(self.no_float_leading_zeros, NO_FLOAT_LEADING_ZEROS)
+            | bits_if(self.required_exponent_notation, REQUIRED_EXPONENT_NOTATION)
+            | bits_if(self.case_sensitive_exponent, CASE_SENSITIVE_EXPONENT)
+            | bits_if(self.case_sensitive_base_prefix, CASE_SENSITIVE_BASE_PREFIX)
+            | bits_if(self.case_sensitive_base_suffix, CASE_SENSITIVE_BASE_SUFFIX)
+            | bits_if(
                 self.integer_internal_digit_separator,
-                flags::INTEGER_INTERNAL_DIGIT_SEPARATOR,
+                INTEGER_INTERNAL_DIGIT_SEPARATOR,
             )
-            | bits_where(
+            | bits_if(
                 self.fraction_internal_digit_separator,
-                flags::FRACTION_INTERNAL_DIGIT_SEPARATOR,
+                FRACTION_INTERNAL_DIGIT_SEPARATOR,
             )
-            | bits_where(
+            | bits_if(
                 self.exponent_internal_digit_separator,
-                flags::EXPONENT_INTERNAL_DIGIT_SEPARATOR,
+                EXPONENT_INTERNAL_DIGIT_SEPARATOR,
             )
-            | bits_where(
+            | bits_if(
                 self.integer_leading_digit_separator,
-                flags::INTEGER_LEADING_DIGIT_SEPARATOR,
+                INTEGER_LEADING_DIGIT_SEPARATOR,
             )
-            | bits_where(
+            | bits_if(
                 self.fraction_leading_digit_separator,
-                flags::FRACTION_LEADING_DIGIT_SEPARATOR,
+                FRACTION_LEADING_DIGIT_SEPARATOR,
             )
-            | bits_where(
+            | bits_if(
                 self.exponent_leading_digit_separator,
-                flags::EXPONENT_LEADING_DIGIT_SEPARATOR,
+                EXPONENT_LEADING_DIGIT_SEPARATOR,
             )
-            | bits_where(
+            | bits_if(
                 self.integer_trailing_digit_separator,
-                flags::INTEGER_TRAILING_DIGIT_SEPARATOR,
+                INTEGER_TRAILING_DIGIT_SEPARATOR,
             )
-            | bits_where(
+            | bits_if(
                 self.fraction_trailing_digit_separator,
-                flags::FRACTION_TRAILING_DIGIT_SEPARATOR,
+                FRACTION_TRAILING_DIGIT_SEPARATOR,
             )
-            | bits_where(
+            | bits_if(
                 self.exponent_trailing_digit_separator,
-                flags::EXPONENT_TRAILING_DIGIT_SEPARATOR,
+                EXPONENT_TRAILING_DIGIT_SEPARATOR,
             )
-            | bits_where(
+            | bits_if(
                 self.integer_consecutive_digit_separator,
-                flags::INTEGER_CONSECUTIVE_DIGIT_SEPARATOR,
+                INTEGER_CONSECUTIVE_DIGIT_SEPARATOR,
             )
-            | bits_where(
+            | bits_if(
                 self.fraction_consecutive_digit_separator,
-                flags::FRACTION_CONSECUTIVE_DIGIT_SEPARATOR,
+                FRACTION_CONSECUTIVE_DIGIT_SEPARATOR,
             )
-            | bits_where(
+            | bits_if(
                 self.exponent_consecutive_digit_separator,
-                flags::EXPONENT_CONSECUTIVE_DIGIT_SEPARATOR,
+                EXPONENT_CONSECUTIVE_DIGIT_SEPARATOR,
             )
-            | bits_where(self.special_digit_separator, flags::SPECIAL_DIGIT_SEPARATOR)
+            | bits_if(self.special_digit_separator, SPECIAL_DIGIT_SEPARATOR)
     }
 }
 
@@ -449,9 +423,9 @@ fn used_separator(flags: u128, separator: u8) -> u8
     }
 }
 
-// The bits where the flag is set, or 0.
+// The bits if the flag is set, or 0.
 #[inline(always)]
-fn bits_where(flag: bool, bits: u128) -> u128
+fn bits_if(flag: bool, bits: u128) -> u128
     ensures { result ≡ (if flag then bits else 0) }
 {
     if flag { bits } else { 0 }

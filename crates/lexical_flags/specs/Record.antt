@@ -153,6 +153,10 @@ fill r = record r { exponent_base = effective_exponent_base r; exponent_radix = 
 abbrev pub separator_on : Record → Bool
 separator_on r = list_any (flag_of r) digit_separator_flags
 
+-- a digit separator is there only where it may stand somewhere
+abbrev pub SeparatorIsUsed : Record → Type 0
+SeparatorIsUsed r = IsTrue (separator_on r) ⊎ (r.digit_separator ≡ 0)
+
 -- the record with no digit separator where none may stand
 abbrev pub trim : Record → Record
 trim r = record r { digit_separator = if separator_on r then r.digit_separator else 0 }
@@ -176,7 +180,7 @@ pack r = word_of (trim r)
 -- a word that is packed from some record: clean, and with a separator only where one may stand
 pub record IsBuilt (word : ℕ) : Type 0 where
   pub clean : IsClean word
-  pub separator_used : IsTrue (separator_on (raw word)) ⊎ ((raw word).digit_separator ≡ 0)
+  pub separator_used : SeparatorIsUsed (raw word)
 
 -- each byte is 0 to 255
 pub record HasBytes (r : Record) : Type 0 where

@@ -7,7 +7,7 @@ use Rattle.lexical_builder.specs.Writes.{Write, IsLegal, new_record, after}
 use Rattle.lexical_builder.proofs.WriteLemmas.{HasBytes-after, HasBytes-new}
 use Rattle.lexical_builder.proofs.Distance.{distance, distance-after, distance-trim}
 use Rattle.lexical_builder.proofs.FieldWrites.{field_writes, after-field_writes, legal-field_writes}
-use Rattle.lexical_util.specs.Listing.{IsMade}
+use Rattle.lexical_util.specs.Listing.{IsBuiltByWrites}
 
 -- no fewer writes make the word
 pub fewest_writes : (w : ℕ) (L : List Write) → All IsLegal L → pack (after new_record L) ≡ w → distance new_record (raw w) ≤ length L
@@ -25,12 +25,12 @@ IsBuilt-pack R bytes = record {
   separator_used = subst (λ (S : Record). IsTrue (separator_on S) ⊎ (S.digit_separator ≡ 0)) (sym (raw-pack R bytes)) (trimmed R);
 }
 
-pub IsMade-built : (w : ℕ) → w < 2 ^ 128 → IsBuilt w → IsMade w
-IsMade-built w fits built = record {
+pub IsBuiltByWrites-built : (w : ℕ) → w < 2 ^ 128 → IsBuilt w → IsBuiltByWrites w
+IsBuiltByWrites-built w fits built = record {
   writes = field_writes (raw w);
   legal = legal-field_writes (raw w) (HasBytes-raw w);
   makes = ap pack (after-field_writes new_record (raw w)) ∙ (pack-raw w fits).1 built;
 }
 
-pub IsBuilt-made : (w : ℕ) → IsMade w → IsBuilt w
-IsBuilt-made w made = subst IsBuilt made.makes (IsBuilt-pack (after new_record made.writes) (HasBytes-after new_record made.writes HasBytes-new made.legal))
+pub IsBuilt-by_writes : (w : ℕ) → IsBuiltByWrites w → IsBuilt w
+IsBuilt-by_writes w made = subst IsBuilt made.makes (IsBuilt-pack (after new_record made.writes) (HasBytes-after new_record made.writes HasBytes-new made.legal))

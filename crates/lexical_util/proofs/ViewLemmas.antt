@@ -1,8 +1,9 @@
 -- What a mask reads of a word, for a mask that is written as a number.
-use Rattle.std.proofs.Common.{ℕ, ◌≡◌, ◌*◌, ◌/◌, ◌%◌, ◌^◌, ◌<◌, ◌==◌, inl, inr, Bool, true, false, not, zero, suc, if◌then◌else◌, List, [], ◌∷◌, sum_by, bit_and, refl, ap, sym, ◌∙◌, arith}
+use Rattle.std.proofs.Common.{ℕ, ◌≡◌, ◌*◌, ◌/◌, ◌%◌, ◌^◌, ◌<◌, ◌==◌, ◌≢◌, nat_lt, IsTrue, inl, inr, Bool, true, false, not, zero, suc, if◌then◌else◌, List, [], ◌∷◌, sum_by, bit_and, refl, ap, sym, ◌∙◌, arith}
 use Rattle.std.specs.List.{list_any}
 use Rattle.std.proofs.Math.Nat.{mod-lt}
 use Rattle.std.proofs.lemmas.Bool.{cases_eq, ne_eqb}
+use Rattle.std.proofs.lemmas.Bool.Decides.{nat_tests}
 use Rattle.std.proofs.lemmas.Nat.{pow-add}
 use Rattle.lexical_flags.specs.Layout.{part, Flag, bit, flags}
 use Rattle.lexical_flags.specs.Record.{flag_of, raw, flag_bits}
@@ -10,6 +11,8 @@ use Rattle.lexical_flags.specs.Constants.{mask_of}
 use Rattle.lexical_flags.proofs.RecordLemmas.{flag_of-raw}
 use Rattle.lexical_flags.proofs.Masks.{ascends, and_all}
 use Rattle.lexical_flags.proofs.FlagBits.{flag_test, mask_test}
+use Rattle.lexical_flags.specs.Common.{common}
+use Rattle.lexical_flags.proofs.CommonLemmas.{common-bit_and}
 use Rattle.lexical_util.specs.View.{any_flag, bits_of}
 
 -- whether a number is the mask of one flag
@@ -48,6 +51,14 @@ flag_bits-raw word f = one_bit (part word (bit f) 1) (bit f) (mod-lt _ (omega ar
 pub bits_by_mask : (word mask : ℕ) (fs : List Flag) → mask ≡ mask_of fs → ascends bit 1 0 fs ≡ true → bit_and word mask ≡ bits_of word fs
 unfolding bits_of
 bits_by_mask word mask fs is up = rw is (and_all bit fs word up ∙ (λ i. sum_by (λ f. flag_bits-raw word f i) fs))
+
+-- what a word and a mask have in common
+pub common_by_mask : (word mask : ℕ) → nat_lt mask (2 ^ 128) ≡ true → bit_and word mask ≡ common word mask
+common_by_mask word mask fits = sym (common-bit_and word mask (grind (arith, nat_tests)))
+
+-- whether they have any bit in common
+pub some_by_mask : (word mask : ℕ) → nat_lt mask (2 ^ 128) ≡ true → (IsTrue (not (bit_and word mask == 0)) → common word mask ≢ 0) × (common word mask ≢ 0 → IsTrue (not (bit_and word mask == 0)))
+some_by_mask word mask fits = let same : bit_and word mask ≡ common word mask = common_by_mask word mask fits in grind (arith, nat_tests)
 
 -- powers by squaring
 pub fourth_power : (n : ℕ) → n ^ 2 * n ^ 2 ≡ n ^ 4

@@ -74,7 +74,7 @@ abbrev pub unchanging : Record → List Edit
 unchanging r = filter (λ edit. not (changes_new edit)) (field_edits r)
 
 -- some legal writes to a new builder make the word
-pub record IsMade (word : ℕ) : Type 0 where
+pub record IsBuiltByWrites (word : ℕ) : Type 0 where
   pub writes : List Write
   pub legal : All IsLegal writes
   pub makes : pack (after new_record writes) ≡ word

@@ -1,7 +1,7 @@
 -- Normal forms, and the words that have the same one.
-use Rattle.std.specs.Prelude.{◌≡◌, ℕ, ◌⊎◌, IsTrue, []}
+use Rattle.std.specs.Prelude.{◌≡◌, ℕ, IsTrue, []}
 use Rattle.lexical_flags.specs.Layout.{Flag, IsClean}
-use Rattle.lexical_flags.specs.Record.{Record, flag_of, raw, separator_on, effective_exponent_base, effective_exponent_radix}
+use Rattle.lexical_flags.specs.Record.{Record, flag_of, raw, separator_on, SeparatorIsUsed, effective_exponent_base, effective_exponent_radix}
 use Rattle.lexical_util.specs.Edits.{edited}
 
 -- the word that no writes make of a word
@@ -21,6 +21,6 @@ pub record SameFormat (r s : Record) : Type 0 where
 -- a word that is its own normal form: clean, a separator only where it may stand, and no exponent byte that could be filled
 pub record IsNormal (word : ℕ) : Type 0 where
   pub clean : IsClean word
-  pub separator_used : IsTrue (separator_on (raw word)) ⊎ ((raw word).digit_separator ≡ 0)
+  pub separator_used : SeparatorIsUsed (raw word)
   pub exponent_base : (raw word).exponent_base ≡ 0 → (raw word).mantissa_radix ≡ 0
   pub exponent_radix : (raw word).exponent_radix ≡ 0 → (raw word).mantissa_radix ≡ 0

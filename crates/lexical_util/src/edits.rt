@@ -1,13 +1,13 @@
 //! Edits of a format word: lists of setter calls, and the normal form of a word.
 
-ghost use Rattle.std.specs.Prelude.{◌≡◌, ℕ, ◌+◌, ◌<◌, ◌≤◌, ◌^◌, ◌↔◌, ◌⊎◌, ◌++◌, IsTrue, List, All, length, filter, take};
+ghost use Rattle.std.specs.Prelude.{◌≡◌, ℕ, ◌+◌, ◌<◌, ◌≤◌, ◌^◌, ◌↔◌, ◌++◌, IsTrue, List, All, length, filter, take};
 ghost use Rattle.std.proofs.Math.Bool.{beq};
 ghost use Rattle.lexical_flags.specs.Layout.{IsClean};
-ghost use Rattle.lexical_flags.specs.Record.{raw, fill, trim, pack, separator_on, IsBuilt};
+ghost use Rattle.lexical_flags.specs.Record.{raw, fill, trim, pack, SeparatorIsUsed, IsBuilt};
 ghost use Rattle.lexical_builder.specs.Writes.{Write, IsLegal, new_record, write_flags, after, SameWrites};
 ghost use Rattle.lexical_util.specs.Edits.{flags_of, writes_of, all_writes, edited};
 ghost use Rattle.lexical_util.specs.Normal.{normal_form_of, SameFormat, IsNormal};
-ghost use Rattle.lexical_util.specs.Listing.{field_edits, changes_new, changing, unchanging, IsMade};
+ghost use Rattle.lexical_util.specs.Listing.{field_edits, changes_new, changing, unchanging, IsBuiltByWrites};
 
 use crate::feature_format::NumberFormat;
 use lexical_builder::format_builder::{NonZeroU8, NumberFormatBuilder, OptionU8};
@@ -241,6 +241,10 @@ pub fn normal_form(format: u128) -> u128
     ensures fields { raw result ≡ trim (fill (raw format)) }
     ensures clean { IsClean result }
 
+    // No other word has these fields.
+    ensures only { (other : ℕ) → other < 2 ^ 128 → IsClean other
+        → raw other ≡ trim (fill (raw format)) → other ≡ result }
+
     // A normal form is its own normal form.
     ensures again { normal_form_of result ≡ result }
     ensures unchanged { (result ≡ format) ↔ IsNormal format }
@@ -263,7 +267,7 @@ pub fn is_built(format: u128) -> bool
     ensures rule { IsTrue result ↔ IsBuilt format }
 
     // Exactly these words are made by setter calls on a new builder.
-    ensures image { IsTrue result ↔ IsMade format }
+    ensures image { IsTrue result ↔ IsBuiltByWrites format }
 {
     has_built_form(format)
 }
@@ -287,8 +291,7 @@ fn is_clean(format: u128) -> bool
 // Whether there is no digit separator, or a flag that lets it stand somewhere.
 #[tactic(auto, using(lexical_flags::proofs::FlagBits::separator_flag_set, lexical_flags::proofs::FlagBits::no_separator_flag_set))]
 fn is_separator_used(format: u128) -> bool
-    ensures { IsTrue result
-        ↔ (IsTrue (separator_on (raw format)) ⊎ ((raw format).digit_separator ≡ 0)) }
+    ensures { IsTrue result ↔ SeparatorIsUsed (raw format) }
 {
     flags::digit_separator(format) == 0 || format & flags::DIGIT_SEPARATOR_FLAG_MASK != 0
 }
@@ -323,128 +326,82 @@ pub fn edits_of(format: u128) -> ([Edit; 37], usize)
 fn field_edits_of(format: u128) -> [Edit; 37]
     ensures { result ≡ field_edits (raw format) }
 {
+    use Edit::Flag;
+    use FlagSetter::*;
     let view = NumberFormat::new(format);
     let base = ((format & flags::EXPONENT_BASE) >> flags::EXPONENT_BASE_SHIFT) as u8;
     let radix = ((format & flags::EXPONENT_RADIX) >> flags::EXPONENT_RADIX_SHIFT) as u8;
     [
-        Edit::Flag(
-            FlagSetter::RequiredIntegerDigits,
-            view.required_integer_digits(),
-        ),
-        Edit::Flag(
-            FlagSetter::RequiredFractionDigits,
-            view.required_fraction_digits(),
-        ),
-        Edit::Flag(
-            FlagSetter::RequiredExponentDigits,
-            view.required_exponent_digits(),
-        ),
-        Edit::Flag(
-            FlagSetter::RequiredMantissaDigits,
-            view.required_mantissa_digits(),
-        ),
-        Edit::Flag(
-            FlagSetter::NoPositiveMantissaSign,
-            view.no_positive_mantissa_sign(),
-        ),
-        Edit::Flag(
-            FlagSetter::RequiredMantissaSign,
-            view.required_mantissa_sign(),
-        ),
-        Edit::Flag(FlagSetter::NoExponentNotation, view.no_exponent_notation()),
-        Edit::Flag(
-            FlagSetter::NoPositiveExponentSign,
-            view.no_positive_exponent_sign(),
-        ),
-        Edit::Flag(
-            FlagSetter::RequiredExponentSign,
-            view.required_exponent_sign(),
-        ),
-        Edit::Flag(
-            FlagSetter::NoExponentWithoutFraction,
+        Flag(RequiredIntegerDigits, view.required_integer_digits()),
+        Flag(RequiredFractionDigits, view.required_fraction_digits()),
+        Flag(RequiredExponentDigits, view.required_exponent_digits()),
+        Flag(RequiredMantissaDigits, view.required_mantissa_digits()),
+        Flag(NoPositiveMantissaSign, view.no_positive_mantissa_sign()),
+        Flag(RequiredMantissaSign, view.required_mantissa_sign()),
+        Flag(NoExponentNotation, view.no_exponent_notation()),
+        Flag(NoPositiveExponentSign, view.no_positive_exponent_sign()),
+        Flag(RequiredExponentSign, view.required_exponent_sign()),
+        Flag(
+            NoExponentWithoutFraction,
             view.no_exponent_without_fraction(),
         ),
-        Edit::Flag(FlagSetter::NoSpecial, view.no_special()),
-        Edit::Flag(
-            FlagSetter::CaseSensitiveSpecial,
-            view.case_sensitive_special(),
-        ),
-        Edit::Flag(
-            FlagSetter::NoIntegerLeadingZeros,
-            view.no_integer_leading_zeros(),
-        ),
-        Edit::Flag(
-            FlagSetter::NoFloatLeadingZeros,
-            view.no_float_leading_zeros(),
-        ),
-        Edit::Flag(
-            FlagSetter::RequiredExponentNotation,
-            view.required_exponent_notation(),
-        ),
-        Edit::Flag(
-            FlagSetter::CaseSensitiveExponent,
-            view.case_sensitive_exponent(),
-        ),
-        Edit::Flag(
-            FlagSetter::CaseSensitiveBasePrefix,
-            view.case_sensitive_base_prefix(),
-        ),
-        Edit::Flag(
-            FlagSetter::CaseSensitiveBaseSuffix,
-            view.case_sensitive_base_suffix(),
-        ),
-        Edit::Flag(
-            FlagSetter::IntegerInternalDigitSeparator,
+        Flag(NoSpecial, view.no_special()),
+        Flag(CaseSensitiveSpecial, view.case_sensitive_special()),
+        Flag(NoIntegerLeadingZeros, view.no_integer_leading_zeros()),
+        Flag(NoFloatLeadingZeros, view.no_float_leading_zeros()),
+        Flag(RequiredExponentNotation, view.required_exponent_notation()),
+        Flag(CaseSensitiveExponent, view.case_sensitive_exponent()),
+        Flag(CaseSensitiveBasePrefix, view.case_sensitive_base_prefix()),
+        Flag(CaseSensitiveBaseSuffix, view.case_sensitive_base_suffix()),
+        Flag(
+            IntegerInternalDigitSeparator,
             view.integer_internal_digit_separator(),
         ),
-        Edit::Flag(
-            FlagSetter::FractionInternalDigitSeparator,
+        Flag(
+            FractionInternalDigitSeparator,
             view.fraction_internal_digit_separator(),
         ),
-        Edit::Flag(
-            FlagSetter::ExponentInternalDigitSeparator,
+        Flag(
+            ExponentInternalDigitSeparator,
             view.exponent_internal_digit_separator(),
         ),
-        Edit::Flag(
-            FlagSetter::IntegerLeadingDigitSeparator,
+        Flag(
+            IntegerLeadingDigitSeparator,
             view.integer_leading_digit_separator(),
         ),
-        Edit::Flag(
-            FlagSetter::FractionLeadingDigitSeparator,
+        Flag(
+            FractionLeadingDigitSeparator,
             view.fraction_leading_digit_separator(),
         ),
-        Edit::Flag(
-            FlagSetter::ExponentLeadingDigitSeparator,
+        Flag(
+            ExponentLeadingDigitSeparator,
             view.exponent_leading_digit_separator(),
         ),
-        Edit::Flag(
-            FlagSetter::IntegerTrailingDigitSeparator,
+        Flag(
+            IntegerTrailingDigitSeparator,
             view.integer_trailing_digit_separator(),
         ),
-        Edit::Flag(
-            FlagSetter::FractionTrailingDigitSeparator,
+        Flag(
+            FractionTrailingDigitSeparator,
             view.fraction_trailing_digit_separator(),
         ),
-        Edit::Flag(
-            FlagSetter::ExponentTrailingDigitSeparator,
+        Flag(
+            ExponentTrailingDigitSeparator,
             view.exponent_trailing_digit_separator(),
         ),
-        Edit::Flag(
-            FlagSetter::IntegerConsecutiveDigitSeparator,
+        Flag(
+            IntegerConsecutiveDigitSeparator,
             view.integer_consecutive_digit_separator(),
         ),
-        Edit::Flag(
-            FlagSetter::FractionConsecutiveDigitSeparator,
+        Flag(
+            FractionConsecutiveDigitSeparator,
             view.fraction_consecutive_digit_separator(),
         ),
-        Edit::Flag(
-            FlagSetter::ExponentConsecutiveDigitSeparator,
+        Flag(
+            ExponentConsecutiveDigitSeparator,
             view.exponent_consecutive_digit_separator(),
         ),
-        Edit::Flag(
-            FlagSetter::SpecialDigitSeparator,
-            view.special_digit_separator(),
-        ),
+        Flag(SpecialDigitSeparator, view.special_digit_separator()),
         Edit::DigitSeparator(NonZeroU8::new(view.digit_separator())),
         Edit::BasePrefix(NonZeroU8::new(view.base_prefix())),
         Edit::BaseSuffix(NonZeroU8::new(view.base_suffix())),

@@ -1,9 +1,11 @@
 //! The view of a format word: reads each field, and checks the word.
-#![tactic(auto, using(crate::proofs::ViewLemmas::flag_by_mask, crate::proofs::ViewLemmas::any_by_mask, crate::proofs::ViewLemmas::bits_by_mask, crate::proofs::ViewLemmas::fourth_power, crate::proofs::ViewLemmas::eighth_power))]
+#![tactic(auto, using(crate::proofs::ViewLemmas::flag_by_mask, crate::proofs::ViewLemmas::any_by_mask, crate::proofs::ViewLemmas::bits_by_mask, crate::proofs::ViewLemmas::common_by_mask, crate::proofs::ViewLemmas::some_by_mask, crate::proofs::ViewLemmas::fourth_power, crate::proofs::ViewLemmas::eighth_power))]
 
 ghost use Rattle.std.specs.Prelude.{◌≡◌, ◌≢◌, ℕ, ◌↔◌, ◌%◌, ◌^◌, IsTrue};
 ghost use Rattle.lexical_flags.specs.Layout as layout;
 ghost use Rattle.lexical_flags.specs.Record.{raw, fill, effective_exponent_base, effective_exponent_radix};
+ghost use Rattle.lexical_flags.specs.Common.{common};
+ghost use Rattle.lexical_flags.specs.declared.format_flags.TheConstants.{REQUIRED_DIGITS, INTERNAL_DIGIT_SEPARATOR, LEADING_DIGIT_SEPARATOR, TRAILING_DIGIT_SEPARATOR, CONSECUTIVE_DIGIT_SEPARATOR, FLAG_MASK, INTERFACE_FLAG_MASK, DIGIT_SEPARATOR_FLAG_MASK, EXPONENT_FLAG_MASK, INTEGER_DIGIT_SEPARATOR_FLAG_MASK, FRACTION_DIGIT_SEPARATOR_FLAG_MASK, EXPONENT_DIGIT_SEPARATOR_FLAG_MASK};
 ghost use Rattle.lexical_flags.specs.Rules.{Lawful, IsErrorOf, IsFirstBroken, radix_rules};
 ghost use Rattle.lexical_builder.specs.Writes.{new_record};
 ghost use Rattle.lexical_util.specs.View.{any_flag, bits_of};
@@ -20,7 +22,7 @@ use std::marker::Model;
 /// Each getter answers for the word that was given to `new`, lawful or not. The Rust crate has
 /// the word as a const argument of the type, and each getter of a field also as an associated
 /// constant of its name in capitals; here the getter stands for both.
-#[derive(Debug, Clone, Copy)]
+#[derive(Clone, Copy)]
 pub struct NumberFormat {
     format: u128,
 }
@@ -93,6 +95,7 @@ impl NumberFormat {
     pub fn error(&self) -> Error
         ensures first { IsErrorOf self.now result }
         ensures lawful { (result ≡ Error.Success) ↔ Lawful self.now }
+        ensures only { (other : Error) → IsErrorOf self.now other → other ≡ result }
     {
         format_error_impl(self.format)
     }
@@ -160,7 +163,8 @@ impl NumberFormat {
     /// after it, in an exponent, or among the significant digits. Default: true.
     #[inline(always)]
     pub fn required_digits(&self) -> bool
-        ensures { result ≡ any_flag self.now layout.required_digits }
+        ensures any { result ≡ any_flag self.now layout.required_digits }
+        ensures common { IsTrue result ↔ (common self.now REQUIRED_DIGITS ≢ 0) }
     {
         has_flag!(self, REQUIRED_DIGITS)
     }
@@ -426,7 +430,8 @@ impl NumberFormat {
     /// whether any of these three flags is set. Default: false.
     #[inline(always)]
     pub fn internal_digit_separator(&self) -> bool
-        ensures { result ≡ any_flag self.now layout.internal_digit_separator }
+        ensures any { result ≡ any_flag self.now layout.internal_digit_separator }
+        ensures common { IsTrue result ↔ (common self.now INTERNAL_DIGIT_SEPARATOR ≢ 0) }
     {
         has_flag!(self, INTERNAL_DIGIT_SEPARATOR)
     }
@@ -435,7 +440,8 @@ impl NumberFormat {
     /// any of these three flags is set. Default: false.
     #[inline(always)]
     pub fn leading_digit_separator(&self) -> bool
-        ensures { result ≡ any_flag self.now layout.leading_digit_separator }
+        ensures any { result ≡ any_flag self.now layout.leading_digit_separator }
+        ensures common { IsTrue result ↔ (common self.now LEADING_DIGIT_SEPARATOR ≢ 0) }
     {
         has_flag!(self, LEADING_DIGIT_SEPARATOR)
     }
@@ -444,7 +450,8 @@ impl NumberFormat {
     /// any of these three flags is set. Default: false.
     #[inline(always)]
     pub fn trailing_digit_separator(&self) -> bool
-        ensures { result ≡ any_flag self.now layout.trailing_digit_separator }
+        ensures any { result ≡ any_flag self.now layout.trailing_digit_separator }
+        ensures common { IsTrue result ↔ (common self.now TRAILING_DIGIT_SEPARATOR ≢ 0) }
     {
         has_flag!(self, TRAILING_DIGIT_SEPARATOR)
     }
@@ -453,7 +460,8 @@ impl NumberFormat {
     /// whether any of these three flags is set. Default: false.
     #[inline(always)]
     pub fn consecutive_digit_separator(&self) -> bool
-        ensures { result ≡ any_flag self.now layout.consecutive_digit_separator }
+        ensures any { result ≡ any_flag self.now layout.consecutive_digit_separator }
+        ensures common { IsTrue result ↔ (common self.now CONSECUTIVE_DIGIT_SEPARATOR ≢ 0) }
     {
         has_flag!(self, CONSECUTIVE_DIGIT_SEPARATOR)
     }
@@ -559,8 +567,8 @@ impl NumberFormat {
         square * square
     }
 
-    /// The eighth power of the mantissa radix modulo 2 to the 32nd, and so the power itself up
-    /// to radix 15. No lawful radix above makes the answer meaningful, as 16 gives 0.
+    /// The eighth power of the mantissa radix modulo 2 to the 32nd: the power itself up to radix 15.
+    /// From radix 16 on it is cut; 16 gives 0.
     #[inline(always)]
     pub fn radix8(&self) -> u32
         ensures { result ≡ (raw self.now).mantissa_radix ^ 8 % 2 ^ 32 }
@@ -592,7 +600,8 @@ impl NumberFormat {
     /// The word's bits of all 31 flags, each at its place.
     #[inline(always)]
     pub fn flags(&self) -> u128
-        ensures { result ≡ bits_of self.now layout.flags }
+        ensures bits { result ≡ bits_of self.now layout.flags }
+        ensures common { result ≡ common self.now FLAG_MASK }
     {
         self.format & flags::FLAG_MASK
     }
@@ -600,7 +609,8 @@ impl NumberFormat {
     /// The word's bits of the flags that a parser's interface looks at, each at its place.
     #[inline(always)]
     pub fn interface_flags(&self) -> u128
-        ensures { result ≡ bits_of self.now layout.interface_flags }
+        ensures bits { result ≡ bits_of self.now layout.interface_flags }
+        ensures common { result ≡ common self.now INTERFACE_FLAG_MASK }
     {
         self.format & flags::INTERFACE_FLAG_MASK
     }
@@ -608,7 +618,8 @@ impl NumberFormat {
     /// The word's bits of the 13 digit separator flags, each at its place.
     #[inline(always)]
     pub fn digit_separator_flags(&self) -> u128
-        ensures { result ≡ bits_of self.now layout.digit_separator_flags }
+        ensures bits { result ≡ bits_of self.now layout.digit_separator_flags }
+        ensures common { result ≡ common self.now DIGIT_SEPARATOR_FLAG_MASK }
     {
         self.format & flags::DIGIT_SEPARATOR_FLAG_MASK
     }
@@ -617,7 +628,8 @@ impl NumberFormat {
     /// not among them.
     #[inline(always)]
     pub fn exponent_flags(&self) -> u128
-        ensures { result ≡ bits_of self.now layout.exponent_flags }
+        ensures bits { result ≡ bits_of self.now layout.exponent_flags }
+        ensures common { result ≡ common self.now EXPONENT_FLAG_MASK }
     {
         self.format & flags::EXPONENT_FLAG_MASK
     }
@@ -625,7 +637,8 @@ impl NumberFormat {
     /// The word's bits of the four digit separator flags of integer digits, each at its place.
     #[inline(always)]
     pub fn integer_digit_separator_flags(&self) -> u128
-        ensures { result ≡ bits_of self.now layout.integer_digit_separator_flags }
+        ensures bits { result ≡ bits_of self.now layout.integer_digit_separator_flags }
+        ensures common { result ≡ common self.now INTEGER_DIGIT_SEPARATOR_FLAG_MASK }
     {
         self.format & flags::INTEGER_DIGIT_SEPARATOR_FLAG_MASK
     }
@@ -633,7 +646,8 @@ impl NumberFormat {
     /// The word's bits of the four digit separator flags of fraction digits, each at its place.
     #[inline(always)]
     pub fn fraction_digit_separator_flags(&self) -> u128
-        ensures { result ≡ bits_of self.now layout.fraction_digit_separator_flags }
+        ensures bits { result ≡ bits_of self.now layout.fraction_digit_separator_flags }
+        ensures common { result ≡ common self.now FRACTION_DIGIT_SEPARATOR_FLAG_MASK }
     {
         self.format & flags::FRACTION_DIGIT_SEPARATOR_FLAG_MASK
     }
@@ -641,7 +655,8 @@ impl NumberFormat {
     /// The word's bits of the four digit separator flags of exponent digits, each at its place.
     #[inline(always)]
     pub fn exponent_digit_separator_flags(&self) -> u128
-        ensures { result ≡ bits_of self.now layout.exponent_digit_separator_flags }
+        ensures bits { result ≡ bits_of self.now layout.exponent_digit_separator_flags }
+        ensures common { result ≡ common self.now EXPONENT_DIGIT_SEPARATOR_FLAG_MASK }
     {
         self.format & flags::EXPONENT_DIGIT_SEPARATOR_FLAG_MASK
     }

@@ -49,6 +49,7 @@ pub fn format_is_valid(format: u128) -> bool
 pub fn format_error(format: u128) -> Error
     ensures first { IsErrorOf format result }
     ensures lawful { (result ≡ Error.Success) ↔ Lawful format }
+    ensures only { (other : Error) → IsErrorOf format other → other ≡ result }
 {
     NumberFormat::new(format).error()
 }

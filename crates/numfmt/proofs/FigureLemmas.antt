@@ -6,7 +6,8 @@ use Rattle.std.proofs.lemmas.Bool.{cases_eq}
 use Rattle.lexical_base.specs.Digits.{value, figures}
 use Rattle.lexical_base.proofs.Finite.{passes_at}
 use Rattle.lexical_base.proofs.ValueLemmas.{figure-get}
-use Rattle.numfmt.specs.WordText.{is_hex_digit, is_capital_hex_digit}
+use Rattle.numfmt.specs.Numeral.{is_digit}
+use Rattle.numfmt.specs.WordText.{is_capital_hex_digit}
 
 pub both_pass : (a b : Bool) → (a && b) ≡ true → (a ≡ true) × (b ≡ true)
 both_pass true b h = search rules
@@ -35,9 +36,9 @@ figure_from_value byte capital =
     let same : is_its_figure byte ≡ true = any_passes is_its_figure byte (take 16 figures) refl capital in
     grind (arith, nat_tests)
 
-pub hex_from_capital : (byte : ℕ) → is_capital_hex_digit byte ≡ true → is_hex_digit byte ≡ true
+pub hex_from_capital : (byte : ℕ) → is_capital_hex_digit byte ≡ true → is_digit 16 byte ≡ true
 unfolding value
-hex_from_capital byte capital = any_passes is_hex_digit byte (take 16 figures) refl capital
+hex_from_capital byte capital = any_passes (is_digit 16) byte (take 16 figures) refl capital
 
 -- the figure of a digit below sixteen is one of them
 pub capital_from_figure : (digit byte : ℕ) → digit < 16 → slice_get figures digit ≡ Some byte → is_capital_hex_digit byte ≡ true

@@ -1,3 +1,3 @@
-pub mod HexLemmas
+pub mod NumeralLemmas
 pub mod FigureLemmas
 pub mod TextLemmas

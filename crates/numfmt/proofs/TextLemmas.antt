@@ -10,15 +10,16 @@ use Rattle.std.proofs.lemmas.List.Sums.{AllPass-from_list_all, list_all-from_All
 use Rattle.std.specs.List.{AllPass, list_all}
 use Rattle.lexical_base.specs.Digits.{value, figures}
 use Rattle.lexical_base.proofs.Finite.{passes_at}
-use Rattle.numfmt.specs.WordText.{hex, hex_sum, hex_digits, is_hex_digit, is_capital_hex_digit, IsWordText, IsPrintedForm}
-use Rattle.numfmt.proofs.HexLemmas.{power_next}
+use Rattle.numfmt.specs.Numeral.{numeral, is_digit}
+use Rattle.numfmt.specs.WordText.{hex, hex_digits, is_capital_hex_digit, IsWordText, IsPrintedForm}
+use Rattle.numfmt.proofs.NumeralLemmas.{power_next}
 use Rattle.numfmt.proofs.FigureLemmas.{both_pass, figure_from_value, hex_from_capital, capital_from_figure}
 
 -- the digits of these last places are written, and this is left of the word
 pub record HasWritten (word rest places : ℕ) (text : List ℕ) : Type 0 where
   pub long : length text ≡ 34
   pub prefix : take 2 text ≡ codes "0x"
-  pub sum : rest * 16 ^ places + hex_sum (drop (34 - places) text) ≡ word
+  pub sum : rest * 16 ^ places + numeral 16 (drop (34 - places) text) ≡ word
   pub capitals : (k : ℕ) → 2 ≤ k → k < 34 → is_capital_hex_digit (get_or text k 0) ≡ true
 
 -- the text that the loop begins with
@@ -65,7 +66,7 @@ HasWritten-next word rest places byte text before few digit figure =
     record {
       long = length-set text (33 - places) byte ∙ before.long;
       prefix = take-set-le 2 text (33 - places) byte (omega arith) ∙ before.prefix;
-      sum = rw (at, split, tail, digit, power_next places) (omega (arith, parts, before.sum));
+      sum = rw (at, split, tail, digit, power_next 16 places) (omega (arith, parts, before.sum));
       capitals = after_write is_capital_hex_digit text (33 - places) byte inside (capital_from_figure (rest % 16) byte (omega arith) figure) before.capitals;
     }
 
@@ -81,7 +82,7 @@ HasWritten-form word rest text done = record {
 }
 
 -- in capitals, so in hexadecimal digits
-all_hex : (bytes : List ℕ) → list_all is_capital_hex_digit bytes ≡ true → list_all is_hex_digit bytes ≡ true
+all_hex : (bytes : List ℕ) → list_all is_capital_hex_digit bytes ≡ true → list_all (is_digit 16) bytes ≡ true
 all_hex [] all = refl
 all_hex (byte ∷ bytes) all =
     let both : (is_capital_hex_digit byte ≡ true) × (list_all is_capital_hex_digit bytes ≡ true) = both_pass (is_capital_hex_digit byte) (list_all is_capital_hex_digit bytes) all in
@@ -93,49 +94,49 @@ IsWordText-printed text printed = record {
   digits = record {
     some = omega (arith, printed.full);
     few = omega (arith, printed.full);
-    all_hex = AllPass-from_list_all is_hex_digit (hex_digits text) (all_hex (hex_digits text) (list_all-from_AllPass is_capital_hex_digit (hex_digits text) printed.capitals));
+    all_digits = AllPass-from_list_all (is_digit 16) (hex_digits text) (all_hex (hex_digits text) (list_all-from_AllPass is_capital_hex_digit (hex_digits text) printed.capitals));
   };
 }
 
 -- so many digits write less than sixteen to the power of their number
-hex_sum-lt : (digits : List ℕ) → list_all is_hex_digit digits ≡ true → hex_sum digits < 16 ^ length digits
-hex_sum-lt [] all = omega arith
-hex_sum-lt (digit ∷ digits) all =
-    let both : (is_hex_digit digit ≡ true) × (list_all is_hex_digit digits ≡ true) = both_pass (is_hex_digit digit) (list_all is_hex_digit digits) all in
+numeral-lt : (digits : List ℕ) → list_all (is_digit 16) digits ≡ true → numeral 16 digits < 16 ^ length digits
+numeral-lt [] all = omega arith
+numeral-lt (digit ∷ digits) all =
+    let both : (is_digit 16 digit ≡ true) × (list_all (is_digit 16) digits ≡ true) = both_pass (is_digit 16 digit) (list_all (is_digit 16) digits) all in
     let small : value digit + 1 ≤ 16 = below_sixteen (value digit) both.0 in
     let room : 16 ^ length digits * (value digit + 1) ≤ 16 ^ length digits * 16 = mul-le-mul_left (16 ^ length digits) small in
-    let rest : hex_sum digits < 16 ^ length digits = hex_sum-lt digits both.1 in
+    let rest : numeral 16 digits < 16 ^ length digits = numeral-lt digits both.1 in
     rw (pow-suc 16 (length digits)) (omega (arith, room, rest))
   where
     below_sixteen : (v : ℕ) → nat_lt v 16 ≡ true → v + 1 ≤ 16
     below_sixteen v h = grind (arith, nat_tests)
 
 -- two numerals of the same length, in capitals, that write the same number are one
-hex_sum-injective : (xs ys : List ℕ) → length xs ≡ length ys → list_all is_capital_hex_digit xs ≡ true → list_all is_capital_hex_digit ys ≡ true
-    → hex_sum xs ≡ hex_sum ys → xs ≡ ys
-hex_sum-injective [] [] long all all' same = refl
-hex_sum-injective [] (y ∷ ys) long all all' same = absurd (omega arith)
-hex_sum-injective (x ∷ xs) [] long all all' same = absurd (omega arith)
-hex_sum-injective (x ∷ xs) (y ∷ ys) long all all' same =
+numeral-injective : (xs ys : List ℕ) → length xs ≡ length ys → list_all is_capital_hex_digit xs ≡ true → list_all is_capital_hex_digit ys ≡ true
+    → numeral 16 xs ≡ numeral 16 ys → xs ≡ ys
+numeral-injective [] [] long all all' same = refl
+numeral-injective [] (y ∷ ys) long all all' same = absurd (omega arith)
+numeral-injective (x ∷ xs) [] long all all' same = absurd (omega arith)
+numeral-injective (x ∷ xs) (y ∷ ys) long all all' same =
     let first : (is_capital_hex_digit x ≡ true) × (list_all is_capital_hex_digit xs ≡ true) = both_pass (is_capital_hex_digit x) (list_all is_capital_hex_digit xs) all in
     let second : (is_capital_hex_digit y ≡ true) × (list_all is_capital_hex_digit ys ≡ true) = both_pass (is_capital_hex_digit y) (list_all is_capital_hex_digit ys) all' in
     let shorter : length xs ≡ length ys = omega arith in
     let power : 16 ^ length xs ≡ 16 ^ length ys = ap (λ n. 16 ^ n) shorter in
-    let below : hex_sum xs < 16 ^ length xs = hex_sum-lt xs (all_hex xs first.1) in
-    let below' : hex_sum ys < 16 ^ length ys = hex_sum-lt ys (all_hex ys second.1) in
+    let below : numeral 16 xs < 16 ^ length xs = numeral-lt xs (all_hex xs first.1) in
+    let below' : numeral 16 ys < 16 ^ length ys = numeral-lt ys (all_hex ys second.1) in
     let value_same : value x ≡ value y =
-    sym (div-mul-add (value x) (16 ^ length xs) (hex_sum xs) below) ∙ (λ i. same i / power i)
-    ∙ div-mul-add (value y) (16 ^ length ys) (hex_sum ys) below' in
-    let rest_same : hex_sum xs ≡ hex_sum ys =
+    sym (div-mul-add (value x) (16 ^ length xs) (numeral 16 xs) below) ∙ (λ i. same i / power i)
+    ∙ div-mul-add (value y) (16 ^ length ys) (numeral 16 ys) below' in
+    let rest_same : numeral 16 xs ≡ numeral 16 ys =
     omega (arith, same, (let moved : value x * 16 ^ length xs ≡ value y * 16 ^ length ys = λ i. value_same i * power i in moved)) in
     let here : x ≡ y = sym (figure_from_value x first.0) ∙ ap (λ v. slice_index_or figures v 0) value_same ∙ figure_from_value y second.0 in
-    λ i. here i ∷ hex_sum-injective xs ys shorter first.1 second.1 rest_same i
+    λ i. here i ∷ numeral-injective xs ys shorter first.1 second.1 rest_same i
 
 -- one text has the printed form and writes a given number
 pub IsPrintedForm-unique : (s t : List ℕ) → IsPrintedForm s → IsPrintedForm t → hex s ≡ hex t → s ≡ t
 IsPrintedForm-unique s t printed printed' same =
     let digits : hex_digits s ≡ hex_digits t =
-    hex_sum-injective (hex_digits s) (hex_digits t) (printed.full ∙ sym printed'.full)
+    numeral-injective (hex_digits s) (hex_digits t) (printed.full ∙ sym printed'.full)
     (list_all-from_AllPass is_capital_hex_digit (hex_digits s) printed.capitals)
     (list_all-from_AllPass is_capital_hex_digit (hex_digits t) printed'.capitals) same in
     let prefix : take 2 s ≡ take 2 t = printed.prefix ∙ sym printed'.prefix in

@@ -1,2 +1,4 @@
+pub mod Numeral
 pub mod WordText
+pub mod EditText
 pub mod Program

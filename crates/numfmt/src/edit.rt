@@ -1,7 +1,12 @@
 //! Edits as text: `NAME=VALUE`.
-ghost use Rattle.std.specs.Prelude.{◌<◌, IfSome};
 
-use lexical_util::digit::char_to_digit;
+ghost use Rattle.std.specs.Prelude.{◌≡◌, ◌≢◌, ◌↔◌, Some, codes, IfSome, true, false};
+ghost use Rattle.std.specs.Option.{SomeIff};
+ghost use Rattle.lexical_builder.specs.OptionByte.{byte_option};
+ghost use Rattle.numfmt.specs.EditText.{name_of, IsByteText};
+ghost use Rattle.numfmt.specs.Numeral.{numeral};
+
+use crate::numeral::read_numeral;
 use lexical_util::edits::{Edit, FlagSetter};
 use lexical_util::format_builder::{NonZeroU8, OptionU8};
 
@@ -31,7 +36,9 @@ fn read_byte_edit(name: &str, value: &str) -> Option<Edit> {
 }
 
 // The setter of a flag or a group by its name.
-fn flag_setter(name: &str) -> Option<FlagSetter> {
+fn flag_setter(name: &str) -> Option<FlagSetter>
+    ensures { IfSome result (λ setter. name_of setter ≡ name.now) }
+{
     Some(match name {
         "required_integer_digits" => FlagSetter::RequiredIntegerDigits,
         "required_fraction_digits" => FlagSetter::RequiredFractionDigits,
@@ -77,7 +84,11 @@ fn flag_setter(name: &str) -> Option<FlagSetter> {
     })
 }
 
-fn read_bool(text: &str) -> Option<bool> {
+// A truth value, `true` or `false`.
+fn read_bool(text: &str) -> Option<bool>
+    ensures yes { (result ≡ Some true) ↔ (text.now ≡ codes "true") }
+    ensures no { (result ≡ Some false) ↔ (text.now ≡ codes "false") }
+{
     match text {
         "true" => Some(true),
         "false" => Some(false),
@@ -86,7 +97,11 @@ fn read_bool(text: &str) -> Option<bool> {
 }
 
 // A byte that may be absent: `none`, or a byte, of which 0 stands for none.
-fn read_optional_byte(text: &str) -> Option<OptionU8> {
+fn read_optional_byte(text: &str) -> Option<OptionU8>
+    ensures none { text.now ≡ codes "none" → result ≡ Some None }
+    ensures byte { text.now ≢ codes "none"
+        → SomeIff result (IsByteText text.now) (byte_option (numeral 10 text.now)) }
+{
     match text {
         "none" => Some(None),
         _ => Some(NonZeroU8::new(read_byte(text)?)),
@@ -94,19 +109,9 @@ fn read_optional_byte(text: &str) -> Option<OptionU8> {
 }
 
 /// The byte that `text` writes, if it is one to three figures whose value is at most 255.
-pub fn read_byte(text: &str) -> Option<u8> {
-    let (hundreds, tens, ones) = match text.as_bytes() {
-        [ones] => (b'0', b'0', *ones),
-        [tens, ones] => (b'0', *tens, *ones),
-        [hundreds, tens, ones] => (*hundreds, *tens, *ones),
-        _ => return None,
-    };
-    let value = figure(hundreds)? * 100 + figure(tens)? * 10 + figure(ones)?;
-    u8::try_from(value).ok()
-}
-
-fn figure(byte: u8) -> Option<u32>
-    ensures { IfSome result (λ figure. figure < 10) }
+pub fn read_byte(text: &str) -> Option<u8>
+    ensures { SomeIff result (IsByteText text.now) (numeral 10 text.now) }
 {
-    char_to_digit(byte, 10)
+    let value = read_numeral(text.as_bytes(), 10, 3)?;
+    u8::try_from(value).ok()
 }

@@ -19,6 +19,7 @@
 mod edit;
 #[cfg(test)]
 mod example;
+mod numeral;
 mod program;
 mod word;
 

@@ -2,9 +2,10 @@
 
 ghost use Rattle.std.specs.Prelude.{◌≡◌, ℕ, List};
 ghost use Rattle.std.specs.Option.{SomeIff};
-ghost use Rattle.numfmt.specs.WordText.{IsHexNumeral, IsWordText, IsPrintedForm, hex, hex_sum};
+ghost use Rattle.numfmt.specs.WordText.{IsWordText, IsPrintedForm, hex};
 
-use lexical_base::digit::{char_to_digit, digit_to_char};
+use crate::numeral::read_numeral;
+use lexical_util::digit::digit_to_char;
 
 /// The word that `text` writes: `Some` exactly if `text` is `0x` and 1 to 32 hexadecimal digits, of
 /// either case.
@@ -12,23 +13,9 @@ pub fn read_word(text: &str) -> Option<u128>
     ensures { SomeIff result (IsWordText text.now) (hex text.now) }
 {
     match text.as_bytes() {
-        [b'0', b'x', digits @ ..] => read_digits(digits),
+        [b'0', b'x', digits @ ..] => read_numeral(digits, 16, 32),
         _ => None,
     }
-}
-
-// The number that 1 to 32 hexadecimal digits write.
-fn read_digits(digits: &[u8]) -> Option<u128>
-    ensures { SomeIff result (IsHexNumeral digits.now) (hex_sum digits.now) }
-{
-    if digits.is_empty() || digits.len() > 32 {
-        return None;
-    }
-    let mut word = 0;
-    for digit in digits {
-        word = word * 16 + char_to_digit(*digit, 16)? as u128;
-    }
-    Some(word)
 }
 
 /// The text of `word` as it is printed: `0x` and 32 hexadecimal digits with capital letters. To

@@ -279,6 +279,7 @@ fn each_outcome_has_its_text_its_index_and_its_test(rt: HostRuntime) -> Result<(
             error.index().copied(),
             if rank < 19 { Some(7) } else { None }
         );
+        assert_eq!(rt; *error < Error::Success, rank < 48, "at rank {rank}");
         for (other, answer) in tests_of(error).iter().enumerate() {
             assert_eq!(rt; *answer, other == rank, "test {other} at rank {rank}");
         }
@@ -352,6 +353,7 @@ fn orders_by_rank_and_then_by_index(rt: HostRuntime) -> Result<(), Fail> {
     }
     assert_eq!(rt; Error::Success.clone()?, Error::Success);
     assert_eq!(rt; Error::Overflow(4).clone()?, Error::Overflow(4));
+    assert_eq!(rt; Error::Overflow(4).index(), Some(&4));
     Ok(())
 }
 

@@ -1,3 +1,5 @@
+//! The getters of a builder.
+
 ghost use Rattle.std.specs.Prelude.{◌≡◌};
 ghost use Rattle.lexical_builder.specs.OptionByte.{byte_option};
 

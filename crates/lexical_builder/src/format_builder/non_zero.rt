@@ -1,3 +1,5 @@
+//! Bytes that are not 0.
+
 ghost use Rattle.std.specs.Prelude.{◌≡◌, ◌≢◌, ℕ, ◌↔◌, IsNone};
 ghost use Rattle.lexical_builder.specs.OptionByte.{byte_option};
 

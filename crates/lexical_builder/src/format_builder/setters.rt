@@ -1,3 +1,4 @@
+//! The setters of a builder. Each takes the builder and gives it back.
 #![tactic(auto, unfolding(crate::specs::Writes::after))]
 
 ghost use Rattle.std.specs.Prelude.{◌≡◌, [], ◌∷◌};
@@ -128,7 +129,8 @@ impl NumberFormatBuilder {
     }
 
     /// Sets the four flags that ask for digits: before the decimal point, after it, in an
-    /// exponent, and among the significant digits.
+    /// exponent, and among the significant digits. A parser of integers asks for a digit
+    /// whatever they say. Default: true for the last two alone.
     #[inline(always)]
     pub fn required_digits(self, flag: bool) -> Self
         ensures { result ≡ after self (write_flags layout.required_digits flag) }
@@ -318,7 +320,7 @@ impl NumberFormatBuilder {
     }
 
     /// Sets whether a digit separator may stand between digits of integers, fractions and
-    /// exponents.
+    /// exponents. Default: false for each.
     #[inline(always)]
     pub fn internal_digit_separator(self, flag: bool) -> Self
         ensures { result ≡ after self (write_flags layout.internal_digit_separator flag) }
@@ -362,7 +364,7 @@ impl NumberFormatBuilder {
     }
 
     /// Sets whether a digit separator may stand before the digits of integers, fractions and
-    /// exponents.
+    /// exponents. Default: false for each.
     #[inline(always)]
     pub fn leading_digit_separator(self, flag: bool) -> Self
         ensures { result ≡ after self (write_flags layout.leading_digit_separator flag) }
@@ -406,7 +408,7 @@ impl NumberFormatBuilder {
     }
 
     /// Sets whether a digit separator may stand after the digits of integers, fractions and
-    /// exponents.
+    /// exponents. Default: false for each.
     #[inline(always)]
     pub fn trailing_digit_separator(self, flag: bool) -> Self
         ensures { result ≡ after self (write_flags layout.trailing_digit_separator flag) }
@@ -453,7 +455,7 @@ impl NumberFormatBuilder {
     }
 
     /// Sets whether digit separators may stand in a row, wherever one may stand in integers,
-    /// fractions and exponents.
+    /// fractions and exponents. Default: false for each.
     #[inline(always)]
     pub fn consecutive_digit_separator(self, flag: bool) -> Self
         ensures { result ≡ after self (write_flags layout.consecutive_digit_separator flag) }
@@ -474,7 +476,8 @@ impl NumberFormatBuilder {
         self
     }
 
-    /// Sets all 13 digit separator flags, `special_digit_separator` too.
+    /// Sets all 13 digit separator flags, `special_digit_separator` too. Default: false for
+    /// each.
     #[inline(always)]
     pub fn digit_separator_flags(self, flag: bool) -> Self
         ensures { result ≡ after self (write_flags layout.digit_separator_flags flag) }
@@ -494,7 +497,7 @@ impl NumberFormatBuilder {
             .special_digit_separator(flag)
     }
 
-    /// Sets the four digit separator flags of integer digits.
+    /// Sets the four digit separator flags of integer digits. Default: false for each.
     #[inline(always)]
     pub fn integer_digit_separator_flags(self, flag: bool) -> Self
         ensures { result ≡ after self (write_flags layout.integer_digit_separator_flags flag) }
@@ -505,7 +508,7 @@ impl NumberFormatBuilder {
             .integer_consecutive_digit_separator(flag)
     }
 
-    /// Sets the four digit separator flags of fraction digits.
+    /// Sets the four digit separator flags of fraction digits. Default: false for each.
     #[inline(always)]
     pub fn fraction_digit_separator_flags(self, flag: bool) -> Self
         ensures { result ≡ after self (write_flags layout.fraction_digit_separator_flags flag) }
@@ -516,7 +519,7 @@ impl NumberFormatBuilder {
             .fraction_consecutive_digit_separator(flag)
     }
 
-    /// Sets the four digit separator flags of exponent digits.
+    /// Sets the four digit separator flags of exponent digits. Default: false for each.
     #[inline(always)]
     pub fn exponent_digit_separator_flags(self, flag: bool) -> Self
         ensures { result ≡ after self (write_flags layout.exponent_digit_separator_flags flag) }

@@ -10,6 +10,9 @@ const HEXADECIMAL: u128 = 0x10101000_00000000_00000000_0000000C;
 // the mantissa radix 16.
 const LETTER_AT_RADIX_10: u128 = 0x00000A00_00000065_00001FFF_0000000C;
 
+// A format with `_` for its digit separator, and no flag that lets it stand anywhere.
+const UNUSED_SEPARATOR: u128 = 0x0A0A0A00_0000005F_00000000_0000000C;
+
 const LETTER_AT_RADIX_16: u128 = 0x0A0A1000_00000065_00001FFF_0000000C;
 
 #[test]
@@ -23,6 +26,7 @@ fn reads_bytes(rt: HostRuntime) {
         (0x06050403_02000001_00000000_0000000C, 5, 6),
         (DECIMAL, 10, 10),
         (STANDARD, 10, 10),
+        (0x0A000A00_00000000_00000000_0000000C, 10, 10),
         (0x0A0A1000_00000000_00000000_0000000C, 10, 10),
         (0x00001000_00000000_00000000_0000000C, 16, 16),
     ] {
@@ -206,6 +210,8 @@ fn tells_valid_options(rt: HostRuntime) {
         (HEXADECIMAL, b'^', b'.', true),
         (DECIMAL, b'e', b'e', false),
         (DECIMAL, 0, b'.', false),
+        (UNUSED_SEPARATOR, b'_', b'.', false),
+        (UNUSED_SEPARATOR, b'e', b'.', true),
     ] {
         assert_eq!(rt;
             is_valid_options_punctuation(word, exponent, point),

@@ -1,5 +1,6 @@
 use super::*;
-use crate::format::STANDARD;
+use crate::format::{STANDARD, format_error};
+use lexical_base::error::Error;
 use std::test::Fail;
 
 const DECIMAL: u128 = 0x0A0A0A00_00000000_00000000_0000000C;
@@ -92,6 +93,9 @@ fn normal_forms(rt: HostRuntime) {
         assert!(rt; same_format(format, want), "{format:x}");
     }
     assert!(rt; !same_format(0, 12));
+    let digit = 0x0A0A0A00_00000035_00000000_0000000C;
+    assert_eq!(rt; format_error(digit), Error::InvalidDigitSeparator);
+    assert_eq!(rt; format_error(normal_form(digit)), Error::Success);
 }
 
 #[test]

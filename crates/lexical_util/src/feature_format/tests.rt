@@ -87,6 +87,11 @@ fn groups(rt: HostRuntime) {
 }
 
 #[test]
+fn one_required_digit_is_enough(rt: HostRuntime) {
+    assert!(rt; NumberFormat::new(0x0A0A0A00_00000000_00000000_00000004).required_digits());
+}
+
+#[test]
 fn flag_groups(rt: HostRuntime) {
     let view = NumberFormat::new(ALL_ONES);
     assert_eq!(rt; view.flags(), 0x1FFF_0003_FFFF);
@@ -109,6 +114,11 @@ fn bytes(rt: HostRuntime) {
     assert_eq!(rt; view.exponent_base(), 5);
     assert_eq!(rt; view.exponent_radix(), 6);
     assert!(rt; view.has_digit_separator() && view.has_base_prefix() && view.has_base_suffix());
+    let decimal = NumberFormat::new(0x0A0A0A00_00000000_00000000_0000000C);
+    assert_eq!(rt; decimal.radix(), 10);
+    assert_eq!(rt; decimal.mantissa_radix(), 10);
+    assert_eq!(rt; decimal.exponent_base(), 10);
+    assert_eq!(rt; decimal.exponent_radix(), 10);
     let bare = NumberFormat::default();
     assert_eq!(rt; bare.exponent_base(), 10);
     assert_eq!(rt; bare.exponent_radix(), 10);

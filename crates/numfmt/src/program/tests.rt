@@ -278,7 +278,7 @@ fn edits_each_field(rt: HostRuntime) -> Result<(), Fail> {
 
 #[test]
 fn refuses(rt: HostRuntime) -> Result<(), Fail> {
-    let cases: [(&[&str], &str); 24] = [
+    let cases: [(&[&str], &str); 27] = [
         (&[""], "unknown command"),
         (&["shows", "0x"], "unknown command"),
         (&["show"], "wrong number of arguments"),
@@ -300,6 +300,9 @@ fn refuses(rt: HostRuntime) -> Result<(), Fail> {
         (&["options", "0x", "256", "1"], "bad word"),
         (&["edit", "0xC", "radix=256"], "bad edit"),
         (&["edit", "0xC", "radix"], "bad edit"),
+        (&["edit", "0xC", "radix="], "bad edit"),
+        (&["edit", "0xC", "colour=1"], "bad edit"),
+        (&["edit", "0xC", "=true"], "bad edit"),
         (&["edit", "0xC", "radix=0010"], "bad edit"),
         (&["edit", "0xC", "radix=none"], "bad edit"),
         (&["edit", "0xC", "no_special=True"], "bad edit"),

@@ -1,11 +1,17 @@
 use Rattle.std.proofs.Common.{◌∙◌, sym, ap, subst, arith}
-use Rattle.lexical_flags.specs.Record.{raw, pack}
+use Rattle.lexical_flags.specs.Record.{raw, pack, trim}
+use Rattle.lexical_flags.proofs.Packing.{raw-injective}
 use Rattle.lexical_util.specs.Normal.{normal_form_of, SameFormat}
 use Rattle.lexical_util.proofs.NormalLemmas.{normal_form-is, normal_again, normal_from_fixed, fixed_from_normal, normal_keeps}
 use Rattle.lexical_util.proofs.edits.normal_form.Goals as goal
 
 pub returns-clause-word : goal.returns-clause-word
 returns-clause-word c = c.build_unchecked.ensures.word ∙ ap pack c.rebuild.ensures ∙ sym (normal_form-is c.args.format)
+
+pub returns-clause-only : goal.returns-clause-only
+returns-clause-only c other fits clean same =
+    raw-injective other c.build_unchecked.result fits (omega arith) clean c.build_unchecked.ensures.clean
+    (same ∙ sym (c.build_unchecked.ensures.fields ∙ ap trim c.rebuild.ensures))
 
 pub returns-clause-again : goal.returns-clause-again
 returns-clause-again c = ap normal_form_of (returns-clause-word c) ∙ normal_again c.args.format ∙ sym (returns-clause-word c)

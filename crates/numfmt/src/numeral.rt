@@ -1,0 +1,25 @@
+//! Numbers as digits of a radix.
+
+ghost use Rattle.std.specs.Prelude.{◌≤◌};
+ghost use Rattle.std.specs.Option.{SomeIff};
+ghost use Rattle.numfmt.specs.Numeral.{IsNumeral, numeral};
+
+use lexical_util::digit::char_to_digit;
+
+/// The number that `digits` write in `radix`: `Some` exactly if they are digits of this radix, one
+/// to `most` of them. At radix 16 and 32 digits the numbers are those of a word, and no larger radix
+/// or longer numeral is read here.
+pub fn read_numeral(digits: &[u8], radix: u32, most: usize) -> Option<u128>
+    requires radix { radix ≤ 16 }
+    requires most { most ≤ 32 }
+    ensures { SomeIff result (IsNumeral radix most digits.now) (numeral radix digits.now) }
+{
+    if digits.is_empty() || digits.len() > most {
+        return None;
+    }
+    let mut number = 0;
+    for digit in digits {
+        number = number * radix as u128 + char_to_digit(*digit, radix)? as u128;
+    }
+    Some(number)
+}
