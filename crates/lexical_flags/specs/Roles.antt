@@ -36,7 +36,7 @@ prefix r = only r.base_prefix
 abbrev pub suffix : Record → ByteSet
 suffix r = only r.base_suffix
 
--- the character of an exponent, which a caller chooses beside the format
+-- the character of an exponent, which a caller chooses beside the format; what it is may come to depend on the format
 abbrev pub exponent : Record → ℕ → ByteSet
 exponent r chosen = only chosen
 
