@@ -1,4 +1,5 @@
 //! Tests of single bytes and of slices of bytes.
+
 ghost use Rattle.std.specs.Prelude.{◌↔◌, IsTrue};
 ghost use Rattle.std.specs.List.{AllPass};
 ghost use Rattle.lexical_base.specs.Ascii.{allowed_ascii, letters};

@@ -6,6 +6,7 @@
 //!
 //! The calls that end in `_const` are for a radix that is known when the program is compiled: they
 //! save the look-up where the radix is at most 10.
+
 ghost use Rattle.std.specs.Prelude.{◌≡◌, ◌↔◌, ℕ, ◌+◌, ◌%◌, ◌<◌, ◌≤◌, ◌||◌, false, IsTrue, IsSome, IfSome, Some, nat_le, nat_lt, slice_get, if◌then◌else◌};
 ghost use Rattle.lexical_base.specs.Digits.{value, digit_of, figures, is_small_letter};
 

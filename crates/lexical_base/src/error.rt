@@ -2,6 +2,7 @@
 //!
 //! A parser or a checker answers one [`Error`], and [`Error::Success`] where nothing is wrong. This
 //! crate answers none itself: it names them for the crates that stand on it.
+
 ghost use Rattle.std.specs.Prelude.{◌≡◌, ◌↔◌, ◌<◌, IsTrue, IsSome, Some};
 ghost use Rattle.std.specs.Option.{option_copied};
 ghost use Rattle.std.specs.Cmp.{partial_order_from_own_ties};
@@ -86,24 +87,25 @@ pub enum Error {
     // Errors of number formats.
     /// A checker of formats answers this where the radix of the significant digits is not 2 to 36.
     InvalidMantissaRadix,
-    /// A checker of formats answers this where the base that an exponent raises is not 2 to 36.
+    /// A checker of formats answers this where the number whose power an exponent names is not 2 to
+    /// 36.
     InvalidExponentBase,
     /// A checker of formats answers this where the radix of an exponent's digits is not 2 to 36.
     InvalidExponentRadix,
-    /// A checker of formats answers this where the byte that separates digits is a digit, a sign or
-    /// no ASCII that is allowed.
+    /// A checker of formats answers this where the byte that separates digits is a digit, a sign, or
+    /// not allowed ASCII.
     InvalidDigitSeparator,
-    /// A checker answers this where the byte for the decimal point is a digit, a sign or no ASCII
-    /// that is allowed.
+    /// A checker answers this where the byte for the decimal point is a digit, a sign, or not
+    /// allowed ASCII.
     InvalidDecimalPoint,
-    /// A checker answers this where the byte for an exponent is a digit, a sign or no ASCII that is
-    /// allowed.
+    /// A checker answers this where the byte for an exponent is a digit, a sign, or not allowed
+    /// ASCII.
     InvalidExponentSymbol,
     /// A checker of formats answers this where the byte of a prefix, as the `x` of `0x`, is a
-    /// digit, a sign or no ASCII that is allowed.
+    /// digit, a sign, or not allowed ASCII.
     InvalidBasePrefix,
     /// A checker of formats answers this where the byte of a suffix, as the `h` of `1h`, is a
-    /// digit, a sign or no ASCII that is allowed.
+    /// digit, a sign, or not allowed ASCII.
     InvalidBaseSuffix,
     /// A checker of formats answers this where one byte would have two meanings, such as separator
     /// and prefix.

@@ -53,7 +53,7 @@ pub const REQUIRED_EXPONENT_SIGN: u128 = 0x100;
 /// An exponent may stand only after a decimal point.
 pub const NO_EXPONENT_WITHOUT_FRACTION: u128 = 0x200;
 
-/// No special value, as NaN or infinity, may be written.
+/// No special value, such as NaN or infinity, may be written.
 pub const NO_SPECIAL: u128 = 0x400;
 
 /// The case of letters counts in special values. So where it is set, `NaN` and `nan` are

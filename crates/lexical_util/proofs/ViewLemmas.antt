@@ -66,3 +66,5 @@ fourth_power n = sym (pow-add n 2 2)
 
 pub eighth_power : (n : ℕ) → n ^ 4 * n ^ 4 ≡ n ^ 8
 eighth_power n = sym (pow-add n 4 4)
+
+pub ruleset masks_and_powers = (flag_by_mask, any_by_mask, bits_by_mask, common_by_mask, some_by_mask, fourth_power, eighth_power)

@@ -1,11 +1,11 @@
 //! The view of a format word: reads each field, and checks the word.
-#![tactic(auto, using(crate::proofs::ViewLemmas::flag_by_mask, crate::proofs::ViewLemmas::any_by_mask, crate::proofs::ViewLemmas::bits_by_mask, crate::proofs::ViewLemmas::common_by_mask, crate::proofs::ViewLemmas::some_by_mask, crate::proofs::ViewLemmas::fourth_power, crate::proofs::ViewLemmas::eighth_power))]
+#![tactic(auto, using(crate::proofs::ViewLemmas::masks_and_powers))]
 
 ghost use Rattle.std.specs.Prelude.{◌≡◌, ◌≢◌, ℕ, ◌↔◌, ◌%◌, ◌^◌, IsTrue};
 ghost use Rattle.lexical_flags.specs.Layout as layout;
 ghost use Rattle.lexical_flags.specs.Record.{raw, fill, effective_exponent_base, effective_exponent_radix};
 ghost use Rattle.lexical_flags.specs.Common.{common};
-ghost use Rattle.lexical_flags.specs.declared.format_flags.TheConstants.{REQUIRED_DIGITS, INTERNAL_DIGIT_SEPARATOR, LEADING_DIGIT_SEPARATOR, TRAILING_DIGIT_SEPARATOR, CONSECUTIVE_DIGIT_SEPARATOR, FLAG_MASK, INTERFACE_FLAG_MASK, DIGIT_SEPARATOR_FLAG_MASK, EXPONENT_FLAG_MASK, INTEGER_DIGIT_SEPARATOR_FLAG_MASK, FRACTION_DIGIT_SEPARATOR_FLAG_MASK, EXPONENT_DIGIT_SEPARATOR_FLAG_MASK};
+ghost use Rattle.lexical_flags.specs.declared.format_flags.TheConstants as constants;
 ghost use Rattle.lexical_flags.specs.Rules.{Lawful, IsErrorOf, IsFirstBroken, radix_rules};
 ghost use Rattle.lexical_builder.specs.Writes.{new_record};
 ghost use Rattle.lexical_util.specs.View.{any_flag, bits_of};
@@ -121,8 +121,8 @@ impl NumberFormat {
 
     // FLAGS THAT ARE NOT OF DIGIT SEPARATORS
 
-    /// Whether the flag `required_integer_digits` is set. With true a parser refuses a float
-    /// with no digits before its decimal point, as `.5`. Default: false.
+    /// Whether the flag `required_integer_digits` is set. With true a parser refuses a float with
+    /// no digits before its decimal point, such as `.5`. Default: false.
     #[inline(always)]
     pub fn required_integer_digits(&self) -> bool
         ensures { result ≡ (raw self.now).required_integer_digits }
@@ -130,9 +130,9 @@ impl NumberFormat {
         has_flag!(self, REQUIRED_INTEGER_DIGITS)
     }
 
-    /// Whether the flag `required_fraction_digits` is set. With true a parser refuses a float
-    /// with a decimal point and no digits after it, as `1.`. A float with no decimal point is
-    /// taken as before. Default: false.
+    /// Whether the flag `required_fraction_digits` is set. With true a parser refuses a float with
+    /// a decimal point and no digits after it, such as `1.`. A float with no decimal point is taken
+    /// as before. Default: false.
     #[inline(always)]
     pub fn required_fraction_digits(&self) -> bool
         ensures { result ≡ (raw self.now).required_fraction_digits }
@@ -140,8 +140,8 @@ impl NumberFormat {
         has_flag!(self, REQUIRED_FRACTION_DIGITS)
     }
 
-    /// Whether the flag `required_exponent_digits` is set. With true a parser refuses an
-    /// exponent character with no digits after it, as `1e`. Default: true.
+    /// Whether the flag `required_exponent_digits` is set. With true a parser refuses an exponent
+    /// character with no digits after it, such as `1e`. Default: true.
     #[inline(always)]
     pub fn required_exponent_digits(&self) -> bool
         ensures { result ≡ (raw self.now).required_exponent_digits }
@@ -149,9 +149,9 @@ impl NumberFormat {
         has_flag!(self, REQUIRED_EXPONENT_DIGITS)
     }
 
-    /// Whether the flag `required_mantissa_digits` is set. With true a parser refuses a float
-    /// with no significant digit at all, as `.`. With false it reads this as 0, but never the
-    /// empty text. Default: true.
+    /// Whether the flag `required_mantissa_digits` is set. With true a parser refuses a float with
+    /// no significant digit at all, such as `.`. With false it reads this as 0, but never the empty
+    /// text. Default: true.
     #[inline(always)]
     pub fn required_mantissa_digits(&self) -> bool
         ensures { result ≡ (raw self.now).required_mantissa_digits }
@@ -164,7 +164,7 @@ impl NumberFormat {
     #[inline(always)]
     pub fn required_digits(&self) -> bool
         ensures any { result ≡ any_flag self.now layout.required_digits }
-        ensures common { IsTrue result ↔ (common self.now REQUIRED_DIGITS ≢ 0) }
+        ensures common { IsTrue result ↔ (common self.now constants.REQUIRED_DIGITS ≢ 0) }
     {
         has_flag!(self, REQUIRED_DIGITS)
     }
@@ -178,9 +178,9 @@ impl NumberFormat {
         has_flag!(self, NO_POSITIVE_MANTISSA_SIGN)
     }
 
-    /// Whether the flag `required_mantissa_sign` is set. With true a parser of integers and
-    /// floats refuses a number with no sign, as `1`, and a writer writes `+` before a number
-    /// that is not negative. Default: false.
+    /// Whether the flag `required_mantissa_sign` is set. With true a parser of integers and floats
+    /// refuses a number with no sign, such as `1`, and a writer writes `+` before a number that is
+    /// not negative. Default: false.
     #[inline(always)]
     pub fn required_mantissa_sign(&self) -> bool
         ensures { result ≡ (raw self.now).required_mantissa_sign }
@@ -188,8 +188,8 @@ impl NumberFormat {
         has_flag!(self, REQUIRED_MANTISSA_SIGN)
     }
 
-    /// Whether the flag `no_exponent_notation` is set. With true a parser refuses a float with
-    /// an exponent, as `1e5`, and a writer writes all digits instead of an exponent. Default:
+    /// Whether the flag `no_exponent_notation` is set. With true a parser refuses a float with an
+    /// exponent, such as `1e5`, and a writer writes all digits instead of an exponent. Default:
     /// false.
     #[inline(always)]
     pub fn no_exponent_notation(&self) -> bool
@@ -208,8 +208,8 @@ impl NumberFormat {
     }
 
     /// Whether the flag `required_exponent_sign` is set. With true a parser refuses an exponent
-    /// with no sign, as `1e5`, and a writer writes `+` before an exponent that is not negative.
-    /// Default: false.
+    /// with no sign, such as `1e5`, and a writer writes `+` before an exponent that is not
+    /// negative. Default: false.
     #[inline(always)]
     pub fn required_exponent_sign(&self) -> bool
         ensures { result ≡ (raw self.now).required_exponent_sign }
@@ -218,7 +218,7 @@ impl NumberFormat {
     }
 
     /// Whether the flag `no_exponent_without_fraction` is set. With true a parser refuses an
-    /// exponent in a float with no decimal point, as `1e5`, and takes `1.0e5`. That digits
+    /// exponent in a float with no decimal point, such as `1e5`, and takes `1.0e5`. That digits
     /// follow the point is not asked by this flag. Default: false.
     #[inline(always)]
     pub fn no_exponent_without_fraction(&self) -> bool
@@ -265,7 +265,7 @@ impl NumberFormat {
     }
 
     /// Whether the flag `required_exponent_notation` is set. With true a parser refuses a float
-    /// with no exponent, as `1.0`, and a writer writes an exponent with every float. Default:
+    /// with no exponent, such as `1.0`, and a writer writes an exponent with every float. Default:
     /// false.
     #[inline(always)]
     pub fn required_exponent_notation(&self) -> bool
@@ -431,7 +431,7 @@ impl NumberFormat {
     #[inline(always)]
     pub fn internal_digit_separator(&self) -> bool
         ensures any { result ≡ any_flag self.now layout.internal_digit_separator }
-        ensures common { IsTrue result ↔ (common self.now INTERNAL_DIGIT_SEPARATOR ≢ 0) }
+        ensures common { IsTrue result ↔ (common self.now constants.INTERNAL_DIGIT_SEPARATOR ≢ 0) }
     {
         has_flag!(self, INTERNAL_DIGIT_SEPARATOR)
     }
@@ -441,7 +441,7 @@ impl NumberFormat {
     #[inline(always)]
     pub fn leading_digit_separator(&self) -> bool
         ensures any { result ≡ any_flag self.now layout.leading_digit_separator }
-        ensures common { IsTrue result ↔ (common self.now LEADING_DIGIT_SEPARATOR ≢ 0) }
+        ensures common { IsTrue result ↔ (common self.now constants.LEADING_DIGIT_SEPARATOR ≢ 0) }
     {
         has_flag!(self, LEADING_DIGIT_SEPARATOR)
     }
@@ -451,7 +451,7 @@ impl NumberFormat {
     #[inline(always)]
     pub fn trailing_digit_separator(&self) -> bool
         ensures any { result ≡ any_flag self.now layout.trailing_digit_separator }
-        ensures common { IsTrue result ↔ (common self.now TRAILING_DIGIT_SEPARATOR ≢ 0) }
+        ensures common { IsTrue result ↔ (common self.now constants.TRAILING_DIGIT_SEPARATOR ≢ 0) }
     {
         has_flag!(self, TRAILING_DIGIT_SEPARATOR)
     }
@@ -461,7 +461,7 @@ impl NumberFormat {
     #[inline(always)]
     pub fn consecutive_digit_separator(&self) -> bool
         ensures any { result ≡ any_flag self.now layout.consecutive_digit_separator }
-        ensures common { IsTrue result ↔ (common self.now CONSECUTIVE_DIGIT_SEPARATOR ≢ 0) }
+        ensures common { IsTrue result ↔ (common self.now constants.CONSECUTIVE_DIGIT_SEPARATOR ≢ 0) }
     {
         has_flag!(self, CONSECUTIVE_DIGIT_SEPARATOR)
     }
@@ -601,7 +601,7 @@ impl NumberFormat {
     #[inline(always)]
     pub fn flags(&self) -> u128
         ensures bits { result ≡ bits_of self.now layout.flags }
-        ensures common { result ≡ common self.now FLAG_MASK }
+        ensures common { result ≡ common self.now constants.FLAG_MASK }
     {
         self.format & flags::FLAG_MASK
     }
@@ -610,7 +610,7 @@ impl NumberFormat {
     #[inline(always)]
     pub fn interface_flags(&self) -> u128
         ensures bits { result ≡ bits_of self.now layout.interface_flags }
-        ensures common { result ≡ common self.now INTERFACE_FLAG_MASK }
+        ensures common { result ≡ common self.now constants.INTERFACE_FLAG_MASK }
     {
         self.format & flags::INTERFACE_FLAG_MASK
     }
@@ -619,7 +619,7 @@ impl NumberFormat {
     #[inline(always)]
     pub fn digit_separator_flags(&self) -> u128
         ensures bits { result ≡ bits_of self.now layout.digit_separator_flags }
-        ensures common { result ≡ common self.now DIGIT_SEPARATOR_FLAG_MASK }
+        ensures common { result ≡ common self.now constants.DIGIT_SEPARATOR_FLAG_MASK }
     {
         self.format & flags::DIGIT_SEPARATOR_FLAG_MASK
     }
@@ -629,7 +629,7 @@ impl NumberFormat {
     #[inline(always)]
     pub fn exponent_flags(&self) -> u128
         ensures bits { result ≡ bits_of self.now layout.exponent_flags }
-        ensures common { result ≡ common self.now EXPONENT_FLAG_MASK }
+        ensures common { result ≡ common self.now constants.EXPONENT_FLAG_MASK }
     {
         self.format & flags::EXPONENT_FLAG_MASK
     }
@@ -638,7 +638,7 @@ impl NumberFormat {
     #[inline(always)]
     pub fn integer_digit_separator_flags(&self) -> u128
         ensures bits { result ≡ bits_of self.now layout.integer_digit_separator_flags }
-        ensures common { result ≡ common self.now INTEGER_DIGIT_SEPARATOR_FLAG_MASK }
+        ensures common { result ≡ common self.now constants.INTEGER_DIGIT_SEPARATOR_FLAG_MASK }
     {
         self.format & flags::INTEGER_DIGIT_SEPARATOR_FLAG_MASK
     }
@@ -647,7 +647,7 @@ impl NumberFormat {
     #[inline(always)]
     pub fn fraction_digit_separator_flags(&self) -> u128
         ensures bits { result ≡ bits_of self.now layout.fraction_digit_separator_flags }
-        ensures common { result ≡ common self.now FRACTION_DIGIT_SEPARATOR_FLAG_MASK }
+        ensures common { result ≡ common self.now constants.FRACTION_DIGIT_SEPARATOR_FLAG_MASK }
     {
         self.format & flags::FRACTION_DIGIT_SEPARATOR_FLAG_MASK
     }
@@ -656,7 +656,7 @@ impl NumberFormat {
     #[inline(always)]
     pub fn exponent_digit_separator_flags(&self) -> u128
         ensures bits { result ≡ bits_of self.now layout.exponent_digit_separator_flags }
-        ensures common { result ≡ common self.now EXPONENT_DIGIT_SEPARATOR_FLAG_MASK }
+        ensures common { result ≡ common self.now constants.EXPONENT_DIGIT_SEPARATOR_FLAG_MASK }
     {
         self.format & flags::EXPONENT_DIGIT_SEPARATOR_FLAG_MASK
     }

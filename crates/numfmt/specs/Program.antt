@@ -3,8 +3,15 @@ use Rattle.numfmt.specs.declared.program.Answer.{Answer}
 use Rattle.numfmt.specs.declared.program.Answer.TheVariants as answers
 use Rattle.numfmt.specs.declared.program.Status.{Status}
 use Rattle.numfmt.specs.declared.program.Status.TheVariants as statuses
-use Rattle.std.specs.Prelude.{true, false}
+use Rattle.std.specs.Prelude.{ℕ, true, false}
 use Rattle.lexical_base.specs.declared.error.Error.TheVariants.{Success}
+
+-- the exit status of a run that ends so
+abbrev pub code_of : Status → ℕ
+code_of statuses.Done = 0
+code_of statuses.Negative = 1
+code_of statuses.Refused = 2
+code_of statuses.Failed = 3
 
 -- how a run with this answer ends: with status 1 where the answer is no
 abbrev pub status_of : Answer → Status

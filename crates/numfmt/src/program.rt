@@ -3,7 +3,9 @@
 ghost use Rattle.std.specs.Prelude.{◌≡◌, ◌≢◌, ◌<◌, ◌≤◌, ◌↔◌, ◌+◌, IfOk, IfErr, length, string_bytes};
 ghost use Rattle.std.specs.Result.{OkIff};
 ghost use Rattle.numfmt.specs.WordText.{IsWordText, hex};
-ghost use Rattle.numfmt.specs.Program.{status_of};
+ghost use Rattle.numfmt.specs.EditText.{IsByteText};
+ghost use Rattle.numfmt.specs.Numeral.{numeral};
+ghost use Rattle.numfmt.specs.Program.{code_of, status_of};
 
 use crate::edit::{read_byte, read_edit};
 use crate::word::{read_word, word_text};
@@ -43,7 +45,7 @@ pub enum Status {
 impl Status {
     // The exit status.
     fn code(self) -> u8
-        ensures { result ≤ 3 }
+        ensures { result ≡ code_of self }
     {
         match self {
             Status::Done => 0,
@@ -180,7 +182,8 @@ fn word_of(text: &String) -> Result<u128, Refusal>
 
 // The byte that an argument writes.
 fn byte_of(text: &String) -> Result<u8, Refusal>
-    ensures { IfErr result (λ refusal. refusal ≡ Refusal.BadByte) }
+    ensures byte { OkIff result (IsByteText (string_bytes text.now)) (numeral 10 (string_bytes text.now)) }
+    ensures refusal { IfErr result (λ refusal. refusal ≡ Refusal.BadByte) }
 {
     read_byte(text.as_str()).ok_or(Refusal::BadByte)
 }

@@ -1,4 +1,5 @@
 //! The table of the outcomes as it is printed, and what no clause says of `Display`.
+
 use super::*;
 use std::fmt::Write;
 use std::test::Fail;

@@ -146,7 +146,7 @@ impl NumberFormatBuilder {
         self.no_exponent_without_fraction
     }
 
-    /// The flag `no_special`. No special value, as NaN or infinity, may be written.
+    /// The flag `no_special`. No special value, such as NaN or infinity, may be written.
     #[inline(always)]
     pub fn get_no_special(&self) -> bool
         ensures { result ≡ self.now.no_special }

@@ -86,8 +86,8 @@ impl NumberFormatBuilder {
         self
     }
 
-    /// Sets the flag `required_integer_digits`. With true a parser refuses a float with no
-    /// digits before its decimal point, as `.5`. Default: false.
+    /// Sets the flag `required_integer_digits`. With true a parser refuses a float with no digits
+    /// before its decimal point, such as `.5`. Default: false.
     #[inline(always)]
     pub fn required_integer_digits(mut self, flag: bool) -> Self
         ensures { result ≡ after self (write_flag layout.required_integer_digits flag ∷ []) }
@@ -96,8 +96,8 @@ impl NumberFormatBuilder {
         self
     }
 
-    /// Sets the flag `required_fraction_digits`. With true a parser refuses a float with a
-    /// decimal point and no digits after it, as `1.`. A float with no decimal point is taken as
+    /// Sets the flag `required_fraction_digits`. With true a parser refuses a float with a decimal
+    /// point and no digits after it, such as `1.`. A float with no decimal point is taken as
     /// before. Default: false.
     #[inline(always)]
     pub fn required_fraction_digits(mut self, flag: bool) -> Self
@@ -107,8 +107,8 @@ impl NumberFormatBuilder {
         self
     }
 
-    /// Sets the flag `required_exponent_digits`. With true a parser refuses an exponent
-    /// character with no digits after it, as `1e`. Default: true.
+    /// Sets the flag `required_exponent_digits`. With true a parser refuses an exponent character
+    /// with no digits after it, such as `1e`. Default: true.
     #[inline(always)]
     pub fn required_exponent_digits(mut self, flag: bool) -> Self
         ensures { result ≡ after self (write_flag layout.required_exponent_digits flag ∷ []) }
@@ -118,7 +118,7 @@ impl NumberFormatBuilder {
     }
 
     /// Sets the flag `required_mantissa_digits`. With true a parser refuses a float with no
-    /// significant digit at all, as `.`. With false it reads this as 0, but never the empty
+    /// significant digit at all, such as `.`. With false it reads this as 0, but never the empty
     /// text. Default: true.
     #[inline(always)]
     pub fn required_mantissa_digits(mut self, flag: bool) -> Self
@@ -151,9 +151,9 @@ impl NumberFormatBuilder {
         self
     }
 
-    /// Sets the flag `required_mantissa_sign`. With true a parser of integers and floats
-    /// refuses a number with no sign, as `1`, and a writer writes `+` before a number that is
-    /// not negative. Default: false.
+    /// Sets the flag `required_mantissa_sign`. With true a parser of integers and floats refuses a
+    /// number with no sign, such as `1`, and a writer writes `+` before a number that is not
+    /// negative. Default: false.
     #[inline(always)]
     pub fn required_mantissa_sign(mut self, flag: bool) -> Self
         ensures { result ≡ after self (write_flag layout.required_mantissa_sign flag ∷ []) }
@@ -162,9 +162,8 @@ impl NumberFormatBuilder {
         self
     }
 
-    /// Sets the flag `no_exponent_notation`. With true a parser refuses a float with an
-    /// exponent, as `1e5`, and a writer writes all digits instead of an exponent. Default:
-    /// false.
+    /// Sets the flag `no_exponent_notation`. With true a parser refuses a float with an exponent,
+    /// such as `1e5`, and a writer writes all digits instead of an exponent. Default: false.
     #[inline(always)]
     pub fn no_exponent_notation(mut self, flag: bool) -> Self
         ensures { result ≡ after self (write_flag layout.no_exponent_notation flag ∷ []) }
@@ -183,9 +182,9 @@ impl NumberFormatBuilder {
         self
     }
 
-    /// Sets the flag `required_exponent_sign`. With true a parser refuses an exponent with no
-    /// sign, as `1e5`, and a writer writes `+` before an exponent that is not negative.
-    /// Default: false.
+    /// Sets the flag `required_exponent_sign`. With true a parser refuses an exponent with no sign,
+    /// such as `1e5`, and a writer writes `+` before an exponent that is not negative. Default:
+    /// false.
     #[inline(always)]
     pub fn required_exponent_sign(mut self, flag: bool) -> Self
         ensures { result ≡ after self (write_flag layout.required_exponent_sign flag ∷ []) }
@@ -194,8 +193,8 @@ impl NumberFormatBuilder {
         self
     }
 
-    /// Sets the flag `no_exponent_without_fraction`. With true a parser refuses an exponent in
-    /// a float with no decimal point, as `1e5`, and takes `1.0e5`. That digits follow the point
+    /// Sets the flag `no_exponent_without_fraction`. With true a parser refuses an exponent in a
+    /// float with no decimal point, such as `1e5`, and takes `1.0e5`. That digits follow the point
     /// is not asked by this flag. Default: false.
     #[inline(always)]
     pub fn no_exponent_without_fraction(mut self, flag: bool) -> Self
@@ -205,8 +204,8 @@ impl NumberFormatBuilder {
         self
     }
 
-    /// Sets the flag `no_special`. With true a parser refuses every special value, as `NaN` and
-    /// `inf`. Default: false.
+    /// Sets the flag `no_special`. With true a parser refuses every special value, such as `NaN`
+    /// and `inf`. Default: false.
     #[inline(always)]
     pub fn no_special(mut self, flag: bool) -> Self
         ensures { result ≡ after self (write_flag layout.no_special flag ∷ []) }
@@ -247,7 +246,7 @@ impl NumberFormatBuilder {
     }
 
     /// Sets the flag `required_exponent_notation`. With true a parser refuses a float with no
-    /// exponent, as `1.0`, and a writer writes an exponent with every float. Default: false.
+    /// exponent, such as `1.0`, and a writer writes an exponent with every float. Default: false.
     #[inline(always)]
     pub fn required_exponent_notation(mut self, flag: bool) -> Self
         ensures { result ≡ after self (write_flag layout.required_exponent_notation flag ∷ []) }
