@@ -1,7 +1,7 @@
 //! Edits of a format word: lists of setter calls, and the normal form of a word.
 
 ghost use Rattle.std.specs.Prelude.{◌≡◌, ℕ, ◌+◌, ◌<◌, ◌≤◌, ◌^◌, ◌↔◌, ◌++◌, IsTrue, List, All, length, filter, take};
-ghost use Rattle.std.proofs.Math.Bool.{beq};
+ghost use Rattle.std.specs.Bool.{beq};
 ghost use Rattle.lexical_flags.specs.Layout.{IsClean};
 ghost use Rattle.lexical_flags.specs.Record.{raw, fill, trim, pack, SeparatorIsUsed, IsBuilt};
 ghost use Rattle.lexical_builder.specs.Writes.{Write, IsLegal, new_record, write_flags, after, SameWrites};
@@ -143,59 +143,48 @@ pub fn apply(builder: NumberFormatBuilder, edit: Edit) -> NumberFormatBuilder
 fn apply_flag(builder: NumberFormatBuilder, setter: FlagSetter, flag: bool) -> NumberFormatBuilder
     ensures { result ≡ after builder (write_flags (flags_of setter) flag) }
 {
+    use FlagSetter::*;
     match setter {
-        FlagSetter::RequiredIntegerDigits => builder.required_integer_digits(flag),
-        FlagSetter::RequiredFractionDigits => builder.required_fraction_digits(flag),
-        FlagSetter::RequiredExponentDigits => builder.required_exponent_digits(flag),
-        FlagSetter::RequiredMantissaDigits => builder.required_mantissa_digits(flag),
-        FlagSetter::NoPositiveMantissaSign => builder.no_positive_mantissa_sign(flag),
-        FlagSetter::RequiredMantissaSign => builder.required_mantissa_sign(flag),
-        FlagSetter::NoExponentNotation => builder.no_exponent_notation(flag),
-        FlagSetter::NoPositiveExponentSign => builder.no_positive_exponent_sign(flag),
-        FlagSetter::RequiredExponentSign => builder.required_exponent_sign(flag),
-        FlagSetter::NoExponentWithoutFraction => builder.no_exponent_without_fraction(flag),
-        FlagSetter::NoSpecial => builder.no_special(flag),
-        FlagSetter::CaseSensitiveSpecial => builder.case_sensitive_special(flag),
-        FlagSetter::NoIntegerLeadingZeros => builder.no_integer_leading_zeros(flag),
-        FlagSetter::NoFloatLeadingZeros => builder.no_float_leading_zeros(flag),
-        FlagSetter::RequiredExponentNotation => builder.required_exponent_notation(flag),
-        FlagSetter::CaseSensitiveExponent => builder.case_sensitive_exponent(flag),
-        FlagSetter::CaseSensitiveBasePrefix => builder.case_sensitive_base_prefix(flag),
-        FlagSetter::CaseSensitiveBaseSuffix => builder.case_sensitive_base_suffix(flag),
-        FlagSetter::IntegerInternalDigitSeparator => builder.integer_internal_digit_separator(flag),
-        FlagSetter::FractionInternalDigitSeparator => builder.fraction_internal_digit_separator(
-            flag,
-        ),
-        FlagSetter::ExponentInternalDigitSeparator => builder.exponent_internal_digit_separator(
-            flag,
-        ),
-        FlagSetter::IntegerLeadingDigitSeparator => builder.integer_leading_digit_separator(flag),
-        FlagSetter::FractionLeadingDigitSeparator => builder.fraction_leading_digit_separator(flag),
-        FlagSetter::ExponentLeadingDigitSeparator => builder.exponent_leading_digit_separator(flag),
-        FlagSetter::IntegerTrailingDigitSeparator => builder.integer_trailing_digit_separator(flag),
-        FlagSetter::FractionTrailingDigitSeparator => builder.fraction_trailing_digit_separator(
-            flag,
-        ),
-        FlagSetter::ExponentTrailingDigitSeparator => builder.exponent_trailing_digit_separator(
-            flag,
-        ),
-        FlagSetter::IntegerConsecutiveDigitSeparator => builder.integer_consecutive_digit_separator(
-            flag,
-        ),
-        FlagSetter::FractionConsecutiveDigitSeparator =>
-            builder.fraction_consecutive_digit_separator(flag),
-        FlagSetter::ExponentConsecutiveDigitSeparator =>
-            builder.exponent_consecutive_digit_separator(flag),
-        FlagSetter::SpecialDigitSeparator => builder.special_digit_separator(flag),
-        FlagSetter::RequiredDigits => builder.required_digits(flag),
-        FlagSetter::InternalDigitSeparator => builder.internal_digit_separator(flag),
-        FlagSetter::LeadingDigitSeparator => builder.leading_digit_separator(flag),
-        FlagSetter::TrailingDigitSeparator => builder.trailing_digit_separator(flag),
-        FlagSetter::ConsecutiveDigitSeparator => builder.consecutive_digit_separator(flag),
-        FlagSetter::DigitSeparatorFlags => builder.digit_separator_flags(flag),
-        FlagSetter::IntegerDigitSeparatorFlags => builder.integer_digit_separator_flags(flag),
-        FlagSetter::FractionDigitSeparatorFlags => builder.fraction_digit_separator_flags(flag),
-        FlagSetter::ExponentDigitSeparatorFlags => builder.exponent_digit_separator_flags(flag),
+        RequiredIntegerDigits => builder.required_integer_digits(flag),
+        RequiredFractionDigits => builder.required_fraction_digits(flag),
+        RequiredExponentDigits => builder.required_exponent_digits(flag),
+        RequiredMantissaDigits => builder.required_mantissa_digits(flag),
+        NoPositiveMantissaSign => builder.no_positive_mantissa_sign(flag),
+        RequiredMantissaSign => builder.required_mantissa_sign(flag),
+        NoExponentNotation => builder.no_exponent_notation(flag),
+        NoPositiveExponentSign => builder.no_positive_exponent_sign(flag),
+        RequiredExponentSign => builder.required_exponent_sign(flag),
+        NoExponentWithoutFraction => builder.no_exponent_without_fraction(flag),
+        NoSpecial => builder.no_special(flag),
+        CaseSensitiveSpecial => builder.case_sensitive_special(flag),
+        NoIntegerLeadingZeros => builder.no_integer_leading_zeros(flag),
+        NoFloatLeadingZeros => builder.no_float_leading_zeros(flag),
+        RequiredExponentNotation => builder.required_exponent_notation(flag),
+        CaseSensitiveExponent => builder.case_sensitive_exponent(flag),
+        CaseSensitiveBasePrefix => builder.case_sensitive_base_prefix(flag),
+        CaseSensitiveBaseSuffix => builder.case_sensitive_base_suffix(flag),
+        IntegerInternalDigitSeparator => builder.integer_internal_digit_separator(flag),
+        FractionInternalDigitSeparator => builder.fraction_internal_digit_separator(flag),
+        ExponentInternalDigitSeparator => builder.exponent_internal_digit_separator(flag),
+        IntegerLeadingDigitSeparator => builder.integer_leading_digit_separator(flag),
+        FractionLeadingDigitSeparator => builder.fraction_leading_digit_separator(flag),
+        ExponentLeadingDigitSeparator => builder.exponent_leading_digit_separator(flag),
+        IntegerTrailingDigitSeparator => builder.integer_trailing_digit_separator(flag),
+        FractionTrailingDigitSeparator => builder.fraction_trailing_digit_separator(flag),
+        ExponentTrailingDigitSeparator => builder.exponent_trailing_digit_separator(flag),
+        IntegerConsecutiveDigitSeparator => builder.integer_consecutive_digit_separator(flag),
+        FractionConsecutiveDigitSeparator => builder.fraction_consecutive_digit_separator(flag),
+        ExponentConsecutiveDigitSeparator => builder.exponent_consecutive_digit_separator(flag),
+        SpecialDigitSeparator => builder.special_digit_separator(flag),
+        RequiredDigits => builder.required_digits(flag),
+        InternalDigitSeparator => builder.internal_digit_separator(flag),
+        LeadingDigitSeparator => builder.leading_digit_separator(flag),
+        TrailingDigitSeparator => builder.trailing_digit_separator(flag),
+        ConsecutiveDigitSeparator => builder.consecutive_digit_separator(flag),
+        DigitSeparatorFlags => builder.digit_separator_flags(flag),
+        IntegerDigitSeparatorFlags => builder.integer_digit_separator_flags(flag),
+        FractionDigitSeparatorFlags => builder.fraction_digit_separator_flags(flag),
+        ExponentDigitSeparatorFlags => builder.exponent_digit_separator_flags(flag),
     }
 }
 
