@@ -43,6 +43,7 @@ nat_between a b c = grind (arith, nat_tests)
 count_between : {X : Type 0} (p q r : X → Bool) (xs : List X) → ((x : X) → cond (p x) 1 0 ≤ cond (q x) 1 0 + cond (r x) 1 0) → count_by p xs ≤ count_by q xs + count_by r xs
 count_between p q r xs h = omega (arith, sum_by-le-sum_by (λ x. cond (p x) 1 0) (λ x. cond (q x) 1 0 + cond (r x) 1 0) xs h, sum_by-add (λ x. cond (q x) 1 0) (λ x. cond (r x) 1 0) xs)
 
+-- going by way of a third record is no shorter
 pub distance_between : (R S T : Record) → distance R T ≤ distance R S + distance S T
 unfolding distance
 distance_between R S T = omega (
@@ -78,6 +79,7 @@ same_bool : (u : Bool) → ◌≡◌ {A = ℕ} (cond (not (beq u u)) 1 0) 0
 same_bool true = refl
 same_bool false = refl
 
+-- one write changes one field at most
 pub distance_write : (R : Record) (x : Write) → distance R (after R (x ∷ [])) ≤ 1
 unfolding distance
 distance_write R (write_flag g v) = omega (

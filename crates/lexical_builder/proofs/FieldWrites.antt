@@ -16,6 +16,7 @@ use Rattle.lexical_builder.proofs.Distance.{distance, flag_differs, byte_differs
 abbrev pub field_writes : Record → List Write
 field_writes R = map (λ f. write_flag f (flag_of R f)) flags ++ map (λ b. write_byte b (byte_of R b)) bytes
 
+-- to write every field of a record makes it, whatever stood before
 pub after-field_writes : (S R : Record) → after S (field_writes R) ≡ R
 after-field_writes S R = record_same _ _ (λ f. flag_of-after S (field_writes R) f ∙ on_flag f) (λ b. byte_of-after S (field_writes R) b ∙ on_byte b) where
   on_flag : (f : Flag) → left_by (λ x. flag_in x f) (field_writes R) (flag_of S f) ≡ flag_of R f
@@ -26,6 +27,7 @@ after-field_writes S R = record_same _ _ (λ f. flag_of-after S (field_writes R)
   on_byte layout.digit_separator = refl
   on_byte _ = refl
 
+-- writes of bytes of a record with bytes are legal
 pub legal-field_writes : (R : Record) → HasBytes R → All IsLegal (field_writes R)
 legal-field_writes R h = All-append IsLegal (map (λ f. write_flag f (flag_of R f)) flags) (map (λ b. write_byte b (byte_of R b)) bytes)
     (All-map IsLegal (λ f. write_flag f (flag_of R f)) flags (λ k d l. tt))
@@ -79,6 +81,7 @@ abbrev pub NoChange : Record → List Write → Type 0
 NoChange R [] = Unit {0}
 NoChange R (x ∷ L) = (changes R x ≡ false) × NoChange R L
 
+-- two lists that change nothing change nothing one after the other
 pub NoChange-append : (R : Record) (L M : List Write) → NoChange R L → NoChange R M → NoChange R (L ++ M)
 NoChange-append R [] M h k = k
 NoChange-append R (x ∷ L) M h k = (h.0, NoChange-append R L M h.1 k)
@@ -87,6 +90,7 @@ NoChange-cond : (R : Record) (t : Bool) (x : Write) (L : List Write) → changes
 NoChange-cond R true x L e k = (e, k)
 NoChange-cond R false x L e k = k
 
+-- what is kept of a list that changes nothing changes nothing
 pub NoChange-filter : (R : Record) (p : Write → Bool) (L : List Write) → NoChange R L → NoChange R (filter p L)
 NoChange-filter R p [] h = tt
 NoChange-filter R p (x ∷ L) h = NoChange-cond R (p x) x (filter p L) h.0 (NoChange-filter R p L h.1)
@@ -98,6 +102,7 @@ beq_refl false = refl
 eqb_self : (n : ℕ) → not (eqb n n) ≡ false
 eqb_self n = ap not (eq-eqb n n refl)
 
+-- to write the fields of a record into it changes nothing
 pub NoChange-field_writes : (R : Record) → NoChange R (field_writes R)
 NoChange-field_writes R = NoChange-append R (map (λ f. write_flag f (flag_of R f)) flags) (map (λ b. write_byte b (byte_of R b)) bytes) (on_flags flags) (on_bytes bytes) where
   on_flags : (fs : List Flag) → NoChange R (map (λ f. write_flag f (flag_of R f)) fs)
@@ -116,6 +121,7 @@ left_by-same h r R (x ∷ L) s k = left_by-cons h x L r ∙ ap (left_by h L) (st
   stays o (inl e) = ap (λ p. unwrap_or p r) e
   stays o (inr e) = ap (λ p. unwrap_or p r) e
 
+-- a list that changes nothing leaves the record as it was
 pub after-NoChange : (R : Record) (L : List Write) → NoChange R L → after R L ≡ R
 after-NoChange R L k = record_same _ _
     (λ f. flag_of-after R L f ∙ left_by-same (λ x. flag_in x f) (flag_of R f) R L (λ x. flag_in-same R x f) k)
@@ -143,6 +149,7 @@ left_by-filter : {T : Type 0} (h : Write → Option T) (n r d : T) (N R : Record
 left_by-filter h n r d N R [] sn sr k e = refl
 left_by-filter {T} h n r d N R (x ∷ L) sn sr k e = filter_turn h n r d N R x L sn sr k.0 e (λ u w. left_by-filter h n r u N R L sn sr k.1 w) ∙ sym (left_by-cons h x L d)
 
+-- the writes that change nothing may be left out
 pub after-filter : (N R : Record) (L : List Write) → NoChange R L → after N (filter (changes N) L) ≡ after N L
 after-filter N R L k = record_same _ _
     (λ f. flag_of-after N (filter (changes N) L) f

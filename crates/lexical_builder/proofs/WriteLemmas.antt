@@ -13,10 +13,12 @@ use Rattle.lexical_builder.specs.Writes.{Write, write_flag, write_byte, IsLegal,
 abbrev pub left_by : {T : Type 0} → (Write → Option T) → List Write → T → T
 left_by h L d = unwrap_or (last_or None (filter_map h L)) d
 
+-- after the writes a flag is what the last of them to it left
 pub flag_of-after : (R : Record) (L : List Write) (f : Flag) → flag_of (after R L) f ≡ left_by (λ x. flag_in x f) L (flag_of R f)
 unfolding after
 flag_of-after R L f = flag_of-tabulate (λ f. left_by (λ x. flag_in x f) L (flag_of R f)) (λ b. left_by (λ x. byte_in x b) L (byte_of R b)) f
 
+-- after the writes a byte is what the last of them to it left
 pub byte_of-after : (R : Record) (L : List Write) (b : Byte) → byte_of (after R L) b ≡ left_by (λ x. byte_in x b) L (byte_of R b)
 unfolding after
 byte_of-after R L b = byte_of-tabulate (λ f. left_by (λ x. flag_in x f) L (flag_of R f)) (λ b. left_by (λ x. byte_in x b) L (byte_of R b)) b
@@ -29,17 +31,21 @@ last_or-cons : {T : Type 0} (o : Option T) (d : T) (xs : List T) → unwrap_or (
 last_or-cons None d xs = refl
 last_or-cons (Some v) d xs = last_or-some v d xs
 
+-- the first of the writes sets what the others start from
 pub left_by-cons : {T : Type 0} (h : Write → Option T) (x : Write) (L : List Write) (d : T) → left_by h (x ∷ L) d ≡ left_by h L (unwrap_or (h x) d)
 left_by-cons h x L d = last_or-cons (h x) d (filter_map h L)
 
+-- the second list starts from what the first has left
 pub left_by-append : {T : Type 0} (h : Write → Option T) (L M : List Write) (d : T) → left_by h (L ++ M) d ≡ left_by h M (left_by h L d)
 left_by-append h [] M d = refl
 left_by-append h (x ∷ L) M d = left_by-cons h x (L ++ M) d ∙ left_by-append h L M (unwrap_or (h x) d) ∙ ap (left_by h M) (sym (left_by-cons h x L d))
 
+-- no write changes nothing
 pub after_none : (R : Record) → after R [] ≡ R
 unfolding after
 after_none R = refl
 
+-- two lists one after the other are one list
 pub after-append : (R : Record) (L M : List Write) → after (after R L) M ≡ after R (L ++ M)
 after-append R L M = record_same _ _
     (λ f. flag_of-after (after R L) M f ∙ ap (left_by (λ x. flag_in x f) M) (flag_of-after R L f)
@@ -68,6 +74,7 @@ HasBytes-after R L bytes legal = record {
   each = λ b. subst (λ n. n < 256) (sym (byte_of-after R L b)) (left_fits L b (byte_of R b) legal (bytes.each b));
 }
 
+-- the record of a new builder has bytes
 pub HasBytes-new : HasBytes new_record
 HasBytes-new = record { each = on_byte } where
   on_byte : (b : Byte) → byte_of new_record b < 256

@@ -57,11 +57,13 @@ mask_test fs word up = ap (λ n. n == 0) (and_all bit fs word up) ∙ sum_by-zer
 negated : (a b : Bool) → a ≡ not b → b ≡ not a
 negated a b e = sym (not-not b) ∙ ap not (sym e)
 
+-- a word that meets the mask of some flags has one of them set
 pub any_set : (fs : List Flag) (word : ℕ) → ascends bit 1 0 fs ≡ true → bit_and word (mask_of fs) ≢ 0 → list_any (flag_of (raw word)) fs ≡ true
 any_set fs word up some =
     let test : (bit_and word (mask_of fs) == 0) ≡ false = ne_eqb _ _ some in
     negated _ _ (mask_test fs word up) ∙ ap not test
 
+-- a word that misses the mask of some flags has none of them set
 pub none_set : (fs : List Flag) (word : ℕ) → ascends bit 1 0 fs ≡ true → bit_and word (mask_of fs) ≡ 0 → list_any (flag_of (raw word)) fs ≡ false
 none_set fs word up none =
     let test : (bit_and word (mask_of fs) == 0) ≡ true = eq-eqb _ _ none in
@@ -71,6 +73,7 @@ none_set fs word up none =
 pub separator_flag_set : (word : ℕ) → bit_and word 0x1FFF_0000_0000 ≢ 0 → separator_on (raw word) ≡ true
 separator_flag_set word = any_set digit_separator_flags word refl
 
+-- a word that misses the mask of the separator flags has no separator on
 pub no_separator_flag_set : (word : ℕ) → bit_and word 0x1FFF_0000_0000 ≡ 0 → separator_on (raw word) ≡ false
 no_separator_flag_set word = none_set digit_separator_flags word refl
 

@@ -65,6 +65,7 @@ integer_consecutive_alone word =
     ap (λ n. n == 2 ^ 41) (under_mask word 32 35 38 41 refl)
     ∙ alone (2 ^ 32) _ _ _ _ (pow_pos 32) (bit-lt word 32) (bit-lt word 35) (bit-lt word 38) (bit-lt word 41)
 
+-- the fraction may not have consecutive separators alone
 pub fraction_consecutive_alone : (word : ℕ) →
     (bit_and word 0x492_0000_0000 == 0x400_0000_0000)
     ≡ ((part word 42 1 == 1) && not ((part word 33 1 == 1) || (part word 36 1 == 1) || (part word 39 1 == 1)))
@@ -72,6 +73,7 @@ fraction_consecutive_alone word =
     ap (λ n. n == 2 ^ 42) (under_mask word 33 36 39 42 refl)
     ∙ alone (2 ^ 33) _ _ _ _ (pow_pos 33) (bit-lt word 33) (bit-lt word 36) (bit-lt word 39) (bit-lt word 42)
 
+-- the exponent may not have consecutive separators alone
 pub exponent_consecutive_alone : (word : ℕ) →
     (bit_and word 0x924_0000_0000 == 0x800_0000_0000)
     ≡ ((part word 43 1 == 1) && not ((part word 34 1 == 1) || (part word 37 1 == 1) || (part word 40 1 == 1)))

@@ -81,6 +81,7 @@ bit_value-one false = refl
 from_values-values : (r : Record) → from_values (values r) ≡ r
 from_values-values r = λ i. tabulate (λ f. bit_value-one (flag_of r f) i) (byte_of r)
 
+-- a flag counts as its bit at its place
 pub flag_bits-value : (b : Bool) (k : ℕ) → (if b then 2 ^ k else 0) ≡ bit_value b * 2 ^ k
 flag_bits-value true k = omega arith
 flag_bits-value false k = omega arith
@@ -90,6 +91,7 @@ unfolding word_of
 word_of-joined r =
     (λ i. sum_by (λ f. flag_bits-value (flag_of r f) (bit f) i) flags + sum_by (byte_bits r) bytes) ∙ omega arith
 
+-- a flag counts as zero or one
 pub bit_value-lt : (b : Bool) → bit_value b < 2
 bit_value-lt true = omega arith
 bit_value-lt false = omega arith
@@ -125,6 +127,7 @@ segments-word_of : (r : Record) → HasBytes r → segments 0 widths (word_of r)
 segments-word_of r h =
     ap (segments 0 widths) (word_of-joined r ∙ omega arith) ∙ segments-joined 0 widths (values r) 0 (omega arith) (values-fit r h)
 
+-- the record of the word of a record is that record
 pub raw-word_of : (r : Record) → HasBytes r → raw (word_of r) ≡ r
 raw-word_of r h = ap from_values (segments-word_of r h) ∙ from_values-values r
 
@@ -160,10 +163,12 @@ by_name r separator prefix suffix radix base exponent layout.mantissa_radix = ra
 by_name r separator prefix suffix radix base exponent layout.exponent_base = base
 by_name r separator prefix suffix radix base exponent layout.exponent_radix = exponent
 
+-- a record has bytes when each of the six is one
 pub HasBytes-by_name : (r : Record) → r.digit_separator < 256 → r.base_prefix < 256 → r.base_suffix < 256 → r.mantissa_radix < 256 → r.exponent_base < 256 → r.exponent_radix < 256
     → HasBytes r
 HasBytes-by_name r separator prefix suffix radix base exponent = record { each = by_name r separator prefix suffix radix base exponent }
 
+-- the record of every word has bytes
 pub HasBytes-raw : (w : ℕ) → HasBytes (raw w)
 HasBytes-raw w =
     HasBytes-by_name (raw w) (mod-lt _ (pow_pos 8)) (mod-lt _ (pow_pos 8)) (mod-lt _ (pow_pos 8)) (mod-lt _ (pow_pos 8)) (mod-lt _ (pow_pos 8)) (mod-lt _ (pow_pos 8))
@@ -171,6 +176,7 @@ HasBytes-raw w =
 effective-lt : (own radix : ℕ) → own < 256 → radix < 256 → effective own radix < 256
 effective-lt own radix own_fits radix_fits = grind (arith, nat_tests)
 
+-- filling the exponent bytes leaves bytes
 pub HasBytes-fill : (r : Record) → HasBytes r → HasBytes (fill r)
 HasBytes-fill r h =
     let byte = h.each in
@@ -183,18 +189,22 @@ kept-lt : (b : Bool) (n : ℕ) → n < 256 → (if b then n else 0) < 256
 kept-lt true n l = l
 kept-lt false n l = omega arith
 
+-- dropping the separator leaves bytes
 pub HasBytes-trim : (r : Record) → HasBytes r → HasBytes (trim r)
 HasBytes-trim r h =
     let byte = h.each in
     HasBytes-by_name (trim r) (kept-lt (separator_on r) r.digit_separator (byte layout.digit_separator)) (byte layout.base_prefix)
     (byte layout.base_suffix) (byte layout.mantissa_radix) (byte layout.exponent_base) (byte layout.exponent_radix)
 
+-- what is packed is read back, without an unused separator
 pub raw-pack : (r : Record) → HasBytes r → raw (pack r) ≡ trim r
 raw-pack r h = raw-word_of (trim r) (HasBytes-trim r h)
 
+-- what is packed has no reserved bit set
 pub pack-clean : (r : Record) → HasBytes r → IsClean (pack r)
 pack-clean r h = word_of-clean (trim r) (HasBytes-trim r h)
 
+-- what is packed is a word
 pub pack-lt : (r : Record) → HasBytes r → pack r < 2 ^ 128
 pack-lt r h = word_of-lt (trim r) (HasBytes-trim r h)
 
@@ -227,5 +237,6 @@ pack-raw w l = (
 pub raw-injective : (v w : ℕ) → v < 2 ^ 128 → w < 2 ^ 128 → IsClean v → IsClean w → raw v ≡ raw w → v ≡ w
 raw-injective v w fits fits' clean clean' same = sym (word_of-raw v fits clean) ∙ ap word_of same ∙ word_of-raw w fits' clean'
 
+-- two records give one word exactly if they agree up to an unused separator
 pub pack-injective : (r s : Record) → HasBytes r → HasBytes s → (pack s ≡ pack r) ↔ (trim s ≡ trim r)
 pack-injective r s h k = (λ e. sym (raw-pack s k) ∙ ap raw e ∙ raw-pack r h, λ e. ap word_of e)

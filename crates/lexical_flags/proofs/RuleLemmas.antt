@@ -139,6 +139,7 @@ IsFirstBroken-unique word a b (rule ∷ rules) (inl h) (inr k) = absurd (h.0 k.0
 IsFirstBroken-unique word a b (rule ∷ rules) (inr h) (inl k) = absurd (k.0 h.0)
 IsFirstBroken-unique word a b (rule ∷ rules) (inr h) (inr k) = IsFirstBroken-unique word a b rules h.1 k.1
 
+-- a word has one error
 pub IsErrorOf-unique : (word : ℕ) (a b : Error) → IsErrorOf word a → IsErrorOf word b → a ≡ b
 unfolding IsErrorOf
 IsErrorOf-unique word a b = IsFirstBroken-unique word a b rules_in_order
@@ -149,11 +150,13 @@ IsFirstBroken-same v w same [] error h = h
 IsFirstBroken-same v w same (rule ∷ rules) error (inl broken) = inl (λ kept. broken.0 ((same rule).1 kept), broken.1)
 IsFirstBroken-same v w same (rule ∷ rules) error (inr kept) = inr ((same rule).0 kept.0, IsFirstBroken-same v w same rules error kept.1)
 
+-- words that keep the same rules have the same error
 pub IsErrorOf-same : (v w : ℕ) → ((rule : Rule) → Holds rule v ↔ Holds rule w) → (error : Error) → IsErrorOf v error ↔ IsErrorOf w error
 unfolding IsErrorOf
 IsErrorOf-same v w same error =
     (IsFirstBroken-same v w same rules_in_order error, IsFirstBroken-same w v (λ rule. ((same rule).1, (same rule).0)) rules_in_order error)
 
+-- a word without an error keeps every rule
 pub Lawful-from_success : (word : ℕ) → IsErrorOf word Success → Lawful word
 unfolding IsErrorOf
 Lawful-from_success word h =

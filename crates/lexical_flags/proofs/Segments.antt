@@ -47,6 +47,7 @@ below_next s n v low l fits =
     let room = mul-le-mul_left (2 ^ s) fits in
     rw (pow-add 2 s n) (omega arith)
 
+-- what is joined is found again
 pub segments-joined : (s : ℕ) (widths values : List ℕ) (low : ℕ) → low < 2 ^ s → Fit widths values → segments s widths (low + joined s widths values) ≡ values
 segments-joined s [] [] low l fit = refl
 segments-joined s [] (v ∷ values) low l fit = absurd fit
@@ -60,6 +61,7 @@ segments-joined s (n ∷ widths) (v ∷ values) low l fit =
     ∙ segments-joined (s + n) widths values (low + v * 2 ^ s) (below_next s n v low l fit.0) fit.1 in
     λ i. here i ∷ rest i
 
+-- what is found is joined again, and what stands below is left
 pub joined-segments : (s : ℕ) (widths : List ℕ) (w : ℕ) → w % 2 ^ s + joined s widths (segments s widths w) ≡ w % 2 ^ top s widths
 joined-segments s [] w = omega arith
 joined-segments s (n ∷ widths) w =

@@ -25,6 +25,7 @@ IsBuilt-pack R bytes = record {
   separator_used = subst (λ (S : Record). IsTrue (separator_on S) ⊎ (S.digit_separator ≡ 0)) (sym (raw-pack R bytes)) (trimmed R);
 }
 
+-- a word that packing gives back is built by some legal writes
 pub IsBuiltByWrites-built : (w : ℕ) → w < 2 ^ 128 → IsBuilt w → IsBuiltByWrites w
 IsBuiltByWrites-built w fits built = record {
   writes = field_writes (raw w);
@@ -32,5 +33,6 @@ IsBuiltByWrites-built w fits built = record {
   makes = ap pack (after-field_writes new_record (raw w)) ∙ (pack-raw w fits).1 built;
 }
 
+-- a word that is built by legal writes is given back by packing
 pub IsBuilt-by_writes : (w : ℕ) → IsBuiltByWrites w → IsBuilt w
 IsBuilt-by_writes w made = subst IsBuilt made.makes (IsBuilt-pack (after new_record made.writes) (HasBytes-after new_record made.writes HasBytes-new made.legal))

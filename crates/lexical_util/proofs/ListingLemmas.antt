@@ -21,6 +21,7 @@ abbrev pub AllSingle : List Edit → Type 0
 AllSingle [] = Unit {0}
 AllSingle (e ∷ es) = ((x : Write) × (writes_of e ≡ x ∷ [])) × AllSingle es
 
+-- two lists of single edits are one
 pub AllSingle-append : (es fs : List Edit) → AllSingle es → AllSingle fs → AllSingle (es ++ fs)
 AllSingle-append [] fs h k = k
 AllSingle-append (e ∷ es) fs h k = (h.0, AllSingle-append es fs h.1 k)
@@ -29,12 +30,14 @@ flag_edit-is : (f : Flag) (v : Bool) → writes_of (edits.Flag (setter_of f) v) 
 flag_edit-is layout.required_integer_digits v = refl
 flag_edit-is _ v = refl
 
+-- each edit of a field is single
 pub AllSingle-field_edits : (R : Record) → AllSingle (field_edits R)
 AllSingle-field_edits R = AllSingle-append (flag_edits R) (byte_edits R) (on_flags flags) ((_, refl), ((_, refl), ((_, refl), ((_, refl), ((_, refl), ((_, refl), tt)))))) where
   on_flags : (fs : List Flag) → AllSingle (map (λ f. edits.Flag (setter_of f) (flag_of R f)) fs)
   on_flags [] = tt
   on_flags (f ∷ fs) = ((write_flag f (flag_of R f), flag_edit-is f (flag_of R f)), on_flags fs)
 
+-- the edits of the fields write the fields
 pub all_writes-field_edits : (R : Record) → all_writes (field_edits R) ≡ field_writes R
 all_writes-field_edits R = flat_map-append writes_of (flag_edits R) (byte_edits R) ∙ simp option_byte_back
 
@@ -43,6 +46,7 @@ filter_cond : (t : Bool) (e : Edit) (x : Write) (es : List Edit) (L : List Write
 filter_cond true e x es L h k = ap (λ M. M ++ all_writes es) h ∙ ap (λ M. x ∷ M) k
 filter_cond false e x es L h k = k
 
+-- to keep some single edits is to keep their writes
 pub all_writes-filter : (p : Edit → Bool) (q : Write → Bool) → ((e : Edit) (x : Write) → writes_of e ≡ x ∷ [] → p e ≡ q x) → (es : List Edit) → AllSingle es → all_writes (filter p es) ≡ filter q (all_writes es)
 all_writes-filter p q agree [] h = refl
 all_writes-filter p q agree (e ∷ es) h =
@@ -51,10 +55,12 @@ all_writes-filter p q agree (e ∷ es) h =
     ∙ ap (λ t. cond t (x ∷ filter q (all_writes es)) (filter q (all_writes es))) (agree e x h.0.1)
     ∙ ap (λ L. filter q (L ++ all_writes es)) (sym h.0.1)
 
+-- single edits make as many writes as they are
 pub length-all_writes : (es : List Edit) → AllSingle es → length (all_writes es) ≡ length es
 length-all_writes [] h = refl
 length-all_writes (e ∷ es) h = ap (λ L. length (L ++ all_writes es)) h.0.1 ∙ ap suc (length-all_writes es h.1)
 
+-- what is kept of single edits is single
 pub AllSingle-filter : (p : Edit → Bool) (es : List Edit) → AllSingle es → AllSingle (filter p es)
 AllSingle-filter p [] h = tt
 AllSingle-filter p (e ∷ es) h = single_cond (p e) e (filter p es) h.0 (AllSingle-filter p es h.1) where
@@ -68,9 +74,11 @@ changes_new-is e x h = ap (list_any (changes new_record)) h ∙ or_false (change
   or_false true = refl
   or_false false = refl
 
+-- the edits that change a new record write what differs from it
 pub all_writes-changing : (R : Record) → all_writes (changing R) ≡ filter (changes new_record) (field_writes R)
 all_writes-changing R = all_writes-filter changes_new (changes new_record) changes_new-is (field_edits R) (AllSingle-field_edits R) ∙ ap (filter (changes new_record)) (all_writes-field_edits R)
 
+-- the other edits write what agrees with a new record
 pub all_writes-unchanging : (R : Record) → all_writes (unchanging R) ≡ filter (λ x. not (changes new_record x)) (field_writes R)
 all_writes-unchanging R = all_writes-filter (λ e. not (changes_new e)) (λ x. not (changes new_record x)) (λ e x h. ap not (changes_new-is e x h)) (field_edits R) (AllSingle-field_edits R) ∙ ap (filter (λ x. not (changes new_record x))) (all_writes-field_edits R)
 
@@ -78,6 +86,7 @@ all_writes-unchanging R = all_writes-filter (λ e. not (changes_new e)) (λ x. n
 pub after-changing : (R : Record) → after new_record (all_writes (changing R)) ≡ R
 after-changing R = ap (after new_record) (all_writes-changing R) ∙ after-filter new_record R (field_writes R) (NoChange-field_writes R) ∙ after-field_writes new_record R
 
+-- both lists of edits together make the record
 pub after-both : (R : Record) → after new_record (all_writes (changing R ++ unchanging R)) ≡ R
 after-both R = ap (after new_record) (flat_map-append writes_of (changing R) (unchanging R))
     ∙ sym (after-append new_record (all_writes (changing R)) (all_writes (unchanging R)))
@@ -85,15 +94,18 @@ after-both R = ap (after new_record) (flat_map-append writes_of (changing R) (un
     ∙ ap (after R) (all_writes-unchanging R)
     ∙ after-NoChange R _ (NoChange-filter R (λ x. not (changes new_record x)) (field_writes R) (NoChange-field_writes R))
 
+-- both lists of edits together are legal
 pub legal-both : (R : Record) → HasBytes R → All IsLegal (all_writes (changing R ++ unchanging R))
 legal-both R h = All-same IsLegal _ _ (flat_map-append writes_of (changing R) (unchanging R))
     (All-append IsLegal (all_writes (changing R)) (all_writes (unchanging R))
     (All-same IsLegal _ _ (all_writes-changing R) (All-filter (changes new_record) IsLegal (field_writes R) (legal-field_writes R h)))
     (All-same IsLegal _ _ (all_writes-unchanging R) (All-filter (λ x. not (changes new_record x)) IsLegal (field_writes R) (legal-field_writes R h))))
 
+-- the edits that change a new record are as many as the fields that differ
 pub length-changing : (R : Record) → length (changing R) ≡ distance new_record R
 length-changing R = sym (length-all_writes (changing R) (AllSingle-filter changes_new (field_edits R) (AllSingle-field_edits R)))
     ∙ ap length (all_writes-changing R) ∙ length-changes new_record R
 
+-- there are thirty-seven fields
 pub length-field_edits : (R : Record) → length (field_edits R) ≡ 37
 length-field_edits R = refl

@@ -47,8 +47,10 @@ pub first_makes : (R : Record) (edits : List Edit) (count : ℕ) → edits ≡ c
 first_makes R edits count e n = ap (λ xs. after new_record (all_writes (take count xs))) e ∙ ap (λ k. after new_record (all_writes (take k (changing R ++ unchanging R)))) n
     ∙ ap (λ xs. after new_record (all_writes xs)) (take-append_seam (changing R) (unchanging R)) ∙ after-changing R
 
+-- the whole listing makes the record
 pub whole_makes : (R : Record) (edits : List Edit) → edits ≡ changing R ++ unchanging R → after new_record (all_writes edits) ≡ R
 whole_makes R edits e = ap (λ xs. after new_record (all_writes xs)) e ∙ after-both R
 
+-- the whole listing is legal
 pub whole_legal : (R : Record) (edits : List Edit) → HasBytes R → edits ≡ changing R ++ unchanging R → All IsLegal (all_writes edits)
 whole_legal R edits h e = subst (λ xs. All IsLegal (all_writes xs)) (sym e) (legal-both R h)

@@ -10,6 +10,7 @@ use Rattle.lexical_flags.proofs.Packing.{raw-pack, pack-clean, pack-lt, raw-inje
 use Rattle.lexical_builder.proofs.WriteLemmas.{after_none}
 use Rattle.lexical_util.specs.Normal.{normal_form_of, SameFormat, IsNormal}
 
+-- filling and trimming leave the flags
 pub flag_of-trim-fill : (R : Record) (f : Flag) → flag_of (trim (fill R)) f ≡ flag_of R f
 flag_of-trim-fill R layout.required_integer_digits = refl
 flag_of-trim-fill R _ = refl
@@ -27,6 +28,7 @@ use_same false false x y e h = refl
 used_same : (p q : Bool) (x y : ℕ) → p ≡ q → cond p x 0 ≡ cond q y 0 → IsTrue p → x ≡ y
 used_same p q x y e h t = sym (cond-true p x 0 t) ∙ h ∙ cond-true q y 0 (sym e ∙ t)
 
+-- records of the same format are one when filled and trimmed
 pub trim-same_format : (R S : Record) → SameFormat R S → trim (fill R) ≡ trim (fill S)
 trim-same_format R S s = record_same _ _ (λ f. flag_of-trim-fill R f ∙ s.flags f ∙ sym (flag_of-trim-fill S f)) on_byte where
   on_byte : (b : Byte) → byte_of (trim (fill R)) b ≡ byte_of (trim (fill S)) b
@@ -37,6 +39,7 @@ trim-same_format R S s = record_same _ _ (λ f. flag_of-trim-fill R f ∙ s.flag
   on_byte layout.exponent_base = s.exponent_base
   on_byte layout.exponent_radix = s.exponent_radix
 
+-- records that are one when filled and trimmed have the same format
 pub SameFormat-from_trim : (R S : Record) → trim (fill R) ≡ trim (fill S) → SameFormat R S
 SameFormat-from_trim R S e =
     let flags_agree : (f : Flag) → flag_of R f ≡ flag_of S f = λ f. sym (flag_of-trim-fill R f) ∙ ap (λ (T : Record). flag_of T f) e ∙ flag_of-trim-fill S f in
@@ -50,12 +53,15 @@ SameFormat-from_trim R S e =
       digit_separator = used_same (separator_on R) (separator_on S) R.digit_separator S.digit_separator (list_any_same (flag_of R) (flag_of S) digit_separator_flags flags_agree) (ap (λ (T : Record). T.digit_separator) e);
     }
 
+-- the normal form packs the filled record
 pub normal_form-is : (w : ℕ) → normal_form_of w ≡ pack (fill (raw w))
 normal_form-is w = ap pack (after_none (fill (raw w)))
 
+-- words of the same format have one normal form
 pub normal_same : (a b : ℕ) → SameFormat (raw a) (raw b) → normal_form_of a ≡ normal_form_of b
 normal_same a b s = normal_form-is a ∙ ap word_of (trim-same_format (raw a) (raw b) s) ∙ sym (normal_form-is b)
 
+-- words with one normal form have the same format
 pub SameFormat-from_normal : (a b : ℕ) → normal_form_of a ≡ normal_form_of b → SameFormat (raw a) (raw b)
 SameFormat-from_normal a b e = SameFormat-from_trim (raw a) (raw b)
     (sym (raw-pack (fill (raw a)) (HasBytes-fill (raw a) (HasBytes-raw a)))
@@ -71,6 +77,7 @@ effective_again own radix = elim (cases_Bool (eqb own 0)) [
   same true = refl
   same false = refl
 
+-- a record has the same format when filled and trimmed
 pub SameFormat-normal : (R : Record) → SameFormat R (trim (fill R))
 SameFormat-normal R = record {
   flags = λ f. sym (flag_of-trim-fill R f);

@@ -64,6 +64,7 @@ some_by_mask word mask fits = let same : bit_and word mask ≡ common word mask 
 pub fourth_power : (n : ℕ) → n ^ 2 * n ^ 2 ≡ n ^ 4
 fourth_power n = sym (pow-add n 2 2)
 
+-- the square of a fourth power
 pub eighth_power : (n : ℕ) → n ^ 4 * n ^ 4 ≡ n ^ 8
 eighth_power n = sym (pow-add n 4 4)
 

@@ -9,6 +9,7 @@ use Rattle.lexical_base.proofs.ValueLemmas.{figure-get}
 use Rattle.numfmt.specs.Numeral.{is_digit}
 use Rattle.numfmt.specs.WordText.{is_capital_hex_digit}
 
+-- both tests pass when their conjunction does
 pub both_pass : (a b : Bool) → (a && b) ≡ true → (a ≡ true) × (b ≡ true)
 both_pass true b h = search rules
 both_pass false b h = cc
@@ -30,12 +31,14 @@ any_passes test byte (x ∷ xs) all some =
 abbrev is_its_figure : ℕ → Bool
 is_its_figure byte = slice_index_or figures (value byte) 0 == byte
 
+-- a capital figure is the one that stands for its value
 pub figure_from_value : (byte : ℕ) → is_capital_hex_digit byte ≡ true → slice_index_or figures (value byte) 0 ≡ byte
 unfolding value
 figure_from_value byte capital =
     let same : is_its_figure byte ≡ true = any_passes is_its_figure byte (take 16 figures) refl capital in
     grind (arith, nat_tests)
 
+-- a capital figure is a digit of radix sixteen
 pub hex_from_capital : (byte : ℕ) → is_capital_hex_digit byte ≡ true → is_digit 16 byte ≡ true
 unfolding value
 hex_from_capital byte capital = any_passes (is_digit 16) byte (take 16 figures) refl capital

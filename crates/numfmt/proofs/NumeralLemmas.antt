@@ -31,6 +31,7 @@ sixteen-fits places few =
     let fits : nat_le (16 ^ places) (2 ^ 128) ≡ true = passes_at (λ k. nat_le (16 ^ k) (2 ^ 128)) 33 places refl few in
     grind (arith, nat_tests)
 
+-- one place more multiplies by the radix
 pub power_next : (radix places : ℕ) → radix ^ (places + 1) ≡ radix ^ places * radix
 power_next radix places = rw (let e : places + 1 ≡ suc places = omega arith in e) (pow-suc radix places)
 
@@ -71,6 +72,7 @@ room_before radix digits places number read low few =
       | inr none ↦ let zero_radix : radix ≡ 0 = omega arith in rw (zero_radix, mul-zero number) (omega arith)
     ]
 
+-- one digit more is read
 pub HasRead-next : (radix : ℕ) (digits : List ℕ) (places number digit : ℕ) → HasRead radix digits places number → places < length digits
     → Some digit ≡ digit_of (get_or digits places 0) radix → HasRead radix digits (places + 1) (number * radix + digit)
 HasRead-next radix digits places number digit before inside read =

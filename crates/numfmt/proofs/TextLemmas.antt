@@ -29,6 +29,7 @@ blank = 48 ∷ 120 ∷ replicate 32 48
 from_place : (test : ℕ → Bool) (k : ℕ) → (nat_lt k 2 || test k) ≡ true → 2 ≤ k → test k ≡ true
 from_place test k h above = grind (arith, nat_tests)
 
+-- of the blank text nothing is written yet
 pub HasWritten-blank : (word : ℕ) → HasWritten word word 0 blank
 unfolding value
 HasWritten-blank word = record {
@@ -53,6 +54,7 @@ after_write test text i byte inside passes before k above below =
     same_or_other : (a b : ℕ) → (a ≡ b) ⊎ (a ≢ b)
     same_or_other a b = grind (arith, nat_tests)
 
+-- one figure more is written
 pub HasWritten-next : (word rest places byte : ℕ) (text : List ℕ) → HasWritten word rest places text → places < 32
     → value byte ≡ rest % 16 → slice_get figures (rest % 16) ≡ Some byte → HasWritten word (rest / 16) (places + 1) (set text (33 - places) byte)
 HasWritten-next word rest places byte text before few digit figure =
@@ -74,6 +76,7 @@ digits_pass : (test : ℕ → Bool) (text : List ℕ) → length text ≡ 34 →
 digits_pass test text long each = All-from_get_or (λ byte. test byte ≡ true) (drop 2 text) 0
     (λ i below. (let inside : i < 32 = omega (arith, length-drop {A = ℕ}) in rw (get_or-drop 2 text i 0) (each (2 + i) (omega arith) (omega arith))))
 
+-- after thirty-two figures the text has the printed form
 pub HasWritten-form : (word rest : ℕ) (text : List ℕ) → HasWritten word rest 32 text → IsPrintedForm text
 HasWritten-form word rest text done = record {
   prefix = done.prefix;
@@ -88,6 +91,7 @@ all_hex (byte ∷ bytes) all =
     let both : (is_capital_hex_digit byte ≡ true) × (list_all is_capital_hex_digit bytes ≡ true) = both_pass (is_capital_hex_digit byte) (list_all is_capital_hex_digit bytes) all in
     rw (hex_from_capital byte both.0) (all_hex bytes both.1)
 
+-- the printed form of a word is a text of a word
 pub IsWordText-printed : (text : List ℕ) → IsPrintedForm text → IsWordText text
 IsWordText-printed text printed = record {
   prefix = printed.prefix;
