@@ -3,7 +3,9 @@ use Rattle.numfmt.specs.declared.program.Answer.{Answer}
 use Rattle.numfmt.specs.declared.program.Answer.TheVariants as answers
 use Rattle.numfmt.specs.declared.program.Status.{Status}
 use Rattle.numfmt.specs.declared.program.Status.TheVariants as statuses
-use Rattle.std.specs.Prelude.{ℕ, true, false}
+use Rattle.numfmt.specs.declared.program.Refusal.{Refusal}
+use Rattle.numfmt.specs.declared.program.Refusal.TheVariants as refusals
+use Rattle.std.specs.Prelude.{ℕ, true, false, List, codes}
 use Rattle.lexical_base.specs.declared.error.Error.TheVariants.{Success}
 
 -- the exit status of a run that ends so
@@ -23,3 +25,12 @@ status_of (answers.Outcome Success) = statuses.Done
 status_of (answers.Outcome _) = statuses.Negative
 status_of (answers.Acceptance true) = statuses.Done
 status_of (answers.Acceptance false) = statuses.Negative
+
+-- what a refusal says behind the program's name
+abbrev pub refusal_text : Refusal → List ℕ
+refusal_text refusals.UnknownCommand = codes "unknown command"
+refusal_text refusals.WrongNumberOfArguments = codes "wrong number of arguments"
+refusal_text refusals.TooManyEdits = codes "too many edits"
+refusal_text refusals.BadWord = codes "bad word"
+refusal_text refusals.BadEdit = codes "bad edit"
+refusal_text refusals.BadByte = codes "bad byte"

@@ -1,9 +1,8 @@
 //! Edits as text: `NAME=VALUE`.
 
-ghost use Rattle.std.specs.Prelude.{◌≡◌, ◌≢◌, ◌↔◌, Some, codes, IfSome, true, false};
+ghost use Rattle.std.specs.Prelude.{◌≡◌, ◌↔◌, Bool, Some};
 ghost use Rattle.std.specs.Option.{SomeIff};
-ghost use Rattle.lexical_builder.specs.OptionByte.{byte_option};
-ghost use Rattle.numfmt.specs.EditText.{name_of, IsByteText};
+ghost use Rattle.numfmt.specs.EditText.{setter_name, truth_text, IsByteText, IsOptionalByteText, optional_byte, edit_name, WritesValueOf, IsTextOf};
 ghost use Rattle.numfmt.specs.Numeral.{numeral};
 
 use crate::numeral::read_numeral;
@@ -13,31 +12,32 @@ use lexical_util::format_builder::{NonZeroU8, OptionU8};
 /// The edit that `text` names, if it is NAME=VALUE, parted at the first `=`. NAME is that of a
 /// setter of a builder. VALUE is `true` or `false` for a flag or a group, a byte for a radix that
 /// cannot be absent, and `none` or a byte, where 0 is the same as `none`, for any other.
-pub fn read_edit(text: &str) -> Option<Edit> {
+pub fn read_edit(text: &str) -> Option<Edit>
+    ensures { (edit : Edit) → (result ≡ Some edit) ↔ IsTextOf edit text.now }
+{
     let (name, value) = text.split_once('=')?;
-    match flag_setter(name) {
-        Some(setter) => Some(Edit::Flag(setter, read_bool(value)?)),
-        None => read_byte_edit(name, value),
-    }
+    named_edit(name, value)
 }
 
-// The edit of a byte.
-fn read_byte_edit(name: &str, value: &str) -> Option<Edit> {
-    Some(match name {
-        "mantissa_radix" => Edit::MantissaRadix(read_byte(value)?),
-        "radix" => Edit::Radix(read_byte(value)?),
-        "digit_separator" => Edit::DigitSeparator(read_optional_byte(value)?),
-        "base_prefix" => Edit::BasePrefix(read_optional_byte(value)?),
-        "base_suffix" => Edit::BaseSuffix(read_optional_byte(value)?),
-        "exponent_base" => Edit::ExponentBase(read_optional_byte(value)?),
-        "exponent_radix" => Edit::ExponentRadix(read_optional_byte(value)?),
-        _ => return None,
-    })
+// The edit of this name with the value that a text writes.
+fn named_edit(name: &str, value: &str) -> Option<Edit>
+    ensures { (edit : Edit) → (result ≡ Some edit) ↔ (name.now ≡ edit_name edit) × WritesValueOf edit value.now }
+{
+    match name {
+        "mantissa_radix" => read_byte(value).map(Edit::MantissaRadix),
+        "radix" => read_byte(value).map(Edit::Radix),
+        "digit_separator" => read_optional_byte(value).map(Edit::DigitSeparator),
+        "base_prefix" => read_optional_byte(value).map(Edit::BasePrefix),
+        "base_suffix" => read_optional_byte(value).map(Edit::BaseSuffix),
+        "exponent_base" => read_optional_byte(value).map(Edit::ExponentBase),
+        "exponent_radix" => read_optional_byte(value).map(Edit::ExponentRadix),
+        _ => Some(Edit::Flag(flag_setter(name)?, read_bool(value)?)),
+    }
 }
 
 // The setter of a flag or a group by its name.
 fn flag_setter(name: &str) -> Option<FlagSetter>
-    ensures { IfSome result (λ setter. name_of setter ≡ name.now) }
+    ensures { (setter : FlagSetter) → (result ≡ Some setter) ↔ (setter_name setter ≡ name.now) }
 {
     Some(match name {
         "required_integer_digits" => FlagSetter::RequiredIntegerDigits,
@@ -86,8 +86,7 @@ fn flag_setter(name: &str) -> Option<FlagSetter>
 
 // A truth value, `true` or `false`.
 fn read_bool(text: &str) -> Option<bool>
-    ensures yes { (result ≡ Some true) ↔ (text.now ≡ codes "true") }
-    ensures no { (result ≡ Some false) ↔ (text.now ≡ codes "false") }
+    ensures { (on : Bool) → (result ≡ Some on) ↔ (text.now ≡ truth_text on) }
 {
     match text {
         "true" => Some(true),
@@ -98,9 +97,7 @@ fn read_bool(text: &str) -> Option<bool>
 
 // A byte that may be absent: `none`, or a byte, of which 0 stands for none.
 fn read_optional_byte(text: &str) -> Option<OptionU8>
-    ensures none { text.now ≡ codes "none" → result ≡ Some None }
-    ensures byte { text.now ≢ codes "none"
-        → SomeIff result (IsByteText text.now) (byte_option (numeral 10 text.now)) }
+    ensures { SomeIff result (IsOptionalByteText text.now) (optional_byte text.now) }
 {
     match text {
         "none" => Some(None),

@@ -5,7 +5,7 @@ ghost use Rattle.std.specs.Result.{OkIff};
 ghost use Rattle.numfmt.specs.WordText.{IsWordText, hex};
 ghost use Rattle.numfmt.specs.EditText.{IsByteText};
 ghost use Rattle.numfmt.specs.Numeral.{numeral};
-ghost use Rattle.numfmt.specs.Program.{code_of, status_of};
+ghost use Rattle.numfmt.specs.Program.{code_of, status_of, refusal_text};
 
 use crate::edit::{read_byte, read_edit};
 use crate::word::{read_word, word_text};
@@ -190,7 +190,9 @@ fn byte_of(text: &String) -> Result<u8, Refusal>
 
 impl Refusal {
     // What is printed behind the program's name.
-    fn text(self) -> &'static str {
+    fn text(self) -> &'static str
+        ensures { result.now ≡ refusal_text self }
+    {
         match self {
             Refusal::UnknownCommand => "unknown command",
             Refusal::WrongNumberOfArguments => "wrong number of arguments",
