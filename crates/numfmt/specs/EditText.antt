@@ -1,5 +1,5 @@
 -- The texts of edits: names of setters, truth values and bytes.
-use Rattle.std.specs.Prelude.{ℕ, ◌≡◌, ◌≤◌, ◌⊎◌, if◌then◌else◌, ◌==◌, Bool, true, false, Option, None, List, codes, bytes_eq}
+use Rattle.std.specs.Prelude.{ℕ, ◌≡◌, ◌<◌, ◌≤◌, ◌⊎◌, if◌then◌else◌, ◌==◌, Bool, true, false, Option, None, List, [], length, get_or, codes, bytes_eq}
 use Rattle.std.specs.List.{before_first, after_first}
 use Rattle.lexical_builder.specs.OptionByte.{byte_option}
 use Rattle.lexical_util.specs.declared.edits.FlagSetter.{FlagSetter}
@@ -94,3 +94,8 @@ WritesValueOf (edits.ExponentRadix byte) text = IsOptionalByteText text × (byte
 -- a text NAME=VALUE that writes an edit; the first `=` parts the two
 abbrev pub IsTextOf : Edit → List ℕ → Type 0
 IsTextOf edit text = (before_first (λ b. b == 61) text ≡ edit_name edit) × WritesValueOf edit (after_first (λ b. b == 61) text)
+
+-- texts that write these edits, each its own
+pub record AreTextsOf (list : List Edit) (texts : List (List ℕ)) : Type 0 where
+  pub long : length list ≡ length texts
+  pub each : (k : ℕ) (edit : Edit) → k < length texts → IsTextOf (get_or list k edit) (get_or texts k [])

@@ -1,8 +1,8 @@
 //! Edits as text: `NAME=VALUE`.
 
-ghost use Rattle.std.specs.Prelude.{◌≡◌, ◌↔◌, Bool, Some};
+ghost use Rattle.std.specs.Prelude.{◌≡◌, ◌≤◌, ◌↔◌, Bool, Some, IsSome, List, length, take, map, string_bytes};
 ghost use Rattle.std.specs.Option.{SomeIff};
-ghost use Rattle.numfmt.specs.EditText.{setter_name, truth_text, IsByteText, IsOptionalByteText, optional_byte, edit_name, WritesValueOf, IsTextOf};
+ghost use Rattle.numfmt.specs.EditText.{setter_name, truth_text, IsByteText, IsOptionalByteText, optional_byte, edit_name, WritesValueOf, IsTextOf, AreTextsOf};
 ghost use Rattle.numfmt.specs.Numeral.{numeral};
 
 use crate::numeral::read_numeral;
@@ -12,11 +12,23 @@ use lexical_util::format_builder::{NonZeroU8, OptionU8};
 /// The edit that `text` names, if it is NAME=VALUE, parted at the first `=`. NAME is that of a
 /// setter of a builder. VALUE is `true` or `false` for a flag or a group, a byte for a radix that
 /// cannot be absent, and `none` or a byte, where 0 is the same as `none`, for any other.
-pub fn read_edit(text: &str) -> Option<Edit>
+fn read_edit(text: &str) -> Option<Edit>
     ensures { (edit : Edit) → (result ≡ Some edit) ↔ IsTextOf edit text.now }
 {
     let (name, value) = text.split_once('=')?;
     named_edit(name, value)
+}
+
+/// Reads `texts` into the first places of `edits`, each into its own; `None` if one is not an edit.
+pub fn read_edits(texts: &[String], edits: &mut [Edit]) -> Option<()>
+    requires { length texts.now ≤ length edits.old }
+    ensures { (list : List Edit) → AreTextsOf list (map string_bytes texts.now)
+        ↔ (IsSome result × (list ≡ take (length texts.now) edits.new)) }
+{
+    for (i, text) in texts.iter().enumerate() {
+        edits[i] = read_edit(text.as_str())?;
+    }
+    Some(())
 }
 
 // The edit of this name with the value that a text writes.

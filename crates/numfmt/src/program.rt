@@ -1,13 +1,14 @@
 //! The program over its arguments and a writer.
 
-ghost use Rattle.std.specs.Prelude.{◌≡◌, ◌≢◌, ◌<◌, ◌≤◌, ◌↔◌, ◌+◌, IfOk, IfErr, length, string_bytes};
+ghost use Rattle.std.specs.Prelude.{ℕ, ◌≡◌, ◌≢◌, ◌<◌, ◌≤◌, ◌↔◌, ◌+◌, ◌==◌, IfOk, IfErr, List, codes, length, map, string_bytes};
 ghost use Rattle.std.specs.Result.{OkIff};
+ghost use Rattle.lexical_util.specs.Normal.{normal_form_of};
 ghost use Rattle.numfmt.specs.WordText.{IsWordText, hex};
 ghost use Rattle.numfmt.specs.EditText.{IsByteText};
 ghost use Rattle.numfmt.specs.Numeral.{numeral};
-ghost use Rattle.numfmt.specs.Program.{code_of, status_of, refusal_text};
+ghost use Rattle.numfmt.specs.Program.{code_of, status_of, refusal_text, Shows, Edits, MakeOf, Checks, Compares, Accepts, Obeys};
 
-use crate::edit::{read_byte, read_edit};
+use crate::edit::{read_byte, read_edits};
 use crate::word::{read_word, word_text};
 use lexical_util::edits::{Edit, edit_word, same_format};
 use lexical_util::error::Error;
@@ -99,8 +100,14 @@ pub enum Refusal {
     BadByte,
 }
 
+// What the arguments ask for, or why they are refused.
 fn answer_to(args: &[String]) -> Result<Answer, Refusal>
-    ensures { length args.now ≡ 0 → result ≡ Ok (Answer.Fields STANDARD) }
+    ensures nothing { length args.now ≡ 0 → result ≡ Ok (Answer.Fields STANDARD) }
+    ensures show { Obeys result (map string_bytes args.now) (codes "show") Shows }
+    ensures edit { Obeys result (map string_bytes args.now) (codes "edit") Edits }
+    ensures check { Obeys result (map string_bytes args.now) (codes "check") Checks }
+    ensures same { Obeys result (map string_bytes args.now) (codes "same") Compares }
+    ensures options { Obeys result (map string_bytes args.now) (codes "options") Accepts }
 {
     match args {
         [] => Ok(Answer::Fields(STANDARD)),
@@ -115,8 +122,10 @@ fn answer_to(args: &[String]) -> Result<Answer, Refusal>
     }
 }
 
+// The fields of a word.
 fn show(args: &[String]) -> Result<Answer, Refusal>
-    ensures { (result ≡ Err Refusal.WrongNumberOfArguments) ↔ (length args.now ≢ 1) }
+    ensures answer { (answer : Answer) → (result ≡ Ok answer) ↔ Shows (map string_bytes args.now) answer }
+    ensures wrong_number { (result ≡ Err Refusal.WrongNumberOfArguments) ↔ (length args.now ≢ 1) }
 {
     let [word] = args else {
         return Err(Refusal::WrongNumberOfArguments);
@@ -124,7 +133,9 @@ fn show(args: &[String]) -> Result<Answer, Refusal>
     Ok(Answer::Fields(word_of(word)?))
 }
 
+// The word that edits make of a word; without edits its normal form.
 fn edit(args: &[String]) -> Result<Answer, Refusal>
+    ensures answer { (answer : Answer) → (result ≡ Ok answer) ↔ Edits (map string_bytes args.now) answer }
     ensures wrong_number { (result ≡ Err Refusal.WrongNumberOfArguments) ↔ (length args.now ≡ 0) }
     ensures too_many { (result ≡ Err Refusal.TooManyEdits) ↔ (MAX_EDITS + 1 < length args.now) }
 {
@@ -134,16 +145,24 @@ fn edit(args: &[String]) -> Result<Answer, Refusal>
     if texts.len() > MAX_EDITS {
         return Err(Refusal::TooManyEdits);
     }
-    let format = word_of(word)?;
-    let mut edits = [Edit::Radix(0); MAX_EDITS];
-    for (i, text) in texts.iter().enumerate() {
-        edits[i] = read_edit(text.as_str()).ok_or(Refusal::BadEdit)?;
-    }
-    Ok(Answer::Word(edit_word(format, &edits[..texts.len()])))
+    Ok(Answer::Word(edited(word_of(word)?, texts)?))
 }
 
+// The word that the edits which the texts write make of a word.
+fn edited(format: u128, texts: &[String]) -> Result<u128, Refusal>
+    requires { length texts.now ≤ MAX_EDITS }
+    ensures word { (word : ℕ) → (result ≡ Ok word) ↔ MakeOf format (map string_bytes texts.now) word }
+    ensures refusal { IfErr result (λ refusal. refusal ≡ Refusal.BadEdit) }
+{
+    let mut edits = [Edit::Radix(0); MAX_EDITS];
+    read_edits(texts, &mut edits).ok_or(Refusal::BadEdit)?;
+    Ok(edit_word(format, &edits[..texts.len()]))
+}
+
+// The first rule that a word breaks.
 fn check(args: &[String]) -> Result<Answer, Refusal>
-    ensures { (result ≡ Err Refusal.WrongNumberOfArguments) ↔ (length args.now ≢ 1) }
+    ensures answer { (answer : Answer) → (result ≡ Ok answer) ↔ Checks (map string_bytes args.now) answer }
+    ensures wrong_number { (result ≡ Err Refusal.WrongNumberOfArguments) ↔ (length args.now ≢ 1) }
 {
     let [word] = args else {
         return Err(Refusal::WrongNumberOfArguments);
@@ -151,17 +170,28 @@ fn check(args: &[String]) -> Result<Answer, Refusal>
     Ok(Answer::Outcome(format_error(word_of(word)?)))
 }
 
+// Whether two words mean the same.
 fn same(args: &[String]) -> Result<Answer, Refusal>
-    ensures { (result ≡ Err Refusal.WrongNumberOfArguments) ↔ (length args.now ≢ 2) }
+    ensures answer { (answer : Answer) → (result ≡ Ok answer) ↔ Compares (map string_bytes args.now) answer }
+    ensures wrong_number { (result ≡ Err Refusal.WrongNumberOfArguments) ↔ (length args.now ≢ 2) }
 {
     let [a, b] = args else {
         return Err(Refusal::WrongNumberOfArguments);
     };
-    Ok(Answer::Sameness(same_format(word_of(a)?, word_of(b)?)))
+    Ok(sameness(word_of(a)?, word_of(b)?))
 }
 
+// Whether two words mean the same, as an answer.
+fn sameness(a: u128, b: u128) -> Answer
+    ensures { result ≡ Answer.Sameness (normal_form_of a == normal_form_of b) }
+{
+    Answer::Sameness(same_format(a, b))
+}
+
+// Whether an exponent byte and a point fit a word.
 fn options(args: &[String]) -> Result<Answer, Refusal>
-    ensures { (result ≡ Err Refusal.WrongNumberOfArguments) ↔ (length args.now ≢ 3) }
+    ensures answer { (answer : Answer) → (result ≡ Ok answer) ↔ Accepts (map string_bytes args.now) answer }
+    ensures wrong_number { (result ≡ Err Refusal.WrongNumberOfArguments) ↔ (length args.now ≢ 3) }
 {
     let [word, exponent, decimal_point] = args else {
         return Err(Refusal::WrongNumberOfArguments);
