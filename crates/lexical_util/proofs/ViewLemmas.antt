@@ -1,10 +1,11 @@
 -- What a mask reads of a word, for a mask that is written as a number.
-use Rattle.std.proofs.Common.{ℕ, ◌≡◌, ◌*◌, ◌/◌, ◌%◌, ◌^◌, ◌<◌, ◌==◌, ◌≢◌, nat_lt, IsTrue, inl, inr, Bool, true, false, not, zero, suc, if◌then◌else◌, List, [], ◌∷◌, sum_by, bit_and, refl, ap, sym, ◌∙◌, arith}
+use Rattle.std.proofs.Common.{ℕ, ◌≡◌, ◌*◌, ◌/◌, ◌%◌, ◌^◌, ◌<◌, ◌==◌, ◌≢◌, ◌⊎◌, nat_lt, IsTrue, inl, inr, Bool, true, false, not, zero, suc, if◌then◌else◌, List, [], ◌∷◌, sum_by, bit_and, refl, ap, sym, ◌∙◌, arith}
 use Rattle.std.specs.List.{list_any}
-use Rattle.std.proofs.Math.Nat.{mod-lt}
+use Rattle.std.proofs.Math.Nat.{mod-lt, zero-mul}
 use Rattle.std.proofs.lemmas.Bool.{cases_eq, ne_eqb}
 use Rattle.std.proofs.lemmas.Bool.Decides.{nat_tests}
-use Rattle.std.proofs.lemmas.Nat.{pow-add}
+use Rattle.std.proofs.lemmas.Nat.{pow-add, pow_pos}
+use Rattle.std.proofs.lemmas.Nat.Bits.{and_high}
 use Rattle.lexical_flags.specs.Layout.{part, Flag, bit, flags}
 use Rattle.lexical_flags.specs.Record.{flag_of, raw, flag_bits}
 use Rattle.lexical_flags.specs.Constants.{mask_of}
@@ -68,4 +69,28 @@ fourth_power n = sym (pow-add n 2 2)
 pub eighth_power : (n : ℕ) → n ^ 4 * n ^ 4 ≡ n ^ 8
 eighth_power n = sym (pow-add n 4 4)
 
-pub ruleset masks_and_powers = (flag_by_mask, any_by_mask, bits_by_mask, common_by_mask, some_by_mask, fourth_power, eighth_power)
+-- the test of a byte under its mask
+abbrev pub ByteTells : ℕ → ℕ → ℕ → Type 0
+ByteTells word mask shift = ((bit_and word mask ≡ 0) × (part word shift 8 ≡ 0)) ⊎ ((bit_and word mask ≢ 0) × (part word shift 8 ≢ 0))
+
+zero_factor : (n p : ℕ) → 0 < p → n * p ≡ 0 → n ≡ 0
+zero_factor zero p high e = refl
+zero_factor (suc n) p high e = absurd (omega (arith, e, high))
+
+-- a byte that is moved up is 0 exactly where it was
+byte_tells : (word mask shift : ℕ) → bit_and word mask ≡ part word shift 8 * 2 ^ shift → 0 < 2 ^ shift → ByteTells word mask shift
+byte_tells word mask shift is high = elim (cases_eq (part word shift 8) 0) [
+  | inl none ↦ inl (is ∙ rw none (zero-mul (2 ^ shift)), none)
+  | inr some ↦ inr (rw is (λ e. some (zero_factor (part word shift 8) (2 ^ shift) high e)), some)
+]
+
+pub digit_separator_tells : (word : ℕ) → ByteTells word 0x00000000_000000FF_00000000_00000000 64
+digit_separator_tells word = byte_tells word _ 64 (and_high word 8 64) (pow_pos 64)
+
+pub base_prefix_tells : (word : ℕ) → ByteTells word 0x00000000_FF000000_00000000_00000000 88
+base_prefix_tells word = byte_tells word _ 88 (and_high word 8 88) (pow_pos 88)
+
+pub base_suffix_tells : (word : ℕ) → ByteTells word 0x000000FF_00000000_00000000_00000000 96
+base_suffix_tells word = byte_tells word _ 96 (and_high word 8 96) (pow_pos 96)
+
+pub ruleset masks_and_powers = (digit_separator_tells, base_prefix_tells, base_suffix_tells, flag_by_mask, any_by_mask, bits_by_mask, common_by_mask, some_by_mask, fourth_power, eighth_power)

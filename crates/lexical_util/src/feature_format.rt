@@ -493,7 +493,7 @@ impl NumberFormat {
     pub fn has_digit_separator(&self) -> bool
         ensures { IsTrue result ↔ ((raw self.now).digit_separator ≢ 0) }
     {
-        self.digit_separator() != 0
+        has_flag!(self, DIGIT_SEPARATOR)
     }
 
     /// The base prefix, 0 where there is none. A parser takes it after a leading zero, as the
@@ -510,7 +510,7 @@ impl NumberFormat {
     pub fn has_base_prefix(&self) -> bool
         ensures { IsTrue result ↔ ((raw self.now).base_prefix ≢ 0) }
     {
-        self.base_prefix() != 0
+        has_flag!(self, BASE_PREFIX)
     }
 
     /// The base suffix, 0 where there is none. A parser takes it after the digits, as the `h`
@@ -527,7 +527,7 @@ impl NumberFormat {
     pub fn has_base_suffix(&self) -> bool
         ensures { IsTrue result ↔ ((raw self.now).base_suffix ≢ 0) }
     {
-        self.base_suffix() != 0
+        has_flag!(self, BASE_SUFFIX)
     }
 
     // RADIXES
