@@ -214,6 +214,7 @@ impl NumberFormatBuilder {
         ensures word { result ≡ pack self.now }
         ensures fields { raw result ≡ trim self.now }
         ensures clean { IsClean result }
+        ensures bytes { HasBytes self.now }
 
         // Another builder packs alike exactly if it has the same fields, the separator
         // ignored where neither has a flag for it.

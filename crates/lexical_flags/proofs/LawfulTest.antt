@@ -11,16 +11,16 @@ use Rattle.lexical_flags.proofs.Masks.{both}
 use Rattle.lexical_flags.proofs.RuleLemmas.{Lawful-from_success}
 
 -- the tests of what the rules demand
-abbrev is_radix : ℕ → Bool
+abbrev pub is_radix : ℕ → Bool
 is_radix radix = nat_le 2 radix && nat_le radix 36
 
-abbrev is_free : Record → ℕ → Bool
+abbrev pub is_free : Record → ℕ → Bool
 is_free r byte = (byte == 0) || (allowed_ascii byte && (not (digits r byte) && not (signs byte)))
 
-abbrev are_apart : ℕ → ℕ → Bool
+abbrev pub are_apart : ℕ → ℕ → Bool
 are_apart a b = (a == 0) || not (a == b)
 
-abbrev has_place : Bool → Bool → Bool → Bool → Bool
+abbrev pub has_place : Bool → Bool → Bool → Bool → Bool
 has_place consecutive internal leading trailing = not consecutive || (internal || leading || trailing)
 
 -- whether a record meets what a rule demands
@@ -80,7 +80,7 @@ HasPlace-test true i l t e on = e
 HasPlace-test false i l t e on = cc
 
 -- each test is right
-Demands-test : (rule : Rule) (r : Record) → passes rule r ≡ true → Demands rule r
+pub Demands-test : (rule : Rule) (r : Record) → passes rule r ≡ true → Demands rule r
 Demands-test mantissa_radix_in_range r e = IsRadix-test _ e
 Demands-test exponent_base_in_range r e = IsRadix-test _ e
 Demands-test exponent_radix_in_range r e = IsRadix-test _ e

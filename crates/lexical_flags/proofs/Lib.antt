@@ -10,3 +10,5 @@ pub mod DigitLemmas
 pub mod RuleLemmas
 pub mod OptionLemmas
 pub mod LawfulTest
+pub mod NormalRules
+pub mod ErrorTest

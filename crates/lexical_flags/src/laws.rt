@@ -3,7 +3,9 @@
 ghost use Rattle.std.specs.Prelude.{◌≡◌, ℕ, ◌*◌, ◌/◌, ◌^◌, ◌<◌, ◌↔◌, [], ◌∷◌, map, pos, bit_or};
 ghost use Rattle.lexical_flags.specs.Layout as layout;
 ghost use Rattle.lexical_flags.specs.Layout.{Flag, Byte, bit, shift, IsClean};
-ghost use Rattle.lexical_flags.specs.Record.{Record, raw, trim, pack, HasBytes, IsBuilt};
+ghost use Rattle.lexical_flags.specs.Record.{Record, raw, fill, trim, pack, HasBytes, IsBuilt, SeparatorIsUsed};
+ghost use Rattle.lexical_flags.specs.Rules.{Rule, Demands, Lawful, IsErrorOf};
+ghost use Rattle.lexical_base.specs.declared.error.Error.TheVariants as Error;
 ghost use Rattle.lexical_flags.specs.Pairs.{ArePairwise};
 ghost use Rattle.lexical_flags.specs.Constants.{flag_constant, byte_mask, byte_shift, mask_of, doublings, AreApart};
 
@@ -59,4 +61,39 @@ pub fn packing_facts()
 
     // A word is packed from its own fields exactly if it is one that packing can give.
     ensures built { (w : ℕ) → w < 2 ^ 128 → (pack (raw w) ≡ w) ↔ IsBuilt w }
+{}
+
+/// What the rules ask of fields whose exponent bytes are filled in, and whose separator is dropped
+/// where it may stand nowhere: the fields of a normal form.
+pub fn rule_facts()
+    // Each rule that the fields keep, these keep.
+    ensures kept { (rule : Rule) → (r : Record) → Demands rule r → Demands rule (trim (fill r)) }
+
+    // Where no separator is dropped, they keep no other.
+    ensures same { (rule : Rule) → (r : Record) → SeparatorIsUsed r
+        → Demands rule r ↔ Demands rule (trim (fill r)) }
+{}
+
+/// Answers to some words, written out.
+#[tactic(auto, using(crate::proofs::ErrorTest::error_tested, crate::proofs::LawfulTest::lawful_tested), unfolding(lexical_base::specs::Digits::value))]
+pub fn error_examples()
+    // The standard format is lawful, also with a reserved bit.
+    ensures standard { Lawful 0x00000A00_00000000_00000000_0000000C }
+    ensures reserved { Lawful 0x00000A00_00000000_00000000_8000000C }
+
+    // Of two broken rules the first is answered.
+    ensures zero { IsErrorOf 0 Error.InvalidMantissaRadix }
+    ensures ones { IsErrorOf 0xFFFFFFFF_FFFFFFFF_FFFFFFFF_FFFFFFFF Error.InvalidMantissaRadix }
+    ensures first { IsErrorOf 0x00000A00_00000000_00000200_00000C0C Error.InvalidSpecial }
+    ensures second { IsErrorOf 0x00000A00_00000000_00000200_0000000C
+        Error.InvalidConsecutiveIntegerDigitSeparator }
+
+    // A separator counts also where it has no flag, and digits are those of both radixes.
+    ensures digit { IsErrorOf 0x0A0A0A00_00000035_00000000_0000000C Error.InvalidDigitSeparator }
+    ensures no_digit { IsErrorOf 0x000A0200_00000035_00001FFF_0000000C Error.Success }
+    ensures exponent_digit { IsErrorOf 0x10000A00_00000061_00000000_0000000C Error.InvalidDigitSeparator }
+
+    // No byte has two roles, and absent bytes have none.
+    ensures twice { IsErrorOf 0x00000A68_68000000_00000000_0000000C Error.InvalidPunctuation }
+    ensures absent { IsErrorOf 0x0A0A0A00_00000000_00000000_0000000C Error.Success }
 {}

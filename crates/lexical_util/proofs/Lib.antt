@@ -6,3 +6,4 @@ pub mod ListingParts
 pub mod PutLemmas
 pub mod ChangeLemmas
 pub mod ImageLemmas
+pub mod ComposeLemmas

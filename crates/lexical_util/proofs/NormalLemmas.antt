@@ -1,13 +1,18 @@
 -- Normal forms: which words are their own, what one keeps of a word, and when two words have the same.
-use Rattle.std.proofs.Common.{◌≡◌, ℕ, ◌<◌, ◌^◌, ◌⊎◌, inl, inr, Bool, true, false, cond, eqb, eq-eqb, eqb-true, IsTrue, refl, sym, ap, ◌∙◌, subst, List}
+use Rattle.std.proofs.Common.{◌≡◌, ℕ, ◌<◌, ◌^◌, ◌⊎◌, inl, inr, Bool, true, false, cond, eqb, eq-eqb, eqb-true, IsTrue, refl, sym, ap, ◌∙◌, subst, List, sum_by, if◌then◌else◌, ◌↔◌}
 use Rattle.std.specs.List.{list_any}
 use Rattle.std.proofs.lemmas.Bool.{cases_Bool, cond-true, cond-false, false≢true}
-use Rattle.lexical_flags.specs.Layout.{Flag, Byte, digit_separator_flags, IsClean}
+use Rattle.lexical_flags.specs.Layout.{Flag, Byte, bit, digit_separator_flags, IsClean}
 use Rattle.lexical_flags.specs.Layout as layout
-use Rattle.lexical_flags.specs.Record.{Record, flag_of, byte_of, raw, trim, fill, pack, word_of, effective, separator_on}
+use Rattle.lexical_base.specs.declared.error.Error.{Error}
+use Rattle.lexical_flags.specs.Record.{Record, flag_of, byte_of, raw, trim, fill, pack, word_of, effective, separator_on, SeparatorIsUsed}
+use Rattle.lexical_flags.specs.Rules.{Rule, Demands, Holds, Lawful, IsErrorOf}
 use Rattle.lexical_flags.proofs.RecordLemmas.{record_same}
 use Rattle.lexical_flags.proofs.Packing.{raw-pack, pack-clean, pack-lt, raw-injective, HasBytes-raw, HasBytes-fill}
+use Rattle.lexical_flags.proofs.NormalRules.{Demands-kept, Demands-same}
+use Rattle.lexical_flags.proofs.RuleLemmas.{Holds-from_lawful, Lawful-from_all, IsErrorOf-same}
 use Rattle.lexical_builder.proofs.WriteLemmas.{after_none}
+use Rattle.lexical_util.specs.View.{any_flag, bits_of}
 use Rattle.lexical_util.specs.Normal.{normal_form_of, SameFormat, IsNormal}
 
 -- filling and trimming leave the flags
@@ -15,17 +20,19 @@ pub flag_of-trim-fill : (R : Record) (f : Flag) → flag_of (trim (fill R)) f �
 flag_of-trim-fill R layout.required_integer_digits = refl
 flag_of-trim-fill R _ = refl
 
-list_any_same : (p q : Flag → Bool) (fs : List Flag) → ((f : Flag) → p f ≡ q f) → list_any p fs ≡ list_any q fs
+-- a test of some flags depends on them alone
+pub list_any_same : (p q : Flag → Bool) (fs : List Flag) → ((f : Flag) → p f ≡ q f) → list_any p fs ≡ list_any q fs
 list_any_same p q fs h = λ i. list_any (λ f. h f i) fs
 
 -- the separator with its condition
-use_same : (p q : Bool) (x y : ℕ) → p ≡ q → (IsTrue p → x ≡ y) → cond p x 0 ≡ cond q y 0
+pub use_same : (p q : Bool) (x y : ℕ) → p ≡ q → (IsTrue p → x ≡ y) → cond p x 0 ≡ cond q y 0
 use_same true true x y e h = h refl
 use_same true false x y e h = absurd (false≢true (sym e))
 use_same false true x y e h = absurd (false≢true e)
 use_same false false x y e h = refl
 
-used_same : (p q : Bool) (x y : ℕ) → p ≡ q → cond p x 0 ≡ cond q y 0 → IsTrue p → x ≡ y
+-- a separator that may stand is the one that is kept
+pub used_same : (p q : Bool) (x y : ℕ) → p ≡ q → cond p x 0 ≡ cond q y 0 → IsTrue p → x ≡ y
 used_same p q x y e h t = sym (cond-true p x 0 t) ∙ h ∙ cond-true q y 0 (sym e ∙ t)
 
 -- records of the same format are one when filled and trimmed
@@ -77,6 +84,28 @@ effective_again own radix = elim (cases_Bool (eqb own 0)) [
   same true = refl
   same false = refl
 
+-- where filling changes nothing, there is nothing to fill with
+pub unfilled : (own radix : ℕ) → effective own radix ≡ own → own ≡ 0 → radix ≡ 0
+unfilled own radix e z = sym (cond-true (eqb own 0) radix own (eq-eqb own 0 z)) ∙ e ∙ z
+
+-- and the other way round
+pub full : (own radix : ℕ) → (own ≡ 0 → radix ≡ 0) → effective own radix ≡ own
+full own radix h = elim (cases_Bool (eqb own 0)) [
+  | inl t ↦ cond-true (eqb own 0) radix own t ∙ h (eqb-true own 0 t) ∙ sym (eqb-true own 0 t)
+  | inr n ↦ cond-false (eqb own 0) radix own n
+]
+
+-- where trimming changes nothing, the separator is used or absent
+pub unused : (t : Bool) (n : ℕ) → cond t n 0 ≡ n → IsTrue t ⊎ (n ≡ 0)
+unused true n e = inl refl
+unused false n e = inr (sym e)
+
+-- and the other way round
+pub kept : (t : Bool) (n : ℕ) → IsTrue t ⊎ (n ≡ 0) → cond t n 0 ≡ n
+kept true n k = refl
+kept false n (inl k) = cc
+kept false n (inr k) = sym k
+
 -- a record has the same format when filled and trimmed
 pub SameFormat-normal : (R : Record) → SameFormat R (trim (fill R))
 SameFormat-normal R = record {
@@ -112,27 +141,36 @@ module _ (w : ℕ) where
       record {
         clean = subst IsClean e clean_normal;
         separator_used = elim (cases_Bool (separator_on R)) [ inl t ↦ inl t | inr n ↦ inr (sym (ap (λ (S : Record). S.digit_separator) fields) ∙ cond-false (separator_on R) R.digit_separator 0 n) ];
-        exponent_base = filled R.exponent_base R.mantissa_radix (ap (λ (S : Record). S.exponent_base) fields);
-        exponent_radix = filled R.exponent_radix R.mantissa_radix (ap (λ (S : Record). S.exponent_radix) fields);
-      } where
-        filled : (own radix : ℕ) → effective own radix ≡ own → own ≡ 0 → radix ≡ 0
-        filled own radix e z = sym (cond-true (eqb own 0) radix own (eq-eqb own 0 z)) ∙ e ∙ z
+        exponent_base = unfilled R.exponent_base R.mantissa_radix (ap (λ (S : Record). S.exponent_base) fields);
+        exponent_radix = unfilled R.exponent_radix R.mantissa_radix (ap (λ (S : Record). S.exponent_radix) fields);
+      }
 
   pub fixed_from_normal : w < 2 ^ 128 → IsNormal w → normal_form_of w ≡ w
   fixed_from_normal fits n = raw-injective (normal_form_of w) w normal_fits fits clean_normal n.clean (raw_normal ∙ record_same (trim (fill (raw w))) (raw w) (λ f. flag_of-trim-fill (raw w) f) on_byte) where
-    full : (own radix : ℕ) → (own ≡ 0 → radix ≡ 0) → effective own radix ≡ own
-    full own radix h = elim (cases_Bool (eqb own 0)) [
-      | inl t ↦ cond-true (eqb own 0) radix own t ∙ h (eqb-true own 0 t) ∙ sym (eqb-true own 0 t)
-      | inr n ↦ cond-false (eqb own 0) radix own n
-    ]
-
-    kept : (t : Bool) (n : ℕ) → IsTrue t ⊎ (n ≡ 0) → cond t n 0 ≡ n
-    kept true n k = refl
-    kept false n (inl k) = cc
-    kept false n (inr k) = sym k
-
     on_byte : (b : Byte) → byte_of (trim (fill (raw w))) b ≡ byte_of (raw w) b
     on_byte layout.digit_separator = kept (separator_on (raw w)) (raw w).digit_separator n.separator_used
     on_byte layout.exponent_base = full (raw w).exponent_base (raw w).mantissa_radix n.exponent_base
     on_byte layout.exponent_radix = full (raw w).exponent_radix (raw w).mantissa_radix n.exponent_radix
     on_byte _ = refl
+
+  Holds-normal : (rule : Rule) → Holds rule w → Holds rule (normal_form_of w)
+  unfolding Holds
+  Holds-normal rule h = subst (Demands rule) (sym raw_normal) (Demands-kept rule (raw w) h)
+
+  Holds-from_normal : SeparatorIsUsed (raw w) → (rule : Rule) → Holds rule (normal_form_of w) → Holds rule w
+  unfolding Holds
+  Holds-from_normal used rule h = (Demands-same rule (raw w) used).1 (subst (Demands rule) raw_normal h)
+
+  pub lawful_normal : Lawful w → Lawful (normal_form_of w)
+  lawful_normal h = Lawful-from_all (normal_form_of w) (λ rule. Holds-normal rule (Holds-from_lawful rule w h))
+
+  pub error_normal : SeparatorIsUsed (raw w) → (e : Error) → IsErrorOf w e ↔ IsErrorOf (normal_form_of w) e
+  error_normal used = IsErrorOf-same w (normal_form_of w) (λ rule. (Holds-normal rule, Holds-from_normal used rule))
+
+  pub groups_normal : (fs : List Flag) → any_flag w fs ≡ any_flag (normal_form_of w) fs
+  unfolding any_flag
+  groups_normal fs = list_any_same (flag_of (raw w)) (flag_of (raw (normal_form_of w))) fs normal_keeps.flags
+
+  pub flags_normal : (fs : List Flag) → bits_of w fs ≡ bits_of (normal_form_of w) fs
+  unfolding bits_of
+  flags_normal fs = λ i. sum_by (λ f. if normal_keeps.flags f i then 2 ^ bit f else 0) fs

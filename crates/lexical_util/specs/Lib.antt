@@ -2,3 +2,4 @@ pub mod Edits
 pub mod Normal
 pub mod View
 pub mod Listing
+pub mod Compose

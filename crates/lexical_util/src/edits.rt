@@ -2,11 +2,15 @@
 
 ghost use Rattle.std.specs.Prelude.{◌≡◌, ℕ, ◌+◌, ◌<◌, ◌≤◌, ◌^◌, ◌↔◌, ◌++◌, IsTrue, List, All, length, filter, take};
 ghost use Rattle.std.specs.Bool.{beq};
-ghost use Rattle.lexical_flags.specs.Layout.{IsClean};
-ghost use Rattle.lexical_flags.specs.Record.{raw, fill, trim, pack, SeparatorIsUsed, IsBuilt};
+ghost use Rattle.lexical_flags.specs.Layout.{Flag, IsClean};
+ghost use Rattle.lexical_base.specs.declared.error.Error.{Error};
+ghost use Rattle.lexical_flags.specs.Record.{raw, fill, trim, pack, separator_on, SeparatorIsUsed, IsBuilt};
+ghost use Rattle.lexical_flags.specs.Rules.{Lawful, IsErrorOf};
 ghost use Rattle.lexical_builder.specs.Writes.{Write, IsLegal, new_record, write_flags, after, SameWrites};
 ghost use Rattle.lexical_util.specs.Edits.{flags_of, writes_of, all_writes, edited};
 ghost use Rattle.lexical_util.specs.Normal.{normal_form_of, SameFormat, IsNormal};
+ghost use Rattle.lexical_util.specs.Compose.{Composes};
+ghost use Rattle.lexical_util.specs.View.{any_flag, bits_of};
 ghost use Rattle.lexical_util.specs.Listing.{field_edits, changes_new, changing, unchanging, IsBuiltByWrites};
 
 use crate::feature_format::NumberFormat;
@@ -197,8 +201,8 @@ fn apply_flag(builder: NumberFormatBuilder, setter: FlagSetter, flag: bool) -> N
 /// separator goes out only where a flag lets it stand somewhere when all edits are done, and
 /// the reserved bits are 0.
 ///
-/// Editing twice is not editing once with both lists: the first edit drops a digit separator
-/// that has no flag yet.
+/// Editing twice is not always editing once with both lists: the first edit drops a digit
+/// separator that has no flag yet, and the second fills an exponent byte that the first emptied.
 #[tactic(auto, using(crate::proofs::EditLemmas::writes_more, lexical_builder::proofs::WriteLemmas::after_none))]
 pub fn edit_word(format: u128, edits: &[Edit]) -> u128
     ensures word { result ≡ edited format (all_writes edits.now) }
@@ -213,6 +217,14 @@ pub fn edit_word(format: u128, edits: &[Edit]) -> u128
     // and a group setter is its single setters in any order.
     ensures same_writes { (writes : List Write) → All IsLegal writes
         → SameWrites writes (all_writes edits.now) → edited format writes ≡ result }
+
+    // Editing the answer is editing the word with both lists exactly if no field was filled in or
+    // dropped between them: so it is where the answer is a normal form with a separator flag.
+    ensures again { (more : List Write) → All IsLegal more
+        → (edited result more ≡ edited format (all_writes edits.now ++ more))
+        ↔ Composes format (all_writes edits.now) more }
+    ensures normal { IsNormal result → IsTrue (separator_on (raw result)) → (more : List Write)
+        → Composes format (all_writes edits.now) more }
 {
     let mut builder = NumberFormatBuilder::rebuild(format);
     for edit in edits {
@@ -237,7 +249,22 @@ pub fn normal_form(format: u128) -> u128
     // A normal form is its own normal form.
     ensures again { normal_form_of result ≡ result }
     ensures unchanged { (result ≡ format) ↔ IsNormal format }
+
+    // It means the same: all fields agree, but for a separator that may stand nowhere, and so do
+    // all groups of flags.
     ensures same { SameFormat (raw format) (raw result) }
+    ensures groups { (fs : List Flag) → any_flag format fs ≡ any_flag result fs }
+    ensures flags { (fs : List Flag) → bits_of format fs ≡ bits_of result fs }
+
+    // That of a lawful word is lawful. Where no separator is dropped, both words break the same
+    // rule first, or none.
+    ensures lawful { Lawful format → Lawful result }
+    ensures error { SeparatorIsUsed (raw format)
+        → (error : Error) → IsErrorOf format error ↔ IsErrorOf result error }
+
+    // Nor does it matter then which of both is edited.
+    ensures edits { SeparatorIsUsed (raw format) → (writes : List Write) → All IsLegal writes
+        → edited result writes ≡ edited format writes }
 {
     NumberFormatBuilder::rebuild(format).build_unchecked()
 }

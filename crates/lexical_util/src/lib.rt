@@ -7,6 +7,7 @@
 pub mod edits;
 pub mod feature_format;
 pub mod format;
+pub mod laws;
 
 pub use lexical_base::{ascii, digit, error};
 pub use lexical_builder::format_builder;

@@ -1,8 +1,12 @@
-use Rattle.std.proofs.Common.{sym, ap, ◌∙◌, arith}
-use Rattle.lexical_flags.specs.Record.{fill, raw, trim, pack}
+use Rattle.std.proofs.Common.{◌≡◌, ◌++◌, ◌↔◌, IsTrue, sym, ap, subst, ◌∙◌, arith}
+use Rattle.lexical_flags.specs.Record.{fill, raw, trim, pack, separator_on, HasBytes}
 use Rattle.lexical_util.proofs.EditLemmas.{writes_end}
 use Rattle.lexical_util.proofs.EditLemmas.{edited-same}
 use Rattle.lexical_flags.proofs.Packing.{raw-injective}
+use Rattle.lexical_util.specs.Edits.{all_writes, edited}
+use Rattle.lexical_util.specs.Normal.{IsNormal}
+use Rattle.lexical_util.specs.Compose.{Composes}
+use Rattle.lexical_util.proofs.ComposeLemmas.{edited-again, Composes-normal}
 use Rattle.lexical_util.proofs.edits.edit_word.Goals as goal
 
 pub returns-clause-only : goal.returns-clause-only
@@ -15,3 +19,17 @@ pub returns-clause-same_writes : goal.returns-clause-same_writes
 returns-clause-same_writes c K legal s =
     let end = writes_end (fill (raw c.args.format)) c.loop-edit.builder c.args.edits.now c.loop-edit.edit-index (omega arith) c.loop-edit.invariant in
     edited-same c.args.format K _ s ∙ sym (c.build_unchecked.ensures.word ∙ ap pack end)
+
+pub returns-clause-again : goal.returns-clause-again
+returns-clause-again c more legal =
+    let end = writes_end (fill (raw c.args.format)) c.loop-edit.builder c.args.edits.now c.loop-edit.edit-index (omega arith) c.loop-edit.invariant in
+    let K = all_writes c.args.edits.now in
+    subst (λ u. (edited u more ≡ edited c.args.format (K ++ more)) ↔ Composes c.args.format K more) (sym (c.build_unchecked.ensures.word ∙ ap pack end))
+    (edited-again c.args.format K more (subst HasBytes end c.build_unchecked.ensures.bytes) legal)
+
+pub returns-clause-normal : goal.returns-clause-normal
+returns-clause-normal c normal on more =
+    let end = writes_end (fill (raw c.args.format)) c.loop-edit.builder c.args.edits.now c.loop-edit.edit-index (omega arith) c.loop-edit.invariant in
+    let is = c.build_unchecked.ensures.word ∙ ap pack end in
+    Composes-normal c.args.format (all_writes c.args.edits.now) more (subst HasBytes end c.build_unchecked.ensures.bytes)
+    (subst IsNormal is normal) (subst (λ u. IsTrue (separator_on (raw u))) is on)

@@ -1,8 +1,12 @@
-use Rattle.std.proofs.Common.{◌∙◌, sym, ap, subst, arith}
+use Rattle.std.proofs.Common.{◌↔◌, ◌∙◌, sym, ap, subst, arith}
 use Rattle.lexical_flags.specs.Record.{raw, pack, trim}
 use Rattle.lexical_flags.proofs.Packing.{raw-injective}
+use Rattle.lexical_flags.specs.Rules.{Lawful, IsErrorOf}
+use Rattle.lexical_util.specs.View.{any_flag, bits_of}
 use Rattle.lexical_util.specs.Normal.{normal_form_of, SameFormat}
-use Rattle.lexical_util.proofs.NormalLemmas.{normal_form-is, normal_again, normal_from_fixed, fixed_from_normal, normal_keeps}
+use Rattle.lexical_util.proofs.NormalLemmas.{normal_form-is, normal_again, normal_from_fixed, fixed_from_normal, normal_keeps, lawful_normal, error_normal, groups_normal, flags_normal}
+use Rattle.lexical_util.specs.Edits.{edited}
+use Rattle.lexical_util.proofs.ComposeLemmas.{edited-normal}
 use Rattle.lexical_util.proofs.edits.normal_form.Goals as goal
 
 pub returns-clause-word : goal.returns-clause-word
@@ -24,3 +28,18 @@ returns-clause-unchanged c = (
 
 pub returns-clause-same : goal.returns-clause-same
 returns-clause-same c = subst (λ u. SameFormat (raw c.args.format) (raw u)) (sym (returns-clause-word c)) (normal_keeps c.args.format)
+
+pub returns-clause-groups : goal.returns-clause-groups
+returns-clause-groups c fs = groups_normal c.args.format fs ∙ ap (λ u. any_flag u fs) (sym (returns-clause-word c))
+
+pub returns-clause-flags : goal.returns-clause-flags
+returns-clause-flags c fs = flags_normal c.args.format fs ∙ ap (λ u. bits_of u fs) (sym (returns-clause-word c))
+
+pub returns-clause-lawful : goal.returns-clause-lawful
+returns-clause-lawful c h = subst Lawful (sym (returns-clause-word c)) (lawful_normal c.args.format h)
+
+pub returns-clause-error : goal.returns-clause-error
+returns-clause-error c used e = subst (λ u. IsErrorOf c.args.format e ↔ IsErrorOf u e) (sym (returns-clause-word c)) (error_normal c.args.format used e)
+
+pub returns-clause-edits : goal.returns-clause-edits
+returns-clause-edits c used L legal = ap (λ u. edited u L) (returns-clause-word c) ∙ edited-normal c.args.format L used legal
