@@ -88,6 +88,7 @@ edited-again w K L bytes legal =
 
 -- an answer that is a normal form with a separator flag has lost nothing
 pub Composes-normal : (w : ℕ) (K L : List Write) → HasBytes (edited_fields w K) → IsNormal (edited w K) → IsTrue (separator_on (raw (edited w K))) → Composes w K L
+unfolding IsNormal
 Composes-normal w K L bytes normal on =
     let fields : raw (edited w K) ≡ trim (edited_fields w K) = raw-pack (edited_fields w K) bytes in
     record {

@@ -135,6 +135,7 @@ module _ (w : ℕ) where
   normal_again = sym (normal_same w (normal_form_of w) normal_keeps)
 
   pub normal_from_fixed : normal_form_of w ≡ w → IsNormal w
+  unfolding IsNormal
   normal_from_fixed e =
       let R : Record = raw w in
       let fields : trim (fill R) ≡ R = sym raw_normal ∙ ap raw e in
@@ -146,6 +147,7 @@ module _ (w : ℕ) where
       }
 
   pub fixed_from_normal : w < 2 ^ 128 → IsNormal w → normal_form_of w ≡ w
+  unfolding IsNormal
   fixed_from_normal fits n = raw-injective (normal_form_of w) w normal_fits fits clean_normal n.clean (raw_normal ∙ record_same (trim (fill (raw w))) (raw w) (λ f. flag_of-trim-fill (raw w) f) on_byte) where
     on_byte : (b : Byte) → byte_of (trim (fill (raw w))) b ≡ byte_of (raw w) b
     on_byte layout.digit_separator = kept (separator_on (raw w)) (raw w).digit_separator n.separator_used

@@ -3,3 +3,14 @@ pub mod Normal
 pub mod View
 pub mod Listing
 pub mod Compose
+pub use Rattle.lexical_base.specs.Ascii
+pub use Rattle.lexical_base.specs.Digits
+pub use Rattle.lexical_base.specs.Outcomes
+pub use Rattle.lexical_flags.specs.Layout
+pub use Rattle.lexical_flags.specs.Record
+pub use Rattle.lexical_flags.specs.Pairs
+pub use Rattle.lexical_flags.specs.Roles
+pub use Rattle.lexical_flags.specs.Rules
+pub use Rattle.lexical_flags.specs.Options
+pub use Rattle.lexical_builder.specs.OptionByte
+pub use Rattle.lexical_builder.specs.Writes

@@ -19,8 +19,12 @@ pub record SameFormat (r s : Record) : Type 0 where
   pub digit_separator : IsTrue (separator_on r) → r.digit_separator ≡ s.digit_separator
 
 -- a word that is its own normal form: clean, a separator only where it may stand, and no exponent byte that could be filled
-pub record IsNormal (word : ℕ) : Type 0 where
+pub record NormalParts (word : ℕ) : Type 0 where
   pub clean : IsClean word
   pub separator_used : SeparatorIsUsed (raw word)
   pub exponent_base : (raw word).exponent_base ≡ 0 → (raw word).mantissa_radix ≡ 0
   pub exponent_radix : (raw word).exponent_radix ≡ 0 → (raw word).mantissa_radix ≡ 0
+
+-- a word that is its own normal form
+unfoldable pub IsNormal : ℕ → Type 0
+IsNormal word = NormalParts word

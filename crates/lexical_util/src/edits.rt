@@ -192,6 +192,17 @@ fn apply_flag(builder: NumberFormatBuilder, setter: FlagSetter, flag: bool) -> N
     }
 }
 
+/// Does the setter calls that `edits` name, in their order.
+#[tactic(auto, using(crate::proofs::EditLemmas::writes_more, lexical_builder::proofs::WriteLemmas::after_none))]
+pub fn apply_all(mut builder: NumberFormatBuilder, edits: &[Edit]) -> NumberFormatBuilder
+    ensures { result ≡ after builder (all_writes edits.now) }
+{
+    for edit in edits {
+        builder = apply(builder, *edit);
+    }
+    builder
+}
+
 /// The word that `edits`, in their order, make of `format`, which may be any word, lawful or
 /// not.
 ///
@@ -203,7 +214,6 @@ fn apply_flag(builder: NumberFormatBuilder, setter: FlagSetter, flag: bool) -> N
 ///
 /// Editing twice is not always editing once with both lists: the first edit drops a digit
 /// separator that has no flag yet, and the second fills an exponent byte that the first emptied.
-#[tactic(auto, using(crate::proofs::EditLemmas::writes_more, lexical_builder::proofs::WriteLemmas::after_none))]
 pub fn edit_word(format: u128, edits: &[Edit]) -> u128
     ensures word { result ≡ edited format (all_writes edits.now) }
     ensures fields { raw result ≡ trim (after (fill (raw format)) (all_writes edits.now)) }
@@ -226,11 +236,7 @@ pub fn edit_word(format: u128, edits: &[Edit]) -> u128
     ensures normal { IsNormal result → IsTrue (separator_on (raw result)) → (more : List Write)
         → Composes format (all_writes edits.now) more }
 {
-    let mut builder = NumberFormatBuilder::rebuild(format);
-    for edit in edits {
-        builder = apply(builder, *edit);
-    }
-    builder.build_unchecked()
+    apply_all(NumberFormatBuilder::rebuild(format), edits).build_unchecked()
 }
 
 /// The word that stands for all words that mean the same as `format`: each exponent byte holds
@@ -265,6 +271,7 @@ pub fn normal_form(format: u128) -> u128
     // Nor does it matter then which of both is edited.
     ensures edits { SeparatorIsUsed (raw format) → (writes : List Write) → All IsLegal writes
         → edited result writes ≡ edited format writes }
+    ensures normal { IsNormal result }
 {
     NumberFormatBuilder::rebuild(format).build_unchecked()
 }

@@ -43,3 +43,6 @@ returns-clause-error c used e = subst (λ u. IsErrorOf c.args.format e ↔ IsErr
 
 pub returns-clause-edits : goal.returns-clause-edits
 returns-clause-edits c used L legal = ap (λ u. edited u L) (returns-clause-word c) ∙ edited-normal c.args.format L used legal
+
+pub returns-clause-normal : goal.returns-clause-normal
+returns-clause-normal c = normal_from_fixed c.build_unchecked.result (returns-clause-again c)

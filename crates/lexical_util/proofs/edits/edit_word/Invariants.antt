@@ -1,8 +1,0 @@
-use Rattle.std.proofs.Common.{◌≡◌, take}
-use Rattle.lexical_flags.specs.Record.{fill, raw}
-use Rattle.lexical_builder.specs.Writes.{after}
-use Rattle.lexical_util.specs.Edits.{all_writes}
-use Rattle.lexical_util.proofs.edits.edit_word.Given as goal
-
-abbrev pub invariant-loop-edit : goal.invariant-loop-edit
-invariant-loop-edit l = l.builder ≡ after (fill (raw l.format)) (all_writes (take l.edit-index l.edits))
