@@ -228,10 +228,14 @@ impl NumberFormatBuilder {
     ///
     /// The Rust crate panics with the description of the error instead.
     #[inline(always)]
+    #[tactic(auto, using(lexical_flags::proofs::RuleLemmas::not_flags))]
     pub fn build_strict(&self) -> Result<u128, Error>
         ensures lawful { OkIff result (Lawful (pack self.now)) (pack self.now) }
         ensures error { IfErr result (IsErrorOf (pack self.now)) }
         ensures not_success { result ≢ Err Error.Success }
+
+        // What is packed has no reserved bit set.
+        ensures not_flags { result ≢ Err Error.InvalidFlags }
     {
         let word = self.build_unchecked();
         match format_error_impl(word) {

@@ -41,6 +41,15 @@ case_sensitive_special_tells word = flag_tells word 11
 pub required_exponent_notation_tells : (word : ℕ) → FlagTells word 14
 required_exponent_notation_tells word = flag_tells word 14
 
+pub case_sensitive_exponent_tells : (word : ℕ) → FlagTells word 15
+case_sensitive_exponent_tells word = flag_tells word 15
+
+pub case_sensitive_base_prefix_tells : (word : ℕ) → FlagTells word 16
+case_sensitive_base_prefix_tells word = flag_tells word 16
+
+pub case_sensitive_base_suffix_tells : (word : ℕ) → FlagTells word 17
+case_sensitive_base_suffix_tells word = flag_tells word 17
+
 pub special_digit_separator_tells : (word : ℕ) → FlagTells word 44
 special_digit_separator_tells word = flag_tells word 44
 
@@ -82,4 +91,4 @@ exponent_consecutive_alone word =
     ∙ alone (2 ^ 34) _ _ _ _ (pow_pos 34) (bit-lt word 34) (bit-lt word 37) (bit-lt word 40) (bit-lt word 43)
 
 -- what the validators of flags need
-pub ruleset flag_tests = (no_positive_mantissa_sign_tells, required_mantissa_sign_tells, no_exponent_notation_tells, no_positive_exponent_sign_tells, required_exponent_sign_tells, no_special_tells, case_sensitive_special_tells, required_exponent_notation_tells, special_digit_separator_tells, integer_consecutive_alone, fraction_consecutive_alone, exponent_consecutive_alone)
+pub ruleset flag_tests = (no_positive_mantissa_sign_tells, required_mantissa_sign_tells, no_exponent_notation_tells, no_positive_exponent_sign_tells, required_exponent_sign_tells, no_special_tells, case_sensitive_special_tells, required_exponent_notation_tells, case_sensitive_exponent_tells, case_sensitive_base_prefix_tells, case_sensitive_base_suffix_tells, special_digit_separator_tells, integer_consecutive_alone, fraction_consecutive_alone, exponent_consecutive_alone)

@@ -1,30 +1,33 @@
--- A test of a word's rules that computes at a literal.
-use Rattle.std.proofs.Common.{◌≡◌, ℕ, inl, inr, Bool, true, false, not, nat_le, ◌||◌, ◌&&◌, ◌==◌, IsTrue, List, [], ◌∷◌, refl, arith}
-use Rattle.std.specs.List.{list_all}
+-- Tests of the rules that compute at a literal word, each proved to decide its rule.
+use Rattle.std.proofs.Common.{◌≡◌, ◌≢◌, ◌⊎◌, ◌↔◌, ℕ, inl, inr, Bool, true, false, not, nat_le, ◌||◌, ◌&&◌, ◌==◌, if◌then◌else◌, IsTrue, List, [], ◌∷◌, refl, sym, ap, ◌∙◌, subst, eq-eqb, eqb-true, arith}
+use Rattle.std.proofs.lemmas.Bool.{false≢true}
 use Rattle.std.proofs.lemmas.Bool.Decides.{nat_tests}
-use Rattle.lexical_base.specs.Ascii.{allowed_ascii}
+use Rattle.lexical_base.specs.Ascii.{allowed_ascii, letters}
+use Rattle.lexical_base.specs.declared.error.Error.{Error}
 use Rattle.lexical_base.specs.declared.error.Error.TheVariants.{Success}
+use Rattle.lexical_flags.specs.Layout.{part, IsClean}
 use Rattle.lexical_flags.specs.Record.{Record, raw, effective_exponent_base, effective_exponent_radix}
-use Rattle.lexical_flags.specs.Roles.{Disjoint, only, digits, signs}
-use Rattle.lexical_flags.specs.Rules.{Rule, mantissa_radix_in_range, exponent_base_in_range, exponent_radix_in_range, digit_separator_is_free, base_prefix_is_free, base_suffix_is_free, punctuation_differs, exponent_flags_agree, mantissa_sign_flags_agree, exponent_sign_flags_agree, special_case_flags_agree, special_separator_flags_agree, integer_consecutive_has_place, fraction_consecutive_has_place, exponent_consecutive_has_place, IsRadix, IsFree, IsPunctuation, NotBoth, HasPlace, Demands, Holds, IsFirstBroken, IsErrorOf, Lawful, rules_in_order}
+use Rattle.lexical_flags.specs.Roles.{Disjoint, cased, other_case, digits, signs}
+use Rattle.lexical_flags.specs.Rules.{Rule, mantissa_radix_in_range, exponent_base_in_range, exponent_radix_in_range, digit_separator_is_free, base_prefix_is_free, base_suffix_is_free, punctuation_differs, exponent_flags_agree, mantissa_sign_flags_agree, exponent_sign_flags_agree, special_case_flags_agree, special_separator_flags_agree, integer_consecutive_has_place, fraction_consecutive_has_place, exponent_consecutive_has_place, reserved_bits_are_zero, IsRadix, IsFree, IsPunctuation, NotBoth, HasPlace, Demands, Holds, IsFirstBroken, IsErrorOf, Lawful, answer, rules_in_order}
 use Rattle.lexical_flags.proofs.Masks.{both}
+use Rattle.lexical_flags.proofs.CaseLemmas.{cased-cases, differ_apart, cases_apart}
 use Rattle.lexical_flags.proofs.RuleLemmas.{Lawful-from_success}
 
 -- the tests of what the rules demand
-abbrev pub is_radix : ℕ → Bool
+abbrev is_radix : ℕ → Bool
 is_radix radix = nat_le 2 radix && nat_le radix 36
 
-abbrev pub is_free : Record → ℕ → Bool
+abbrev is_free : Record → ℕ → Bool
 is_free r byte = (byte == 0) || (allowed_ascii byte && (not (digits r byte) && not (signs byte)))
 
-abbrev pub are_apart : ℕ → ℕ → Bool
-are_apart a b = (a == 0) || not (a == b)
+abbrev are_apart : Bool → ℕ → Bool → ℕ → Bool
+are_apart a_counts a b_counts b = (a == 0) || (not (a == b) && (not (b == other_case a) || (a_counts && b_counts)))
 
-abbrev pub has_place : Bool → Bool → Bool → Bool → Bool
+abbrev has_place : Bool → Bool → Bool → Bool → Bool
 has_place consecutive internal leading trailing = not consecutive || (internal || leading || trailing)
 
 -- whether a record meets what a rule demands
-abbrev pub passes : Rule → Record → Bool
+abbrev passes : Rule → Record → Bool
 passes mantissa_radix_in_range r = is_radix r.mantissa_radix
 passes exponent_base_in_range r = is_radix (effective_exponent_base r)
 passes exponent_radix_in_range r = is_radix (effective_exponent_radix r)
@@ -32,7 +35,9 @@ passes digit_separator_is_free r = is_free r r.digit_separator
 passes base_prefix_is_free r = is_free r r.base_prefix
 passes base_suffix_is_free r = is_free r r.base_suffix
 passes punctuation_differs r =
-    are_apart r.digit_separator r.base_prefix && (are_apart r.digit_separator r.base_suffix && are_apart r.base_prefix r.base_suffix)
+    are_apart true r.digit_separator r.case_sensitive_base_prefix r.base_prefix &&
+    (are_apart true r.digit_separator r.case_sensitive_base_suffix r.base_suffix &&
+    are_apart r.case_sensitive_base_prefix r.base_prefix r.case_sensitive_base_suffix r.base_suffix)
 passes exponent_flags_agree r = not (r.no_exponent_notation && r.required_exponent_notation)
 passes mantissa_sign_flags_agree r = not (r.no_positive_mantissa_sign && r.required_mantissa_sign)
 passes exponent_sign_flags_agree r = not (r.no_positive_exponent_sign && r.required_exponent_sign)
@@ -47,13 +52,34 @@ passes fraction_consecutive_has_place r =
 passes exponent_consecutive_has_place r =
     has_place r.exponent_consecutive_digit_separator r.exponent_internal_digit_separator
     r.exponent_leading_digit_separator r.exponent_trailing_digit_separator
+passes reserved_bits_are_zero r = true
+
+-- whether a word keeps a rule
+abbrev keeps : Rule → ℕ → Bool
+keeps reserved_bits_are_zero word = (part word 18 14 == 0) && ((part word 45 19 == 0) && (part word 72 16 == 0))
+keeps rule word = passes rule (raw word)
+
+-- truth values
+not_true : (a : Bool) → not a ≡ true → IsTrue a → ⊥
+not_true true e h = cc
+not_true false e h = cc
+
+not_from : (a : Bool) → (IsTrue a → ⊥) → not a ≡ true
+not_from true h = absurd (h refl)
+not_from false h = refl
+
+and_from : (a b : Bool) → a ≡ true → b ≡ true → (a && b) ≡ true
+and_from a b h k = ap (λ t. t && b) h ∙ k
+
+or_second : (a b : Bool) → b ≡ true → (a || b) ≡ true
+or_second true b h = refl
+or_second false b h = h
 
 IsRadix-test : (radix : ℕ) → is_radix radix ≡ true → IsRadix radix
 IsRadix-test radix test = grind (arith, nat_tests)
 
-not_true : (a : Bool) → not a ≡ true → IsTrue a → ⊥
-not_true true e h = cc
-not_true false e h = cc
+IsRadix-passes : (radix : ℕ) → IsRadix radix → is_radix radix ≡ true
+IsRadix-passes radix h = let low = h.0 in let high = h.1 in grind (arith, nat_tests)
 
 IsFree-test : (r : Record) (byte : ℕ) → is_free r byte ≡ true → IsFree r byte
 unfolding IsPunctuation
@@ -66,9 +92,48 @@ IsFree-test r byte test = parts (byte == 0) refl test
         let roles = both (not (digits r byte)) (not (signs byte)) text.1 in
         inr (text.0, not_true (digits r byte) roles.0, not_true (signs byte) roles.1)
 
-Disjoint-test : (a b : ℕ) → are_apart a b ≡ true → Disjoint (only a) (only b)
-unfolding Disjoint only
-Disjoint-test a b test byte is_a is_b = grind (arith, nat_tests)
+IsFree-passes : (r : Record) (byte : ℕ) → IsFree r byte → is_free r byte ≡ true
+unfolding IsPunctuation
+IsFree-passes r byte (inl none) = ap (λ t. t || (allowed_ascii byte && (not (digits r byte) && not (signs byte)))) (eq-eqb byte 0 none)
+IsFree-passes r byte (inr free) = or_second (byte == 0) _ (and_from (allowed_ascii byte) _ free.0 (and_from (not (digits r byte)) _ (not_from (digits r byte) free.1) (not_from (signs byte) free.2)))
+
+-- a byte that has another case is a letter
+letter_with_case : (a : ℕ) → a ≢ other_case a → IsTrue (letters a)
+letter_with_case a differ = grind (arith, nat_tests)
+
+differ : (a b : ℕ) → (a == b) ≡ false → a ≢ b
+differ a b e same = false≢true (sym e ∙ eq-eqb a b same)
+
+cased-own : (counts : Bool) (a : ℕ) → (a == 0) ≡ false → IsTrue (cased counts a a)
+unfolding cased
+cased-own counts a e = and_from (not (a == 0)) _ (ap not e) (ap (λ t. t || (not counts && (a == other_case a))) (eq-eqb a a refl))
+
+module _ (a_counts : Bool) (a : ℕ) (b_counts : Bool) (b : ℕ) where
+  -- two cases of one letter are apart exactly if both count
+  letters_apart : (a == b) ≡ false → (b == other_case a) ≡ true → IsTrue (a_counts && b_counts) ↔ Disjoint (cased a_counts a) (cased b_counts b)
+  letters_apart e k =
+      let other : b ≡ other_case a = eqb-true b (other_case a) k in
+      cases_apart a a_counts b b_counts (differ a b e) (letter_with_case a (subst (λ c. a ≢ c) other (differ a b e))) other
+
+  Disjoint-test : are_apart a_counts a b_counts b ≡ true → Disjoint (cased a_counts a) (cased b_counts b)
+  unfolding Disjoint
+  Disjoint-test test = parts (a == 0) (a == b) (b == other_case a) refl refl refl test where
+    parts : (none same other : Bool) → (a == 0) ≡ none → (a == b) ≡ same → (b == other_case a) ≡ other
+        → (none || (not same && (not other || (a_counts && b_counts)))) ≡ true → Disjoint (cased a_counts a) (cased b_counts b)
+    parts true same other e k o t = λ byte is_a is_b. (cased-cases a_counts a byte is_a).0 (eqb-true a 0 e)
+    parts false true other e k o t = absurd (false≢true t)
+    parts false false false e k o t = differ_apart a_counts a b_counts b (differ a b k) (differ b (other_case a) o)
+    parts false false true e k o t = (letters_apart k o).0 t
+
+  Disjoint-passes : Disjoint (cased a_counts a) (cased b_counts b) → are_apart a_counts a b_counts b ≡ true
+  unfolding Disjoint
+  Disjoint-passes apart = parts (a == 0) (a == b) (b == other_case a) refl refl refl where
+    parts : (none same other : Bool) → (a == 0) ≡ none → (a == b) ≡ same → (b == other_case a) ≡ other
+        → (none || (not same && (not other || (a_counts && b_counts)))) ≡ true
+    parts true same other e k o = refl
+    parts false true other e k o = absurd (apart a (cased-own a_counts a e) (subst (λ c. IsTrue (cased b_counts c a)) (eqb-true a b k) (cased-own b_counts a e)))
+    parts false false false e k o = refl
+    parts false false true e k o = (letters_apart k o).1 apart
 
 NotBoth-test : (a b : Bool) → not (a && b) ≡ true → NotBoth a b
 NotBoth-test true true e = cc
@@ -79,8 +144,12 @@ HasPlace-test : (c i l t : Bool) → has_place c i l t ≡ true → HasPlace c i
 HasPlace-test true i l t e on = e
 HasPlace-test false i l t e on = cc
 
--- each test is right
-pub Demands-test : (rule : Rule) (r : Record) → passes rule r ≡ true → Demands rule r
+HasPlace-passes : (c i l t : Bool) → HasPlace c i l t → has_place c i l t ≡ true
+HasPlace-passes true i l t h = h refl
+HasPlace-passes false i l t h = refl
+
+-- a record that passes a rule's test meets the rule
+Demands-test : (rule : Rule) (r : Record) → passes rule r ≡ true → Demands rule r
 Demands-test mantissa_radix_in_range r e = IsRadix-test _ e
 Demands-test exponent_base_in_range r e = IsRadix-test _ e
 Demands-test exponent_radix_in_range r e = IsRadix-test _ e
@@ -88,9 +157,11 @@ Demands-test digit_separator_is_free r e = IsFree-test r _ e
 Demands-test base_prefix_is_free r e = IsFree-test r _ e
 Demands-test base_suffix_is_free r e = IsFree-test r _ e
 Demands-test punctuation_differs r e =
-    let first = both (are_apart r.digit_separator r.base_prefix) _ e in
-    let rest = both (are_apart r.digit_separator r.base_suffix) (are_apart r.base_prefix r.base_suffix) first.1 in
-    ((Disjoint-test _ _ first.0, (Disjoint-test _ _ rest.0, tt)), ((Disjoint-test _ _ rest.1, tt), (tt, tt)))
+    let prefix : Bool = r.case_sensitive_base_prefix in
+    let suffix : Bool = r.case_sensitive_base_suffix in
+    let first = both (are_apart true r.digit_separator prefix r.base_prefix) _ e in
+    let rest = both (are_apart true r.digit_separator suffix r.base_suffix) (are_apart prefix r.base_prefix suffix r.base_suffix) first.1 in
+    ((Disjoint-test true _ prefix _ first.0, (Disjoint-test true _ suffix _ rest.0, tt)), ((Disjoint-test prefix _ suffix _ rest.1, tt), (tt, tt)))
 Demands-test exponent_flags_agree r e = NotBoth-test r.no_exponent_notation r.required_exponent_notation e
 Demands-test mantissa_sign_flags_agree r e = NotBoth-test r.no_positive_mantissa_sign r.required_mantissa_sign e
 Demands-test exponent_sign_flags_agree r e = NotBoth-test r.no_positive_exponent_sign r.required_exponent_sign e
@@ -105,16 +176,62 @@ Demands-test fraction_consecutive_has_place r e =
 Demands-test exponent_consecutive_has_place r e =
     HasPlace-test r.exponent_consecutive_digit_separator r.exponent_internal_digit_separator
     r.exponent_leading_digit_separator r.exponent_trailing_digit_separator e
+Demands-test reserved_bits_are_zero r e = tt
 
--- where every test passes the answer is Success
-success : (word : ℕ) (rules : List Rule) → list_all (λ rule. passes rule (raw word)) rules ≡ true → IsFirstBroken rules word Success
+-- a record that meets a rule passes its test
+Demands-passes : (rule : Rule) (r : Record) → Demands rule r → passes rule r ≡ true
+Demands-passes mantissa_radix_in_range r h = IsRadix-passes _ h
+Demands-passes exponent_base_in_range r h = IsRadix-passes _ h
+Demands-passes exponent_radix_in_range r h = IsRadix-passes _ h
+Demands-passes digit_separator_is_free r h = IsFree-passes r _ h
+Demands-passes base_prefix_is_free r h = IsFree-passes r _ h
+Demands-passes base_suffix_is_free r h = IsFree-passes r _ h
+Demands-passes punctuation_differs r h =
+    let prefix : Bool = r.case_sensitive_base_prefix in
+    let suffix : Bool = r.case_sensitive_base_suffix in
+    and_from (are_apart true r.digit_separator prefix r.base_prefix) _ (Disjoint-passes true _ prefix _ h.0.0)
+    (and_from (are_apart true r.digit_separator suffix r.base_suffix) _ (Disjoint-passes true _ suffix _ h.0.1.0) (Disjoint-passes prefix _ suffix _ h.1.0.0))
+Demands-passes integer_consecutive_has_place r h = HasPlace-passes r.integer_consecutive_digit_separator r.integer_internal_digit_separator r.integer_leading_digit_separator r.integer_trailing_digit_separator h
+Demands-passes fraction_consecutive_has_place r h = HasPlace-passes r.fraction_consecutive_digit_separator r.fraction_internal_digit_separator r.fraction_leading_digit_separator r.fraction_trailing_digit_separator h
+Demands-passes exponent_consecutive_has_place r h = HasPlace-passes r.exponent_consecutive_digit_separator r.exponent_internal_digit_separator r.exponent_leading_digit_separator r.exponent_trailing_digit_separator h
+Demands-passes reserved_bits_are_zero r h = refl
+Demands-passes _ r h = ap not h
+
+IsClean-test : (word : ℕ) → keeps reserved_bits_are_zero word ≡ true → IsClean word
+IsClean-test word e =
+    let first = both (part word 18 14 == 0) _ e in
+    let rest = both (part word 45 19 == 0) (part word 72 16 == 0) first.1 in
+    record { below_separator_flags = grind (arith, nat_tests); below_separator = grind (arith, nat_tests); below_prefix = grind (arith, nat_tests) }
+
+IsClean-passes : (word : ℕ) → IsClean word → keeps reserved_bits_are_zero word ≡ true
+IsClean-passes word h =
+    and_from (part word 18 14 == 0) _ (eq-eqb (part word 18 14) 0 h.below_separator_flags)
+    (and_from (part word 45 19 == 0) _ (eq-eqb (part word 45 19) 0 h.below_separator) (eq-eqb (part word 72 16) 0 h.below_prefix))
+
+-- each test decides its rule
+Holds-test : (rule : Rule) (word : ℕ) → keeps rule word ≡ true ↔ Holds rule word
 unfolding Holds
-success word [] e = refl
-success word (rule ∷ rules) e =
-    let parts = both (passes rule (raw word)) (list_all (λ rule. passes rule (raw word)) rules) e in
-    inr (Demands-test rule (raw word) parts.0, success word rules parts.1)
+Holds-test reserved_bits_are_zero word = (IsClean-test word, IsClean-passes word)
+Holds-test mantissa_radix_in_range word = (Demands-test mantissa_radix_in_range (raw word), Demands-passes mantissa_radix_in_range (raw word))
+Holds-test rule word = (Demands-test rule (raw word), Demands-passes rule (raw word))
 
--- a word that passes every test is lawful; at a literal the test is `refl`
-pub lawful_tested : (word : ℕ) → list_all (λ rule. passes rule (raw word)) rules_in_order ≡ true → Lawful word
+-- the answer to the first rule whose test a word does not pass
+abbrev pub first_answer : List Rule → ℕ → Error
+first_answer [] word = Success
+first_answer (rule ∷ rules) word = if keeps rule word then first_answer rules word else answer rule
+
+found : (rules : List Rule) (word : ℕ) → IsFirstBroken rules word (first_answer rules word)
+found [] word = refl
+found (rule ∷ rules) word = by (found rules word) (keeps rule word) refl where
+  by : IsFirstBroken rules word (first_answer rules word) → (t : Bool) → keeps rule word ≡ t → IsFirstBroken (rule ∷ rules) word (if t then first_answer rules word else answer rule)
+  by rest true e = inr ((Holds-test rule word).0 e, rest)
+  by rest false e = inl (λ h. false≢true (sym e ∙ (Holds-test rule word).1 h), refl)
+
+-- the answer to a word is the one that the tests find; at a literal the premise is `refl`
+pub error_tested : (word : ℕ) (error : Error) → first_answer rules_in_order word ≡ error → IsErrorOf word error
 unfolding IsErrorOf
-lawful_tested word e = Lawful-from_success word (success word rules_in_order e)
+error_tested word error e = subst (IsFirstBroken rules_in_order word) e (found rules_in_order word)
+
+-- a word that passes every test is lawful
+pub lawful_tested : (word : ℕ) → first_answer rules_in_order word ≡ Success → Lawful word
+lawful_tested word e = Lawful-from_success word (error_tested word Success e)

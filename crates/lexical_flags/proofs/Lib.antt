@@ -4,6 +4,8 @@ pub mod Segments
 pub mod Packing
 pub mod Masks
 pub mod FlagBits
+pub mod ReservedBits
+pub mod CaseLemmas
 pub mod FlagTests
 pub mod CommonLemmas
 pub mod DigitLemmas
@@ -11,4 +13,3 @@ pub mod RuleLemmas
 pub mod OptionLemmas
 pub mod LawfulTest
 pub mod NormalRules
-pub mod ErrorTest

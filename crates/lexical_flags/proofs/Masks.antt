@@ -1,10 +1,10 @@
 -- Fields at ascending places, joined by `|` and picked by `&`.
-use Rattle.std.proofs.Common.{ℕ, ◌≡◌, ◌+◌, ◌*◌, ◌/◌, ◌%◌, ◌^◌, ◌<◌, ◌≤◌, Bool, true, false, ◌&&◌, leb, List, [], ◌∷◌, sum_by, bit_and, bit_or, refl, ap, sym, ◌∙◌, arith}
+use Rattle.std.proofs.Common.{ℕ, ◌≡◌, ◌+◌, ◌-◌, ◌*◌, ◌/◌, ◌%◌, ◌^◌, ◌<◌, ◌≤◌, Bool, true, false, ◌&&◌, leb, List, [], ◌∷◌, sum_by, bit_and, bit_or, refl, ap, sym, ◌∙◌, arith}
 use Rattle.std.specs.Int.Bits.{and_zero_r}
 use Rattle.std.specs.List.{fold}
 use Rattle.std.proofs.Math.Nat.{mul-le-mul_left, mod-eq_of_lt, mod-lt, pow-le-pow_right, lt_of_le_of_lt}
 use Rattle.std.proofs.lemmas.Bool.{leb-true}
-use Rattle.std.proofs.lemmas.Nat.{pow-add, pow_pos, shr_split, and_block, and_mod, and_le_r, or_comm, or_shifted}
+use Rattle.std.proofs.lemmas.Nat.{pow-add, pow_pos, shr_split, and_block, and_mask, and_mod, and_le_r, or_comm, or_shifted}
 use Rattle.std.proofs.lemmas.Nat.Bits.{shr_and_one}
 use Rattle.lexical_flags.specs.Layout.{part}
 
@@ -18,7 +18,7 @@ pub both : (a b : Bool) → (a && b) ≡ true → (a ≡ true) × (b ≡ true)
 both true b e = (refl, e)
 both false b e = cc
 
-and_zero : (w : ℕ) → bit_and w 0 ≡ 0
+pub and_zero : (w : ℕ) → bit_and w 0 ≡ 0
 and_zero w = and_zero_r w
 
 -- the place above the last field
@@ -38,6 +38,17 @@ and_more w a k l =
     ap (λ x. bit_and w x) mask
     ∙ ap (λ x. bit_and x (1 * 2 ^ k + a)) (sym split)
     ∙ blocks ∙ (λ i. shr_and_one w k i * 2 ^ k + low i) ∙ omega arith
+
+-- one more block of n bits of a mask
+pub and_block_more : (w a k n : ℕ) → a < 2 ^ k → bit_and w ((2 ^ n - 1) * 2 ^ k + a) ≡ bit_and w a + part w k n * 2 ^ k
+and_block_more w a k n l =
+    let split : (w / 2 ^ k) * 2 ^ k + w % 2 ^ k ≡ w = shr_split w k in
+    let blocks : bit_and ((w / 2 ^ k) * 2 ^ k + w % 2 ^ k) ((2 ^ n - 1) * 2 ^ k + a) ≡ bit_and (w / 2 ^ k) (2 ^ n - 1) * 2 ^ k + bit_and (w % 2 ^ k) a =
+    and_block k (w / 2 ^ k) (2 ^ n - 1) (w % 2 ^ k) a (mod-lt w (pow_pos k)) l in
+    let low : bit_and (w % 2 ^ k) a ≡ bit_and w a =
+    ap (λ x. bit_and (w % 2 ^ k) x) (sym (mod-eq_of_lt l)) ∙ sym (and_mod w a k) ∙ mod-eq_of_lt (lt_of_le_of_lt (and_le_r w a) l) in
+    ap (λ x. bit_and x ((2 ^ n - 1) * 2 ^ k + a)) (sym split)
+    ∙ blocks ∙ (λ i. and_mask (w / 2 ^ k) n i * 2 ^ k + low i) ∙ omega arith
 
 -- one more field
 or_more : (low s k n v : ℕ) → low < 2 ^ s → s ≤ k → v < 2 ^ n → (bit_or low (v * 2 ^ k) ≡ low + v * 2 ^ k) × (low + v * 2 ^ k < 2 ^ (k + n))

@@ -4,7 +4,7 @@ use Rattle.std.proofs.lemmas.Bool.{cases_Bool, cond-false, false≢true}
 use Rattle.std.proofs.lemmas.Bool.Decides.{nat_tests}
 use Rattle.lexical_base.specs.Ascii.{ByteSet, allowed_ascii}
 use Rattle.lexical_flags.specs.Record.{Record, fill, trim, effective, separator_on, SeparatorIsUsed}
-use Rattle.lexical_flags.specs.Roles.{Disjoint, only, digits_of, signs, prefix, suffix}
+use Rattle.lexical_flags.specs.Roles.{Disjoint, cased, only, digits_of, signs, prefix, suffix}
 use Rattle.lexical_flags.specs.Rules.{Rule, mantissa_radix_in_range, exponent_base_in_range, exponent_radix_in_range, digit_separator_is_free, base_prefix_is_free, base_suffix_is_free, punctuation_differs, IsRadix, IsFree, IsPunctuation, Demands}
 use Rattle.lexical_flags.proofs.Packing.{trim-same}
 
@@ -29,7 +29,7 @@ Demands-fill base_suffix_is_free r = IsFree-fill r r.base_suffix
 Demands-fill _ r = refl
 
 Disjoint-nothing : (A : ByteSet) → Disjoint (only 0) A
-unfolding Disjoint only
+unfolding Disjoint cased
 Disjoint-nothing A byte is_zero in_a = absurd (false≢true is_zero)
 
 -- fields without their separator still meet the rules that they met

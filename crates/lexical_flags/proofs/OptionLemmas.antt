@@ -1,14 +1,14 @@
 -- An exponent character and a decimal point beside the five roles of a word.
-use Rattle.std.proofs.Common.{ℕ, ◌+◌, ◌≤◌, ◌≢◌, inl, inr, IsTrue, sym, arith}
+use Rattle.std.proofs.Common.{ℕ, ◌+◌, ◌≤◌, ◌≢◌, inl, inr, Bool, true, IsTrue, sym, arith}
 use Rattle.std.specs.List.{AllByRecursion}
 use Rattle.std.proofs.lemmas.Bool.{cases_eq}
 use Rattle.std.proofs.lemmas.Bool.Decides.{nat_tests}
 use Rattle.lexical_base.specs.Ascii.{ByteSet, allowed_ascii}
 use Rattle.lexical_flags.specs.Record.{Record, raw}
-use Rattle.lexical_flags.specs.Roles.{Disjoint, only, digits, signs, separator, prefix, suffix, exponent, point, own_roles}
+use Rattle.lexical_flags.specs.Roles.{Disjoint, cased, digits, signs, separator, prefix, suffix, exponent, point, own_roles}
 use Rattle.lexical_flags.specs.Rules.{IsPunctuation, Lawful}
 use Rattle.lexical_flags.specs.Options.{AreAccepted, HaveOneRole, LeavesRoom}
-use Rattle.lexical_flags.proofs.RuleLemmas.{Disjoint-only, not_in, no_digit}
+use Rattle.lexical_flags.proofs.RuleLemmas.{Disjoint-digits-cased, Disjoint-signs-cased, not_in, no_digit}
 
 Disjoint-sym : (A B : ByteSet) → Disjoint A B → Disjoint B A
 unfolding Disjoint
@@ -28,8 +28,8 @@ AreAccepted-from_roles word e p h =
     let e_some : e ≢ 0 = text-positive e h.exponent_is_text in
     let p_some : p ≢ 0 = text-positive p h.point_is_text in
     record {
-      exponent_is_punctuation = (h.exponent_is_text, not_in (digits r) e h.roles.0.1.1.1.1.0 e_some, not_in signs e h.roles.1.0.1.1.1.0 e_some);
-      point_is_punctuation = (h.point_is_text, not_in (digits r) p h.roles.0.1.1.1.1.1.0 p_some, not_in signs p h.roles.1.0.1.1.1.1.0 p_some);
+      exponent_is_punctuation = (h.exponent_is_text, not_in (digits r) r.case_sensitive_exponent e h.roles.0.1.1.1.1.0 e_some, not_in signs r.case_sensitive_exponent e h.roles.1.0.1.1.1.0 e_some);
+      point_is_punctuation = (h.point_is_text, not_in (digits r) true p h.roles.0.1.1.1.1.1.0 p_some, not_in signs true p h.roles.1.0.1.1.1.1.0 p_some);
       apart = h.roles.1.1.1.1.1.0.0;
       exponent_is_new = (
         Disjoint-sym (separator r) E h.roles.1.1.0.1.1.0,
@@ -49,8 +49,9 @@ HaveOneRole-from_accepted word e p lawful h =
     let E : ByteSet = exponent r e in
     let P : ByteSet = point p in
     let five = lawful.roles in
-    let from_digits : (b : ℕ) → IsPunctuation r b → Disjoint (digits r) (only b) = λ b free. Disjoint-only (digits r) b (λ _. free.1) in
-    let from_signs : (b : ℕ) → IsPunctuation r b → Disjoint signs (only b) = λ b free. Disjoint-only signs b (λ _. free.2) in
+    let from_digits : (counts : Bool) (b : ℕ) → IsPunctuation r b → Disjoint (digits r) (cased counts b) = λ counts b free. Disjoint-digits-cased r counts b (λ _. free.1) in
+    let from_signs : (counts : Bool) (b : ℕ) → IsPunctuation r b → Disjoint signs (cased counts b) = λ counts b free. Disjoint-signs-cased counts b (λ _. free.2) in
+    let counts : Bool = r.case_sensitive_exponent in
     let e_free = h.exponent_is_punctuation in
     let p_free = h.point_is_punctuation in
     let e_new = h.exponent_is_new in
@@ -59,9 +60,9 @@ HaveOneRole-from_accepted word e p lawful h =
       exponent_is_text = e_free.0;
       point_is_text = p_free.0;
       roles = (
-        (five.0.0, (five.0.1.0, (five.0.1.1.0, (five.0.1.1.1.0, (from_digits e e_free, (from_digits p p_free, tt)))))),
+        (five.0.0, (five.0.1.0, (five.0.1.1.0, (five.0.1.1.1.0, (from_digits counts e e_free, (from_digits true p p_free, tt)))))),
         (
-          (five.1.0.0, (five.1.0.1.0, (five.1.0.1.1.0, (from_signs e e_free, (from_signs p p_free, tt))))),
+          (five.1.0.0, (five.1.0.1.0, (five.1.0.1.1.0, (from_signs counts e e_free, (from_signs true p p_free, tt))))),
           (
             (five.1.1.0.0, (five.1.1.0.1.0, (Disjoint-sym E (separator r) e_new.0, (Disjoint-sym P (separator r) p_new.0, tt)))),
             (
@@ -124,14 +125,17 @@ IsPunctuation-mark : (r : Record) (byte : ℕ) → 33 ≤ byte → byte ≤ 37 �
 unfolding IsPunctuation
 IsPunctuation-mark r byte low high = (grind (arith, nat_tests), no_digit r byte (omega arith), (λ is_sign. grind (arith, nat_tests)))
 
--- the roles of two bytes that differ
-Disjoint-bytes : (a b : ℕ) → a ≢ b → Disjoint (only a) (only b)
-unfolding Disjoint only
-Disjoint-bytes a b differ byte is_a is_b = grind (arith, nat_tests)
+-- the roles of such a byte and of one that differs
+Disjoint-mark : (a : ℕ) (a_counts : Bool) (b : ℕ) (b_counts : Bool) → 33 ≤ a → a ≤ 37 → a ≢ b → Disjoint (cased a_counts a) (cased b_counts b)
+unfolding Disjoint cased
+Disjoint-mark a a_counts b b_counts low high differ byte is_a is_b = grind (arith, nat_tests)
 
--- a byte that differs from three has none of their roles
-is_new : (r : Record) (byte : ℕ) → byte ≢ r.digit_separator → byte ≢ r.base_prefix → byte ≢ r.base_suffix → AllByRecursion (Disjoint (only byte)) (own_roles r)
-is_new r byte s p f = (Disjoint-bytes byte _ s, (Disjoint-bytes byte _ p, (Disjoint-bytes byte _ f, tt)))
+-- such a byte that differs from three has none of their roles
+is_new : (r : Record) (byte : ℕ) (counts : Bool) → 33 ≤ byte → byte ≤ 37 → byte ≢ r.digit_separator → byte ≢ r.base_prefix → byte ≢ r.base_suffix → AllByRecursion (Disjoint (cased counts byte)) (own_roles r)
+is_new r byte counts low high s p f = (
+  Disjoint-mark byte counts _ true low high s,
+  (Disjoint-mark byte counts _ r.case_sensitive_base_prefix low high p, (Disjoint-mark byte counts _ r.case_sensitive_base_suffix low high f, tt)),
+)
 
 -- of the five marks two are left
 pub LeavesRoom-from_lawful : (word : ℕ) → Lawful word → LeavesRoom word
@@ -143,8 +147,8 @@ LeavesRoom-from_lawful word lawful =
     let accepted : AreAccepted word e.0 p.0 = record {
       exponent_is_punctuation = IsPunctuation-mark r e.0 e.1 high;
       point_is_punctuation = IsPunctuation-mark r p.0 p.1 p.2;
-      apart = Disjoint-bytes e.0 p.0 (λ same. p.6 (sym same));
-      exponent_is_new = is_new r e.0 e.3 e.4 e.5;
-      point_is_new = is_new r p.0 p.3 p.4 p.5;
+      apart = Disjoint-mark e.0 r.case_sensitive_exponent p.0 true e.1 high (λ same. p.6 (sym same));
+      exponent_is_new = is_new r e.0 r.case_sensitive_exponent e.1 high e.3 e.4 e.5;
+      point_is_new = is_new r p.0 true p.1 p.2 p.3 p.4 p.5;
     } in
     record { exponent_byte = e.0; point_byte = p.0; fit = HaveOneRole-from_accepted word e.0 p.0 lawful accepted }

@@ -1,29 +1,41 @@
 -- A word is lawful exactly if it keeps every rule, and has one answer.
-use Rattle.std.proofs.Common.{◌≡◌, ℕ, ◌<◌, ◌≢◌, ◌↔◌, inl, inr, min, nat_lt, ◌||◌, IsTrue, List, [], ◌∷◌, sym, ◌∙◌, subst, arith}
+use Rattle.std.proofs.Common.{◌≡◌, ℕ, ◌<◌, ◌≢◌, ◌↔◌, inl, inr, min, nat_lt, ◌||◌, Bool, true, IsTrue, List, [], ◌∷◌, sym, ◌∙◌, subst, arith}
 use Rattle.std.specs.List.{AllByRecursion}
 use Rattle.std.proofs.lemmas.Bool.{cases_eq}
 use Rattle.std.proofs.lemmas.Bool.Decides.{nat_tests}
 use Rattle.lexical_base.specs.Ascii.{ByteSet}
 use Rattle.lexical_base.specs.Digits.{value}
 use Rattle.lexical_base.specs.declared.error.Error.{Error}
-use Rattle.lexical_base.specs.declared.error.Error.TheVariants.{Success}
+use Rattle.lexical_base.specs.declared.error.Error.TheVariants.{InvalidFlags, Success}
 use Rattle.lexical_base.proofs.ValueLemmas.{value_is}
+use Rattle.lexical_flags.specs.Layout.{IsClean}
 use Rattle.lexical_flags.specs.Record.{Record, raw, effective_exponent_radix}
-use Rattle.lexical_flags.specs.Roles.{Disjoint, only, digits, signs}
-use Rattle.lexical_flags.specs.Rules.{Rule, mantissa_radix_in_range, exponent_base_in_range, exponent_radix_in_range, digit_separator_is_free, base_prefix_is_free, base_suffix_is_free, punctuation_differs, exponent_flags_agree, mantissa_sign_flags_agree, exponent_sign_flags_agree, special_case_flags_agree, special_separator_flags_agree, integer_consecutive_has_place, fraction_consecutive_has_place, exponent_consecutive_has_place, IsFree, IsTextOrNone, IsPunctuation, Holds, IsFirstBroken, IsErrorOf, Lawful, answer, rules_in_order}
+use Rattle.lexical_flags.specs.Roles.{Disjoint, cased, other_case, digits, signs}
+use Rattle.lexical_flags.proofs.CaseLemmas.{cased-cases, digits-other_case, signs-other_case}
+use Rattle.lexical_flags.specs.Rules.{Rule, mantissa_radix_in_range, exponent_base_in_range, exponent_radix_in_range, digit_separator_is_free, base_prefix_is_free, base_suffix_is_free, punctuation_differs, exponent_flags_agree, mantissa_sign_flags_agree, exponent_sign_flags_agree, special_case_flags_agree, special_separator_flags_agree, integer_consecutive_has_place, fraction_consecutive_has_place, exponent_consecutive_has_place, reserved_bits_are_zero, IsFree, IsTextOrNone, IsPunctuation, Holds, IsFirstBroken, IsErrorOf, Lawful, answer, rules_in_order}
 
--- a set is apart from the role of a byte that is not in it
-pub Disjoint-only : (A : ByteSet) (own : ℕ) → (own ≢ 0 → IsTrue (A own) → ⊥) → Disjoint A (only own)
-unfolding Disjoint only
-Disjoint-only A own out byte inside is_own =
-    let same : byte ≡ own = grind (arith, nat_tests) in
-    let positive : own ≢ 0 = grind (arith, nat_tests) in
-    out positive (subst (λ b. IsTrue (A b)) same inside)
+-- a set with the same letters in both cases is apart from the role of a byte that is not in it
+pub Disjoint-cased : (A : ByteSet) → ((b : ℕ) → IsTrue (A (other_case b)) → IsTrue (A b)) →
+    (counts : Bool) (own : ℕ) → (own ≢ 0 → IsTrue (A own) → ⊥) → Disjoint A (cased counts own)
+unfolding Disjoint
+Disjoint-cased A both_cases counts own out byte inside is_own =
+    let found = cased-cases counts own byte is_own in
+    out found.0 (elim found.1 [
+      | inl same ↦ subst (λ b. IsTrue (A b)) same inside
+      | inr other ↦ both_cases own (subst (λ b. IsTrue (A b)) other inside)
+    ])
 
 -- and a byte whose role is apart from a set is not in it
-pub not_in : (A : ByteSet) (own : ℕ) → Disjoint A (only own) → own ≢ 0 → IsTrue (A own) → ⊥
-unfolding Disjoint only
-not_in A own apart positive inside = apart own inside (grind (arith, nat_tests))
+pub not_in : (A : ByteSet) (counts : Bool) (own : ℕ) → Disjoint A (cased counts own) → own ≢ 0 → IsTrue (A own) → ⊥
+unfolding Disjoint cased
+not_in A counts own apart positive inside = apart own inside (grind (arith, nat_tests))
+
+-- digits and signs are apart from the role of a byte that is neither
+pub Disjoint-digits-cased : (r : Record) (counts : Bool) (own : ℕ) → (own ≢ 0 → IsTrue (digits r own) → ⊥) → Disjoint (digits r) (cased counts own)
+Disjoint-digits-cased r = Disjoint-cased (digits r) (digits-other_case r)
+
+pub Disjoint-signs-cased : (counts : Bool) (own : ℕ) → (own ≢ 0 → IsTrue (signs own) → ⊥) → Disjoint signs (cased counts own)
+Disjoint-signs-cased = Disjoint-cased signs signs-other_case
 
 -- the bytes before the figures have the value of no digit
 no_value : (byte : ℕ) → byte < 48 → value byte ≡ 255
@@ -59,14 +71,14 @@ unfolding IsPunctuation
 IsFree-text r byte (inl none) = inl none
 IsFree-text r byte (inr free) = inr free.0
 
-IsFree-from : (r : Record) (byte : ℕ) → IsTextOrNone byte → Disjoint (digits r) (only byte) → Disjoint signs (only byte) → IsFree r byte
+IsFree-from : (r : Record) (counts : Bool) (byte : ℕ) → IsTextOrNone byte → Disjoint (digits r) (cased counts byte) → Disjoint signs (cased counts byte) → IsFree r byte
 unfolding IsPunctuation
-IsFree-from r byte text digits_apart signs_apart =
+IsFree-from r counts byte text digits_apart signs_apart =
     elim (cases_eq byte 0) [
       | inl none ↦ inl none
       | inr positive ↦ elim text [
         | inl none ↦ inl none
-        | inr ascii ↦ inr (ascii, not_in (digits r) byte digits_apart positive, not_in signs byte signs_apart positive)
+        | inr ascii ↦ inr (ascii, not_in (digits r) counts byte digits_apart positive, not_in signs counts byte signs_apart positive)
       ]
     ]
 
@@ -76,9 +88,9 @@ unfolding Holds Lawful
 Holds-from_lawful mantissa_radix_in_range word h = h.mantissa_radix
 Holds-from_lawful exponent_base_in_range word h = h.exponent_base
 Holds-from_lawful exponent_radix_in_range word h = h.exponent_radix
-Holds-from_lawful digit_separator_is_free word h = IsFree-from (raw word) _ h.digit_separator h.roles.0.1.0 h.roles.1.0.0
-Holds-from_lawful base_prefix_is_free word h = IsFree-from (raw word) _ h.base_prefix h.roles.0.1.1.0 h.roles.1.0.1.0
-Holds-from_lawful base_suffix_is_free word h = IsFree-from (raw word) _ h.base_suffix h.roles.0.1.1.1.0 h.roles.1.0.1.1.0
+Holds-from_lawful digit_separator_is_free word h = IsFree-from (raw word) true _ h.digit_separator h.roles.0.1.0 h.roles.1.0.0
+Holds-from_lawful base_prefix_is_free word h = IsFree-from (raw word) (raw word).case_sensitive_base_prefix _ h.base_prefix h.roles.0.1.1.0 h.roles.1.0.1.0
+Holds-from_lawful base_suffix_is_free word h = IsFree-from (raw word) (raw word).case_sensitive_base_suffix _ h.base_suffix h.roles.0.1.1.1.0 h.roles.1.0.1.1.0
 Holds-from_lawful punctuation_differs word h = h.roles.1.1
 Holds-from_lawful exponent_flags_agree word h = h.flags.0
 Holds-from_lawful mantissa_sign_flags_agree word h = h.flags.1.0
@@ -88,6 +100,7 @@ Holds-from_lawful special_separator_flags_agree word h = h.flags.1.1.1.1.0
 Holds-from_lawful integer_consecutive_has_place word h = h.flags.1.1.1.1.1.0
 Holds-from_lawful fraction_consecutive_has_place word h = h.flags.1.1.1.1.1.1.0
 Holds-from_lawful exponent_consecutive_has_place word h = h.flags.1.1.1.1.1.1.1.0
+Holds-from_lawful reserved_bits_are_zero word h = h.clean
 
 -- a word that keeps every rule is lawful
 pub Lawful-from_all : (word : ℕ) → ((rule : Rule) → Holds rule word) → Lawful word
@@ -106,12 +119,13 @@ Lawful-from_all word h =
       base_prefix = IsFree-text r _ prefix;
       base_suffix = IsFree-text r _ suffix;
       roles = (
-        (Disjoint-digits-signs r, (Disjoint-only (digits r) _ (IsFree-digit r _ separator), (Disjoint-only (digits r) _ (IsFree-digit r _ prefix), (Disjoint-only (digits r) _ (IsFree-digit r _ suffix), tt)))),
+        (Disjoint-digits-signs r, (Disjoint-digits-cased r true _ (IsFree-digit r _ separator), (Disjoint-digits-cased r r.case_sensitive_base_prefix _ (IsFree-digit r _ prefix), (Disjoint-digits-cased r r.case_sensitive_base_suffix _ (IsFree-digit r _ suffix), tt)))),
         (
-          (Disjoint-only signs _ (IsFree-sign r _ separator), (Disjoint-only signs _ (IsFree-sign r _ prefix), (Disjoint-only signs _ (IsFree-sign r _ suffix), tt))),
+          (Disjoint-signs-cased true _ (IsFree-sign r _ separator), (Disjoint-signs-cased r.case_sensitive_base_prefix _ (IsFree-sign r _ prefix), (Disjoint-signs-cased r.case_sensitive_base_suffix _ (IsFree-sign r _ suffix), tt))),
           h punctuation_differs,
         ),
       );
+      clean = h reserved_bits_are_zero;
     }
 
 -- no broken rule is answered with Success
@@ -156,6 +170,23 @@ unfolding IsErrorOf
 IsErrorOf-same v w same error =
     (IsFirstBroken-same v w same rules_in_order error, IsFirstBroken-same w v (λ rule. ((same rule).1, (same rule).0)) rules_in_order error)
 
+-- the rule that is answered with InvalidFlags is kept by a clean word
+flags-answer : (rule : Rule) (word : ℕ) → answer rule ≡ InvalidFlags → IsClean word → Holds rule word
+unfolding Holds
+flags-answer reserved_bits_are_zero word e clean = clean
+flags-answer mantissa_radix_in_range word e clean = cc
+flags-answer _ word e clean = cc
+
+-- a clean word is never answered with InvalidFlags
+clean-first : (word : ℕ) (rules : List Rule) → IsClean word → IsFirstBroken rules word InvalidFlags → ⊥
+clean-first word [] clean h = cc
+clean-first word (rule ∷ rules) clean (inl broken) = broken.0 (flags-answer rule word (sym broken.1) clean)
+clean-first word (rule ∷ rules) clean (inr kept) = clean-first word rules clean kept.1
+
+pub not_flags : (word : ℕ) (error : Error) → IsClean word → IsErrorOf word error → error ≢ InvalidFlags
+unfolding IsErrorOf
+not_flags word error clean h e = clean-first word rules_in_order clean (subst (IsErrorOf word) e h)
+
 -- a word without an error keeps every rule
 pub Lawful-from_success : (word : ℕ) → IsErrorOf word Success → Lawful word
 unfolding IsErrorOf
@@ -177,6 +208,7 @@ Lawful-from_success word h =
       | integer_consecutive_has_place ↦ all.1.1.1.1.1.1.1.1.1.1.1.1.0
       | fraction_consecutive_has_place ↦ all.1.1.1.1.1.1.1.1.1.1.1.1.1.0
       | exponent_consecutive_has_place ↦ all.1.1.1.1.1.1.1.1.1.1.1.1.1.1.0
+      | reserved_bits_are_zero ↦ all.1.1.1.1.1.1.1.1.1.1.1.1.1.1.1.0
     ])
 
 -- the answer to a word is Success exactly if it is lawful

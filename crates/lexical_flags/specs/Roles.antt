@@ -1,6 +1,6 @@
 -- The roles that bytes play in the numbers of a format, each as the set of the bytes that play it.
-use Rattle.std.specs.Prelude.{ℕ, IsTrue, min, nat_lt, ◌==◌, ◌&&◌, ◌||◌, not, List, [], ◌∷◌, ◌++◌}
-use Rattle.lexical_base.specs.Ascii.{ByteSet}
+use Rattle.std.specs.Prelude.{ℕ, ◌+◌, ◌-◌, Bool, true, IsTrue, if◌then◌else◌, min, nat_lt, ◌==◌, ◌&&◌, ◌||◌, not, List, [], ◌∷◌, ◌++◌}
+use Rattle.lexical_base.specs.Ascii.{ByteSet, between}
 use Rattle.lexical_base.specs.Digits.{value}
 use Rattle.lexical_flags.specs.Record.{Record, effective_exponent_radix}
 
@@ -8,9 +8,17 @@ use Rattle.lexical_flags.specs.Record.{Record, effective_exponent_radix}
 unfoldable pub Disjoint : ByteSet → ByteSet → Type 0
 Disjoint A B = (byte : ℕ) → IsTrue (A byte) → IsTrue (B byte) → ⊥
 
--- this byte alone; no byte where it is 0, since 0 stands for none
-unfoldable pub only : ℕ → ByteSet
-only own byte = not (own == 0) && (byte == own)
+-- a letter in the other case, small or capital; any other byte stays as it is
+abbrev pub other_case : ℕ → ℕ
+other_case byte = if between 65 90 byte then byte + 32 else if between 97 122 byte then byte - 32 else byte
+
+-- this byte, and where its case does not count also the letter in the other case; no byte where it is 0, since 0 stands for none
+unfoldable pub cased : Bool → ℕ → ByteSet
+cased case_counts own byte = not (own == 0) && ((byte == own) || (not case_counts && (byte == other_case own)))
+
+-- this byte alone
+abbrev pub only : ℕ → ByteSet
+only own = cased true own
 
 -- the digits of a radix; above 36 there are no more than the 36 figures and letters
 abbrev pub digits_of : ℕ → ByteSet
@@ -30,15 +38,15 @@ separator r = only r.digit_separator
 
 -- the base prefix
 abbrev pub prefix : Record → ByteSet
-prefix r = only r.base_prefix
+prefix r = cased r.case_sensitive_base_prefix r.base_prefix
 
 -- the base suffix
 abbrev pub suffix : Record → ByteSet
-suffix r = only r.base_suffix
+suffix r = cased r.case_sensitive_base_suffix r.base_suffix
 
--- the character of an exponent, which a caller chooses beside the format; what it is may come to depend on the format
+-- the character of an exponent, which a caller chooses beside the format
 abbrev pub exponent : Record → ℕ → ByteSet
-exponent r chosen = only chosen
+exponent r chosen = cased r.case_sensitive_exponent chosen
 
 -- the decimal point, which a caller chooses beside the format
 abbrev pub point : ℕ → ByteSet

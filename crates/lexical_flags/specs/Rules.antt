@@ -1,9 +1,10 @@
 -- The rules that a format word has to keep, and what is answered where it breaks one.
-use Rattle.std.specs.Prelude.{ℕ, Bool, ◌≡◌, ◌≤◌, ◌⊎◌, ◌&&◌, ◌||◌, IsTrue, IsFalse, List, [], ◌∷◌, ◌++◌}
+use Rattle.std.specs.Prelude.{ℕ, Bool, ◌≡◌, ◌≤◌, ◌⊎◌, ◌&&◌, ◌||◌, IsTrue, IsFalse, List, [], ◌∷◌, ◌++◌, ⊤}
 use Rattle.std.specs.List.{AllByRecursion}
 use Rattle.lexical_base.specs.Ascii.{allowed_ascii}
 use Rattle.lexical_base.specs.declared.error.Error.{Error}
-use Rattle.lexical_base.specs.declared.error.Error.TheVariants.{InvalidMantissaRadix, InvalidExponentBase, InvalidExponentRadix, InvalidDigitSeparator, InvalidBasePrefix, InvalidBaseSuffix, InvalidPunctuation, InvalidExponentFlags, InvalidMantissaSign, InvalidExponentSign, InvalidSpecial, InvalidConsecutiveIntegerDigitSeparator, InvalidConsecutiveFractionDigitSeparator, InvalidConsecutiveExponentDigitSeparator, Success}
+use Rattle.lexical_base.specs.declared.error.Error.TheVariants.{InvalidMantissaRadix, InvalidExponentBase, InvalidExponentRadix, InvalidDigitSeparator, InvalidBasePrefix, InvalidBaseSuffix, InvalidPunctuation, InvalidExponentFlags, InvalidMantissaSign, InvalidExponentSign, InvalidSpecial, InvalidConsecutiveIntegerDigitSeparator, InvalidConsecutiveFractionDigitSeparator, InvalidConsecutiveExponentDigitSeparator, InvalidFlags, Success}
+use Rattle.lexical_flags.specs.Layout.{IsClean}
 use Rattle.lexical_flags.specs.Record.{Record, raw, effective_exponent_base, effective_exponent_radix}
 use Rattle.lexical_flags.specs.Pairs.{ArePairwise}
 use Rattle.lexical_flags.specs.Roles.{Disjoint, digits, signs, own_roles, five_roles}
@@ -49,6 +50,7 @@ pub data Rule : Type 0 where
   integer_consecutive_has_place : Rule
   fraction_consecutive_has_place : Rule
   exponent_consecutive_has_place : Rule
+  reserved_bits_are_zero : Rule
 
 -- what a rule demands of the fields of a word
 abbrev pub Demands : Rule → Record → Type 0
@@ -73,9 +75,11 @@ Demands fraction_consecutive_has_place r =
 Demands exponent_consecutive_has_place r =
     HasPlace r.exponent_consecutive_digit_separator r.exponent_internal_digit_separator
     r.exponent_leading_digit_separator r.exponent_trailing_digit_separator
+Demands reserved_bits_are_zero r = ⊤
 
--- a word keeps a rule
+-- a word keeps a rule; one on reserved bits demands nothing of the fields
 unfoldable pub Holds : Rule → ℕ → Type 0
+Holds reserved_bits_are_zero word = IsClean word
 Holds rule word = Demands rule (raw word)
 
 -- what is answered to a word that breaks a rule
@@ -95,6 +99,7 @@ answer special_separator_flags_agree = InvalidSpecial
 answer integer_consecutive_has_place = InvalidConsecutiveIntegerDigitSeparator
 answer fraction_consecutive_has_place = InvalidConsecutiveFractionDigitSeparator
 answer exponent_consecutive_has_place = InvalidConsecutiveExponentDigitSeparator
+answer reserved_bits_are_zero = InvalidFlags
 
 -- the rules of radixes, in the order in which they are asked
 abbrev pub radix_rules : List Rule
@@ -113,7 +118,7 @@ flag_rules =
 
 -- all rules, in the order in which they are asked
 abbrev pub rules_in_order : List Rule
-rules_in_order = radix_rules ++ punctuation_rules ++ flag_rules
+rules_in_order = radix_rules ++ punctuation_rules ++ flag_rules ++ reserved_bits_are_zero ∷ []
 
 -- the answer to the first of some rules that a word breaks, and Success where it breaks none
 abbrev pub IsFirstBroken : List Rule → ℕ → Error → Type 0
@@ -125,7 +130,7 @@ IsFirstBroken (rule ∷ rules) word error =
 unfoldable pub IsErrorOf : ℕ → Error → Type 0
 IsErrorOf word error = IsFirstBroken rules_in_order word error
 
--- what makes a word lawful: its radixes and flags are sound, its bytes are text, and no byte has two roles
+-- what makes a word lawful: its radixes and flags are sound, its bytes are text, no byte has two roles, and the rest is 0
 pub record LawfulParts (word : ℕ) : Type 0 where
   pub mantissa_radix : IsRadix (raw word).mantissa_radix
   pub exponent_base : IsRadix (effective_exponent_base (raw word))
@@ -135,6 +140,7 @@ pub record LawfulParts (word : ℕ) : Type 0 where
   pub base_prefix : IsTextOrNone (raw word).base_prefix
   pub base_suffix : IsTextOrNone (raw word).base_suffix
   pub roles : ArePairwise Disjoint (five_roles (raw word))
+  pub clean : IsClean word
 
 -- a word that describes numbers with one reading
 unfoldable pub Lawful : ℕ → Type 0

@@ -9,12 +9,13 @@
 ghost use Rattle.std.specs.Prelude.{◌≡◌, ℕ, ◌/◌, ◌%◌, ◌^◌, ◌≤ℤ◌, ◌<ℤ◌, pos, unsigned_abs, ◌↔◌, IsTrue};
 ghost use Rattle.std.specs.List.{AllByRecursion};
 ghost use Rattle.lexical_flags.specs.Record.{raw, effective, effective_exponent_base, effective_exponent_radix};
+ghost use Rattle.lexical_base.specs.Ascii.{letters};
 ghost use Rattle.lexical_flags.specs.Common.{common};
-ghost use Rattle.lexical_flags.specs.Roles.{Disjoint, only, digits, own_roles};
+ghost use Rattle.lexical_flags.specs.Roles.{Disjoint, cased, other_case, digits, own_roles};
 ghost use Rattle.lexical_flags.specs.Options.{AreAccepted, HaveOneRole, LeavesRoom};
-ghost use Rattle.lexical_flags.specs.Rules.{IsRadix, IsFree, IsPunctuation, Holds, IsFirstBroken, IsErrorOf, Lawful, radix_rules, mantissa_radix_in_range, exponent_base_in_range, exponent_radix_in_range, digit_separator_is_free, base_prefix_is_free, base_suffix_is_free, punctuation_differs, exponent_flags_agree, mantissa_sign_flags_agree, exponent_sign_flags_agree, special_case_flags_agree, special_separator_flags_agree, integer_consecutive_has_place, fraction_consecutive_has_place, exponent_consecutive_has_place};
+ghost use Rattle.lexical_flags.specs.Rules.{IsRadix, IsFree, IsPunctuation, Holds, IsFirstBroken, IsErrorOf, Lawful, radix_rules, mantissa_radix_in_range, exponent_base_in_range, exponent_radix_in_range, digit_separator_is_free, base_prefix_is_free, base_suffix_is_free, punctuation_differs, exponent_flags_agree, mantissa_sign_flags_agree, exponent_sign_flags_agree, special_case_flags_agree, special_separator_flags_agree, integer_consecutive_has_place, fraction_consecutive_has_place, exponent_consecutive_has_place, reserved_bits_are_zero};
 
-use lexical_base::ascii::is_valid_ascii;
+use lexical_base::ascii::{is_valid_ascii, is_valid_letter};
 use lexical_base::digit::char_is_digit;
 use lexical_base::error::Error;
 
@@ -207,6 +208,9 @@ pub const FRACTION_DIGIT_SEPARATOR_FLAG_MASK: u128 = 0x492_0000_0000;
 /// The four flags of digit separators among exponent digits.
 pub const EXPONENT_DIGIT_SEPARATOR_FLAG_MASK: u128 = 0x924_0000_0000;
 
+// The 49 bits that no field takes: 18 to 31, 45 to 63 and 72 to 87.
+const RESERVED_MASK: u128 = 0x00000000_00FFFF00_FFFFE000_FFFC0000;
+
 // EXTRACTORS
 
 /// The digit separator of a format as it stands, also where no flag lets it stand anywhere; 0
@@ -355,17 +359,52 @@ pub fn is_valid_base_suffix(format: u128) -> bool
     is_free(format, base_suffix(format))
 }
 
-// Whether no byte has both of two roles; a byte that is absent has none.
+// Whether two bytes are the same letter in different cases.
 #[inline(always)]
-#[tactic(auto, unfolding(crate::specs::Roles::Disjoint, crate::specs::Roles::only))]
-fn are_apart(a: u8, b: u8) -> bool
-    ensures { IsTrue result ↔ Disjoint (only a) (only b) }
+#[tactic(auto, using(crate::proofs::CaseLemmas::flipped))]
+fn are_cases(a: u8, b: u8) -> bool
+    ensures { IsTrue result ↔ (IsTrue (letters a) × (b ≡ other_case a)) }
 {
-    a == 0 || a != b
+    a ^ 0x20 == b && is_valid_letter(a)
 }
 
-/// Whether digit separator, base prefix and base suffix are different bytes. Those that are 0 are
-/// absent, and the same as no other.
+// Whether no byte has both of two roles; a byte that is absent has none. In a role whose case does
+// not count a letter is there in both cases.
+#[inline(always)]
+#[tactic(auto, unfolding(crate::specs::Roles::Disjoint, crate::specs::Roles::cased))]
+fn are_apart(a: u8, a_case_counts: bool, b: u8, b_case_counts: bool) -> bool
+    ensures { IsTrue result ↔ Disjoint (cased a_case_counts a) (cased b_case_counts b) }
+{
+    a == 0 || (a != b && (!are_cases(a, b) || (a_case_counts && b_case_counts)))
+}
+
+// Whether the case of the base prefix counts.
+#[inline(always)]
+fn prefix_case_counts(format: u128) -> bool
+    ensures { result ≡ (raw format).case_sensitive_base_prefix }
+{
+    format & CASE_SENSITIVE_BASE_PREFIX != 0
+}
+
+// Whether the case of the base suffix counts.
+#[inline(always)]
+fn suffix_case_counts(format: u128) -> bool
+    ensures { result ≡ (raw format).case_sensitive_base_suffix }
+{
+    format & CASE_SENSITIVE_BASE_SUFFIX != 0
+}
+
+// Whether the case of the exponent character counts.
+#[inline(always)]
+fn exponent_case_counts(format: u128) -> bool
+    ensures { result ≡ (raw format).case_sensitive_exponent }
+{
+    format & CASE_SENSITIVE_EXPONENT != 0
+}
+
+/// Whether digit separator, base prefix and base suffix are different bytes, prefix and suffix in
+/// either case where they are letters whose case does not count. Those that are 0 are absent, and
+/// the same as no other.
 #[inline(always)]
 pub fn is_valid_punctuation(format: u128) -> bool
     ensures { IsTrue result ↔ Holds punctuation_differs format }
@@ -373,17 +412,31 @@ pub fn is_valid_punctuation(format: u128) -> bool
     let separator = digit_separator(format);
     let prefix = base_prefix(format);
     let suffix = base_suffix(format);
-    are_apart(separator, prefix) && are_apart(separator, suffix) && are_apart(prefix, suffix)
+    let prefix_case = prefix_case_counts(format);
+    let suffix_case = suffix_case_counts(format);
+    are_apart(separator, true, prefix, prefix_case)
+        && are_apart(separator, true, suffix, suffix_case)
+        && are_apart(prefix, prefix_case, suffix, suffix_case)
 }
 
 // Whether a byte has none of the roles that the format names.
 #[inline(always)]
-fn is_apart_from_own(format: u128, byte: u8) -> bool
-    ensures { IsTrue result ↔ AllByRecursion (Disjoint (only byte)) (own_roles (raw format)) }
+fn is_apart_from_own(format: u128, byte: u8, case_counts: bool) -> bool
+    ensures { IsTrue result ↔ AllByRecursion (Disjoint (cased case_counts byte)) (own_roles (raw format)) }
 {
-    are_apart(byte, digit_separator(format))
-        && are_apart(byte, base_prefix(format))
-        && are_apart(byte, base_suffix(format))
+    are_apart(byte, case_counts, digit_separator(format), true)
+        && are_apart(
+            byte,
+            case_counts,
+            base_prefix(format),
+            prefix_case_counts(format),
+        )
+        && are_apart(
+            byte,
+            case_counts,
+            base_suffix(format),
+            suffix_case_counts(format),
+        )
 }
 
 // Whether both bytes are punctuation that is not in use yet.
@@ -391,11 +444,12 @@ fn is_apart_from_own(format: u128, byte: u8) -> bool
 fn are_accepted(format: u128, exponent: u8, decimal_point: u8) -> bool
     ensures { IsTrue result ↔ AreAccepted format exponent decimal_point }
 {
-    are_apart(exponent, decimal_point)
+    let exponent_case = exponent_case_counts(format);
+    are_apart(exponent, exponent_case, decimal_point, true)
         && is_punctuation(format, decimal_point)
         && is_punctuation(format, exponent)
-        && is_apart_from_own(format, decimal_point)
-        && is_apart_from_own(format, exponent)
+        && is_apart_from_own(format, decimal_point, true)
+        && is_apart_from_own(format, exponent, exponent_case)
 }
 
 /// Whether `exponent` can be the character of exponents and `decimal_point` the decimal point in
@@ -403,7 +457,8 @@ fn are_accepted(format: u128, exponent: u8, decimal_point: u8) -> bool
 ///
 /// Both have to be allowed ASCII that is no sign and no digit of mantissa or exponent, so neither is
 /// 0. They have to differ, and neither may be the digit separator, the base prefix or the base
-/// suffix. For every lawful format there are two such bytes.
+/// suffix. A letter is meant in either case where it is exponent, prefix or suffix and the flag of
+/// its case is not set. For every lawful format there are two such bytes.
 #[inline(always)]
 pub fn is_valid_options_punctuation(format: u128, exponent: u8, decimal_point: u8) -> bool
     ensures accepted { IsTrue result ↔ AreAccepted format exponent decimal_point }
@@ -502,6 +557,14 @@ fn is_valid_exponent_consecutive_flags(format: u128) -> bool
     format & EXPONENT_DIGIT_SEPARATOR_FLAG_MASK != EXPONENT_CONSECUTIVE_DIGIT_SEPARATOR
 }
 
+// Whether the reserved bits are 0.
+#[inline(always)]
+fn is_clean(format: u128) -> bool
+    ensures { IsTrue result ↔ Holds reserved_bits_are_zero format }
+{
+    format & RESERVED_MASK == 0
+}
+
 // The answer to the first of the three radixes that is not 2 to 36, or `Success`.
 #[tactic(auto)]
 fn first_broken_radix(format: u128) -> Error
@@ -562,6 +625,8 @@ fn first_broken(format: u128) -> Error
         Error::InvalidConsecutiveFractionDigitSeparator
     } else if !is_valid_exponent_consecutive_flags(format) {
         Error::InvalidConsecutiveExponentDigitSeparator
+    } else if !is_clean(format) {
+        Error::InvalidFlags
     } else {
         Error::Success
     }
@@ -572,8 +637,8 @@ fn first_broken(format: u128) -> Error
 ///
 /// The rules are asked in this order: the three radixes, as in [`radix_error_impl`]; digit separator,
 /// base prefix and base suffix each by itself, and then that they differ; exponents, signs of the
-/// number and of exponents, special values; and digit separators in a row, which need another flag
-/// that lets one stand there. Reserved bits are not looked at.
+/// number and of exponents, special values; digit separators in a row, which need another flag
+/// that lets one stand there; and last the reserved bits, which have to be 0.
 pub fn format_error_impl(format: u128) -> Error
     ensures first { IsErrorOf format result }
     ensures lawful { (result ≡ Error.Success) ↔ Lawful format }

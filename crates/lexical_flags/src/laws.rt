@@ -75,11 +75,11 @@ pub fn rule_facts()
 {}
 
 /// Answers to some words, written out.
-#[tactic(auto, using(crate::proofs::ErrorTest::error_tested, crate::proofs::LawfulTest::lawful_tested), unfolding(lexical_base::specs::Digits::value))]
+#[tactic(auto, using(crate::proofs::LawfulTest::error_tested, crate::proofs::LawfulTest::lawful_tested), unfolding(lexical_base::specs::Digits::value))]
 pub fn error_examples()
-    // The standard format is lawful, also with a reserved bit.
+    // The standard format is lawful, but not with a reserved bit.
     ensures standard { Lawful 0x00000A00_00000000_00000000_0000000C }
-    ensures reserved { Lawful 0x00000A00_00000000_00000000_8000000C }
+    ensures reserved { IsErrorOf 0x00000A00_00000000_00000000_8000000C Error.InvalidFlags }
 
     // Of two broken rules the first is answered.
     ensures zero { IsErrorOf 0 Error.InvalidMantissaRadix }

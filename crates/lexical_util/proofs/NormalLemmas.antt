@@ -6,7 +6,7 @@ use Rattle.lexical_flags.specs.Layout.{Flag, Byte, bit, digit_separator_flags, I
 use Rattle.lexical_flags.specs.Layout as layout
 use Rattle.lexical_base.specs.declared.error.Error.{Error}
 use Rattle.lexical_flags.specs.Record.{Record, flag_of, byte_of, raw, trim, fill, pack, word_of, effective, separator_on, SeparatorIsUsed}
-use Rattle.lexical_flags.specs.Rules.{Rule, Demands, Holds, Lawful, IsErrorOf}
+use Rattle.lexical_flags.specs.Rules.{Rule, Demands, Holds, Lawful, IsErrorOf, reserved_bits_are_zero}
 use Rattle.lexical_flags.proofs.RecordLemmas.{record_same}
 use Rattle.lexical_flags.proofs.Packing.{raw-pack, pack-clean, pack-lt, raw-injective, HasBytes-raw, HasBytes-fill}
 use Rattle.lexical_flags.proofs.NormalRules.{Demands-kept, Demands-same}
@@ -157,17 +157,19 @@ module _ (w : ℕ) where
 
   Holds-normal : (rule : Rule) → Holds rule w → Holds rule (normal_form_of w)
   unfolding Holds
+  Holds-normal reserved_bits_are_zero h = clean_normal
   Holds-normal rule h = subst (Demands rule) (sym raw_normal) (Demands-kept rule (raw w) h)
 
-  Holds-from_normal : SeparatorIsUsed (raw w) → (rule : Rule) → Holds rule (normal_form_of w) → Holds rule w
+  Holds-from_normal : IsClean w → SeparatorIsUsed (raw w) → (rule : Rule) → Holds rule (normal_form_of w) → Holds rule w
   unfolding Holds
-  Holds-from_normal used rule h = (Demands-same rule (raw w) used).1 (subst (Demands rule) raw_normal h)
+  Holds-from_normal clean used reserved_bits_are_zero h = clean
+  Holds-from_normal clean used rule h = (Demands-same rule (raw w) used).1 (subst (Demands rule) raw_normal h)
 
   pub lawful_normal : Lawful w → Lawful (normal_form_of w)
   lawful_normal h = Lawful-from_all (normal_form_of w) (λ rule. Holds-normal rule (Holds-from_lawful rule w h))
 
-  pub error_normal : SeparatorIsUsed (raw w) → (e : Error) → IsErrorOf w e ↔ IsErrorOf (normal_form_of w) e
-  error_normal used = IsErrorOf-same w (normal_form_of w) (λ rule. (Holds-normal rule, Holds-from_normal used rule))
+  pub error_normal : IsClean w → SeparatorIsUsed (raw w) → (e : Error) → IsErrorOf w e ↔ IsErrorOf (normal_form_of w) e
+  error_normal clean used = IsErrorOf-same w (normal_form_of w) (λ rule. (Holds-normal rule, Holds-from_normal clean used rule))
 
   pub groups_normal : (fs : List Flag) → any_flag w fs ≡ any_flag (normal_form_of w) fs
   unfolding any_flag

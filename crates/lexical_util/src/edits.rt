@@ -1,7 +1,8 @@
 //! Edits of a format word: lists of setter calls, and the normal form of a word.
 
-ghost use Rattle.std.specs.Prelude.{◌≡◌, ℕ, ◌+◌, ◌<◌, ◌≤◌, ◌^◌, ◌↔◌, ◌++◌, IsTrue, List, All, length, filter, take};
+ghost use Rattle.std.specs.Prelude.{◌≡◌, ◌≢◌, ℕ, IfErr, ◌+◌, ◌<◌, ◌≤◌, ◌^◌, ◌↔◌, ◌++◌, IsTrue, List, All, length, filter, take};
 ghost use Rattle.std.specs.Bool.{beq};
+ghost use Rattle.std.specs.Result.{OkIff};
 ghost use Rattle.lexical_flags.specs.Layout.{Flag, IsClean};
 ghost use Rattle.lexical_base.specs.declared.error.Error.{Error};
 ghost use Rattle.lexical_flags.specs.Record.{raw, fill, trim, pack, separator_on, SeparatorIsUsed, IsBuilt};
@@ -14,6 +15,7 @@ ghost use Rattle.lexical_util.specs.View.{any_flag, bits_of};
 ghost use Rattle.lexical_util.specs.Listing.{field_edits, changes_new, changing, unchanging, IsBuiltByWrites};
 
 use crate::feature_format::NumberFormat;
+use lexical_base::error::Error;
 use lexical_builder::format_builder::{NonZeroU8, NumberFormatBuilder, OptionU8};
 use lexical_flags::format_flags as flags;
 
@@ -262,10 +264,10 @@ pub fn normal_form(format: u128) -> u128
     ensures groups { (fs : List Flag) → any_flag format fs ≡ any_flag result fs }
     ensures flags { (fs : List Flag) → bits_of format fs ≡ bits_of result fs }
 
-    // That of a lawful word is lawful. Where no separator is dropped, both words break the same
-    // rule first, or none.
+    // That of a lawful word is lawful. If no reserved bit and no separator is dropped, both words
+    // break the same rule first, or none.
     ensures lawful { Lawful format → Lawful result }
-    ensures error { SeparatorIsUsed (raw format)
+    ensures error { IsClean format → SeparatorIsUsed (raw format)
         → (error : Error) → IsErrorOf format error ↔ IsErrorOf result error }
 
     // Nor does it matter then which of both is edited.
@@ -274,6 +276,22 @@ pub fn normal_form(format: u128) -> u128
     ensures normal { IsNormal result }
 {
     NumberFormatBuilder::rebuild(format).build_unchecked()
+}
+
+/// The normal form of a word where that is lawful; else what is wrong with the normal form, which is
+/// never `Success` and never `InvalidFlags`.
+///
+/// This moves words that were stored before the reserved bits had to be 0. What is wrong with the
+/// word itself but not with its normal form, as a reserved bit or a separator that may stand
+/// nowhere, is mended.
+#[tactic(auto, using(lexical_builder::proofs::WriteLemmas::after_none))]
+pub fn migrate(format: u128) -> Result<u128, Error>
+    ensures lawful { OkIff result (Lawful (normal_form_of format)) (normal_form_of format) }
+    ensures error { IfErr result (IsErrorOf (normal_form_of format)) }
+    ensures not_success { result ≢ Err Error.Success }
+    ensures not_flags { result ≢ Err Error.InvalidFlags }
+{
+    NumberFormatBuilder::rebuild(format).build_strict()
 }
 
 /// Whether two words mean the same: whether they have one normal form.

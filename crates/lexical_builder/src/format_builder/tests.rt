@@ -253,7 +253,13 @@ fn strict_builds(rt: HostRuntime) {
         .no_special(true);
     let cases = [
         (new(), Ok(0x00000A00_00000000_00000000_0000000C)),
-        (affixed(b'H'), Ok(0x00000A48_68000000_00000000_0000000C)),
+        (affixed(b'H'), Err(Error::InvalidPunctuation)),
+        (
+            affixed(b'H')
+                .case_sensitive_base_prefix(true)
+                .case_sensitive_base_suffix(true),
+            Ok(0x00000A48_68000000_00000000_0003000C),
+        ),
         (affixed(b'h'), Err(Error::InvalidPunctuation)),
         (
             consecutive,

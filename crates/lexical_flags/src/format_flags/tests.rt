@@ -115,8 +115,29 @@ fn answers_punctuation(rt: HostRuntime) {
             0x00000A7F_00000000_00000000_0000000C,
             Error::InvalidBaseSuffix,
         ),
-        // prefix and suffix `h` and `H`, and both `h`
-        (0x00000A48_68000000_00000000_0000000C, Error::Success),
+        // prefix and suffix `h` and `H`, where the case of none, of one and of both counts
+        (
+            0x00000A48_68000000_00000000_0000000C,
+            Error::InvalidPunctuation,
+        ),
+        (
+            0x00000A48_68000000_00000000_0001000C,
+            Error::InvalidPunctuation,
+        ),
+        (
+            0x00000A48_68000000_00000000_0002000C,
+            Error::InvalidPunctuation,
+        ),
+        (0x00000A48_68000000_00000000_0003000C, Error::Success),
+        // separator `X` and prefix `x`, where the case of the prefix counts not, and counts
+        (
+            0x00000A00_78000058_00000000_0000000C,
+            Error::InvalidPunctuation,
+        ),
+        (0x00000A00_78000058_00000000_0001000C, Error::Success),
+        // prefix `@` and suffix a grave accent, which differ as cases of a letter do
+        (0x00000A60_40000000_00000000_0000000C, Error::Success),
+        // both `h`
         (
             0x00000A68_68000000_00000000_0000000C,
             Error::InvalidPunctuation,
@@ -151,7 +172,7 @@ fn answers_flags(rt: HostRuntime) {
         (0x00000A00_00000000_00000200_00000C0C, Error::InvalidSpecial),
         (0x00000A00_00000000_00000000_0000044C, Error::Success),
         // a reserved bit
-        (0x00000A00_00000000_00000000_8000000C, Error::Success),
+        (0x00000A00_00000000_00000000_8000000C, Error::InvalidFlags),
     ] {
         assert_eq!(rt; format_error_impl(word), want, "{word}");
     }
@@ -198,7 +219,8 @@ fn tells_valid_parts(rt: HostRuntime) {
     assert!(rt; !is_valid_base_prefix(0x00000A00_2D000000_00000000_0000000C));
     assert!(rt; is_valid_base_suffix(0x00000A68_00000000_00000000_0000000C));
     assert!(rt; !is_valid_base_suffix(0x00000A7F_00000000_00000000_0000000C));
-    assert!(rt; is_valid_punctuation(0x00000A48_68000000_00000000_0000000C));
+    assert!(rt; is_valid_punctuation(0x00000A48_68000000_00000000_0003000C));
+    assert!(rt; !is_valid_punctuation(0x00000A48_68000000_00000000_0000000C));
     assert!(rt; !is_valid_punctuation(0x00000A68_68000000_00000000_0000000C));
 }
 
@@ -212,6 +234,13 @@ fn tells_valid_options(rt: HostRuntime) {
         (DECIMAL, 0, b'.', false),
         (UNUSED_SEPARATOR, b'_', b'.', false),
         (UNUSED_SEPARATOR, b'e', b'.', true),
+        // prefix `E`, where the case of prefix and exponent counts not, and counts
+        (0x00000A00_45000000_00000000_0000000C, b'e', b'.', false),
+        (0x00000A00_45000000_00000000_0001000C, b'e', b'.', false),
+        (0x00000A00_45000000_00000000_0001000C, b'.', b'e', true),
+        (0x00000A00_45000000_00000000_0001800C, b'e', b'.', true),
+        (DECIMAL, b'e', b'E', false),
+        (0x0A0A0A00_00000000_00000000_0000800C, b'e', b'E', true),
     ] {
         assert_eq!(rt;
             is_valid_options_punctuation(word, exponent, point),

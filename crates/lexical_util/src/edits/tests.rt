@@ -99,6 +99,37 @@ fn normal_forms(rt: HostRuntime) {
 }
 
 #[test]
+fn moved_words(rt: HostRuntime) {
+    let cases = [
+        (STANDARD, Ok(DECIMAL)),
+        (UNUSED_SEPARATOR, Ok(DECIMAL)),
+        (0x0A0A0A00_00000035_00000000_0000000C, Ok(DECIMAL)),
+        (0x00000A00_00000000_00000000_8000000C, Ok(DECIMAL)),
+        (
+            0x00000A00_78000058_00000000_0000000C,
+            Ok(0x0A0A0A00_78000000_00000000_0000000C),
+        ),
+        (
+            0x00000A48_68000000_00000000_0000000C,
+            Err(Error::InvalidPunctuation),
+        ),
+        (0, Err(Error::InvalidMantissaRadix)),
+        (ALL_ONES, Err(Error::InvalidMantissaRadix)),
+        (
+            0x00000A00_00000000_00000200_8000000C,
+            Err(Error::InvalidConsecutiveIntegerDigitSeparator),
+        ),
+        (
+            0x00000A00_00000035_00000000_0000404C,
+            Err(Error::InvalidExponentFlags),
+        ),
+    ];
+    for (format, want) in cases {
+        assert_eq!(rt; migrate(format), want, "of {format:x}");
+    }
+}
+
+#[test]
 fn built_words(rt: HostRuntime) {
     let cases = [
         (STANDARD, true),

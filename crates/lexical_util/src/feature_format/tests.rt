@@ -161,7 +161,7 @@ fn errors(rt: HostRuntime) {
             0x0A0A0A00_00000035_00000000_0000000C,
             Error::InvalidDigitSeparator,
         ),
-        (0x00000A00_00000000_00000000_8000000C, Error::Success),
+        (0x00000A00_00000000_00000000_8000000C, Error::InvalidFlags),
         (
             0x0A010A00_00000000_00000000_0000000C,
             Error::InvalidExponentBase,

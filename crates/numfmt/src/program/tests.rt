@@ -114,7 +114,7 @@ exponent_radix 0
 
 #[test]
 fn answers(rt: HostRuntime) -> Result<(), Fail> {
-    let cases: [(&[&str], &str, u8); 13] = [
+    let cases: [(&[&str], &str, u8); 16] = [
         (
             &[
                 "edit",
@@ -170,6 +170,21 @@ fn answers(rt: HostRuntime) -> Result<(), Fail> {
             &["check", "0xC"],
             "lexical number format error: 'invalid radix for mantissa digits'",
             1,
+        ),
+        (
+            &["check", "0x00000A0000000000000000008000000C"],
+            "lexical number format error: 'invalid flags enabled without the format feature'",
+            1,
+        ),
+        (
+            &["options", "0x00000A0045000000000000000001000C", "101", "46"],
+            "refused",
+            1,
+        ),
+        (
+            &["options", "0x00000A0045000000000000000001000C", "46", "101"],
+            "accepted",
+            0,
         ),
         (
             &["options", "0x0A0A0A0000000000000000000000000C", "101", "46"],

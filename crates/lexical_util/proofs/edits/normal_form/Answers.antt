@@ -39,7 +39,7 @@ pub returns-clause-lawful : goal.returns-clause-lawful
 returns-clause-lawful c h = subst Lawful (sym (returns-clause-word c)) (lawful_normal c.args.format h)
 
 pub returns-clause-error : goal.returns-clause-error
-returns-clause-error c used e = subst (λ u. IsErrorOf c.args.format e ↔ IsErrorOf u e) (sym (returns-clause-word c)) (error_normal c.args.format used e)
+returns-clause-error c clean used e = subst (λ u. IsErrorOf c.args.format e ↔ IsErrorOf u e) (sym (returns-clause-word c)) (error_normal c.args.format clean used e)
 
 pub returns-clause-edits : goal.returns-clause-edits
 returns-clause-edits c used L legal = ap (λ u. edited u L) (returns-clause-word c) ∙ edited-normal c.args.format L used legal

@@ -1,0 +1,80 @@
+-- Letters in the other case.
+use Rattle.std.proofs.Common.{ℕ, ◌≡◌, ◌≢◌, ◌<◌, ◌⊎◌, inl, inr, ◌∙◌, ◌↔◌, ◌==◌, ◌||◌, ◌&&◌, Bool, true, false, not, IsTrue, bit_xor, refl, ap, sym, subst, arith, min, nat_lt}
+use Rattle.std.specs.Prelude.{position, unwrap_or}
+use Rattle.std.proofs.lemmas.Bool.{false≢true}
+use Rattle.std.proofs.lemmas.Bool.Decides.{nat_tests}
+use Rattle.lexical_base.specs.Ascii.{letters}
+use Rattle.lexical_base.specs.Digits.{value, figures, capital}
+use Rattle.lexical_base.proofs.Finite.{passes_at}
+use Rattle.lexical_flags.specs.Record.{Record, effective_exponent_radix}
+use Rattle.lexical_flags.specs.Roles.{Disjoint, cased, other_case, digits, signs}
+
+-- the bit that tells the cases of a letter apart
+letter_flipped : (letter same : Bool) → (not letter || same) ≡ true → IsTrue letter → same ≡ true
+letter_flipped true same e h = e
+letter_flipped false same e h = cc
+
+pub flipped : (byte : ℕ) → byte < 256 → IsTrue (letters byte) → bit_xor byte 32 ≡ other_case byte
+flipped byte below is_letter =
+    let all : (not (letters byte) || (bit_xor byte 32 == other_case byte)) ≡ true = passes_at (λ b. not (letters b) || (bit_xor b 32 == other_case b)) 256 byte refl below in
+    let same : (bit_xor byte 32 == other_case byte) ≡ true = letter_flipped (letters byte) _ all is_letter in
+    grind (arith, nat_tests)
+
+-- what is in the role of a byte
+pub cased-cases : (counts : Bool) (own byte : ℕ) → IsTrue (cased counts own byte) → (own ≢ 0) × ((byte ≡ own) ⊎ (byte ≡ other_case own))
+unfolding cased
+cased-cases counts own byte inside = grind (arith, nat_tests)
+
+other_case-twice : (byte : ℕ) → other_case (other_case byte) ≡ byte
+other_case-twice byte = grind (arith, nat_tests)
+
+-- bytes that differ, and are not one letter in two cases, have no role in common
+pub differ_apart : (a_counts : Bool) (a : ℕ) (b_counts : Bool) (b : ℕ) → a ≢ b → b ≢ other_case a → Disjoint (cased a_counts a) (cased b_counts b)
+unfolding Disjoint
+differ_apart a_counts a b_counts b differ other byte is_a is_b =
+    elim ((cased-cases a_counts a byte is_a).1) [
+      | inl a_same ↦ elim ((cased-cases b_counts b byte is_b).1) [
+        | inl b_same ↦ differ (sym a_same ∙ b_same)
+        | inr b_other ↦ other (sym (other_case-twice b) ∙ ap other_case (sym b_other ∙ a_same))
+      ]
+      | inr a_other ↦ elim ((cased-cases b_counts b byte is_b).1) [
+        | inl b_same ↦ other (sym b_same ∙ a_other)
+        | inr b_other ↦ differ (sym (other_case-twice a) ∙ ap other_case (sym a_other ∙ b_other) ∙ other_case-twice b)
+      ]
+    ]
+
+-- two cases of one letter have no role in common where both cases count
+both_count : (a b : ℕ) → a ≢ b → Disjoint (cased true a) (cased true b)
+unfolding Disjoint cased
+both_count a b differ byte is_a is_b = grind (arith, nat_tests)
+
+-- and elsewhere they have one
+first_counts_not : (a : ℕ) (b_counts : Bool) (b : ℕ) → IsTrue (letters a) → b ≡ other_case a → Disjoint (cased false a) (cased b_counts b) → ⊥
+unfolding Disjoint cased
+first_counts_not a b_counts b letter other apart = apart b (grind (arith, nat_tests)) (grind (arith, nat_tests))
+
+second_counts_not : (a b : ℕ) → IsTrue (letters a) → b ≡ other_case a → Disjoint (cased true a) (cased false b) → ⊥
+unfolding Disjoint cased
+second_counts_not a b letter other apart = apart a (grind (arith, nat_tests)) (grind (arith, nat_tests))
+
+pub cases_apart : (a : ℕ) (a_counts : Bool) (b : ℕ) (b_counts : Bool) → a ≢ b → IsTrue (letters a) → b ≡ other_case a →
+    IsTrue (a_counts && b_counts) ↔ Disjoint (cased a_counts a) (cased b_counts b)
+cases_apart a true b true differ letter other = (λ _. both_count a b differ, λ _. refl)
+cases_apart a true b false differ letter other = (λ both. absurd (false≢true both), λ apart. absurd (second_counts_not a b letter other apart))
+cases_apart a false b b_counts differ letter other = (λ both. absurd (false≢true both), λ apart. absurd (first_counts_not a b_counts b letter other apart))
+
+capital-other_case : (byte : ℕ) → capital (other_case byte) ≡ capital byte
+capital-other_case byte = grind (arith, nat_tests)
+
+value-other_case : (byte : ℕ) → value (other_case byte) ≡ value byte
+unfolding value
+value-other_case byte = ap (λ k. unwrap_or (position (λ figure. figure == k) figures) 255) (capital-other_case byte)
+
+-- a letter is a digit in both cases or in none
+pub digits-other_case : (r : Record) (byte : ℕ) → IsTrue (digits r (other_case byte)) → IsTrue (digits r byte)
+digits-other_case r byte inside =
+    subst (λ v. IsTrue (nat_lt v (min r.mantissa_radix 36) || nat_lt v (min (effective_exponent_radix r) 36))) (value-other_case byte) inside
+
+-- and so it is with signs
+pub signs-other_case : (byte : ℕ) → IsTrue (signs (other_case byte)) → IsTrue (signs byte)
+signs-other_case byte inside = grind (arith, nat_tests)
