@@ -2,3 +2,5 @@ pub mod OptionByteLemmas
 pub mod WriteLemmas
 pub mod Distance
 pub mod FieldWrites
+pub mod Held
+pub mod Halves

@@ -1,3 +1,4 @@
 pub mod OptionByte
 pub mod Writes
+pub mod Places
 pub mod View

@@ -1,12 +1,13 @@
 //! Builds number formats field by field.
 
-ghost use Rattle.std.specs.Prelude.{◌≡◌, ◌≢◌, ◌↔◌, IfErr, sum_by, if◌then◌else◌};
+ghost use Rattle.std.specs.Prelude.{◌≡◌, ◌≢◌, ◌↔◌, ◌<◌, ◌%◌, ◌^◌, ◌==◌, ℕ, IfErr, sum_by, if◌then◌else◌};
 ghost use Rattle.std.specs.Result.{OkIff};
 ghost use Rattle.lexical_flags.specs.Layout as layout;
-ghost use Rattle.lexical_flags.specs.Layout.{IsClean};
-ghost use Rattle.lexical_flags.specs.Record.{Record, HasBytes, raw, fill, trim, pack, flag_bits, separator_on};
+ghost use Rattle.lexical_flags.specs.Layout.{IsClean, bit, part};
+ghost use Rattle.lexical_flags.specs.Record.{Record, HasBytes, raw, fill, trim, pack, flag_of, byte_of, tabulate, effective, separator_on};
 ghost use Rattle.lexical_flags.specs.Rules.{IsErrorOf, Lawful};
 ghost use Rattle.lexical_builder.specs.OptionByte.{option_byte};
+ghost use Rattle.lexical_builder.specs.Places.{place, index as index_of, flag_with, moved_down};
 ghost use Rattle.lexical_builder.specs.Writes.{new_record, radix_record};
 
 use lexical_base::error::Error;
@@ -20,12 +21,10 @@ mod setters;
 
 pub use non_zero::NonZeroU8;
 
-// Whether a format has a flag.
-macro_rules! has_flag {
-    ($format:ident, $flag:ident) => {
-        $format & flags::$flag != 0
-    };
-}
+// The flags of a builder that a word holds at the places 0 to 17, and those that it holds 14
+// places higher.
+const LOW_FLAGS: u32 = 0x3_FFFF;
+const SEPARATOR_FLAGS: u32 = 0x7FFC_0000;
 
 /// A byte that may be absent.
 pub type OptionU8 = Option<NonZeroU8>;
@@ -38,43 +37,11 @@ pub type OptionU8 = Option<NonZeroU8>;
 /// different fields may stand in any order, and of several for one field the last counts.
 #[derive(Drop)]
 pub struct NumberFormatBuilder {
-    digit_separator: OptionU8,
-    base_prefix: OptionU8,
-    base_suffix: OptionU8,
-    mantissa_radix: u8,
-    exponent_base: OptionU8,
-    exponent_radix: OptionU8,
-    required_integer_digits: bool,
-    required_fraction_digits: bool,
-    required_exponent_digits: bool,
-    required_mantissa_digits: bool,
-    no_positive_mantissa_sign: bool,
-    required_mantissa_sign: bool,
-    no_exponent_notation: bool,
-    no_positive_exponent_sign: bool,
-    required_exponent_sign: bool,
-    no_exponent_without_fraction: bool,
-    no_special: bool,
-    case_sensitive_special: bool,
-    no_integer_leading_zeros: bool,
-    no_float_leading_zeros: bool,
-    required_exponent_notation: bool,
-    case_sensitive_exponent: bool,
-    case_sensitive_base_prefix: bool,
-    case_sensitive_base_suffix: bool,
-    integer_internal_digit_separator: bool,
-    fraction_internal_digit_separator: bool,
-    exponent_internal_digit_separator: bool,
-    integer_leading_digit_separator: bool,
-    fraction_leading_digit_separator: bool,
-    exponent_leading_digit_separator: bool,
-    integer_trailing_digit_separator: bool,
-    fraction_trailing_digit_separator: bool,
-    exponent_trailing_digit_separator: bool,
-    integer_consecutive_digit_separator: bool,
-    fraction_consecutive_digit_separator: bool,
-    exponent_consecutive_digit_separator: bool,
-    special_digit_separator: bool,
+    // Each flag at its place in a word, or 14 places below it for a digit separator flag.
+    flags: u32,
+    // Digit separator, prefix, suffix, mantissa radix, exponent base and exponent radix, 0 for
+    // an absent one.
+    bytes: [u8; 6],
 }
 
 impl Model for NumberFormatBuilder {
@@ -82,11 +49,11 @@ impl Model for NumberFormatBuilder {
 
     ghost Value = { Record };
 
-    ghost use Rattle.lexical_builder.specs.View.{record_of, HoldsNoZero};
+    ghost use Rattle.lexical_builder.specs.View.{record_of, IsHeld};
 
     ghost view = { record_of };
 
-    ghost invariant = { HoldsNoZero };
+    ghost invariant = { IsHeld };
 }
 
 impl Default for NumberFormatBuilder {
@@ -115,43 +82,8 @@ impl NumberFormatBuilder {
         ensures lawful { Lawful (pack result) }
     {
         NumberFormatBuilder {
-            digit_separator: None,
-            base_prefix: None,
-            base_suffix: None,
-            mantissa_radix: 10,
-            exponent_base: None,
-            exponent_radix: None,
-            required_integer_digits: false,
-            required_fraction_digits: false,
-            required_exponent_digits: true,
-            required_mantissa_digits: true,
-            no_positive_mantissa_sign: false,
-            required_mantissa_sign: false,
-            no_exponent_notation: false,
-            no_positive_exponent_sign: false,
-            required_exponent_sign: false,
-            no_exponent_without_fraction: false,
-            no_special: false,
-            case_sensitive_special: false,
-            no_integer_leading_zeros: false,
-            no_float_leading_zeros: false,
-            required_exponent_notation: false,
-            case_sensitive_exponent: false,
-            case_sensitive_base_prefix: false,
-            case_sensitive_base_suffix: false,
-            integer_internal_digit_separator: false,
-            fraction_internal_digit_separator: false,
-            exponent_internal_digit_separator: false,
-            integer_leading_digit_separator: false,
-            fraction_leading_digit_separator: false,
-            exponent_leading_digit_separator: false,
-            integer_trailing_digit_separator: false,
-            fraction_trailing_digit_separator: false,
-            exponent_trailing_digit_separator: false,
-            integer_consecutive_digit_separator: false,
-            fraction_consecutive_digit_separator: false,
-            exponent_consecutive_digit_separator: false,
-            special_digit_separator: false,
+            flags: 0xC,
+            bytes: [0, 0, 0, 10, 0, 0],
         }
     }
 
@@ -264,55 +196,17 @@ impl NumberFormatBuilder {
     pub fn rebuild(format: u128) -> Self
         ensures { result ≡ fill (raw format) }
     {
-        let exponent_base = flags::exponent_base(format) as u8;
-        let exponent_radix = flags::exponent_radix(format) as u8;
+        let high = with_radix(with_base((format >> 64) as u64));
         NumberFormatBuilder {
-            digit_separator: NonZeroU8::new(flags::digit_separator(format)),
-            base_prefix: NonZeroU8::new(flags::base_prefix(format)),
-            base_suffix: NonZeroU8::new(flags::base_suffix(format)),
-            mantissa_radix: flags::mantissa_radix(format) as u8,
-            exponent_base: NonZeroU8::new(exponent_base),
-            exponent_radix: NonZeroU8::new(exponent_radix),
-            required_integer_digits: has_flag!(format, REQUIRED_INTEGER_DIGITS),
-            required_fraction_digits: has_flag!(format, REQUIRED_FRACTION_DIGITS),
-            required_exponent_digits: has_flag!(format, REQUIRED_EXPONENT_DIGITS),
-            required_mantissa_digits: has_flag!(format, REQUIRED_MANTISSA_DIGITS),
-            no_positive_mantissa_sign: has_flag!(format, NO_POSITIVE_MANTISSA_SIGN),
-            required_mantissa_sign: has_flag!(format, REQUIRED_MANTISSA_SIGN),
-            no_exponent_notation: has_flag!(format, NO_EXPONENT_NOTATION),
-            no_positive_exponent_sign: has_flag!(format, NO_POSITIVE_EXPONENT_SIGN),
-            required_exponent_sign: has_flag!(format, REQUIRED_EXPONENT_SIGN),
-            no_exponent_without_fraction: has_flag!(format, NO_EXPONENT_WITHOUT_FRACTION),
-            no_special: has_flag!(format, NO_SPECIAL),
-            case_sensitive_special: has_flag!(format, CASE_SENSITIVE_SPECIAL),
-            no_integer_leading_zeros: has_flag!(format, NO_INTEGER_LEADING_ZEROS),
-            no_float_leading_zeros: has_flag!(format, NO_FLOAT_LEADING_ZEROS),
-            required_exponent_notation: has_flag!(format, REQUIRED_EXPONENT_NOTATION),
-            case_sensitive_exponent: has_flag!(format, CASE_SENSITIVE_EXPONENT),
-            case_sensitive_base_prefix: has_flag!(format, CASE_SENSITIVE_BASE_PREFIX),
-            case_sensitive_base_suffix: has_flag!(format, CASE_SENSITIVE_BASE_SUFFIX),
-            integer_internal_digit_separator: has_flag!(format, INTEGER_INTERNAL_DIGIT_SEPARATOR),
-            fraction_internal_digit_separator: has_flag!(format, FRACTION_INTERNAL_DIGIT_SEPARATOR),
-            exponent_internal_digit_separator: has_flag!(format, EXPONENT_INTERNAL_DIGIT_SEPARATOR),
-            integer_leading_digit_separator: has_flag!(format, INTEGER_LEADING_DIGIT_SEPARATOR),
-            fraction_leading_digit_separator: has_flag!(format, FRACTION_LEADING_DIGIT_SEPARATOR),
-            exponent_leading_digit_separator: has_flag!(format, EXPONENT_LEADING_DIGIT_SEPARATOR),
-            integer_trailing_digit_separator: has_flag!(format, INTEGER_TRAILING_DIGIT_SEPARATOR),
-            fraction_trailing_digit_separator: has_flag!(format, FRACTION_TRAILING_DIGIT_SEPARATOR),
-            exponent_trailing_digit_separator: has_flag!(format, EXPONENT_TRAILING_DIGIT_SEPARATOR),
-            integer_consecutive_digit_separator: has_flag!(
-                format,
-                INTEGER_CONSECUTIVE_DIGIT_SEPARATOR
-            ),
-            fraction_consecutive_digit_separator: has_flag!(
-                format,
-                FRACTION_CONSECUTIVE_DIGIT_SEPARATOR
-            ),
-            exponent_consecutive_digit_separator: has_flag!(
-                format,
-                EXPONENT_CONSECUTIVE_DIGIT_SEPARATOR
-            ),
-            special_digit_separator: has_flag!(format, SPECIAL_DIGIT_SEPARATOR),
+            flags: held_flags(format),
+            bytes: [
+                (high % 256) as u8,
+                ((high >> 24) % 256) as u8,
+                ((high >> 32) % 256) as u8,
+                ((high >> 40) % 256) as u8,
+                ((high >> 48) % 256) as u8,
+                (high >> 56) as u8,
+            ],
         }
     }
 
@@ -322,98 +216,112 @@ impl NumberFormatBuilder {
         ensures word { result ≡ pack self.now }
         ensures bytes { HasBytes self.now }
     {
-        let flags = self.packed_flags();
-        let separator = used_separator(flags, byte_or_zero(self.digit_separator));
-        let prefix = byte_or_zero(self.base_prefix);
-        let suffix = byte_or_zero(self.base_suffix);
-        let base = byte_or_zero(self.exponent_base);
-        let radix = byte_or_zero(self.exponent_radix);
+        let [separator, prefix, suffix, radix, exponent_base, exponent_radix] = self.bytes;
+        let flags = word_flags(self.flags);
+        let separator = used_separator(flags, separator);
         flags
             | (separator as u128) << flags::DIGIT_SEPARATOR_SHIFT
             | (prefix as u128) << flags::BASE_PREFIX_SHIFT
             | (suffix as u128) << flags::BASE_SUFFIX_SHIFT
-            | (self.mantissa_radix as u128) << flags::MANTISSA_RADIX_SHIFT
-            | (base as u128) << flags::EXPONENT_BASE_SHIFT
-            | (radix as u128) << flags::EXPONENT_RADIX_SHIFT
+            | (radix as u128) << flags::MANTISSA_RADIX_SHIFT
+            | (exponent_base as u128) << flags::EXPONENT_BASE_SHIFT
+            | (exponent_radix as u128) << flags::EXPONENT_RADIX_SHIFT
     }
 
-    // The flags, each at its place.
+    // Whether the flag with this mask is set.
     #[inline(always)]
-    fn packed_flags(&self) -> u128
-        ensures { result ≡ sum_by (flag_bits self.now) layout.flags }
+    fn has(&self, mask: u128) -> bool
+        requires { 2 ^ bit (flag_with mask) ≡ mask }
+        ensures { result ≡ flag_of self.now (flag_with mask) }
     {
-        use lexical_flags::format_flags::*;
-        bits_if(self.required_integer_digits, REQUIRED_INTEGER_DIGITS)
-            | bits_if(self.required_fraction_digits, REQUIRED_FRACTION_DIGITS)
-            | bits_if(self.required_exponent_digits, REQUIRED_EXPONENT_DIGITS)
-            | bits_if(self.required_mantissa_digits, REQUIRED_MANTISSA_DIGITS)
-            | bits_if(self.no_positive_mantissa_sign, NO_POSITIVE_MANTISSA_SIGN)
-            | bits_if(self.required_mantissa_sign, REQUIRED_MANTISSA_SIGN)
-            | bits_if(self.no_exponent_notation, NO_EXPONENT_NOTATION)
-            | bits_if(self.no_positive_exponent_sign, NO_POSITIVE_EXPONENT_SIGN)
-            | bits_if(self.required_exponent_sign, REQUIRED_EXPONENT_SIGN)
-            | bits_if(
-                self.no_exponent_without_fraction,
-                NO_EXPONENT_WITHOUT_FRACTION,
-            )
-            | bits_if(self.no_special, NO_SPECIAL)
-            | bits_if(self.case_sensitive_special, CASE_SENSITIVE_SPECIAL)
-            | bits_if(self.no_integer_leading_zeros, NO_INTEGER_LEADING_ZEROS)
-            | bits_if(self.no_float_leading_zeros, NO_FLOAT_LEADING_ZEROS)
-            | bits_if(self.required_exponent_notation, REQUIRED_EXPONENT_NOTATION)
-            | bits_if(self.case_sensitive_exponent, CASE_SENSITIVE_EXPONENT)
-            | bits_if(self.case_sensitive_base_prefix, CASE_SENSITIVE_BASE_PREFIX)
-            | bits_if(self.case_sensitive_base_suffix, CASE_SENSITIVE_BASE_SUFFIX)
-            | bits_if(
-                self.integer_internal_digit_separator,
-                INTEGER_INTERNAL_DIGIT_SEPARATOR,
-            )
-            | bits_if(
-                self.fraction_internal_digit_separator,
-                FRACTION_INTERNAL_DIGIT_SEPARATOR,
-            )
-            | bits_if(
-                self.exponent_internal_digit_separator,
-                EXPONENT_INTERNAL_DIGIT_SEPARATOR,
-            )
-            | bits_if(
-                self.integer_leading_digit_separator,
-                INTEGER_LEADING_DIGIT_SEPARATOR,
-            )
-            | bits_if(
-                self.fraction_leading_digit_separator,
-                FRACTION_LEADING_DIGIT_SEPARATOR,
-            )
-            | bits_if(
-                self.exponent_leading_digit_separator,
-                EXPONENT_LEADING_DIGIT_SEPARATOR,
-            )
-            | bits_if(
-                self.integer_trailing_digit_separator,
-                INTEGER_TRAILING_DIGIT_SEPARATOR,
-            )
-            | bits_if(
-                self.fraction_trailing_digit_separator,
-                FRACTION_TRAILING_DIGIT_SEPARATOR,
-            )
-            | bits_if(
-                self.exponent_trailing_digit_separator,
-                EXPONENT_TRAILING_DIGIT_SEPARATOR,
-            )
-            | bits_if(
-                self.integer_consecutive_digit_separator,
-                INTEGER_CONSECUTIVE_DIGIT_SEPARATOR,
-            )
-            | bits_if(
-                self.fraction_consecutive_digit_separator,
-                FRACTION_CONSECUTIVE_DIGIT_SEPARATOR,
-            )
-            | bits_if(
-                self.exponent_consecutive_digit_separator,
-                EXPONENT_CONSECUTIVE_DIGIT_SEPARATOR,
-            )
-            | bits_if(self.special_digit_separator, SPECIAL_DIGIT_SEPARATOR)
+        self.flags & held_flags(mask) != 0
     }
+
+    // Gives one value to all flags of a mask.
+    #[inline(always)]
+    fn with(mut self, mask: u128, flag: bool) -> Self
+        ensures { result ≡ tabulate (λ f. if part mask (bit f) 1 == 1 then flag else flag_of self f) (byte_of self) }
+    {
+        self.flags = written(self.flags, held_flags(mask), flag);
+        self
+    }
+
+    // Writes the byte at an index.
+    #[inline(always)]
+    fn with_byte(mut self, index: usize, byte: u8) -> Self
+        requires { index < 6 }
+        ensures { result ≡ tabulate (flag_of self) (λ b. if index_of b == index then byte else byte_of self b) }
+    {
+        self.bytes[index] = byte;
+        self
+    }
+}
+
+// The upper half of a word, with the mantissa radix in the exponent base if that is empty.
+#[inline(always)]
+#[tactic(auto, using(crate::proofs::Halves::base_filled))]
+fn with_base(high: u64) -> u64
+    ensures low { result % 2 ^ 48 ≡ high % 2 ^ 48 }
+    ensures base { part result 48 8 ≡ effective (part high 48 8) (part high 40 8) }
+    ensures radix { part result 56 8 ≡ part high 56 8 }
+{
+    if high & (0xFF << 48) == 0 {
+        high | (high & (0xFF << 40)) << 8
+    } else {
+        high
+    }
+}
+
+// The upper half of a word, with the mantissa radix in the exponent radix if that is empty.
+#[inline(always)]
+#[tactic(auto, using(crate::proofs::Halves::radix_filled))]
+fn with_radix(high: u64) -> u64
+    ensures low { result % 2 ^ 56 ≡ high % 2 ^ 56 }
+    ensures radix { part result 56 8 ≡ effective (part high 56 8) (part high 40 8) }
+{
+    if high < 1 << 56 {
+        high | (high & (0xFF << 40)) << 16
+    } else {
+        high
+    }
+}
+
+// The flags of a word, moved to their places in a builder.
+#[inline(always)]
+fn held_flags(format: u128) -> u32
+    ensures value { result ≡ moved_down format }
+    ensures held { result < 2 ^ 31 }
+{
+    ((format & (LOW_FLAGS as u128)) | ((format >> 14) & (SEPARATOR_FLAGS as u128))) as u32
+}
+
+// The flags of a builder, moved to their places in a word.
+#[inline(always)]
+fn word_flags(flags: u32) -> u128
+    requires { flags < 2 ^ 31 }
+    ensures { result ≡ sum_by (λ f. if part flags (place f) 1 == 1 then 2 ^ bit f else 0) layout.flags }
+{
+    (flags & LOW_FLAGS) as u128 | ((flags >> 18) as u128) << 32
+}
+
+// The flags, with one value at all places of the mask.
+#[inline(always)]
+fn written(flags: u32, mask: u32, flag: bool) -> u32
+    requires flags_held { flags < 2 ^ 31 }
+    requires mask_held { mask < 2 ^ 31 }
+    ensures bits { (i : ℕ) → i < 32 → (part result i 1 == 1)
+        ≡ (if part mask i 1 == 1 then flag else (part flags i 1 == 1)) }
+    ensures held { result < 2 ^ 31 }
+{
+    (flags & !mask) | bits_if(flag, mask)
+}
+
+// The bits if the flag is set, or 0.
+#[inline(always)]
+fn bits_if(flag: bool, bits: u32) -> u32
+    ensures { result ≡ (if flag then bits else 0) }
+{
+    if flag { bits } else { 0 }
 }
 
 // The digit separator, or 0 where none of the flags lets it stand anywhere.
@@ -426,14 +334,6 @@ fn used_separator(flags: u128, separator: u8) -> u8
     } else {
         0
     }
-}
-
-// The bits if the flag is set, or 0.
-#[inline(always)]
-fn bits_if(flag: bool, bits: u128) -> u128
-    ensures { result ≡ (if flag then bits else 0) }
-{
-    if flag { bits } else { 0 }
 }
 
 // The byte, or 0 where it is absent.

@@ -3,7 +3,8 @@
 ghost use Rattle.std.specs.Prelude.{◌≡◌};
 ghost use Rattle.lexical_builder.specs.OptionByte.{byte_option};
 
-use super::{NumberFormatBuilder, OptionU8};
+use super::{NonZeroU8, NumberFormatBuilder, OptionU8};
+use lexical_flags::format_flags as flags;
 
 impl NumberFormatBuilder {
     // GETTERS
@@ -14,7 +15,7 @@ impl NumberFormatBuilder {
     pub fn get_digit_separator(&self) -> OptionU8
         ensures { result ≡ byte_option self.now.digit_separator }
     {
-        self.digit_separator
+        NonZeroU8::new(self.bytes[0])
     }
 
     /// The mantissa radix: the radix of the integer and fraction digits.
@@ -22,7 +23,7 @@ impl NumberFormatBuilder {
     pub fn get_mantissa_radix(&self) -> u8
         ensures { result ≡ self.now.mantissa_radix }
     {
-        self.mantissa_radix
+        self.bytes[3]
     }
 
     /// The exponent base: the number whose power an exponent stands for: with 2, `1p3` is 1
@@ -31,7 +32,7 @@ impl NumberFormatBuilder {
     pub fn get_exponent_base(&self) -> OptionU8
         ensures { result ≡ byte_option self.now.exponent_base }
     {
-        self.exponent_base
+        NonZeroU8::new(self.bytes[4])
     }
 
     /// The exponent radix: the radix of the digits of an exponent. `None` where it is left to
@@ -40,7 +41,7 @@ impl NumberFormatBuilder {
     pub fn get_exponent_radix(&self) -> OptionU8
         ensures { result ≡ byte_option self.now.exponent_radix }
     {
-        self.exponent_radix
+        NonZeroU8::new(self.bytes[5])
     }
 
     /// The base prefix: the byte that may stand after a leading zero to tell the radix, as the
@@ -49,7 +50,7 @@ impl NumberFormatBuilder {
     pub fn get_base_prefix(&self) -> OptionU8
         ensures { result ≡ byte_option self.now.base_prefix }
     {
-        self.base_prefix
+        NonZeroU8::new(self.bytes[1])
     }
 
     /// The base suffix: the byte that may stand after the digits to tell the radix, as the `h`
@@ -58,7 +59,7 @@ impl NumberFormatBuilder {
     pub fn get_base_suffix(&self) -> OptionU8
         ensures { result ≡ byte_option self.now.base_suffix }
     {
-        self.base_suffix
+        NonZeroU8::new(self.bytes[2])
     }
 
     /// The flag `required_integer_digits`. Digits must stand before the decimal point.
@@ -66,7 +67,7 @@ impl NumberFormatBuilder {
     pub fn get_required_integer_digits(&self) -> bool
         ensures { result ≡ self.now.required_integer_digits }
     {
-        self.required_integer_digits
+        self.has(flags::REQUIRED_INTEGER_DIGITS)
     }
 
     /// The flag `required_fraction_digits`. Digits must stand after a decimal point, where
@@ -75,7 +76,7 @@ impl NumberFormatBuilder {
     pub fn get_required_fraction_digits(&self) -> bool
         ensures { result ≡ self.now.required_fraction_digits }
     {
-        self.required_fraction_digits
+        self.has(flags::REQUIRED_FRACTION_DIGITS)
     }
 
     /// The flag `required_exponent_digits`. Digits must stand after the exponent character,
@@ -84,7 +85,7 @@ impl NumberFormatBuilder {
     pub fn get_required_exponent_digits(&self) -> bool
         ensures { result ≡ self.now.required_exponent_digits }
     {
-        self.required_exponent_digits
+        self.has(flags::REQUIRED_EXPONENT_DIGITS)
     }
 
     /// The flag `required_mantissa_digits`. At least one digit must stand before or after the
@@ -93,7 +94,7 @@ impl NumberFormatBuilder {
     pub fn get_required_mantissa_digits(&self) -> bool
         ensures { result ≡ self.now.required_mantissa_digits }
     {
-        self.required_mantissa_digits
+        self.has(flags::REQUIRED_MANTISSA_DIGITS)
     }
 
     /// The flag `no_positive_mantissa_sign`. No `+` may stand before the number.
@@ -101,7 +102,7 @@ impl NumberFormatBuilder {
     pub fn get_no_positive_mantissa_sign(&self) -> bool
         ensures { result ≡ self.now.no_positive_mantissa_sign }
     {
-        self.no_positive_mantissa_sign
+        self.has(flags::NO_POSITIVE_MANTISSA_SIGN)
     }
 
     /// The flag `required_mantissa_sign`. A sign, `+` or `-`, must stand before the number.
@@ -109,7 +110,7 @@ impl NumberFormatBuilder {
     pub fn get_required_mantissa_sign(&self) -> bool
         ensures { result ≡ self.now.required_mantissa_sign }
     {
-        self.required_mantissa_sign
+        self.has(flags::REQUIRED_MANTISSA_SIGN)
     }
 
     /// The flag `no_exponent_notation`. No exponent may be written.
@@ -117,7 +118,7 @@ impl NumberFormatBuilder {
     pub fn get_no_exponent_notation(&self) -> bool
         ensures { result ≡ self.now.no_exponent_notation }
     {
-        self.no_exponent_notation
+        self.has(flags::NO_EXPONENT_NOTATION)
     }
 
     /// The flag `no_positive_exponent_sign`. No `+` may stand before the digits of an exponent.
@@ -125,7 +126,7 @@ impl NumberFormatBuilder {
     pub fn get_no_positive_exponent_sign(&self) -> bool
         ensures { result ≡ self.now.no_positive_exponent_sign }
     {
-        self.no_positive_exponent_sign
+        self.has(flags::NO_POSITIVE_EXPONENT_SIGN)
     }
 
     /// The flag `required_exponent_sign`. A sign, `+` or `-`, must stand before the digits of
@@ -134,7 +135,7 @@ impl NumberFormatBuilder {
     pub fn get_required_exponent_sign(&self) -> bool
         ensures { result ≡ self.now.required_exponent_sign }
     {
-        self.required_exponent_sign
+        self.has(flags::REQUIRED_EXPONENT_SIGN)
     }
 
     /// The flag `no_exponent_without_fraction`. An exponent may stand only after a decimal
@@ -143,7 +144,7 @@ impl NumberFormatBuilder {
     pub fn get_no_exponent_without_fraction(&self) -> bool
         ensures { result ≡ self.now.no_exponent_without_fraction }
     {
-        self.no_exponent_without_fraction
+        self.has(flags::NO_EXPONENT_WITHOUT_FRACTION)
     }
 
     /// The flag `no_special`. No special value, such as NaN or infinity, may be written.
@@ -151,7 +152,7 @@ impl NumberFormatBuilder {
     pub fn get_no_special(&self) -> bool
         ensures { result ≡ self.now.no_special }
     {
-        self.no_special
+        self.has(flags::NO_SPECIAL)
     }
 
     /// The flag `case_sensitive_special`. The case of letters counts in special values.
@@ -159,7 +160,7 @@ impl NumberFormatBuilder {
     pub fn get_case_sensitive_special(&self) -> bool
         ensures { result ≡ self.now.case_sensitive_special }
     {
-        self.case_sensitive_special
+        self.has(flags::CASE_SENSITIVE_SPECIAL)
     }
 
     /// The flag `no_integer_leading_zeros`. No zeros may stand before the digits of an integer.
@@ -167,7 +168,7 @@ impl NumberFormatBuilder {
     pub fn get_no_integer_leading_zeros(&self) -> bool
         ensures { result ≡ self.now.no_integer_leading_zeros }
     {
-        self.no_integer_leading_zeros
+        self.has(flags::NO_INTEGER_LEADING_ZEROS)
     }
 
     /// The flag `no_float_leading_zeros`. No zeros may stand before the integer digits of a
@@ -176,7 +177,7 @@ impl NumberFormatBuilder {
     pub fn get_no_float_leading_zeros(&self) -> bool
         ensures { result ≡ self.now.no_float_leading_zeros }
     {
-        self.no_float_leading_zeros
+        self.has(flags::NO_FLOAT_LEADING_ZEROS)
     }
 
     /// The flag `required_exponent_notation`. An exponent must be written.
@@ -184,7 +185,7 @@ impl NumberFormatBuilder {
     pub fn get_required_exponent_notation(&self) -> bool
         ensures { result ≡ self.now.required_exponent_notation }
     {
-        self.required_exponent_notation
+        self.has(flags::REQUIRED_EXPONENT_NOTATION)
     }
 
     /// The flag `case_sensitive_exponent`. The case of the exponent character counts.
@@ -192,7 +193,7 @@ impl NumberFormatBuilder {
     pub fn get_case_sensitive_exponent(&self) -> bool
         ensures { result ≡ self.now.case_sensitive_exponent }
     {
-        self.case_sensitive_exponent
+        self.has(flags::CASE_SENSITIVE_EXPONENT)
     }
 
     /// The flag `case_sensitive_base_prefix`. The case of the base prefix counts.
@@ -200,7 +201,7 @@ impl NumberFormatBuilder {
     pub fn get_case_sensitive_base_prefix(&self) -> bool
         ensures { result ≡ self.now.case_sensitive_base_prefix }
     {
-        self.case_sensitive_base_prefix
+        self.has(flags::CASE_SENSITIVE_BASE_PREFIX)
     }
 
     /// The flag `case_sensitive_base_suffix`. The case of the base suffix counts.
@@ -208,7 +209,7 @@ impl NumberFormatBuilder {
     pub fn get_case_sensitive_base_suffix(&self) -> bool
         ensures { result ≡ self.now.case_sensitive_base_suffix }
     {
-        self.case_sensitive_base_suffix
+        self.has(flags::CASE_SENSITIVE_BASE_SUFFIX)
     }
 
     /// The flag `integer_internal_digit_separator`. A digit separator may stand between integer
@@ -217,7 +218,7 @@ impl NumberFormatBuilder {
     pub fn get_integer_internal_digit_separator(&self) -> bool
         ensures { result ≡ self.now.integer_internal_digit_separator }
     {
-        self.integer_internal_digit_separator
+        self.has(flags::INTEGER_INTERNAL_DIGIT_SEPARATOR)
     }
 
     /// The flag `fraction_internal_digit_separator`. A digit separator may stand between
@@ -226,7 +227,7 @@ impl NumberFormatBuilder {
     pub fn get_fraction_internal_digit_separator(&self) -> bool
         ensures { result ≡ self.now.fraction_internal_digit_separator }
     {
-        self.fraction_internal_digit_separator
+        self.has(flags::FRACTION_INTERNAL_DIGIT_SEPARATOR)
     }
 
     /// The flag `exponent_internal_digit_separator`. A digit separator may stand between
@@ -235,7 +236,7 @@ impl NumberFormatBuilder {
     pub fn get_exponent_internal_digit_separator(&self) -> bool
         ensures { result ≡ self.now.exponent_internal_digit_separator }
     {
-        self.exponent_internal_digit_separator
+        self.has(flags::EXPONENT_INTERNAL_DIGIT_SEPARATOR)
     }
 
     /// The flag `integer_leading_digit_separator`. A digit separator may stand before integer
@@ -244,7 +245,7 @@ impl NumberFormatBuilder {
     pub fn get_integer_leading_digit_separator(&self) -> bool
         ensures { result ≡ self.now.integer_leading_digit_separator }
     {
-        self.integer_leading_digit_separator
+        self.has(flags::INTEGER_LEADING_DIGIT_SEPARATOR)
     }
 
     /// The flag `fraction_leading_digit_separator`. A digit separator may stand before fraction
@@ -253,7 +254,7 @@ impl NumberFormatBuilder {
     pub fn get_fraction_leading_digit_separator(&self) -> bool
         ensures { result ≡ self.now.fraction_leading_digit_separator }
     {
-        self.fraction_leading_digit_separator
+        self.has(flags::FRACTION_LEADING_DIGIT_SEPARATOR)
     }
 
     /// The flag `exponent_leading_digit_separator`. A digit separator may stand before exponent
@@ -262,7 +263,7 @@ impl NumberFormatBuilder {
     pub fn get_exponent_leading_digit_separator(&self) -> bool
         ensures { result ≡ self.now.exponent_leading_digit_separator }
     {
-        self.exponent_leading_digit_separator
+        self.has(flags::EXPONENT_LEADING_DIGIT_SEPARATOR)
     }
 
     /// The flag `integer_trailing_digit_separator`. A digit separator may stand after integer
@@ -271,7 +272,7 @@ impl NumberFormatBuilder {
     pub fn get_integer_trailing_digit_separator(&self) -> bool
         ensures { result ≡ self.now.integer_trailing_digit_separator }
     {
-        self.integer_trailing_digit_separator
+        self.has(flags::INTEGER_TRAILING_DIGIT_SEPARATOR)
     }
 
     /// The flag `fraction_trailing_digit_separator`. A digit separator may stand after fraction
@@ -280,7 +281,7 @@ impl NumberFormatBuilder {
     pub fn get_fraction_trailing_digit_separator(&self) -> bool
         ensures { result ≡ self.now.fraction_trailing_digit_separator }
     {
-        self.fraction_trailing_digit_separator
+        self.has(flags::FRACTION_TRAILING_DIGIT_SEPARATOR)
     }
 
     /// The flag `exponent_trailing_digit_separator`. A digit separator may stand after exponent
@@ -289,7 +290,7 @@ impl NumberFormatBuilder {
     pub fn get_exponent_trailing_digit_separator(&self) -> bool
         ensures { result ≡ self.now.exponent_trailing_digit_separator }
     {
-        self.exponent_trailing_digit_separator
+        self.has(flags::EXPONENT_TRAILING_DIGIT_SEPARATOR)
     }
 
     /// The flag `integer_consecutive_digit_separator`. Digit separators in a row may stand
@@ -298,7 +299,7 @@ impl NumberFormatBuilder {
     pub fn get_integer_consecutive_digit_separator(&self) -> bool
         ensures { result ≡ self.now.integer_consecutive_digit_separator }
     {
-        self.integer_consecutive_digit_separator
+        self.has(flags::INTEGER_CONSECUTIVE_DIGIT_SEPARATOR)
     }
 
     /// The flag `fraction_consecutive_digit_separator`. Digit separators in a row may stand
@@ -307,7 +308,7 @@ impl NumberFormatBuilder {
     pub fn get_fraction_consecutive_digit_separator(&self) -> bool
         ensures { result ≡ self.now.fraction_consecutive_digit_separator }
     {
-        self.fraction_consecutive_digit_separator
+        self.has(flags::FRACTION_CONSECUTIVE_DIGIT_SEPARATOR)
     }
 
     /// The flag `exponent_consecutive_digit_separator`. Digit separators in a row may stand
@@ -316,7 +317,7 @@ impl NumberFormatBuilder {
     pub fn get_exponent_consecutive_digit_separator(&self) -> bool
         ensures { result ≡ self.now.exponent_consecutive_digit_separator }
     {
-        self.exponent_consecutive_digit_separator
+        self.has(flags::EXPONENT_CONSECUTIVE_DIGIT_SEPARATOR)
     }
 
     /// The flag `special_digit_separator`. Digit separators may stand anywhere in special
@@ -325,6 +326,6 @@ impl NumberFormatBuilder {
     pub fn get_special_digit_separator(&self) -> bool
         ensures { result ≡ self.now.special_digit_separator }
     {
-        self.special_digit_separator
+        self.has(flags::SPECIAL_DIGIT_SEPARATOR)
     }
 }

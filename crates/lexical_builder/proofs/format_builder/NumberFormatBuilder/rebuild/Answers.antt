@@ -1,24 +1,28 @@
-use Rattle.std.proofs.Common.{◌≡◌}
-use Rattle.lexical_flags.specs.Layout.{bit}
-use Rattle.lexical_flags.specs.Record.{Record, raw, tabulate, byte_of, effective_exponent_base, effective_exponent_radix}
-use Rattle.lexical_flags.proofs.FlagBits.{flag_test}
-use Rattle.lexical_builder.specs.OptionByte.{option_byte}
-use Rattle.lexical_builder.proofs.OptionByteLemmas.{read_back}
+use Rattle.std.proofs.Common.{ℕ, ◌≡◌, ◌∙◌, ◌==◌, ◌/◌, ◌^◌, ap, arith}
+use Rattle.lexical_flags.specs.Layout.{Flag, part, bit}
+use Rattle.lexical_flags.specs.Record.{raw, tabulate, byte_of, effective}
+use Rattle.lexical_builder.specs.Places.{place}
+use Rattle.lexical_builder.proofs.Held.{moved-flags}
+use Rattle.lexical_builder.proofs.Halves.{bytes_below, below_base, upper_part, top_byte}
 use Rattle.lexical_builder.proofs.format_builder.NumberFormatBuilder.rebuild.Goals as goal
 
 pub returns : goal.returns
 returns c =
-    let r : Record = raw c.args.format in
-    let separator : option_byte c.new.result ≡ r.digit_separator = read_back c.new.ensures.value c.digit_separator.ensures in
-    let prefix : option_byte c.new-2.result ≡ r.base_prefix = read_back c.new-2.ensures.value c.base_prefix.ensures in
-    let suffix : option_byte c.new-3.result ≡ r.base_suffix = read_back c.new-3.ensures.value c.base_suffix.ensures in
-    let base : option_byte c.new-4.result ≡ effective_exponent_base r = read_back c.new-4.ensures.value c.exponent_base-exponent_base.ensures in
-    let radix : option_byte c.new-5.result ≡ effective_exponent_radix r = read_back c.new-5.ensures.value c.exponent_radix-exponent_radix.ensures in
-    λ i. record (tabulate (λ f. flag_test c.args.format (bit f) i) (byte_of r)) {
-      digit_separator = separator i;
-      base_prefix = prefix i;
-      base_suffix = suffix i;
-      mantissa_radix = c.mantissa_radix.ensures i;
-      exponent_base = base i;
-      exponent_radix = radix i;
+    let format : ℕ = c.args.format in
+    let high : ℕ = format / 2 ^ 64 in
+    let based : ℕ = c.with_base.result in
+    let filled : ℕ = c.with_radix-high.result in
+    let at : (f : Flag) → part c.held_flags.result (place f) 1 ≡ part format (bit f) 1 =
+    λ f. ap (λ n. part n (place f) 1) c.held_flags.ensures.value ∙ moved-flags format f in
+    let down = below_base filled based c.with_radix-high.ensures.low in
+    let low = bytes_below filled high (down.0 ∙ c.with_base.ensures.low) in
+    let own = bytes_below based high c.with_base.ensures.low in
+    let mantissa : part high 40 8 ≡ part format 104 8 = upper_part format 40 in
+    λ i. record (tabulate (λ f. at f i == 1) (byte_of (raw format))) {
+      digit_separator = (low.0 ∙ upper_part format 0) i;
+      base_prefix = (low.1 ∙ upper_part format 24) i;
+      base_suffix = (low.2 ∙ upper_part format 32) i;
+      mantissa_radix = (low.3 ∙ mantissa) i;
+      exponent_base = (down.1 ∙ c.with_base.ensures.base ∙ (λ j. effective (upper_part format 48 j) (mantissa j))) i;
+      exponent_radix = (top_byte filled (omega arith) ∙ c.with_radix-high.ensures.radix ∙ (λ j. effective ((c.with_base.ensures.radix ∙ upper_part format 56) j) ((own.3 ∙ mantissa) j))) i;
     }
