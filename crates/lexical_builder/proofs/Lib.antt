@@ -2,5 +2,5 @@ pub mod OptionByteLemmas
 pub mod WriteLemmas
 pub mod Distance
 pub mod FieldWrites
-pub mod Held
-pub mod Halves
+pub mod BuilderFlags
+pub mod ExponentBytes

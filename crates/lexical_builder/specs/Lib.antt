@@ -1,4 +1,3 @@
 pub mod OptionByte
+pub mod Fields
 pub mod Writes
-pub mod Places
-pub mod View

@@ -7,7 +7,7 @@ ghost use Rattle.lexical_flags.specs.Layout.{IsClean, bit, part};
 ghost use Rattle.lexical_flags.specs.Record.{Record, HasBytes, raw, fill, trim, pack, flag_of, byte_of, tabulate, effective, separator_on};
 ghost use Rattle.lexical_flags.specs.Rules.{IsErrorOf, Lawful};
 ghost use Rattle.lexical_builder.specs.OptionByte.{option_byte};
-ghost use Rattle.lexical_builder.specs.Places.{place, index as index_of, flag_with, moved_down};
+ghost use Rattle.lexical_builder.specs.Fields.{builder_bit, flags_in, index_of, flag_with};
 ghost use Rattle.lexical_builder.specs.Writes.{new_record, radix_record};
 
 use lexical_base::error::Error;
@@ -49,11 +49,11 @@ impl Model for NumberFormatBuilder {
 
     ghost Value = { Record };
 
-    ghost use Rattle.lexical_builder.specs.View.{record_of, IsHeld};
+    ghost use Rattle.lexical_builder.specs.Fields.{record_of, HasClearTop};
 
     ghost view = { record_of };
 
-    ghost invariant = { IsHeld };
+    ghost invariant = { HasClearTop };
 }
 
 impl Default for NumberFormatBuilder {
@@ -196,9 +196,9 @@ impl NumberFormatBuilder {
     pub fn rebuild(format: u128) -> Self
         ensures { result ≡ fill (raw format) }
     {
-        let high = with_radix(with_base((format >> 64) as u64));
+        let high = fill_radix(fill_base((format >> 64) as u64));
         NumberFormatBuilder {
-            flags: held_flags(format),
+            flags: builder_flags(format),
             bytes: [
                 (high % 256) as u8,
                 ((high >> 24) % 256) as u8,
@@ -230,19 +230,19 @@ impl NumberFormatBuilder {
 
     // Whether the flag with this mask is set.
     #[inline(always)]
-    fn has(&self, mask: u128) -> bool
+    fn has_flag(&self, mask: u128) -> bool
         requires { 2 ^ bit (flag_with mask) ≡ mask }
         ensures { result ≡ flag_of self.now (flag_with mask) }
     {
-        self.flags & held_flags(mask) != 0
+        self.flags & builder_flags(mask) != 0
     }
 
     // Gives one value to all flags of a mask.
     #[inline(always)]
-    fn with(mut self, mask: u128, flag: bool) -> Self
+    fn with_flags(mut self, mask: u128, flag: bool) -> Self
         ensures { result ≡ tabulate (λ f. if part mask (bit f) 1 == 1 then flag else flag_of self f) (byte_of self) }
     {
-        self.flags = written(self.flags, held_flags(mask), flag);
+        self.flags = replace_bits(self.flags, builder_flags(mask), flag);
         self
     }
 
@@ -259,8 +259,8 @@ impl NumberFormatBuilder {
 
 // The upper half of a word, with the mantissa radix in the exponent base if that is empty.
 #[inline(always)]
-#[tactic(auto, using(crate::proofs::Halves::base_filled))]
-fn with_base(high: u64) -> u64
+#[tactic(auto, using(crate::proofs::ExponentBytes::base_filled))]
+fn fill_base(high: u64) -> u64
     ensures low { result % 2 ^ 48 ≡ high % 2 ^ 48 }
     ensures base { part result 48 8 ≡ effective (part high 48 8) (part high 40 8) }
     ensures radix { part result 56 8 ≡ part high 56 8 }
@@ -274,8 +274,8 @@ fn with_base(high: u64) -> u64
 
 // The upper half of a word, with the mantissa radix in the exponent radix if that is empty.
 #[inline(always)]
-#[tactic(auto, using(crate::proofs::Halves::radix_filled))]
-fn with_radix(high: u64) -> u64
+#[tactic(auto, using(crate::proofs::ExponentBytes::radix_filled))]
+fn fill_radix(high: u64) -> u64
     ensures low { result % 2 ^ 56 ≡ high % 2 ^ 56 }
     ensures radix { part result 56 8 ≡ effective (part high 56 8) (part high 40 8) }
 {
@@ -288,8 +288,8 @@ fn with_radix(high: u64) -> u64
 
 // The flags of a word, moved to their places in a builder.
 #[inline(always)]
-fn held_flags(format: u128) -> u32
-    ensures value { result ≡ moved_down format }
+fn builder_flags(format: u128) -> u32
+    ensures value { result ≡ flags_in format }
     ensures held { result < 2 ^ 31 }
 {
     ((format & (LOW_FLAGS as u128)) | ((format >> 14) & (SEPARATOR_FLAGS as u128))) as u32
@@ -299,14 +299,14 @@ fn held_flags(format: u128) -> u32
 #[inline(always)]
 fn word_flags(flags: u32) -> u128
     requires { flags < 2 ^ 31 }
-    ensures { result ≡ sum_by (λ f. if part flags (place f) 1 == 1 then 2 ^ bit f else 0) layout.flags }
+    ensures { result ≡ sum_by (λ f. if part flags (builder_bit f) 1 == 1 then 2 ^ bit f else 0) layout.flags }
 {
     (flags & LOW_FLAGS) as u128 | ((flags >> 18) as u128) << 32
 }
 
 // The flags, with one value at all places of the mask.
 #[inline(always)]
-fn written(flags: u32, mask: u32, flag: bool) -> u32
+fn replace_bits(flags: u32, mask: u32, flag: bool) -> u32
     requires flags_held { flags < 2 ^ 31 }
     requires mask_held { mask < 2 ^ 31 }
     ensures bits { (i : ℕ) → i < 32 → (part result i 1 == 1)

@@ -67,7 +67,7 @@ impl NumberFormatBuilder {
     pub fn get_required_integer_digits(&self) -> bool
         ensures { result ≡ self.now.required_integer_digits }
     {
-        self.has(flags::REQUIRED_INTEGER_DIGITS)
+        self.has_flag(flags::REQUIRED_INTEGER_DIGITS)
     }
 
     /// The flag `required_fraction_digits`. Digits must stand after a decimal point, where
@@ -76,7 +76,7 @@ impl NumberFormatBuilder {
     pub fn get_required_fraction_digits(&self) -> bool
         ensures { result ≡ self.now.required_fraction_digits }
     {
-        self.has(flags::REQUIRED_FRACTION_DIGITS)
+        self.has_flag(flags::REQUIRED_FRACTION_DIGITS)
     }
 
     /// The flag `required_exponent_digits`. Digits must stand after the exponent character,
@@ -85,7 +85,7 @@ impl NumberFormatBuilder {
     pub fn get_required_exponent_digits(&self) -> bool
         ensures { result ≡ self.now.required_exponent_digits }
     {
-        self.has(flags::REQUIRED_EXPONENT_DIGITS)
+        self.has_flag(flags::REQUIRED_EXPONENT_DIGITS)
     }
 
     /// The flag `required_mantissa_digits`. At least one digit must stand before or after the
@@ -94,7 +94,7 @@ impl NumberFormatBuilder {
     pub fn get_required_mantissa_digits(&self) -> bool
         ensures { result ≡ self.now.required_mantissa_digits }
     {
-        self.has(flags::REQUIRED_MANTISSA_DIGITS)
+        self.has_flag(flags::REQUIRED_MANTISSA_DIGITS)
     }
 
     /// The flag `no_positive_mantissa_sign`. No `+` may stand before the number.
@@ -102,7 +102,7 @@ impl NumberFormatBuilder {
     pub fn get_no_positive_mantissa_sign(&self) -> bool
         ensures { result ≡ self.now.no_positive_mantissa_sign }
     {
-        self.has(flags::NO_POSITIVE_MANTISSA_SIGN)
+        self.has_flag(flags::NO_POSITIVE_MANTISSA_SIGN)
     }
 
     /// The flag `required_mantissa_sign`. A sign, `+` or `-`, must stand before the number.
@@ -110,7 +110,7 @@ impl NumberFormatBuilder {
     pub fn get_required_mantissa_sign(&self) -> bool
         ensures { result ≡ self.now.required_mantissa_sign }
     {
-        self.has(flags::REQUIRED_MANTISSA_SIGN)
+        self.has_flag(flags::REQUIRED_MANTISSA_SIGN)
     }
 
     /// The flag `no_exponent_notation`. No exponent may be written.
@@ -118,7 +118,7 @@ impl NumberFormatBuilder {
     pub fn get_no_exponent_notation(&self) -> bool
         ensures { result ≡ self.now.no_exponent_notation }
     {
-        self.has(flags::NO_EXPONENT_NOTATION)
+        self.has_flag(flags::NO_EXPONENT_NOTATION)
     }
 
     /// The flag `no_positive_exponent_sign`. No `+` may stand before the digits of an exponent.
@@ -126,7 +126,7 @@ impl NumberFormatBuilder {
     pub fn get_no_positive_exponent_sign(&self) -> bool
         ensures { result ≡ self.now.no_positive_exponent_sign }
     {
-        self.has(flags::NO_POSITIVE_EXPONENT_SIGN)
+        self.has_flag(flags::NO_POSITIVE_EXPONENT_SIGN)
     }
 
     /// The flag `required_exponent_sign`. A sign, `+` or `-`, must stand before the digits of
@@ -135,7 +135,7 @@ impl NumberFormatBuilder {
     pub fn get_required_exponent_sign(&self) -> bool
         ensures { result ≡ self.now.required_exponent_sign }
     {
-        self.has(flags::REQUIRED_EXPONENT_SIGN)
+        self.has_flag(flags::REQUIRED_EXPONENT_SIGN)
     }
 
     /// The flag `no_exponent_without_fraction`. An exponent may stand only after a decimal
@@ -144,7 +144,7 @@ impl NumberFormatBuilder {
     pub fn get_no_exponent_without_fraction(&self) -> bool
         ensures { result ≡ self.now.no_exponent_without_fraction }
     {
-        self.has(flags::NO_EXPONENT_WITHOUT_FRACTION)
+        self.has_flag(flags::NO_EXPONENT_WITHOUT_FRACTION)
     }
 
     /// The flag `no_special`. No special value, such as NaN or infinity, may be written.
@@ -152,7 +152,7 @@ impl NumberFormatBuilder {
     pub fn get_no_special(&self) -> bool
         ensures { result ≡ self.now.no_special }
     {
-        self.has(flags::NO_SPECIAL)
+        self.has_flag(flags::NO_SPECIAL)
     }
 
     /// The flag `case_sensitive_special`. The case of letters counts in special values.
@@ -160,7 +160,7 @@ impl NumberFormatBuilder {
     pub fn get_case_sensitive_special(&self) -> bool
         ensures { result ≡ self.now.case_sensitive_special }
     {
-        self.has(flags::CASE_SENSITIVE_SPECIAL)
+        self.has_flag(flags::CASE_SENSITIVE_SPECIAL)
     }
 
     /// The flag `no_integer_leading_zeros`. No zeros may stand before the digits of an integer.
@@ -168,7 +168,7 @@ impl NumberFormatBuilder {
     pub fn get_no_integer_leading_zeros(&self) -> bool
         ensures { result ≡ self.now.no_integer_leading_zeros }
     {
-        self.has(flags::NO_INTEGER_LEADING_ZEROS)
+        self.has_flag(flags::NO_INTEGER_LEADING_ZEROS)
     }
 
     /// The flag `no_float_leading_zeros`. No zeros may stand before the integer digits of a
@@ -177,7 +177,7 @@ impl NumberFormatBuilder {
     pub fn get_no_float_leading_zeros(&self) -> bool
         ensures { result ≡ self.now.no_float_leading_zeros }
     {
-        self.has(flags::NO_FLOAT_LEADING_ZEROS)
+        self.has_flag(flags::NO_FLOAT_LEADING_ZEROS)
     }
 
     /// The flag `required_exponent_notation`. An exponent must be written.
@@ -185,7 +185,7 @@ impl NumberFormatBuilder {
     pub fn get_required_exponent_notation(&self) -> bool
         ensures { result ≡ self.now.required_exponent_notation }
     {
-        self.has(flags::REQUIRED_EXPONENT_NOTATION)
+        self.has_flag(flags::REQUIRED_EXPONENT_NOTATION)
     }
 
     /// The flag `case_sensitive_exponent`. The case of the exponent character counts.
@@ -193,7 +193,7 @@ impl NumberFormatBuilder {
     pub fn get_case_sensitive_exponent(&self) -> bool
         ensures { result ≡ self.now.case_sensitive_exponent }
     {
-        self.has(flags::CASE_SENSITIVE_EXPONENT)
+        self.has_flag(flags::CASE_SENSITIVE_EXPONENT)
     }
 
     /// The flag `case_sensitive_base_prefix`. The case of the base prefix counts.
@@ -201,7 +201,7 @@ impl NumberFormatBuilder {
     pub fn get_case_sensitive_base_prefix(&self) -> bool
         ensures { result ≡ self.now.case_sensitive_base_prefix }
     {
-        self.has(flags::CASE_SENSITIVE_BASE_PREFIX)
+        self.has_flag(flags::CASE_SENSITIVE_BASE_PREFIX)
     }
 
     /// The flag `case_sensitive_base_suffix`. The case of the base suffix counts.
@@ -209,7 +209,7 @@ impl NumberFormatBuilder {
     pub fn get_case_sensitive_base_suffix(&self) -> bool
         ensures { result ≡ self.now.case_sensitive_base_suffix }
     {
-        self.has(flags::CASE_SENSITIVE_BASE_SUFFIX)
+        self.has_flag(flags::CASE_SENSITIVE_BASE_SUFFIX)
     }
 
     /// The flag `integer_internal_digit_separator`. A digit separator may stand between integer
@@ -218,7 +218,7 @@ impl NumberFormatBuilder {
     pub fn get_integer_internal_digit_separator(&self) -> bool
         ensures { result ≡ self.now.integer_internal_digit_separator }
     {
-        self.has(flags::INTEGER_INTERNAL_DIGIT_SEPARATOR)
+        self.has_flag(flags::INTEGER_INTERNAL_DIGIT_SEPARATOR)
     }
 
     /// The flag `fraction_internal_digit_separator`. A digit separator may stand between
@@ -227,7 +227,7 @@ impl NumberFormatBuilder {
     pub fn get_fraction_internal_digit_separator(&self) -> bool
         ensures { result ≡ self.now.fraction_internal_digit_separator }
     {
-        self.has(flags::FRACTION_INTERNAL_DIGIT_SEPARATOR)
+        self.has_flag(flags::FRACTION_INTERNAL_DIGIT_SEPARATOR)
     }
 
     /// The flag `exponent_internal_digit_separator`. A digit separator may stand between
@@ -236,7 +236,7 @@ impl NumberFormatBuilder {
     pub fn get_exponent_internal_digit_separator(&self) -> bool
         ensures { result ≡ self.now.exponent_internal_digit_separator }
     {
-        self.has(flags::EXPONENT_INTERNAL_DIGIT_SEPARATOR)
+        self.has_flag(flags::EXPONENT_INTERNAL_DIGIT_SEPARATOR)
     }
 
     /// The flag `integer_leading_digit_separator`. A digit separator may stand before integer
@@ -245,7 +245,7 @@ impl NumberFormatBuilder {
     pub fn get_integer_leading_digit_separator(&self) -> bool
         ensures { result ≡ self.now.integer_leading_digit_separator }
     {
-        self.has(flags::INTEGER_LEADING_DIGIT_SEPARATOR)
+        self.has_flag(flags::INTEGER_LEADING_DIGIT_SEPARATOR)
     }
 
     /// The flag `fraction_leading_digit_separator`. A digit separator may stand before fraction
@@ -254,7 +254,7 @@ impl NumberFormatBuilder {
     pub fn get_fraction_leading_digit_separator(&self) -> bool
         ensures { result ≡ self.now.fraction_leading_digit_separator }
     {
-        self.has(flags::FRACTION_LEADING_DIGIT_SEPARATOR)
+        self.has_flag(flags::FRACTION_LEADING_DIGIT_SEPARATOR)
     }
 
     /// The flag `exponent_leading_digit_separator`. A digit separator may stand before exponent
@@ -263,7 +263,7 @@ impl NumberFormatBuilder {
     pub fn get_exponent_leading_digit_separator(&self) -> bool
         ensures { result ≡ self.now.exponent_leading_digit_separator }
     {
-        self.has(flags::EXPONENT_LEADING_DIGIT_SEPARATOR)
+        self.has_flag(flags::EXPONENT_LEADING_DIGIT_SEPARATOR)
     }
 
     /// The flag `integer_trailing_digit_separator`. A digit separator may stand after integer
@@ -272,7 +272,7 @@ impl NumberFormatBuilder {
     pub fn get_integer_trailing_digit_separator(&self) -> bool
         ensures { result ≡ self.now.integer_trailing_digit_separator }
     {
-        self.has(flags::INTEGER_TRAILING_DIGIT_SEPARATOR)
+        self.has_flag(flags::INTEGER_TRAILING_DIGIT_SEPARATOR)
     }
 
     /// The flag `fraction_trailing_digit_separator`. A digit separator may stand after fraction
@@ -281,7 +281,7 @@ impl NumberFormatBuilder {
     pub fn get_fraction_trailing_digit_separator(&self) -> bool
         ensures { result ≡ self.now.fraction_trailing_digit_separator }
     {
-        self.has(flags::FRACTION_TRAILING_DIGIT_SEPARATOR)
+        self.has_flag(flags::FRACTION_TRAILING_DIGIT_SEPARATOR)
     }
 
     /// The flag `exponent_trailing_digit_separator`. A digit separator may stand after exponent
@@ -290,7 +290,7 @@ impl NumberFormatBuilder {
     pub fn get_exponent_trailing_digit_separator(&self) -> bool
         ensures { result ≡ self.now.exponent_trailing_digit_separator }
     {
-        self.has(flags::EXPONENT_TRAILING_DIGIT_SEPARATOR)
+        self.has_flag(flags::EXPONENT_TRAILING_DIGIT_SEPARATOR)
     }
 
     /// The flag `integer_consecutive_digit_separator`. Digit separators in a row may stand
@@ -299,7 +299,7 @@ impl NumberFormatBuilder {
     pub fn get_integer_consecutive_digit_separator(&self) -> bool
         ensures { result ≡ self.now.integer_consecutive_digit_separator }
     {
-        self.has(flags::INTEGER_CONSECUTIVE_DIGIT_SEPARATOR)
+        self.has_flag(flags::INTEGER_CONSECUTIVE_DIGIT_SEPARATOR)
     }
 
     /// The flag `fraction_consecutive_digit_separator`. Digit separators in a row may stand
@@ -308,7 +308,7 @@ impl NumberFormatBuilder {
     pub fn get_fraction_consecutive_digit_separator(&self) -> bool
         ensures { result ≡ self.now.fraction_consecutive_digit_separator }
     {
-        self.has(flags::FRACTION_CONSECUTIVE_DIGIT_SEPARATOR)
+        self.has_flag(flags::FRACTION_CONSECUTIVE_DIGIT_SEPARATOR)
     }
 
     /// The flag `exponent_consecutive_digit_separator`. Digit separators in a row may stand
@@ -317,7 +317,7 @@ impl NumberFormatBuilder {
     pub fn get_exponent_consecutive_digit_separator(&self) -> bool
         ensures { result ≡ self.now.exponent_consecutive_digit_separator }
     {
-        self.has(flags::EXPONENT_CONSECUTIVE_DIGIT_SEPARATOR)
+        self.has_flag(flags::EXPONENT_CONSECUTIVE_DIGIT_SEPARATOR)
     }
 
     /// The flag `special_digit_separator`. Digit separators may stand anywhere in special
@@ -326,6 +326,6 @@ impl NumberFormatBuilder {
     pub fn get_special_digit_separator(&self) -> bool
         ensures { result ≡ self.now.special_digit_separator }
     {
-        self.has(flags::SPECIAL_DIGIT_SEPARATOR)
+        self.has_flag(flags::SPECIAL_DIGIT_SEPARATOR)
     }
 }

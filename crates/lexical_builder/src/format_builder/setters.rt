@@ -87,7 +87,7 @@ impl NumberFormatBuilder {
     pub fn required_integer_digits(self, flag: bool) -> Self
         ensures { result ≡ after self (write_flag layout.required_integer_digits flag ∷ []) }
     {
-        self.with(flags::REQUIRED_INTEGER_DIGITS, flag)
+        self.with_flags(flags::REQUIRED_INTEGER_DIGITS, flag)
     }
 
     /// Sets the flag `required_fraction_digits`. With true a parser refuses a float with a decimal
@@ -97,7 +97,7 @@ impl NumberFormatBuilder {
     pub fn required_fraction_digits(self, flag: bool) -> Self
         ensures { result ≡ after self (write_flag layout.required_fraction_digits flag ∷ []) }
     {
-        self.with(flags::REQUIRED_FRACTION_DIGITS, flag)
+        self.with_flags(flags::REQUIRED_FRACTION_DIGITS, flag)
     }
 
     /// Sets the flag `required_exponent_digits`. With true a parser refuses an exponent character
@@ -106,7 +106,7 @@ impl NumberFormatBuilder {
     pub fn required_exponent_digits(self, flag: bool) -> Self
         ensures { result ≡ after self (write_flag layout.required_exponent_digits flag ∷ []) }
     {
-        self.with(flags::REQUIRED_EXPONENT_DIGITS, flag)
+        self.with_flags(flags::REQUIRED_EXPONENT_DIGITS, flag)
     }
 
     /// Sets the flag `required_mantissa_digits`. With true a parser refuses a float with no
@@ -116,7 +116,7 @@ impl NumberFormatBuilder {
     pub fn required_mantissa_digits(self, flag: bool) -> Self
         ensures { result ≡ after self (write_flag layout.required_mantissa_digits flag ∷ []) }
     {
-        self.with(flags::REQUIRED_MANTISSA_DIGITS, flag)
+        self.with_flags(flags::REQUIRED_MANTISSA_DIGITS, flag)
     }
 
     /// Sets the four flags that ask for digits: before the decimal point, after it, in an
@@ -126,7 +126,7 @@ impl NumberFormatBuilder {
     pub fn required_digits(self, flag: bool) -> Self
         ensures { result ≡ after self (write_flags layout.required_digits flag) }
     {
-        self.with(flags::REQUIRED_DIGITS, flag)
+        self.with_flags(flags::REQUIRED_DIGITS, flag)
     }
 
     /// Sets the flag `no_positive_mantissa_sign`. With true a parser of integers and floats
@@ -135,7 +135,7 @@ impl NumberFormatBuilder {
     pub fn no_positive_mantissa_sign(self, flag: bool) -> Self
         ensures { result ≡ after self (write_flag layout.no_positive_mantissa_sign flag ∷ []) }
     {
-        self.with(flags::NO_POSITIVE_MANTISSA_SIGN, flag)
+        self.with_flags(flags::NO_POSITIVE_MANTISSA_SIGN, flag)
     }
 
     /// Sets the flag `required_mantissa_sign`. With true a parser of integers and floats refuses a
@@ -145,7 +145,7 @@ impl NumberFormatBuilder {
     pub fn required_mantissa_sign(self, flag: bool) -> Self
         ensures { result ≡ after self (write_flag layout.required_mantissa_sign flag ∷ []) }
     {
-        self.with(flags::REQUIRED_MANTISSA_SIGN, flag)
+        self.with_flags(flags::REQUIRED_MANTISSA_SIGN, flag)
     }
 
     /// Sets the flag `no_exponent_notation`. With true a parser refuses a float with an exponent,
@@ -154,7 +154,7 @@ impl NumberFormatBuilder {
     pub fn no_exponent_notation(self, flag: bool) -> Self
         ensures { result ≡ after self (write_flag layout.no_exponent_notation flag ∷ []) }
     {
-        self.with(flags::NO_EXPONENT_NOTATION, flag)
+        self.with_flags(flags::NO_EXPONENT_NOTATION, flag)
     }
 
     /// Sets the flag `no_positive_exponent_sign`. With true a parser refuses `1e+5`. `1e5` and
@@ -163,7 +163,7 @@ impl NumberFormatBuilder {
     pub fn no_positive_exponent_sign(self, flag: bool) -> Self
         ensures { result ≡ after self (write_flag layout.no_positive_exponent_sign flag ∷ []) }
     {
-        self.with(flags::NO_POSITIVE_EXPONENT_SIGN, flag)
+        self.with_flags(flags::NO_POSITIVE_EXPONENT_SIGN, flag)
     }
 
     /// Sets the flag `required_exponent_sign`. With true a parser refuses an exponent with no sign,
@@ -173,7 +173,7 @@ impl NumberFormatBuilder {
     pub fn required_exponent_sign(self, flag: bool) -> Self
         ensures { result ≡ after self (write_flag layout.required_exponent_sign flag ∷ []) }
     {
-        self.with(flags::REQUIRED_EXPONENT_SIGN, flag)
+        self.with_flags(flags::REQUIRED_EXPONENT_SIGN, flag)
     }
 
     /// Sets the flag `no_exponent_without_fraction`. With true a parser refuses an exponent in a
@@ -183,7 +183,7 @@ impl NumberFormatBuilder {
     pub fn no_exponent_without_fraction(self, flag: bool) -> Self
         ensures { result ≡ after self (write_flag layout.no_exponent_without_fraction flag ∷ []) }
     {
-        self.with(flags::NO_EXPONENT_WITHOUT_FRACTION, flag)
+        self.with_flags(flags::NO_EXPONENT_WITHOUT_FRACTION, flag)
     }
 
     /// Sets the flag `no_special`. With true a parser refuses every special value, such as `NaN`
@@ -192,7 +192,7 @@ impl NumberFormatBuilder {
     pub fn no_special(self, flag: bool) -> Self
         ensures { result ≡ after self (write_flag layout.no_special flag ∷ []) }
     {
-        self.with(flags::NO_SPECIAL, flag)
+        self.with_flags(flags::NO_SPECIAL, flag)
     }
 
     /// Sets the flag `case_sensitive_special`. With true `NaN` and `nan` are different texts to
@@ -202,7 +202,7 @@ impl NumberFormatBuilder {
     pub fn case_sensitive_special(self, flag: bool) -> Self
         ensures { result ≡ after self (write_flag layout.case_sensitive_special flag ∷ []) }
     {
-        self.with(flags::CASE_SENSITIVE_SPECIAL, flag)
+        self.with_flags(flags::CASE_SENSITIVE_SPECIAL, flag)
     }
 
     /// Sets the flag `no_integer_leading_zeros`. With true a parser of integers refuses `01`.
@@ -211,7 +211,7 @@ impl NumberFormatBuilder {
     pub fn no_integer_leading_zeros(self, flag: bool) -> Self
         ensures { result ≡ after self (write_flag layout.no_integer_leading_zeros flag ∷ []) }
     {
-        self.with(flags::NO_INTEGER_LEADING_ZEROS, flag)
+        self.with_flags(flags::NO_INTEGER_LEADING_ZEROS, flag)
     }
 
     /// Sets the flag `no_float_leading_zeros`. With true a parser of floats refuses `01` and
@@ -220,7 +220,7 @@ impl NumberFormatBuilder {
     pub fn no_float_leading_zeros(self, flag: bool) -> Self
         ensures { result ≡ after self (write_flag layout.no_float_leading_zeros flag ∷ []) }
     {
-        self.with(flags::NO_FLOAT_LEADING_ZEROS, flag)
+        self.with_flags(flags::NO_FLOAT_LEADING_ZEROS, flag)
     }
 
     /// Sets the flag `required_exponent_notation`. With true a parser refuses a float with no
@@ -229,7 +229,7 @@ impl NumberFormatBuilder {
     pub fn required_exponent_notation(self, flag: bool) -> Self
         ensures { result ≡ after self (write_flag layout.required_exponent_notation flag ∷ []) }
     {
-        self.with(flags::REQUIRED_EXPONENT_NOTATION, flag)
+        self.with_flags(flags::REQUIRED_EXPONENT_NOTATION, flag)
     }
 
     /// Sets the flag `case_sensitive_exponent`. With true a parser whose exponent character is
@@ -238,7 +238,7 @@ impl NumberFormatBuilder {
     pub fn case_sensitive_exponent(self, flag: bool) -> Self
         ensures { result ≡ after self (write_flag layout.case_sensitive_exponent flag ∷ []) }
     {
-        self.with(flags::CASE_SENSITIVE_EXPONENT, flag)
+        self.with_flags(flags::CASE_SENSITIVE_EXPONENT, flag)
     }
 
     /// Sets the flag `case_sensitive_base_prefix`. With true a parser whose base prefix is `x`
@@ -247,7 +247,7 @@ impl NumberFormatBuilder {
     pub fn case_sensitive_base_prefix(self, flag: bool) -> Self
         ensures { result ≡ after self (write_flag layout.case_sensitive_base_prefix flag ∷ []) }
     {
-        self.with(flags::CASE_SENSITIVE_BASE_PREFIX, flag)
+        self.with_flags(flags::CASE_SENSITIVE_BASE_PREFIX, flag)
     }
 
     /// Sets the flag `case_sensitive_base_suffix`. With true a parser whose base suffix is `h`
@@ -256,7 +256,7 @@ impl NumberFormatBuilder {
     pub fn case_sensitive_base_suffix(self, flag: bool) -> Self
         ensures { result ≡ after self (write_flag layout.case_sensitive_base_suffix flag ∷ []) }
     {
-        self.with(flags::CASE_SENSITIVE_BASE_SUFFIX, flag)
+        self.with_flags(flags::CASE_SENSITIVE_BASE_SUFFIX, flag)
     }
 
     /// Sets the flag `integer_internal_digit_separator`. With true a parser whose digit
@@ -266,7 +266,7 @@ impl NumberFormatBuilder {
     pub fn integer_internal_digit_separator(self, flag: bool) -> Self
         ensures { result ≡ after self (write_flag layout.integer_internal_digit_separator flag ∷ []) }
     {
-        self.with(flags::INTEGER_INTERNAL_DIGIT_SEPARATOR, flag)
+        self.with_flags(flags::INTEGER_INTERNAL_DIGIT_SEPARATOR, flag)
     }
 
     /// Sets the flag `fraction_internal_digit_separator`. With true a parser whose digit
@@ -276,7 +276,7 @@ impl NumberFormatBuilder {
     pub fn fraction_internal_digit_separator(self, flag: bool) -> Self
         ensures { result ≡ after self (write_flag layout.fraction_internal_digit_separator flag ∷ []) }
     {
-        self.with(flags::FRACTION_INTERNAL_DIGIT_SEPARATOR, flag)
+        self.with_flags(flags::FRACTION_INTERNAL_DIGIT_SEPARATOR, flag)
     }
 
     /// Sets the flag `exponent_internal_digit_separator`. With true a parser whose digit
@@ -286,7 +286,7 @@ impl NumberFormatBuilder {
     pub fn exponent_internal_digit_separator(self, flag: bool) -> Self
         ensures { result ≡ after self (write_flag layout.exponent_internal_digit_separator flag ∷ []) }
     {
-        self.with(flags::EXPONENT_INTERNAL_DIGIT_SEPARATOR, flag)
+        self.with_flags(flags::EXPONENT_INTERNAL_DIGIT_SEPARATOR, flag)
     }
 
     /// Sets whether a digit separator may stand between digits of integers, fractions and
@@ -295,7 +295,7 @@ impl NumberFormatBuilder {
     pub fn internal_digit_separator(self, flag: bool) -> Self
         ensures { result ≡ after self (write_flags layout.internal_digit_separator flag) }
     {
-        self.with(flags::INTERNAL_DIGIT_SEPARATOR, flag)
+        self.with_flags(flags::INTERNAL_DIGIT_SEPARATOR, flag)
     }
 
     /// Sets the flag `integer_leading_digit_separator`. With true a parser whose digit
@@ -305,7 +305,7 @@ impl NumberFormatBuilder {
     pub fn integer_leading_digit_separator(self, flag: bool) -> Self
         ensures { result ≡ after self (write_flag layout.integer_leading_digit_separator flag ∷ []) }
     {
-        self.with(flags::INTEGER_LEADING_DIGIT_SEPARATOR, flag)
+        self.with_flags(flags::INTEGER_LEADING_DIGIT_SEPARATOR, flag)
     }
 
     /// Sets the flag `fraction_leading_digit_separator`. With true a parser whose digit
@@ -315,7 +315,7 @@ impl NumberFormatBuilder {
     pub fn fraction_leading_digit_separator(self, flag: bool) -> Self
         ensures { result ≡ after self (write_flag layout.fraction_leading_digit_separator flag ∷ []) }
     {
-        self.with(flags::FRACTION_LEADING_DIGIT_SEPARATOR, flag)
+        self.with_flags(flags::FRACTION_LEADING_DIGIT_SEPARATOR, flag)
     }
 
     /// Sets the flag `exponent_leading_digit_separator`. With true a parser whose digit
@@ -325,7 +325,7 @@ impl NumberFormatBuilder {
     pub fn exponent_leading_digit_separator(self, flag: bool) -> Self
         ensures { result ≡ after self (write_flag layout.exponent_leading_digit_separator flag ∷ []) }
     {
-        self.with(flags::EXPONENT_LEADING_DIGIT_SEPARATOR, flag)
+        self.with_flags(flags::EXPONENT_LEADING_DIGIT_SEPARATOR, flag)
     }
 
     /// Sets whether a digit separator may stand before the digits of integers, fractions and
@@ -334,7 +334,7 @@ impl NumberFormatBuilder {
     pub fn leading_digit_separator(self, flag: bool) -> Self
         ensures { result ≡ after self (write_flags layout.leading_digit_separator flag) }
     {
-        self.with(flags::LEADING_DIGIT_SEPARATOR, flag)
+        self.with_flags(flags::LEADING_DIGIT_SEPARATOR, flag)
     }
 
     /// Sets the flag `integer_trailing_digit_separator`. With true a parser whose digit
@@ -344,7 +344,7 @@ impl NumberFormatBuilder {
     pub fn integer_trailing_digit_separator(self, flag: bool) -> Self
         ensures { result ≡ after self (write_flag layout.integer_trailing_digit_separator flag ∷ []) }
     {
-        self.with(flags::INTEGER_TRAILING_DIGIT_SEPARATOR, flag)
+        self.with_flags(flags::INTEGER_TRAILING_DIGIT_SEPARATOR, flag)
     }
 
     /// Sets the flag `fraction_trailing_digit_separator`. With true a parser whose digit
@@ -354,7 +354,7 @@ impl NumberFormatBuilder {
     pub fn fraction_trailing_digit_separator(self, flag: bool) -> Self
         ensures { result ≡ after self (write_flag layout.fraction_trailing_digit_separator flag ∷ []) }
     {
-        self.with(flags::FRACTION_TRAILING_DIGIT_SEPARATOR, flag)
+        self.with_flags(flags::FRACTION_TRAILING_DIGIT_SEPARATOR, flag)
     }
 
     /// Sets the flag `exponent_trailing_digit_separator`. With true a parser whose digit
@@ -364,7 +364,7 @@ impl NumberFormatBuilder {
     pub fn exponent_trailing_digit_separator(self, flag: bool) -> Self
         ensures { result ≡ after self (write_flag layout.exponent_trailing_digit_separator flag ∷ []) }
     {
-        self.with(flags::EXPONENT_TRAILING_DIGIT_SEPARATOR, flag)
+        self.with_flags(flags::EXPONENT_TRAILING_DIGIT_SEPARATOR, flag)
     }
 
     /// Sets whether a digit separator may stand after the digits of integers, fractions and
@@ -373,7 +373,7 @@ impl NumberFormatBuilder {
     pub fn trailing_digit_separator(self, flag: bool) -> Self
         ensures { result ≡ after self (write_flags layout.trailing_digit_separator flag) }
     {
-        self.with(flags::TRAILING_DIGIT_SEPARATOR, flag)
+        self.with_flags(flags::TRAILING_DIGIT_SEPARATOR, flag)
     }
 
     /// Sets the flag `integer_consecutive_digit_separator`. With true a parser whose digit
@@ -384,7 +384,7 @@ impl NumberFormatBuilder {
     pub fn integer_consecutive_digit_separator(self, flag: bool) -> Self
         ensures { result ≡ after self (write_flag layout.integer_consecutive_digit_separator flag ∷ []) }
     {
-        self.with(flags::INTEGER_CONSECUTIVE_DIGIT_SEPARATOR, flag)
+        self.with_flags(flags::INTEGER_CONSECUTIVE_DIGIT_SEPARATOR, flag)
     }
 
     /// Sets the flag `fraction_consecutive_digit_separator`. With true a parser whose digit
@@ -395,7 +395,7 @@ impl NumberFormatBuilder {
     pub fn fraction_consecutive_digit_separator(self, flag: bool) -> Self
         ensures { result ≡ after self (write_flag layout.fraction_consecutive_digit_separator flag ∷ []) }
     {
-        self.with(flags::FRACTION_CONSECUTIVE_DIGIT_SEPARATOR, flag)
+        self.with_flags(flags::FRACTION_CONSECUTIVE_DIGIT_SEPARATOR, flag)
     }
 
     /// Sets the flag `exponent_consecutive_digit_separator`. With true a parser whose digit
@@ -406,7 +406,7 @@ impl NumberFormatBuilder {
     pub fn exponent_consecutive_digit_separator(self, flag: bool) -> Self
         ensures { result ≡ after self (write_flag layout.exponent_consecutive_digit_separator flag ∷ []) }
     {
-        self.with(flags::EXPONENT_CONSECUTIVE_DIGIT_SEPARATOR, flag)
+        self.with_flags(flags::EXPONENT_CONSECUTIVE_DIGIT_SEPARATOR, flag)
     }
 
     /// Sets whether digit separators may stand in a row, wherever one may stand in integers,
@@ -415,7 +415,7 @@ impl NumberFormatBuilder {
     pub fn consecutive_digit_separator(self, flag: bool) -> Self
         ensures { result ≡ after self (write_flags layout.consecutive_digit_separator flag) }
     {
-        self.with(flags::CONSECUTIVE_DIGIT_SEPARATOR, flag)
+        self.with_flags(flags::CONSECUTIVE_DIGIT_SEPARATOR, flag)
     }
 
     /// Sets the flag `special_digit_separator`. With true a parser whose digit separator is `_`
@@ -425,7 +425,7 @@ impl NumberFormatBuilder {
     pub fn special_digit_separator(self, flag: bool) -> Self
         ensures { result ≡ after self (write_flag layout.special_digit_separator flag ∷ []) }
     {
-        self.with(flags::SPECIAL_DIGIT_SEPARATOR, flag)
+        self.with_flags(flags::SPECIAL_DIGIT_SEPARATOR, flag)
     }
 
     /// Sets all 13 digit separator flags, `special_digit_separator` too. Default: false for
@@ -434,7 +434,7 @@ impl NumberFormatBuilder {
     pub fn digit_separator_flags(self, flag: bool) -> Self
         ensures { result ≡ after self (write_flags layout.digit_separator_flags flag) }
     {
-        self.with(flags::DIGIT_SEPARATOR_FLAG_MASK, flag)
+        self.with_flags(flags::DIGIT_SEPARATOR_FLAG_MASK, flag)
     }
 
     /// Sets the four digit separator flags of integer digits. Default: false for each.
@@ -442,7 +442,7 @@ impl NumberFormatBuilder {
     pub fn integer_digit_separator_flags(self, flag: bool) -> Self
         ensures { result ≡ after self (write_flags layout.integer_digit_separator_flags flag) }
     {
-        self.with(flags::INTEGER_DIGIT_SEPARATOR_FLAG_MASK, flag)
+        self.with_flags(flags::INTEGER_DIGIT_SEPARATOR_FLAG_MASK, flag)
     }
 
     /// Sets the four digit separator flags of fraction digits. Default: false for each.
@@ -450,7 +450,7 @@ impl NumberFormatBuilder {
     pub fn fraction_digit_separator_flags(self, flag: bool) -> Self
         ensures { result ≡ after self (write_flags layout.fraction_digit_separator_flags flag) }
     {
-        self.with(flags::FRACTION_DIGIT_SEPARATOR_FLAG_MASK, flag)
+        self.with_flags(flags::FRACTION_DIGIT_SEPARATOR_FLAG_MASK, flag)
     }
 
     /// Sets the four digit separator flags of exponent digits. Default: false for each.
@@ -458,6 +458,6 @@ impl NumberFormatBuilder {
     pub fn exponent_digit_separator_flags(self, flag: bool) -> Self
         ensures { result ≡ after self (write_flags layout.exponent_digit_separator_flags flag) }
     {
-        self.with(flags::EXPONENT_DIGIT_SEPARATOR_FLAG_MASK, flag)
+        self.with_flags(flags::EXPONENT_DIGIT_SEPARATOR_FLAG_MASK, flag)
     }
 }

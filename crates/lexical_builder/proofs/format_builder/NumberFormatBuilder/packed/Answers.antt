@@ -4,7 +4,7 @@ use Rattle.lexical_flags.specs.Layout.{flags}
 use Rattle.lexical_flags.specs.Record.{Record, pack, flag_bits, separator_on, raw, trim, HasBytes}
 use Rattle.lexical_flags.proofs.Packing.{HasBytes-by_name, HasBytes-trim}
 use Rattle.lexical_flags.proofs.FlagBits.{fields_joined, separator_on-flags}
-use Rattle.lexical_builder.specs.View.{record_of}
+use Rattle.lexical_builder.specs.Fields.{record_of}
 use Rattle.lexical_builder.proofs.format_builder.NumberFormatBuilder.packed.Goals as goal
 
 pub returns : goal.returns

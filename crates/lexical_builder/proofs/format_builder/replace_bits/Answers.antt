@@ -1,16 +1,16 @@
 use Rattle.std.proofs.Common.{◌∙◌, ◌==◌, ◌^◌, ◌<◌, ◌-◌, ap, sym, subst, arith, bit_and, bit_or}
 use Rattle.std.proofs.lemmas.Nat.{or_lt, and_le_l}
 use Rattle.lexical_flags.specs.Layout.{part}
-use Rattle.lexical_builder.proofs.Held.{write_test, bits_lt}
-use Rattle.lexical_builder.proofs.format_builder.written.Goals as goal
+use Rattle.lexical_builder.proofs.BuilderFlags.{replaced_test, bits_if-lt}
+use Rattle.lexical_builder.proofs.format_builder.replace_bits.Goals as goal
 
 pub returns-clause-bits : goal.returns-clause-bits
 returns-clause-bits c i l =
     ap (λ set. part (bit_or (bit_and c.args.flags (2 ^ 32 - 1 - c.args.mask)) set) i 1 == 1) c.bits_if.ensures
-    ∙ write_test c.args.flags c.args.mask i c.args.flag (omega arith) l
+    ∙ replaced_test c.args.flags c.args.mask i c.args.flag (omega arith) l
 
 pub returns-clause-held : goal.returns-clause-held
 returns-clause-held c =
     or_lt 31 (bit_and c.args.flags (2 ^ 32 - 1 - c.args.mask)) c.bits_if.result
     (omega (arith, and_le_l c.args.flags (2 ^ 32 - 1 - c.args.mask)))
-    (subst (λ n. n < 2 ^ 31) (sym c.bits_if.ensures) (bits_lt c.args.flag c.args.mask c.requires.mask_held))
+    (subst (λ n. n < 2 ^ 31) (sym c.bits_if.ensures) (bits_if-lt c.args.flag c.args.mask c.requires.mask_held))

@@ -1,0 +1,14 @@
+use Rattle.std.proofs.Common.{arith, ◌∙◌, ◌≡◌, ap, ◌==◌, if◌then◌else◌, slice_index}
+use Rattle.lexical_flags.specs.Layout.{Flag, part, bit}
+use Rattle.lexical_flags.specs.Record.{tabulate, flag_of, byte_of}
+use Rattle.lexical_builder.specs.Fields.{builder_bit, index_of}
+use Rattle.lexical_builder.proofs.BuilderFlags.{builder_bit-lt, part-flags_in}
+use Rattle.lexical_builder.proofs.format_builder.NumberFormatBuilder.with_flags.Goals as goal
+
+pub returns : goal.returns
+returns c =
+    let at : (f : Flag) → part c.builder_flags.result (builder_bit f) 1 ≡ part c.args.mask (bit f) 1 =
+    λ f. ap (λ n. part n (builder_bit f) 1) c.builder_flags.ensures.value ∙ part-flags_in c.args.mask f in
+    (λ i. tabulate (λ f. c.replace_bits.ensures.bits (builder_bit f) (omega (arith, builder_bit-lt f)) i) (λ b. slice_index c.self.inside.bytes (index_of b)))
+    ∙ (λ i. tabulate (λ f. if at f i == 1 then c.args.flag else part c.self.inside.flags (builder_bit f) 1 == 1) (λ b. slice_index c.self.inside.bytes (index_of b)))
+    ∙ ap (λ r. tabulate (λ f. if part c.args.mask (bit f) 1 == 1 then c.args.flag else flag_of r f) (byte_of r)) c.self.view_is

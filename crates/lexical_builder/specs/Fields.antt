@@ -1,0 +1,35 @@
+-- Where a builder keeps each field, and the record that it stands for.
+use Rattle.std.specs.Prelude.{ℕ, ◌+◌, ◌-◌, ◌*◌, ◌^◌, ◌<◌, ◌==◌, nat_lt, if◌then◌else◌, find, unwrap_or, slice_index}
+use Rattle.lexical_flags.specs.Layout.{part, Flag, Byte, bit, flags}
+use Rattle.lexical_flags.specs.Layout as layout
+use Rattle.lexical_flags.specs.Record.{Record, tabulate}
+use Rattle.lexical_builder.specs.declared.format_builder.NumberFormatBuilder.TheInside.{Inside}
+
+-- the bit of a flag in a builder: that in a word, or 14 lower for a digit separator flag
+abbrev pub builder_bit : Flag → ℕ
+builder_bit f = if nat_lt (bit f) 18 then bit f else bit f - 14
+
+-- the flags of a word, at the bits of a builder
+abbrev pub flags_in : ℕ → ℕ
+flags_in word = part word 0 18 + part word 32 13 * 2 ^ 18
+
+-- the index of a byte in a builder
+abbrev pub index_of : Byte → ℕ
+index_of layout.digit_separator = 0
+index_of layout.base_prefix = 1
+index_of layout.base_suffix = 2
+index_of layout.mantissa_radix = 3
+index_of layout.exponent_base = 4
+index_of layout.exponent_radix = 5
+
+-- the flag that has this mask
+abbrev pub flag_with : ℕ → Flag
+flag_with mask = unwrap_or (find (λ f. 2 ^ bit f == mask) flags) layout.no_special
+
+-- the record that a builder stands for
+abbrev pub record_of : Inside → Record
+record_of inside = tabulate (λ f. part inside.flags (builder_bit f) 1 == 1) (λ b. slice_index inside.bytes (index_of b))
+
+-- bit 31 is 0
+abbrev pub HasClearTop : Inside → Type 0
+HasClearTop inside = inside.flags < 2 ^ 31
