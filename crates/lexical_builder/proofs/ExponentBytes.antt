@@ -25,11 +25,12 @@ base_filled high =
     let up : bit_and high 0xFF0000000000 * 2 ^ 8 % 2 ^ 64 ≡ r * 2 ^ 48 = omega (arith, and_high high 8 40, small) in
     let low : (r * 2 ^ 48) % 2 ^ 48 ≡ 0 = omega arith in
     let at : part (r * 2 ^ 48) 48 8 ≡ r = omega (arith, small) in
-    let above : part (r * 2 ^ 48) 56 8 ≡ 0 = omega (arith, small) in
-    (and_high high 8 48,
-     ap (λ x. bit_or high x % 2 ^ 48) up ∙ or_mod high (r * 2 ^ 48) 48 ∙ ap (λ x. bit_or (high % 2 ^ 48) x) low ∙ or_zero_r (high % 2 ^ 48),
-     ap (λ x. part (bit_or high x) 56 8) up ∙ part_or high (r * 2 ^ 48) 56 8 ∙ ap (λ x. bit_or (part high 56 8) x) above ∙ or_zero_r (part high 56 8),
-     λ none. ap (λ x. part (bit_or high x) 48 8) up ∙ part_or high (r * 2 ^ 48) 48 8 ∙ (λ i. bit_or (none i) (at i)) ∙ or_zero_l r)
+    let above : part (r * 2 ^ 48) 56 8 ≡ 0 = omega (arith, small) in (
+      and_high high 8 48,
+      ap (λ x. bit_or high x % 2 ^ 48) up ∙ or_mod high (r * 2 ^ 48) 48 ∙ ap (λ x. bit_or (high % 2 ^ 48) x) low ∙ or_zero_r (high % 2 ^ 48),
+      ap (λ x. part (bit_or high x) 56 8) up ∙ part_or high (r * 2 ^ 48) 56 8 ∙ ap (λ x. bit_or (part high 56 8) x) above ∙ or_zero_r (part high 56 8),
+      λ none. ap (λ x. part (bit_or high x) 48 8) up ∙ part_or high (r * 2 ^ 48) 48 8 ∙ (λ i. bit_or (none i) (at i)) ∙ or_zero_l r,
+    )
 
 -- the mantissa radix in the exponent radix
 pub radix_filled : (high : ℕ) → high < 2 ^ 64 →
@@ -42,11 +43,12 @@ radix_filled high fits =
     let small : r < 256 = part-lt high 40 in
     let up : bit_and high 0xFF0000000000 * 2 ^ 16 % 2 ^ 64 ≡ r * 2 ^ 56 = omega (arith, and_high high 8 40, small) in
     let low : (r * 2 ^ 56) % 2 ^ 56 ≡ 0 = omega arith in
-    let at : part (r * 2 ^ 56) 56 8 ≡ r = omega (arith, small) in
-    (λ below. omega (arith, below),
-     λ high_set. λ none. omega (arith, high_set, none, fits),
-     ap (λ x. bit_or high x % 2 ^ 56) up ∙ or_mod high (r * 2 ^ 56) 56 ∙ ap (λ x. bit_or (high % 2 ^ 56) x) low ∙ or_zero_r (high % 2 ^ 56),
-     λ none. ap (λ x. part (bit_or high x) 56 8) up ∙ part_or high (r * 2 ^ 56) 56 8 ∙ (λ i. bit_or (none i) (at i)) ∙ or_zero_l r)
+    let at : part (r * 2 ^ 56) 56 8 ≡ r = omega (arith, small) in (
+      λ below. omega (arith, below),
+      λ high_set. λ none. omega (arith, high_set, none, fits),
+      ap (λ x. bit_or high x % 2 ^ 56) up ∙ or_mod high (r * 2 ^ 56) 56 ∙ ap (λ x. bit_or (high % 2 ^ 56) x) low ∙ or_zero_r (high % 2 ^ 56),
+      λ none. ap (λ x. part (bit_or high x) 56 8) up ∙ part_or high (r * 2 ^ 56) 56 8 ∙ (λ i. bit_or (none i) (at i)) ∙ or_zero_l r,
+    )
 
 -- numbers that agree below a place have the same bytes there
 pub bytes_below : (a b : ℕ) → a % 2 ^ 48 ≡ b % 2 ^ 48 → (a % 256 ≡ part b 0 8) × (part a 24 8 ≡ part b 24 8) × (part a 32 8 ≡ part b 32 8) × (part a 40 8 ≡ part b 40 8)

@@ -1,3 +1,4 @@
 pub mod OptionByte
 pub mod Fields
+pub mod NewRecord
 pub mod Writes

@@ -4,52 +4,7 @@ use Rattle.std.specs.List.{last_or}
 use Rattle.std.specs.Bool.{beq}
 use Rattle.lexical_flags.specs.Layout.{Flag, Byte, bit, shift}
 use Rattle.lexical_flags.specs.Record.{Record, flag_of, byte_of, tabulate}
-
--- the record of a new builder: radix 10, and digits required in the mantissa and the exponent
-abbrev pub new_record : Record
-new_record = record {
-  required_integer_digits = false;
-  required_fraction_digits = false;
-  required_exponent_digits = true;
-  required_mantissa_digits = true;
-  no_positive_mantissa_sign = false;
-  required_mantissa_sign = false;
-  no_exponent_notation = false;
-  no_positive_exponent_sign = false;
-  required_exponent_sign = false;
-  no_exponent_without_fraction = false;
-  no_special = false;
-  case_sensitive_special = false;
-  no_integer_leading_zeros = false;
-  no_float_leading_zeros = false;
-  required_exponent_notation = false;
-  case_sensitive_exponent = false;
-  case_sensitive_base_prefix = false;
-  case_sensitive_base_suffix = false;
-  integer_internal_digit_separator = false;
-  fraction_internal_digit_separator = false;
-  exponent_internal_digit_separator = false;
-  integer_leading_digit_separator = false;
-  fraction_leading_digit_separator = false;
-  exponent_leading_digit_separator = false;
-  integer_trailing_digit_separator = false;
-  fraction_trailing_digit_separator = false;
-  exponent_trailing_digit_separator = false;
-  integer_consecutive_digit_separator = false;
-  fraction_consecutive_digit_separator = false;
-  exponent_consecutive_digit_separator = false;
-  special_digit_separator = false;
-  digit_separator = 0;
-  base_prefix = 0;
-  base_suffix = 0;
-  mantissa_radix = 10;
-  exponent_base = 0;
-  exponent_radix = 0;
-}
-
--- that record with one radix for mantissa, exponent base and exponent
-abbrev pub radix_record : ℕ → Record
-radix_record radix = record new_record { mantissa_radix = radix; exponent_base = radix; exponent_radix = radix }
+pub use Rattle.lexical_builder.specs.NewRecord.{new_record, radix_record}
 
 -- a field and the value that it gets
 pub data Write : Type 0 where

@@ -21,26 +21,39 @@ mod setters;
 
 pub use non_zero::NonZeroU8;
 
-// The flags of a builder that a word holds at the places 0 to 17, and those that it holds 14
-// places higher.
+// The flags at bits 0 to 17 of a builder, which are at the same bits of a format word, and the
+// digit separator flags at bits 18 to 30, which are 14 bits higher there.
 const LOW_FLAGS: u32 = 0x3_FFFF;
+
 const SEPARATOR_FLAGS: u32 = 0x7FFC_0000;
+
+// The index of each byte of a builder.
+const DIGIT_SEPARATOR: usize = 0;
+
+const BASE_PREFIX: usize = 1;
+
+const BASE_SUFFIX: usize = 2;
+
+const MANTISSA_RADIX: usize = 3;
+
+const EXPONENT_BASE: usize = 4;
+
+const EXPONENT_RADIX: usize = 5;
 
 /// A byte that may be absent.
 pub type OptionU8 = Option<NonZeroU8>;
 
-/// The fields of a number format, to be set one by one and packed into a word.
+/// The fields of a number format, to be set one by one and packed into a format word.
 ///
-/// A builder holds 31 flags, the mantissa radix, and five bytes that may be absent: digit
+/// A builder has 31 flags, the mantissa radix, and five bytes that may be absent: digit
 /// separator, base prefix, base suffix, exponent base and exponent radix. A setter takes the
-/// builder and gives it back with its field written; every other field stays. So setters of
-/// different fields may stand in any order, and of several for one field the last counts.
+/// builder and returns it with its field changed; every other field keeps its value. So setters
+/// of different fields can be called in any order, and of several calls for one field the last
+/// counts.
 #[derive(Drop)]
 pub struct NumberFormatBuilder {
-    // Each flag at its place in a word, or 14 places below it for a digit separator flag.
     flags: u32,
-    // Digit separator, prefix, suffix, mantissa radix, exponent base and exponent radix, 0 for
-    // an absent one.
+    // 0 for a byte that is absent.
     bytes: [u8; 6],
 }
 
@@ -71,7 +84,7 @@ impl Default for NumberFormatBuilder {
 impl NumberFormatBuilder {
     // CONSTRUCTORS
 
-    /// A builder with the default fields: mantissa radix 10, no digit separator, prefix,
+    /// Returns a builder with the default fields: mantissa radix 10, no digit separator, prefix,
     /// suffix, exponent base or exponent radix, `required_exponent_digits` and
     /// `required_mantissa_digits` true, and every other flag false.
     #[inline(always)]
@@ -87,7 +100,7 @@ impl NumberFormatBuilder {
         }
     }
 
-    /// The format of binary numbers: `from_radix(2)`.
+    /// Returns the format of binary numbers: `from_radix(2)`.
     #[tactic(auto, using(lexical_flags::proofs::LawfulTest::lawful_tested), unfolding(lexical_flags::specs::Record::word_of))]
     pub fn binary() -> u128
         ensures word { result ≡ 0x02020200_00000000_00000000_0000000C }
@@ -96,7 +109,7 @@ impl NumberFormatBuilder {
         Self::from_radix(2)
     }
 
-    /// The format of octal numbers: `from_radix(8)`.
+    /// Returns the format of octal numbers: `from_radix(8)`.
     #[tactic(auto, using(lexical_flags::proofs::LawfulTest::lawful_tested), unfolding(lexical_flags::specs::Record::word_of))]
     pub fn octal() -> u128
         ensures word { result ≡ 0x08080800_00000000_00000000_0000000C }
@@ -105,7 +118,7 @@ impl NumberFormatBuilder {
         Self::from_radix(8)
     }
 
-    /// The format of decimal numbers: `from_radix(10)`.
+    /// Returns the format of decimal numbers: `from_radix(10)`.
     #[tactic(auto, using(lexical_flags::proofs::LawfulTest::lawful_tested), unfolding(lexical_flags::specs::Record::word_of))]
     pub fn decimal() -> u128
         ensures word { result ≡ 0x0A0A0A00_00000000_00000000_0000000C }
@@ -114,7 +127,7 @@ impl NumberFormatBuilder {
         Self::from_radix(10)
     }
 
-    /// The format of hexadecimal numbers: `from_radix(16)`.
+    /// Returns the format of hexadecimal numbers: `from_radix(16)`.
     #[tactic(auto, using(lexical_flags::proofs::LawfulTest::lawful_tested), unfolding(lexical_flags::specs::Record::word_of))]
     pub fn hexadecimal() -> u128
         ensures word { result ≡ 0x10101000_00000000_00000000_0000000C }
@@ -123,8 +136,8 @@ impl NumberFormatBuilder {
         Self::from_radix(16)
     }
 
-    /// The format of a new builder with `radix` for mantissa radix, exponent base and exponent
-    /// radix. The radix is not checked: the word is lawful for 2 to 36 alone.
+    /// Returns the format of a new builder with `radix` as mantissa radix, exponent base and
+    /// exponent radix. The radix is not checked; the word is lawful only for 2 to 36.
     #[tactic(auto, using(crate::proofs::OptionByteLemmas::option_byte_back), unfolding(crate::specs::Writes::after))]
     pub fn from_radix(radix: u8) -> u128
         ensures { result ≡ pack (radix_record radix) }
@@ -138,9 +151,9 @@ impl NumberFormatBuilder {
 
     // BUILDERS
 
-    /// The fields packed into a word, lawful or not. Every field goes out as it stands but for
-    /// the digit separator, which goes out only where one of the 13 digit separator flags is
-    /// set, `special_digit_separator` among them; elsewhere the word has none.
+    /// Packs the fields into a format word, lawful or not. Every field is written unchanged,
+    /// except the digit separator: it is written only if one of the 13 digit separator flags
+    /// (`special_digit_separator` included) is set, and is 0 otherwise.
     #[inline(always)]
     pub fn build_unchecked(&self) -> u128
         ensures word { result ≡ pack self.now }
@@ -148,15 +161,15 @@ impl NumberFormatBuilder {
         ensures clean { IsClean result }
         ensures bytes { HasBytes self.now }
 
-        // Another builder packs alike exactly if it has the same fields, the separator
-        // ignored where neither has a flag for it.
+        // Another builder packs into the same word exactly if it has the same fields, the
+        // separator ignored if neither has a flag for it.
         ensures alike { (s : Record) → HasBytes s → (pack s ≡ result) ↔ (trim s ≡ trim self.now) }
     {
         self.packed()
     }
 
-    /// The fields packed into a word, where that word is lawful; else what is wrong with it,
-    /// which is never `Success`. The builder stays as it was.
+    /// Packs the fields into a format word. Returns the word if it is lawful, or else what is
+    /// wrong with it, which is never `Success`. The builder is not changed.
     ///
     /// The Rust crate panics with the description of the error instead.
     #[inline(always)]
@@ -176,8 +189,7 @@ impl NumberFormatBuilder {
         }
     }
 
-    /// Another name of `build_unchecked`. The Rust crate has it for users of its older
-    /// versions.
+    /// Another name of `build_unchecked`. Deprecated in the Rust crate.
     #[inline(always)]
     pub fn build(&self) -> u128
         ensures { result ≡ pack self.now }
@@ -185,13 +197,10 @@ impl NumberFormatBuilder {
         self.build_unchecked()
     }
 
-    /// A builder with the fields of a word, to be changed and packed again. An exponent base or
-    /// exponent radix that is empty gets the mantissa radix, so that a later change of the
-    /// mantissa radix leaves it as it was. The digit separator is taken as it stands, also
-    /// where no flag lets it stand anywhere. The reserved bits are lost.
-    ///
-    /// Where the mantissa radix is 0 there is nothing to fill an empty exponent byte with, and
-    /// it stays empty.
+    /// Returns a builder with the fields of a format word, to be changed and packed again. An
+    /// exponent base or exponent radix of 0 becomes the mantissa radix, so that a later change
+    /// of the mantissa radix does not change it; if the mantissa radix is 0 too, it stays 0. The
+    /// digit separator is read even if no flag allows one. The reserved bits are dropped.
     #[inline(always)]
     pub fn rebuild(format: u128) -> Self
         ensures { result ≡ fill (raw format) }
@@ -210,13 +219,20 @@ impl NumberFormatBuilder {
         }
     }
 
-    // The fields packed into a word.
+    // Packs the fields.
     #[inline(always)]
     fn packed(&self) -> u128
         ensures word { result ≡ pack self.now }
         ensures bytes { HasBytes self.now }
     {
-        let [separator, prefix, suffix, radix, exponent_base, exponent_radix] = self.bytes;
+        let [
+            separator,
+            prefix,
+            suffix,
+            radix,
+            exponent_base,
+            exponent_radix,
+        ] = self.bytes;
         let flags = word_flags(self.flags);
         let separator = used_separator(flags, separator);
         flags
@@ -237,27 +253,27 @@ impl NumberFormatBuilder {
         self.flags & builder_flags(mask) != 0
     }
 
-    // Gives one value to all flags of a mask.
+    // Sets all flags of a mask to one value.
     #[inline(always)]
-    fn with_flags(mut self, mask: u128, flag: bool) -> Self
-        ensures { result ≡ tabulate (λ f. if part mask (bit f) 1 == 1 then flag else flag_of self f) (byte_of self) }
+    fn with_flags(mut self, mask: u128, value: bool) -> Self
+        ensures { result ≡ tabulate (λ f. if part mask (bit f) 1 == 1 then value else flag_of self f) (byte_of self) }
     {
-        self.flags = replace_bits(self.flags, builder_flags(mask), flag);
+        self.flags = replace_bits(self.flags, builder_flags(mask), value);
         self
     }
 
-    // Writes the byte at an index.
+    // Sets the byte at an index.
     #[inline(always)]
-    fn with_byte(mut self, index: usize, byte: u8) -> Self
+    fn with_byte(mut self, index: usize, value: u8) -> Self
         requires { index < 6 }
-        ensures { result ≡ tabulate (flag_of self) (λ b. if index_of b == index then byte else byte_of self b) }
+        ensures { result ≡ tabulate (flag_of self) (λ b. if index_of b == index then value else byte_of self b) }
     {
-        self.bytes[index] = byte;
+        self.bytes[index] = value;
         self
     }
 }
 
-// The upper half of a word, with the mantissa radix in the exponent base if that is empty.
+// The upper half of a format word, with the mantissa radix as exponent base if that is 0.
 #[inline(always)]
 #[tactic(auto, using(crate::proofs::ExponentBytes::base_filled))]
 fn fill_base(high: u64) -> u64
@@ -272,7 +288,7 @@ fn fill_base(high: u64) -> u64
     }
 }
 
-// The upper half of a word, with the mantissa radix in the exponent radix if that is empty.
+// The upper half of a format word, with the mantissa radix as exponent radix if that is 0.
 #[inline(always)]
 #[tactic(auto, using(crate::proofs::ExponentBytes::radix_filled))]
 fn fill_radix(high: u64) -> u64
@@ -286,16 +302,16 @@ fn fill_radix(high: u64) -> u64
     }
 }
 
-// The flags of a word, moved to their places in a builder.
+// The flags of a format word, at the bits of a builder.
 #[inline(always)]
 fn builder_flags(format: u128) -> u32
     ensures value { result ≡ flags_in format }
-    ensures held { result < 2 ^ 31 }
+    ensures clear_top { result < 2 ^ 31 }
 {
-    ((format & (LOW_FLAGS as u128)) | ((format >> 14) & (SEPARATOR_FLAGS as u128))) as u32
+    (format & (LOW_FLAGS as u128) | (format >> 14) & (SEPARATOR_FLAGS as u128)) as u32
 }
 
-// The flags of a builder, moved to their places in a word.
+// The flags of a builder, at the bits of a format word.
 #[inline(always)]
 fn word_flags(flags: u32) -> u128
     requires { flags < 2 ^ 31 }
@@ -304,27 +320,27 @@ fn word_flags(flags: u32) -> u128
     (flags & LOW_FLAGS) as u128 | ((flags >> 18) as u128) << 32
 }
 
-// The flags, with one value at all places of the mask.
+// The bits with all bits of a mask set to one value.
 #[inline(always)]
-fn replace_bits(flags: u32, mask: u32, flag: bool) -> u32
-    requires flags_held { flags < 2 ^ 31 }
-    requires mask_held { mask < 2 ^ 31 }
-    ensures bits { (i : ℕ) → i < 32 → (part result i 1 == 1)
-        ≡ (if part mask i 1 == 1 then flag else (part flags i 1 == 1)) }
-    ensures held { result < 2 ^ 31 }
+fn replace_bits(bits: u32, mask: u32, value: bool) -> u32
+    requires bits { bits < 2 ^ 31 }
+    requires mask { mask < 2 ^ 31 }
+    ensures each { (i : ℕ) → i < 32 → (part result i 1 == 1)
+        ≡ (if part mask i 1 == 1 then value else (part bits i 1 == 1)) }
+    ensures clear_top { result < 2 ^ 31 }
 {
-    (flags & !mask) | bits_if(flag, mask)
+    (bits & !mask) | bits_if(value, mask)
 }
 
-// The bits if the flag is set, or 0.
+// The bits if the condition holds, or else 0.
 #[inline(always)]
-fn bits_if(flag: bool, bits: u32) -> u32
-    ensures { result ≡ (if flag then bits else 0) }
+fn bits_if(condition: bool, bits: u32) -> u32
+    ensures { result ≡ (if condition then bits else 0) }
 {
-    if flag { bits } else { 0 }
+    if condition { bits } else { 0 }
 }
 
-// The digit separator, or 0 where none of the flags lets it stand anywhere.
+// The digit separator, or 0 if none of these flags of a format word allows one.
 #[inline(always)]
 fn used_separator(flags: u128, separator: u8) -> u8
     ensures { result ≡ (if separator_on (raw flags) then separator else 0) }
@@ -336,7 +352,7 @@ fn used_separator(flags: u128, separator: u8) -> u8
     }
 }
 
-// The byte, or 0 where it is absent.
+// The byte, or 0 if it is absent.
 #[inline(always)]
 fn byte_or_zero(byte: OptionU8) -> u8
     ensures { result ≡ option_byte byte }

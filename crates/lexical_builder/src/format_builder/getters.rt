@@ -3,7 +3,10 @@
 ghost use Rattle.std.specs.Prelude.{◌≡◌};
 ghost use Rattle.lexical_builder.specs.OptionByte.{byte_option};
 
-use super::{NonZeroU8, NumberFormatBuilder, OptionU8};
+use super::{
+    BASE_PREFIX, BASE_SUFFIX, DIGIT_SEPARATOR, EXPONENT_BASE, EXPONENT_RADIX, MANTISSA_RADIX,
+    NonZeroU8, NumberFormatBuilder, OptionU8,
+};
 use lexical_flags::format_flags as flags;
 
 impl NumberFormatBuilder {
@@ -15,7 +18,7 @@ impl NumberFormatBuilder {
     pub fn get_digit_separator(&self) -> OptionU8
         ensures { result ≡ byte_option self.now.digit_separator }
     {
-        NonZeroU8::new(self.bytes[0])
+        NonZeroU8::new(self.bytes[DIGIT_SEPARATOR])
     }
 
     /// The mantissa radix: the radix of the integer and fraction digits.
@@ -23,7 +26,7 @@ impl NumberFormatBuilder {
     pub fn get_mantissa_radix(&self) -> u8
         ensures { result ≡ self.now.mantissa_radix }
     {
-        self.bytes[3]
+        self.bytes[MANTISSA_RADIX]
     }
 
     /// The exponent base: the number whose power an exponent stands for: with 2, `1p3` is 1
@@ -32,7 +35,7 @@ impl NumberFormatBuilder {
     pub fn get_exponent_base(&self) -> OptionU8
         ensures { result ≡ byte_option self.now.exponent_base }
     {
-        NonZeroU8::new(self.bytes[4])
+        NonZeroU8::new(self.bytes[EXPONENT_BASE])
     }
 
     /// The exponent radix: the radix of the digits of an exponent. `None` where it is left to
@@ -41,7 +44,7 @@ impl NumberFormatBuilder {
     pub fn get_exponent_radix(&self) -> OptionU8
         ensures { result ≡ byte_option self.now.exponent_radix }
     {
-        NonZeroU8::new(self.bytes[5])
+        NonZeroU8::new(self.bytes[EXPONENT_RADIX])
     }
 
     /// The base prefix: the byte that may stand after a leading zero to tell the radix, as the
@@ -50,7 +53,7 @@ impl NumberFormatBuilder {
     pub fn get_base_prefix(&self) -> OptionU8
         ensures { result ≡ byte_option self.now.base_prefix }
     {
-        NonZeroU8::new(self.bytes[1])
+        NonZeroU8::new(self.bytes[BASE_PREFIX])
     }
 
     /// The base suffix: the byte that may stand after the digits to tell the radix, as the `h`
@@ -59,7 +62,7 @@ impl NumberFormatBuilder {
     pub fn get_base_suffix(&self) -> OptionU8
         ensures { result ≡ byte_option self.now.base_suffix }
     {
-        NonZeroU8::new(self.bytes[2])
+        NonZeroU8::new(self.bytes[BASE_SUFFIX])
     }
 
     /// The flag `required_integer_digits`. Digits must stand before the decimal point.

@@ -6,7 +6,10 @@ ghost use Rattle.lexical_flags.specs.Layout as layout;
 ghost use Rattle.lexical_builder.specs.OptionByte.{option_byte};
 ghost use Rattle.lexical_builder.specs.Writes.{after, write_flag, write_flags, write_byte};
 
-use super::{byte_or_zero, NumberFormatBuilder, OptionU8};
+use super::{
+    BASE_PREFIX, BASE_SUFFIX, DIGIT_SEPARATOR, EXPONENT_BASE, EXPONENT_RADIX, MANTISSA_RADIX,
+    NumberFormatBuilder, OptionU8, byte_or_zero,
+};
 use lexical_flags::format_flags as flags;
 
 impl NumberFormatBuilder {
@@ -21,7 +24,7 @@ impl NumberFormatBuilder {
     pub fn digit_separator(self, character: OptionU8) -> Self
         ensures { result ≡ after self (write_byte layout.digit_separator (option_byte character) ∷ []) }
     {
-        self.with_byte(0, byte_or_zero(character))
+        self.with_byte(DIGIT_SEPARATOR, byte_or_zero(character))
     }
 
     /// Another name of `mantissa_radix`.
@@ -39,7 +42,7 @@ impl NumberFormatBuilder {
     pub fn mantissa_radix(self, radix: u8) -> Self
         ensures { result ≡ after self (write_byte layout.mantissa_radix radix ∷ []) }
     {
-        self.with_byte(3, radix)
+        self.with_byte(MANTISSA_RADIX, radix)
     }
 
     /// Sets the exponent base: the number whose power an exponent stands for: with 2, `1p3` is
@@ -49,7 +52,7 @@ impl NumberFormatBuilder {
     pub fn exponent_base(self, base: OptionU8) -> Self
         ensures { result ≡ after self (write_byte layout.exponent_base (option_byte base) ∷ []) }
     {
-        self.with_byte(4, byte_or_zero(base))
+        self.with_byte(EXPONENT_BASE, byte_or_zero(base))
     }
 
     /// Sets the exponent radix: the radix of the digits of an exponent. A lawful one is 2 to
@@ -58,7 +61,7 @@ impl NumberFormatBuilder {
     pub fn exponent_radix(self, radix: OptionU8) -> Self
         ensures { result ≡ after self (write_byte layout.exponent_radix (option_byte radix) ∷ []) }
     {
-        self.with_byte(5, byte_or_zero(radix))
+        self.with_byte(EXPONENT_RADIX, byte_or_zero(radix))
     }
 
     /// Sets the base prefix: the byte that may stand after a leading zero to tell the radix, as
@@ -68,7 +71,7 @@ impl NumberFormatBuilder {
     pub fn base_prefix(self, base_prefix: OptionU8) -> Self
         ensures { result ≡ after self (write_byte layout.base_prefix (option_byte base_prefix) ∷ []) }
     {
-        self.with_byte(1, byte_or_zero(base_prefix))
+        self.with_byte(BASE_PREFIX, byte_or_zero(base_prefix))
     }
 
     /// Sets the base suffix: the byte that may stand after the digits to tell the radix, as the
@@ -78,7 +81,7 @@ impl NumberFormatBuilder {
     pub fn base_suffix(self, base_suffix: OptionU8) -> Self
         ensures { result ≡ after self (write_byte layout.base_suffix (option_byte base_suffix) ∷ []) }
     {
-        self.with_byte(2, byte_or_zero(base_suffix))
+        self.with_byte(BASE_SUFFIX, byte_or_zero(base_suffix))
     }
 
     /// Sets the flag `required_integer_digits`. With true a parser refuses a float with no digits

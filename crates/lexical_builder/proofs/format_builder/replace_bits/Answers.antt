@@ -4,13 +4,13 @@ use Rattle.lexical_flags.specs.Layout.{part}
 use Rattle.lexical_builder.proofs.BuilderFlags.{replaced_test, bits_if-lt}
 use Rattle.lexical_builder.proofs.format_builder.replace_bits.Goals as goal
 
-pub returns-clause-bits : goal.returns-clause-bits
-returns-clause-bits c i l =
-    ap (λ set. part (bit_or (bit_and c.args.flags (2 ^ 32 - 1 - c.args.mask)) set) i 1 == 1) c.bits_if.ensures
-    ∙ replaced_test c.args.flags c.args.mask i c.args.flag (omega arith) l
+pub returns-clause-each : goal.returns-clause-each
+returns-clause-each c i l =
+    ap (λ set. part (bit_or (bit_and c.args.bits (2 ^ 32 - 1 - c.args.mask)) set) i 1 == 1) c.bits_if.ensures
+    ∙ replaced_test c.args.bits c.args.mask i c.args.value (omega arith) l
 
-pub returns-clause-held : goal.returns-clause-held
-returns-clause-held c =
-    or_lt 31 (bit_and c.args.flags (2 ^ 32 - 1 - c.args.mask)) c.bits_if.result
-    (omega (arith, and_le_l c.args.flags (2 ^ 32 - 1 - c.args.mask)))
-    (subst (λ n. n < 2 ^ 31) (sym c.bits_if.ensures) (bits_if-lt c.args.flag c.args.mask c.requires.mask_held))
+pub returns-clause-clear_top : goal.returns-clause-clear_top
+returns-clause-clear_top c =
+    or_lt 31 (bit_and c.args.bits (2 ^ 32 - 1 - c.args.mask)) c.bits_if.result
+    (omega (arith, and_le_l c.args.bits (2 ^ 32 - 1 - c.args.mask)))
+    (subst (λ n. n < 2 ^ 31) (sym c.bits_if.ensures) (bits_if-lt c.args.value c.args.mask c.requires.mask))

@@ -9,6 +9,6 @@ pub returns : goal.returns
 returns c =
     let at : (f : Flag) → part c.builder_flags.result (builder_bit f) 1 ≡ part c.args.mask (bit f) 1 =
     λ f. ap (λ n. part n (builder_bit f) 1) c.builder_flags.ensures.value ∙ part-flags_in c.args.mask f in
-    (λ i. tabulate (λ f. c.replace_bits.ensures.bits (builder_bit f) (omega (arith, builder_bit-lt f)) i) (λ b. slice_index c.self.inside.bytes (index_of b)))
-    ∙ (λ i. tabulate (λ f. if at f i == 1 then c.args.flag else part c.self.inside.flags (builder_bit f) 1 == 1) (λ b. slice_index c.self.inside.bytes (index_of b)))
-    ∙ ap (λ r. tabulate (λ f. if part c.args.mask (bit f) 1 == 1 then c.args.flag else flag_of r f) (byte_of r)) c.self.view_is
+    (λ i. tabulate (λ f. c.replace_bits.ensures.each (builder_bit f) (omega (arith, builder_bit-lt f)) i) (λ b. slice_index c.self.inside.bytes (index_of b)))
+    ∙ (λ i. tabulate (λ f. if at f i == 1 then c.args.value else part c.self.inside.flags (builder_bit f) 1 == 1) (λ b. slice_index c.self.inside.bytes (index_of b)))
+    ∙ ap (λ r. tabulate (λ f. if part c.args.mask (bit f) 1 == 1 then c.args.value else flag_of r f) (byte_of r)) c.self.view_is
