@@ -9,6 +9,10 @@ ByteSet = ℕ → Bool
 abbrev pub between : ℕ → ℕ → ByteSet
 between low high byte = nat_le low byte && nat_le byte high
 
+-- the bytes from a to b, and those from c to d
+abbrev pub in_either : ℕ → ℕ → ℕ → ℕ → ByteSet
+in_either a b c d byte = between a b byte || between c d byte
+
 -- the ASCII that a format may use: tab to carriage return, and space to tilde
 abbrev pub allowed_ascii : ByteSet
 allowed_ascii byte = between 9 13 byte || between 32 126 byte

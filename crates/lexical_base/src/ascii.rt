@@ -1,8 +1,10 @@
 //! Tests of single bytes and of slices of bytes.
 
-ghost use Rattle.std.specs.Prelude.{◌↔◌, IsTrue};
-ghost use Rattle.std.specs.List.{AllPass};
-ghost use Rattle.lexical_base.specs.Ascii.{allowed_ascii, letters};
+ghost use Rattle.std.specs.Prelude.{◌≡◌, ◌↔◌, IsTrue, take};
+ghost use Rattle.std.specs.List.{AllPass, list_all};
+ghost use Rattle.lexical_base.specs.Ascii.{allowed_ascii, letters, in_either};
+
+use std::simd::prelude::*;
 
 /// Whether the byte `c` is ASCII that may stand in a number format.
 ///
@@ -20,7 +22,7 @@ pub fn is_valid_ascii(c: u8) -> bool
 pub fn is_valid_ascii_slice(slc: &[u8]) -> bool
     ensures { IsTrue result ↔ AllPass allowed_ascii slc.now }
 {
-    slc.iter().all(|c| is_valid_ascii(*c))
+    are_in_either(slc, 0x09, 0x0d, 0x20, 0x7e)
 }
 
 /// Whether the byte `c` is an ASCII letter, capital or small.
@@ -35,7 +37,48 @@ pub fn is_valid_letter(c: u8) -> bool
 pub fn is_valid_letter_slice(slc: &[u8]) -> bool
     ensures { IsTrue result ↔ AllPass letters slc.now }
 {
-    slc.iter().all(|c| is_valid_letter(*c))
+    are_in_either(slc, b'A', b'Z', b'a', b'z')
+}
+
+// Whether each byte is from a to b, or from c to d.
+#[inline(always)]
+fn are_in_either(slc: &[u8], a: u8, b: u8, c: u8, d: u8) -> bool
+    ensures { IsTrue result ↔ AllPass (in_either a b c d) slc.now }
+{
+    let (whole, rest) = slc.as_chunks::<32>();
+    chunks_are_in_either(whole, a, b, c, d) && bytes_are_in_either(rest, a, b, c, d)
+}
+
+// The same of whole chunks, 32 bytes at a time.
+#[inline(always)]
+fn chunks_are_in_either(chunks: &[[u8; 32]], a: u8, b: u8, c: u8, d: u8) -> bool
+    ensures { result ≡ list_all (list_all (in_either a b c d)) chunks.now }
+{
+    chunks
+        .iter()
+        .all(|lanes| lanes_are_in_either(u8x32::from_array(*lanes), a, b, c, d))
+}
+
+// The same of 32 bytes at once.
+#[inline(always)]
+fn lanes_are_in_either(lanes: u8x32, a: u8, b: u8, c: u8, d: u8) -> bool
+    ensures { result ≡ list_all (in_either a b c d) lanes }
+{
+    let first = lanes.simd_ge(u8x32::splat(a)) & lanes.simd_le(u8x32::splat(b));
+    let second = lanes.simd_ge(u8x32::splat(c)) & lanes.simd_le(u8x32::splat(d));
+    (first | second).all()
+}
+
+// The same of a few bytes, one by one. It stops at none, so that a compiler can take several.
+#[inline(always)]
+fn bytes_are_in_either(bytes: &[u8], a: u8, b: u8, c: u8, d: u8) -> bool
+    ensures { result ≡ list_all (in_either a b c d) bytes.now }
+{
+    let mut all = true;
+    for byte in bytes {
+        all &= (*byte >= a && *byte <= b) || (*byte >= c && *byte <= d);
+    }
+    all
 }
 
 #[cfg(test)]
