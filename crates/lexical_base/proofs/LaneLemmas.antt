@@ -1,79 +1,105 @@
--- Tests of 32 lanes at once.
+-- Masks of 32 lanes, and what is known of all lanes together.
 use Rattle.std.proofs.Common.{◌≡◌, ℕ, suc, ◌+◌, ◌-◌, ◌*◌, ◌^◌, ◌<◌, ◌≤◌, ◌%◌, Bool, true, false, cond, eqb, leb, ◌&&◌, ◌||◌, List, [], ◌∷◌, map, length, bit_and, bit_or, replicate, refl, sym, ap, ◌∙◌, arith}
 use Rattle.std.specs.List.{list_all}
+use Rattle.std.specs.Simd.Lanes.{zip2, mask_l, top}
 use Rattle.std.proofs.lemmas.Bool.Decides.{nat_tests}
 use Rattle.std.proofs.lemmas.List.{length-map}
-use Rattle.std.proofs.lemmas.Simd.{mask_l-mod}
+use Rattle.std.proofs.lemmas.List.Folds.{list_all-map}
+use Rattle.std.proofs.lemmas.Simd.{mask_l-mod, length-zip2}
 use Rattle.std.proofs.Math.Pow.{suc_ones}
-use lib.Lanes.{zip2, mask_l, top}
-use Rattle.lexical_base.specs.Ascii.{between}
+use Rattle.lexical_base.specs.Ascii.{in_either}
 
--- a lane of all ones where the test passes, and else 0
-abbrev pub lane_mask : Bool → ℕ
-lane_mask test = cond test 255 0
+-- a lane of a mask: all ones where a test passes, and else 0
+abbrev lane : Bool → ℕ
+lane passes = cond passes 255 0
 
--- whether the lane lies in one of two ranges, as a vector computes it
-abbrev pub in_two_ranges : (a b c d x : ℕ) → ℕ
-in_two_ranges a b c d x = bit_or (bit_and (lane_mask (leb a x)) (lane_mask (leb x b))) (bit_and (lane_mask (leb c x)) (lane_mask (leb x d)))
+and_lane : (p q : Bool) → bit_and (lane p) (lane q) ≡ lane (p && q)
+and_lane true true = refl
+and_lane true false = refl
+and_lane false true = refl
+and_lane false false = refl
 
-top_of_masks : (p q r s : Bool) → top 7 (bit_or (bit_and (lane_mask p) (lane_mask q)) (bit_and (lane_mask r) (lane_mask s))) ≡ ((p && q) || (r && s))
-top_of_masks true true true true = refl
-top_of_masks true true true false = refl
-top_of_masks true true false true = refl
-top_of_masks true true false false = refl
-top_of_masks true false true true = refl
-top_of_masks true false true false = refl
-top_of_masks true false false true = refl
-top_of_masks true false false false = refl
-top_of_masks false true true true = refl
-top_of_masks false true true false = refl
-top_of_masks false true false true = refl
-top_of_masks false true false false = refl
-top_of_masks false false true true = refl
-top_of_masks false false true false = refl
-top_of_masks false false false true = refl
-top_of_masks false false false false = refl
+or_lane : (p q : Bool) → bit_or (lane p) (lane q) ≡ lane (p || q)
+or_lane true true = refl
+or_lane true false = refl
+or_lane false true = refl
+or_lane false false = refl
 
-abbrev pub vector_test : (a b c d n : ℕ) → List ℕ → List ℕ
-vector_test a b c d n xs =
+-- the mask of the lanes that are in one of two ranges, as the code computes it
+abbrev range_mask : (first second : ℕ × ℕ) (n : ℕ) → List ℕ → List ℕ
+range_mask first second n xs =
     zip2 bit_or
-    (zip2 bit_and (zip2 (λ p q. lane_mask (leb p q)) (replicate n a) xs) (zip2 (λ p q. lane_mask (leb p q)) xs (replicate n b)))
-    (zip2 bit_and (zip2 (λ p q. lane_mask (leb p q)) (replicate n c) xs) (zip2 (λ p q. lane_mask (leb p q)) xs (replicate n d)))
+    (zip2 bit_and (zip2 (λ p q. lane (leb p q)) (replicate n first.0) xs) (zip2 (λ p q. lane (leb p q)) xs (replicate n first.1)))
+    (zip2 bit_and (zip2 (λ p q. lane (leb p q)) (replicate n second.0) xs) (zip2 (λ p q. lane (leb p q)) xs (replicate n second.1)))
 
-tops : (a b c d : ℕ) (xs : List ℕ) → map (top 7) (vector_test a b c d (length xs) xs) ≡ map (λ x. between a b x || between c d x) xs
-tops a b c d [] = refl
-tops a b c d (x ∷ xs) =
-    let head : top 7 (in_two_ranges a b c d x) ≡ (between a b x || between c d x) = top_of_masks (leb a x) (leb x b) (leb c x) (leb x d) in
-    ap (λ t. t ∷ map (top 7) (vector_test a b c d (length xs) xs)) head ∙ ap (λ ts. (between a b x || between c d x) ∷ ts) (tops a b c d xs)
+range_mask_is : (first second : ℕ × ℕ) (xs : List ℕ) → range_mask first second (length xs) xs ≡ map lane (map (in_either first second) xs)
+range_mask_is first second [] = refl
+range_mask_is first second (x ∷ xs) =
+    rw (and_lane (leb first.0 x) (leb x first.1), and_lane (leb second.0 x) (leb x second.1), or_lane (leb first.0 x && leb x first.1) (leb second.0 x && leb x second.1))
+    (ap (λ rest. lane (in_either first second x) ∷ rest) (range_mask_is first second xs))
 
-next_odd : (m y : ℕ) → 0 < y → eqb (1 + 2 * m) (2 * y - 1) ≡ eqb m (y - 1)
-next_odd m y some = grind (arith, nat_tests)
+-- a mask whose lanes are all set exactly if a test passes
+pub record Tells (mask : List ℕ) (passes : Bool) : Type 0 where
+  pub lanes : List Bool
+  pub long : length lanes ≡ 32
+  pub is : mask ≡ map lane lanes
+  pub all : list_all (λ set. set) lanes ≡ passes
 
-next_even : (m y : ℕ) → 0 < y → eqb (0 + 2 * m) (2 * y - 1) ≡ false
-next_even m y some = grind (arith, nat_tests)
+zip2-lane : (bs cs : List Bool) → zip2 bit_and (map lane bs) (map lane cs) ≡ map lane (zip2 (λ b c. b && c) bs cs)
+zip2-lane [] cs = refl
+zip2-lane (b ∷ bs) [] = refl
+zip2-lane (b ∷ bs) (c ∷ cs) = rw (and_lane b c, zip2-lane bs cs) refl
+
+and_swap : (b c p q : Bool) → ((b && c) && (p && q)) ≡ ((b && p) && (c && q))
+and_swap true true p q = refl
+and_swap true false true q = refl
+and_swap true false false q = refl
+and_swap false c p q = refl
+
+all-zip2 : (bs cs : List Bool) → length bs ≡ length cs → list_all (λ set. set) (zip2 (λ b c. b && c) bs cs) ≡ (list_all (λ set. set) bs && list_all (λ set. set) cs)
+all-zip2 [] [] same = refl
+all-zip2 [] (c ∷ cs) same = absurd (omega (arith, same))
+all-zip2 (b ∷ bs) [] same = absurd (omega (arith, same))
+all-zip2 (b ∷ bs) (c ∷ cs) same = rw (all-zip2 bs cs (omega (arith, same))) (and_swap b c (list_all (λ set. set) bs) (list_all (λ set. set) cs))
+
+-- a mask tells a test, and joined with the mask of a chunk also whether the chunk passes
+pub joined : (first second : ℕ × ℕ) (xs : List ℕ) (mask : List ℕ) (passes : Bool) → length xs ≡ 32 → Tells mask passes
+    → Tells (zip2 bit_and mask (range_mask first second 32 xs)) (passes && list_all (in_either first second) xs)
+joined first second xs mask passes long told =
+    let tests : List Bool = map (in_either first second) xs in
+    let same : length told.lanes ≡ length tests = told.long ∙ sym (length-map xs (in_either first second) ∙ long) in
+    let mask_is : range_mask first second 32 xs ≡ map lane tests = ap (λ n. range_mask first second n xs) (sym long) ∙ range_mask_is first second xs in
+    record {
+      lanes = zip2 (λ b c. b && c) told.lanes tests;
+      long = length-zip2 (λ b c. b && c) told.lanes tests same ∙ told.long;
+      is = rw (told.is, mask_is) (zip2-lane told.lanes tests);
+      all = all-zip2 told.lanes tests same ∙ rw (told.all, list_all-map (λ set. set) (in_either first second) xs) refl;
+    }
 
 full_step : (b : Bool) (m n : ℕ) (rest : Bool) → eqb m (2 ^ n - 1) ≡ rest → eqb (cond b 1 0 + 2 * m) (2 ^ suc n - 1) ≡ (b && rest)
 full_step true m n rest h =
     let double : 2 ^ suc n ≡ 2 * 2 ^ n = omega arith in
     let some : 0 < 2 ^ n = omega (arith, suc_ones n) in
-    rw double (next_odd m (2 ^ n) some ∙ h)
+    rw double (grind (arith, nat_tests))
 full_step false m n rest h =
     let double : 2 ^ suc n ≡ 2 * 2 ^ n = omega arith in
     let some : 0 < 2 ^ n = omega (arith, suc_ones n) in
-    rw double (next_even m (2 ^ n) some)
+    rw double (grind (arith, nat_tests))
 
--- a mask has all its bits exactly where each test passes
-full_mask : {X : Type 0} (p : X → Bool) (xs : List X) → eqb (mask_l (map p xs)) (2 ^ length xs - 1) ≡ list_all p xs
-full_mask p [] = refl
-full_mask p (x ∷ xs) = full_step (p x) (mask_l (map p xs)) (length xs) (list_all p xs) (full_mask p xs)
+-- the number of a mask has all its bits exactly if each lane is set
+full_mask : (bs : List Bool) → eqb (mask_l bs) (2 ^ length bs - 1) ≡ list_all (λ set. set) bs
+full_mask [] = refl
+full_mask (b ∷ bs) = full_step b (mask_l bs) (length bs) (list_all (λ set. set) bs) (full_mask bs)
 
--- what `all` answers of the two ranges, over 32 lanes
-pub all_lanes : (a b c d : ℕ) (xs : List ℕ) → length xs ≡ 32
-    → eqb (mask_l (map (top 7) (vector_test a b c d 32 xs)) % 2 ^ 64) (2 ^ 32 - 1) ≡ list_all (λ x. between a b x || between c d x) xs
-all_lanes a b c d xs long =
-    let ms : List Bool = map (λ x. between a b x || between c d x) xs in
-    let tested : map (top 7) (vector_test a b c d 32 xs) ≡ ms = ap (λ n. map (top 7) (vector_test a b c d n xs)) (sym long) ∙ tops a b c d xs in
-    let few : length ms ≤ 64 = omega (arith, length-map xs (λ x. between a b x || between c d x), long) in
-    let whole : mask_l ms % 2 ^ 64 ≡ mask_l ms = mask_l-mod ms 64 few in
-    ap (λ ts. eqb (mask_l ts % 2 ^ 64) (2 ^ 32 - 1)) tested ∙ ap (λ m. eqb m (2 ^ 32 - 1)) whole
-    ∙ ap (λ n. eqb (mask_l ms) (2 ^ n - 1)) (sym long) ∙ full_mask (λ x. between a b x || between c d x) xs
+tops : (bs : List Bool) → map (top 7) (map lane bs) ≡ bs
+tops [] = refl
+tops (true ∷ bs) = ap (λ rest. true ∷ rest) (tops bs)
+tops (false ∷ bs) = ap (λ rest. false ∷ rest) (tops bs)
+
+-- what `all` returns of a mask is the test that the mask tells
+pub all_told : (mask : List ℕ) (passes : Bool) → Tells mask passes → eqb (mask_l (map (top 7) mask) % 2 ^ 64) (2 ^ 32 - 1) ≡ passes
+all_told mask passes told =
+    let few : length told.lanes ≤ 64 = omega (arith, told.long) in
+    let full : eqb (mask_l told.lanes) (2 ^ length told.lanes - 1) ≡ passes = full_mask told.lanes ∙ told.all in
+    let whole : eqb (mask_l told.lanes) (2 ^ 32 - 1) ≡ passes = rw told.long at full in
+    rw (told.is, tops told.lanes, mask_l-mod told.lanes 64 few) whole

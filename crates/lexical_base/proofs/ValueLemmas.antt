@@ -1,8 +1,8 @@
 -- The value of a byte by ranges of bytes, and the byte of a value.
-use Rattle.std.proofs.Common.{◌≡◌, ℕ, ◌+◌, ◌-◌, ◌%◌, ◌<◌, ◌≤◌, ◌⊎◌, ◌↔◌, min, Bool, true, false, not, nat_lt, if◌then◌else◌, Some, slice_get, slice_index_or, refl, arith}
+use Rattle.std.proofs.Common.{◌≡◌, ℕ, ◌+◌, ◌-◌, ◌%◌, ◌<◌, ◌≤◌, ◌⊎◌, ◌↔◌, max, Bool, true, false, not, ◌||◌, nat_lt, if◌then◌else◌, IsTrue, IsSome, None, Some, slice_get, slice_index_or, refl, arith}
 use Rattle.std.proofs.lemmas.Option.{slice_get-get_or}
 use Rattle.std.proofs.lemmas.Bool.Decides.{nat_tests}
-use Rattle.lexical_base.specs.Digits.{value, figures, digit_of, is_small_letter}
+use Rattle.lexical_base.specs.Digits.{value, figures, digit_of, digits_of, is_small_letter}
 use Rattle.lexical_base.proofs.Finite.{passes_at, same_at}
 
 -- the value of a byte, by cases
@@ -23,11 +23,24 @@ value-cases byte below =
     let by_range : value byte ≡ value_by_range byte = value_is byte below in
     grind (arith, nat_tests)
 
--- in a radix up to 255 only the 36 figures and letters are digits
-pub value-below-min : (byte radix : ℕ) → byte < 256 → radix ≤ 255 → (value byte < radix) ↔ (value byte < min radix 36)
-value-below-min byte radix below fits =
-    let cases : (value byte < 36) ⊎ (value byte ≡ 255) = value-cases byte below in
-    (λ inside. grind arith, λ inside. grind arith)
+IsSome-if : (b : Bool) (x : ℕ) → IsSome (if b then Some x else None) ↔ IsTrue b
+IsSome-if true x = (λ h. refl, λ h. refl)
+IsSome-if false x = (λ h. h, λ h. h)
+
+-- the bytes that have a digit in a radix are its digits
+pub digit_of-digits_of : (byte radix : ℕ) → byte < 256 → radix < 256 → IsSome (digit_of byte radix) ↔ IsTrue (digits_of radix byte)
+digit_of-digits_of byte radix fits radix_fits =
+    let cases : (value byte < 36) ⊎ (value byte ≡ 255) = value-cases byte fits in
+    let same : nat_lt (value byte) radix ≡ digits_of radix byte = grind (arith, nat_tests) in
+    rw (← same) (IsSome-if (nat_lt (value byte) radix) (value byte))
+
+-- the digits of two radixes together are those of the larger one
+pub digit_of-larger : (byte first second : ℕ) → byte < 256 → first < 256 → second < 256 →
+    IsSome (digit_of byte (max first second)) ↔ IsTrue (digits_of first byte || digits_of second byte)
+digit_of-larger byte first second fits first_fits second_fits =
+    let cases : (value byte < 36) ⊎ (value byte ≡ 255) = value-cases byte fits in
+    let same : nat_lt (value byte) (max first second) ≡ (digits_of first byte || digits_of second byte) = grind (arith, nat_tests) in
+    rw (← same) (IsSome-if (nat_lt (value byte) (max first second)) (value byte))
 
 -- a byte less 48, modulo 256, is its value where either is below a radix up to 10
 pub small_digit : (byte radix : ℕ) → byte < 256 → radix ≤ 10 → ((byte + 208) % 256 < radix → value byte ≡ (byte + 208) % 256) × (radix ≤ (byte + 208) % 256 → radix ≤ value byte)

@@ -9,9 +9,9 @@ ByteSet = ℕ → Bool
 abbrev pub between : ℕ → ℕ → ByteSet
 between low high byte = nat_le low byte && nat_le byte high
 
--- the bytes from a to b, and those from c to d
-abbrev pub in_either : ℕ → ℕ → ℕ → ℕ → ByteSet
-in_either a b c d byte = between a b byte || between c d byte
+-- the bytes of two ranges, each given by its lowest and its highest byte
+abbrev pub in_either : ℕ × ℕ → ℕ × ℕ → ByteSet
+in_either first second byte = between first.0 first.1 byte || between second.0 second.1 byte
 
 -- the ASCII that a format may use: tab to carriage return, and space to tilde
 abbrev pub allowed_ascii : ByteSet

@@ -1,6 +1,6 @@
 -- Digits and their values.
-use Rattle.std.specs.Prelude.{ℕ, ◌-◌, Bool, List, Option, Some, None, codes, position, unwrap_or, ◌==◌, nat_lt, if◌then◌else◌}
-use Rattle.lexical_base.specs.Ascii.{between}
+use Rattle.std.specs.Prelude.{ℕ, ◌-◌, Bool, List, Option, Some, None, codes, position, unwrap_or, ◌==◌, nat_lt, if◌then◌else◌, min}
+use Rattle.lexical_base.specs.Ascii.{ByteSet, between}
 
 -- the 36 figures, each at the place of its value
 abbrev pub figures : List ℕ
@@ -21,3 +21,7 @@ value byte = unwrap_or (position (λ figure. figure == capital byte) figures) 25
 -- the digit that a byte is in a radix: its value, if that is below the radix
 abbrev pub digit_of : ℕ → ℕ → Option ℕ
 digit_of byte radix = if nat_lt (value byte) radix then Some (value byte) else None
+
+-- the digits of a radix, as a set of bytes; above 36 there are no more than the 36 digit characters and the lowercase letters
+abbrev pub digits_of : ℕ → ByteSet
+digits_of radix byte = nat_lt (value byte) (min radix 36)

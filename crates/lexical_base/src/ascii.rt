@@ -1,6 +1,6 @@
 //! Tests of single bytes and of slices of bytes.
 
-ghost use Rattle.std.specs.Prelude.{◌≡◌, ◌↔◌, IsTrue, take};
+ghost use Rattle.std.specs.Prelude.{◌≡◌, ◌↔◌, IsTrue};
 ghost use Rattle.std.specs.List.{AllPass, list_all};
 ghost use Rattle.lexical_base.specs.Ascii.{allowed_ascii, letters, in_either};
 
@@ -22,7 +22,7 @@ pub fn is_valid_ascii(c: u8) -> bool
 pub fn is_valid_ascii_slice(slc: &[u8]) -> bool
     ensures { IsTrue result ↔ AllPass allowed_ascii slc.now }
 {
-    are_in_either(slc, 0x09, 0x0d, 0x20, 0x7e)
+    all_in_either(slc, (0x09, 0x0d), (0x20, 0x7e))
 }
 
 /// Whether the byte `c` is an ASCII letter, capital or small.
@@ -37,46 +37,64 @@ pub fn is_valid_letter(c: u8) -> bool
 pub fn is_valid_letter_slice(slc: &[u8]) -> bool
     ensures { IsTrue result ↔ AllPass letters slc.now }
 {
-    are_in_either(slc, b'A', b'Z', b'a', b'z')
+    all_in_either(slc, (b'A', b'Z'), (b'a', b'z'))
 }
 
-// Whether each byte is from a to b, or from c to d.
+// Whether every byte of `bytes` is in one of two ranges, each given by its lowest and highest byte.
+//
+// It looks at 32 bytes at a time, and at the rest, fewer than 32, one by one.
 #[inline(always)]
-fn are_in_either(slc: &[u8], a: u8, b: u8, c: u8, d: u8) -> bool
-    ensures { IsTrue result ↔ AllPass (in_either a b c d) slc.now }
+fn all_in_either(bytes: &[u8], first: (u8, u8), second: (u8, u8)) -> bool
+    ensures { IsTrue result ↔ AllPass (in_either first second) bytes.now }
 {
-    let (whole, rest) = slc.as_chunks::<32>();
-    chunks_are_in_either(whole, a, b, c, d) && bytes_are_in_either(rest, a, b, c, d)
+    let (chunks, rest) = bytes.as_chunks::<32>();
+    chunks_in_either(chunks, first, second) && bytes_in_either(rest, first, second)
 }
 
-// The same of whole chunks, 32 bytes at a time.
+// The same for chunks of 32 bytes. It stops only after a block of eight chunks, since a test after
+// each chunk would take as long as all else.
 #[inline(always)]
-fn chunks_are_in_either(chunks: &[[u8; 32]], a: u8, b: u8, c: u8, d: u8) -> bool
-    ensures { result ≡ list_all (list_all (in_either a b c d)) chunks.now }
+fn chunks_in_either(chunks: &[[u8; 32]], first: (u8, u8), second: (u8, u8)) -> bool
+    ensures { result ≡ list_all (list_all (in_either first second)) chunks.now }
 {
-    chunks
+    let (blocks, rest) = chunks.as_chunks::<8>();
+    blocks_in_either(blocks, first, second) && block_in_either(rest, first, second)
+}
+
+// The same for blocks of eight chunks.
+#[inline(always)]
+fn blocks_in_either(blocks: &[[[u8; 32]; 8]], first: (u8, u8), second: (u8, u8)) -> bool
+    ensures { result ≡ list_all (list_all (list_all (in_either first second))) blocks.now }
+{
+    blocks
         .iter()
-        .all(|lanes| lanes_are_in_either(u8x32::from_array(*lanes), a, b, c, d))
+        .all(|block| block_in_either(block, first, second))
 }
 
-// The same of 32 bytes at once.
+// The same for a few chunks, with one test after the last.
 #[inline(always)]
-fn lanes_are_in_either(lanes: u8x32, a: u8, b: u8, c: u8, d: u8) -> bool
-    ensures { result ≡ list_all (in_either a b c d) lanes }
+fn block_in_either(block: &[[u8; 32]], first: (u8, u8), second: (u8, u8)) -> bool
+    ensures { result ≡ list_all (list_all (in_either first second)) block.now }
 {
-    let first = lanes.simd_ge(u8x32::splat(a)) & lanes.simd_le(u8x32::splat(b));
-    let second = lanes.simd_ge(u8x32::splat(c)) & lanes.simd_le(u8x32::splat(d));
-    (first | second).all()
+    let mut joined = Mask::splat(true);
+    for chunk in block {
+        let lanes = u8x32::from_array(*chunk);
+        let in_first = lanes.simd_ge(u8x32::splat(first.0)) & lanes.simd_le(u8x32::splat(first.1));
+        let in_second = lanes.simd_ge(u8x32::splat(second.0))
+            & lanes.simd_le(u8x32::splat(second.1));
+        joined &= in_first | in_second;
+    }
+    joined.all()
 }
 
-// The same of a few bytes, one by one. It stops at none, so that a compiler can take several.
+// The same for single bytes. It looks at all of them, so that the compiler can take several at a time.
 #[inline(always)]
-fn bytes_are_in_either(bytes: &[u8], a: u8, b: u8, c: u8, d: u8) -> bool
-    ensures { result ≡ list_all (in_either a b c d) bytes.now }
+fn bytes_in_either(bytes: &[u8], first: (u8, u8), second: (u8, u8)) -> bool
+    ensures { result ≡ list_all (in_either first second) bytes.now }
 {
     let mut all = true;
     for byte in bytes {
-        all &= (*byte >= a && *byte <= b) || (*byte >= c && *byte <= d);
+        all &= (*byte >= first.0 && *byte <= first.1) || (*byte >= second.0 && *byte <= second.1);
     }
     all
 }
@@ -86,30 +104,50 @@ mod tests {
     use super::*;
 
     #[test]
-    fn tells_bytes_and_slices(rt: HostRuntime) {
+    fn ascii_is_tab_to_carriage_return_and_space_to_tilde(rt: HostRuntime) {
         for c in [0x09, 0x0d, 0x20, 0x7e] {
             assert!(rt; is_valid_ascii(c), "at {c}");
         }
         for c in [0x08, 0x0e, 0x1f, 0x7f, 0x80] {
             assert!(rt; !is_valid_ascii(c), "at {c}");
         }
-        let mut long = [0x41; 34];
-        assert!(rt; is_valid_ascii_slice(&long));
-        long[33] = 0x7f;
-        assert!(rt; !is_valid_ascii_slice(&long));
         assert!(rt; is_valid_ascii_slice(b""));
         assert!(rt; !is_valid_ascii_slice(b" 09a\x1b"));
+    }
 
-        for (c, want) in [
-            (b'A', true),
-            (b'z', true),
-            (b'@', false),
-            (b'[', false),
-            (b'{', false),
-        ] {
-            assert_eq!(rt; is_valid_letter(c), want, "at {c}");
+    #[test]
+    fn letters_are_a_to_z_in_both_cases(rt: HostRuntime) {
+        for c in [b'A', b'Z', b'a', b'z'] {
+            assert!(rt; is_valid_letter(c), "at {c}");
+        }
+        for c in [b'@', b'[', b'`', b'{'] {
+            assert!(rt; !is_valid_letter(c), "at {c}");
         }
         assert!(rt; is_valid_letter_slice(b"aZAz"));
         assert!(rt; !is_valid_letter_slice(b"aZ0z"));
+    }
+
+    // The lengths around one chunk, two chunks, and a block of eight chunks.
+    #[test]
+    fn slices_of_each_length_fail_at_any_index(rt: HostRuntime) {
+        let mut bytes = [0x41; 600];
+        for len in [
+            0, 1, 31, 32, 33, 63, 64, 65, 97, 255, 256, 257, 300, 512, 600usize,
+        ] {
+            assert!(rt; is_valid_ascii_slice(&bytes[..len]), "{len} bytes");
+            assert!(rt; is_valid_letter_slice(&bytes[..len]), "{len} bytes");
+            for index in 0..len {
+                bytes[index] = 0x7f;
+                assert!(rt;
+                    !is_valid_ascii_slice(&bytes[..len]),
+                    "{len} bytes, at {index}"
+                );
+                assert!(rt;
+                    !is_valid_letter_slice(&bytes[..len]),
+                    "{len} bytes, at {index}"
+                );
+                bytes[index] = 0x41;
+            }
+        }
     }
 }

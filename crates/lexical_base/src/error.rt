@@ -4,6 +4,7 @@
 //! crate answers none itself: it names them for the crates that stand on it.
 
 ghost use Rattle.std.specs.Prelude.{◌≡◌, ◌↔◌, ◌<◌, IsTrue, IsSome, Some};
+ghost use Rattle.std.specs.Fmt.{WritesStyledOnOk, decimal};
 ghost use Rattle.std.specs.Option.{option_copied};
 ghost use Rattle.std.specs.Cmp.{partial_order_from_own_ties};
 ghost use Rattle.std.specs.Cmp.Rules.{comparing};
@@ -736,18 +737,34 @@ impl PartialOrd for Error {
 impl fmt::Display for Error {
     ghost output = { λ error. Some (printed_text error) };
 
+    ghost styled_output = { λ error spec. Some (printed_text error) };
+
     fn fmt<W: fmt::Write>(&self, f: &mut fmt::Formatter<W>) -> fmt::Result {
-        let description = self.description();
         let rank = self.rank();
         if rank < FIRST_FORMAT_ERROR {
-            let index = self.held_index();
-            write!(f, "lexical parse error: {description} at index {index}")
+            f.write_str("lexical parse error: ")?;
+            f.write_str(self.description())?;
+            f.write_str(" at index ")?;
+            write_decimal(f, self.held_index())
         } else if rank < FIRST_OPTIONS_ERROR {
-            write!(f, "lexical number format error: {description}")
+            f.write_str("lexical number format error: ")?;
+            f.write_str(self.description())
         } else if rank < SUCCESS {
-            write!(f, "lexical options error: {description}")
+            f.write_str("lexical options error: ")?;
+            f.write_str(self.description())
         } else {
-            write!(f, "{description}")
+            f.write_str(self.description())
         }
     }
+}
+
+// Writes the digits of `n`, whatever options `f` has.
+fn write_decimal<W: fmt::Write>(f: &mut fmt::Formatter<W>, n: usize) -> fmt::Result
+    ensures { WritesStyledOnOk W.write_str_gives f.old result (decimal n) f.new }
+{
+    let has_front = n >= 10;
+    if has_front {
+        write_decimal(f, n / 10)?;
+    }
+    f.write_char(char::from(b'0' + (n % 10) as u8))
 }

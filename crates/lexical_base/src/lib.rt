@@ -5,3 +5,4 @@
 pub mod ascii;
 pub mod digit;
 pub mod error;
+pub mod laws;
