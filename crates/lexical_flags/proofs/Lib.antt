@@ -9,6 +9,8 @@ pub mod CaseLemmas
 pub mod FlagTests
 pub mod CommonLemmas
 pub mod DigitLemmas
+pub mod PairLemmas
+pub mod OneRole
 pub mod RuleLemmas
 pub mod OptionLemmas
 pub mod LawfulTest

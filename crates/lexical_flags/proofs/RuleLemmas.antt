@@ -9,10 +9,10 @@ use Rattle.lexical_base.specs.declared.error.Error.{Error}
 use Rattle.lexical_base.specs.declared.error.Error.TheVariants.{InvalidFlags, Success}
 use Rattle.lexical_base.proofs.ValueLemmas.{value_is}
 use Rattle.lexical_flags.specs.Layout.{IsClean}
-use Rattle.lexical_flags.specs.Record.{Record, raw, effective_exponent_radix}
+use Rattle.lexical_flags.specs.Record.{Record, raw, effective, effective_exponent_radix}
 use Rattle.lexical_flags.specs.Roles.{Disjoint, cased, other_case, digits, signs}
 use Rattle.lexical_flags.proofs.CaseLemmas.{cased-cases, digits-other_case, signs-other_case}
-use Rattle.lexical_flags.specs.Rules.{Rule, mantissa_radix_in_range, exponent_base_in_range, exponent_radix_in_range, digit_separator_is_free, base_prefix_is_free, base_suffix_is_free, punctuation_differs, exponent_flags_agree, mantissa_sign_flags_agree, exponent_sign_flags_agree, special_case_flags_agree, special_separator_flags_agree, integer_consecutive_has_place, fraction_consecutive_has_place, exponent_consecutive_has_place, reserved_bits_are_zero, IsFree, IsTextOrNone, IsPunctuation, Holds, IsFirstBroken, IsErrorOf, Lawful, answer, rules_in_order}
+use Rattle.lexical_flags.specs.Rules.{Rule, mantissa_radix_in_range, exponent_base_in_range, exponent_radix_in_range, digit_separator_is_free, base_prefix_is_free, base_suffix_is_free, punctuation_differs, exponent_flags_agree, mantissa_sign_flags_agree, exponent_sign_flags_agree, special_case_flags_agree, special_separator_flags_agree, integer_consecutive_has_place, fraction_consecutive_has_place, exponent_consecutive_has_place, reserved_bits_are_zero, IsRadix, IsFree, IsTextOrNone, IsPunctuation, Holds, IsFirstBroken, IsErrorOf, Lawful, answer, rules_in_order}
 
 -- a set with the same letters in both cases is apart from the role of a byte that is not in it
 pub Disjoint-cased : (A : ByteSet) → ((b : ℕ) → IsTrue (A (other_case b)) → IsTrue (A b)) →
@@ -101,6 +101,23 @@ Holds-from_lawful integer_consecutive_has_place word h = h.flags.1.1.1.1.1.0
 Holds-from_lawful fraction_consecutive_has_place word h = h.flags.1.1.1.1.1.1.0
 Holds-from_lawful exponent_consecutive_has_place word h = h.flags.1.1.1.1.1.1.1.0
 Holds-from_lawful reserved_bits_are_zero word h = h.clean
+
+-- the radixes of a lawful word
+pub Lawful-mantissa_radix : (word : ℕ) → Lawful word → IsRadix (raw word).mantissa_radix
+unfolding Lawful
+Lawful-mantissa_radix word h = h.mantissa_radix
+
+-- an exponent byte that is not empty
+own_radix : (own radix : ℕ) → own ≢ 0 → IsRadix (effective own radix) → IsRadix own
+own_radix own radix some h = grind (arith, nat_tests)
+
+pub Lawful-exponent_base : (word : ℕ) → Lawful word → (raw word).exponent_base ≢ 0 → IsRadix (raw word).exponent_base
+unfolding Lawful
+Lawful-exponent_base word h some = own_radix _ (raw word).mantissa_radix some h.exponent_base
+
+pub Lawful-exponent_radix : (word : ℕ) → Lawful word → (raw word).exponent_radix ≢ 0 → IsRadix (raw word).exponent_radix
+unfolding Lawful
+Lawful-exponent_radix word h some = own_radix _ (raw word).mantissa_radix some h.exponent_radix
 
 -- a word that keeps every rule is lawful
 pub Lawful-from_all : (word : ℕ) → ((rule : Rule) → Holds rule word) → Lawful word

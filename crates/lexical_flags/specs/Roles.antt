@@ -1,5 +1,5 @@
 -- The roles that bytes play in the numbers of a format, each as the set of the bytes that play it.
-use Rattle.std.specs.Prelude.{ℕ, ◌+◌, ◌-◌, Bool, true, IsTrue, if◌then◌else◌, min, nat_lt, ◌==◌, ◌&&◌, ◌||◌, not, List, [], ◌∷◌, ◌++◌}
+use Rattle.std.specs.Prelude.{ℕ, ◌≡◌, ◌+◌, ◌-◌, Bool, true, IsTrue, if◌then◌else◌, min, nat_lt, ◌==◌, ◌&&◌, ◌||◌, not, List, [], ◌∷◌, map}
 use Rattle.lexical_base.specs.Ascii.{ByteSet, between}
 use Rattle.lexical_base.specs.Digits.{value}
 use Rattle.lexical_flags.specs.Record.{Record, effective_exponent_radix}
@@ -60,6 +60,36 @@ own_roles r = separator r ∷ prefix r ∷ suffix r ∷ []
 abbrev pub five_roles : Record → List ByteSet
 five_roles r = digits r ∷ signs ∷ own_roles r
 
--- all roles in a format beside which an exponent character and a decimal point are chosen
+-- the roles by name, those of a format beside which an exponent character and a decimal point are chosen
+pub data Role : Type 0 where
+  digit : Role
+  sign : Role
+  digit_separator : Role
+  base_prefix : Role
+  base_suffix : Role
+  exponent_character : Role
+  decimal_point : Role
+
+-- all of them
+abbrev pub roles : List Role
+roles = digit ∷ sign ∷ digit_separator ∷ base_prefix ∷ base_suffix ∷ exponent_character ∷ decimal_point ∷ []
+
+-- the bytes that play a role
+abbrev pub role_set : Record → ℕ → ℕ → Role → ByteSet
+role_set r exponent_byte point_byte digit = digits r
+role_set r exponent_byte point_byte sign = signs
+role_set r exponent_byte point_byte digit_separator = separator r
+role_set r exponent_byte point_byte base_prefix = prefix r
+role_set r exponent_byte point_byte base_suffix = suffix r
+role_set r exponent_byte point_byte exponent_character = exponent r exponent_byte
+role_set r exponent_byte point_byte decimal_point = point point_byte
+
+-- the sets of all roles
 abbrev pub seven_roles : Record → ℕ → ℕ → List ByteSet
-seven_roles r exponent_byte point_byte = five_roles r ++ exponent r exponent_byte ∷ point point_byte ∷ []
+seven_roles r exponent_byte point_byte = map (role_set r exponent_byte point_byte) roles
+
+-- two roles that a byte plays are one
+abbrev pub AtMostOneRole : Record → ℕ → ℕ → Type 0
+AtMostOneRole r exponent_byte point_byte =
+    (byte : ℕ) → (a b : Role)
+    → IsTrue (role_set r exponent_byte point_byte a byte) → IsTrue (role_set r exponent_byte point_byte b byte) → a ≡ b

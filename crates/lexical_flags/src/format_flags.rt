@@ -241,7 +241,8 @@ pub fn base_suffix(format: u128) -> u8
 /// The radix of the significant digits, 0 to 255. A lawful format has 2 to 36.
 #[inline(always)]
 pub fn mantissa_radix(format: u128) -> u32
-    ensures { result ≡ (raw format).mantissa_radix }
+    ensures value { result ≡ (raw format).mantissa_radix }
+    ensures lawful { Lawful format → IsRadix result }
 {
     ((format & MANTISSA_RADIX) >> MANTISSA_RADIX_SHIFT) as u32
 }
@@ -250,7 +251,8 @@ pub fn mantissa_radix(format: u128) -> u32
 /// the mantissa radix.
 #[inline(always)]
 pub fn exponent_base(format: u128) -> u32
-    ensures { result ≡ effective_exponent_base (raw format) }
+    ensures value { result ≡ effective_exponent_base (raw format) }
+    ensures lawful { Lawful format → IsRadix result }
 {
     let base = ((format & EXPONENT_BASE) >> EXPONENT_BASE_SHIFT) as u32;
     if base == 0 {
@@ -264,7 +266,8 @@ pub fn exponent_base(format: u128) -> u32
 /// mantissa radix.
 #[inline(always)]
 pub fn exponent_radix(format: u128) -> u32
-    ensures { result ≡ effective_exponent_radix (raw format) }
+    ensures value { result ≡ effective_exponent_radix (raw format) }
+    ensures lawful { Lawful format → IsRadix result }
 {
     let radix = ((format & EXPONENT_RADIX) >> EXPONENT_RADIX_SHIFT) as u32;
     if radix == 0 {
@@ -304,10 +307,12 @@ pub fn is_valid_exponent_flags(format: u128) -> bool
     format & NO_EXPONENT_NOTATION == 0 || format & REQUIRED_EXPONENT_NOTATION == 0
 }
 
-// Whether a byte is a digit of the mantissa or of the exponent.
+/// Whether a byte is a digit of numbers in this format: a digit of the mantissa radix or of the
+/// exponent radix, or of the mantissa radix if the exponent radix is 0. Letters are digits in both
+/// cases.
 #[inline(always)]
 #[tactic(auto, using(crate::proofs::DigitLemmas::digits_larger))]
-fn is_digit(format: u128, byte: u8) -> bool
+pub fn is_digit(format: u128, byte: u8) -> bool
     ensures { IsTrue result ↔ IsTrue (digits (raw format) byte) }
 {
     char_is_digit(byte, mantissa_radix(format).max(exponent_radix(format)))

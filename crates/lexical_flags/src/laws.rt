@@ -5,6 +5,8 @@ ghost use Rattle.lexical_flags.specs.Layout as layout;
 ghost use Rattle.lexical_flags.specs.Layout.{Flag, Byte, bit, shift, IsClean};
 ghost use Rattle.lexical_flags.specs.Record.{Record, raw, fill, trim, pack, HasBytes, IsBuilt, SeparatorIsUsed};
 ghost use Rattle.lexical_flags.specs.Rules.{Rule, Demands, Lawful, IsErrorOf};
+ghost use Rattle.lexical_flags.specs.Roles.{Disjoint, seven_roles, AtMostOneRole};
+ghost use Rattle.lexical_flags.specs.Options.{AreAccepted};
 ghost use Rattle.lexical_base.specs.declared.error.Error.TheVariants as Error;
 ghost use Rattle.lexical_flags.specs.Pairs.{ArePairwise};
 ghost use Rattle.lexical_flags.specs.Constants.{flag_constant, byte_mask, byte_shift, mask_of, doublings, AreApart};
@@ -72,6 +74,17 @@ pub fn rule_facts()
     // Where no separator is dropped, they keep no other.
     ensures same { (rule : Rule) → (r : Record) → SeparatorIsUsed r
         → Demands rule r ↔ Demands rule (trim (fill r)) }
+{}
+
+/// Which bytes play which roles.
+pub fn role_facts()
+    // No byte plays two roles exactly if the sets of any two roles are disjoint.
+    ensures pairs { (r : Record) → (exponent_byte point_byte : ℕ)
+        → ArePairwise Disjoint (seven_roles r exponent_byte point_byte) ↔ AtMostOneRole r exponent_byte point_byte }
+
+    // In a lawful format a byte plays at most one role beside two bytes that are accepted.
+    ensures lawful { (word exponent_byte point_byte : ℕ) → Lawful word → AreAccepted word exponent_byte point_byte
+        → AtMostOneRole (raw word) exponent_byte point_byte }
 {}
 
 /// Answers to some words, written out.
