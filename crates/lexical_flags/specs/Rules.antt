@@ -116,9 +116,13 @@ flag_rules =
     special_case_flags_agree ∷ special_separator_flags_agree ∷
     integer_consecutive_has_place ∷ fraction_consecutive_has_place ∷ exponent_consecutive_has_place ∷ []
 
+-- that of the bits that no field takes
+abbrev pub reserved_rules : List Rule
+reserved_rules = reserved_bits_are_zero ∷ []
+
 -- all rules, in the order in which they are asked
 abbrev pub rules_in_order : List Rule
-rules_in_order = radix_rules ++ punctuation_rules ++ flag_rules ++ reserved_bits_are_zero ∷ []
+rules_in_order = radix_rules ++ punctuation_rules ++ flag_rules ++ reserved_rules
 
 -- the answer to the first of some rules that a word breaks, and Success where it breaks none
 abbrev pub IsFirstBroken : List Rule → ℕ → Error → Type 0

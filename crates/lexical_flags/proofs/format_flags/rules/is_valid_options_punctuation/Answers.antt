@@ -1,5 +1,5 @@
 use Rattle.lexical_flags.proofs.OptionLemmas.{AreAccepted-from_roles, HaveOneRole-from_accepted, LeavesRoom-from_lawful}
-use Rattle.lexical_flags.proofs.format_flags.is_valid_options_punctuation.Goals as goal
+use Rattle.lexical_flags.proofs.format_flags.rules.is_valid_options_punctuation.Goals as goal
 
 pub returns-clause-roles : goal.returns-clause-roles
 returns-clause-roles c lawful = (

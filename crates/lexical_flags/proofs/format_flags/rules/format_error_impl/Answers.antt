@@ -1,5 +1,5 @@
 use Rattle.lexical_flags.proofs.RuleLemmas.{Success-lawful, IsErrorOf-unique}
-use Rattle.lexical_flags.proofs.format_flags.format_error_impl.Goals as goal
+use Rattle.lexical_flags.proofs.format_flags.rules.format_error_impl.Goals as goal
 
 pub returns-clause-lawful : goal.returns-clause-lawful
 returns-clause-lawful c = Success-lawful c.args.format c.first_broken.result c.first_broken.ensures

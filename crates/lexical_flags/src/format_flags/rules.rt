@@ -1,0 +1,437 @@
+//! The rules of a format word: a test for each, and the error of the first that a word breaks.
+//!
+//! A word that breaks no rule is *lawful*; the view of a word calls it valid.
+#![tactic(auto, using(crate::proofs::FlagTests::flag_tests), unfolding(crate::specs::Rules::Holds, crate::specs::Rules::IsPunctuation))]
+
+ghost use Rattle.std.specs.Prelude.{◌≡◌, ◌↔◌, IsTrue};
+ghost use Rattle.std.specs.List.{AllByRecursion};
+ghost use Rattle.lexical_base.specs.Ascii.{letters};
+ghost use Rattle.lexical_flags.specs.Record.{raw};
+ghost use Rattle.lexical_flags.specs.Roles.{Disjoint, cased, other_case, digits, own_roles};
+ghost use Rattle.lexical_flags.specs.Options.{AreAccepted, HaveOneRole, LeavesRoom};
+ghost use Rattle.lexical_flags.specs.Rules.{IsRadix, IsFree, IsPunctuation, Holds, IsFirstBroken, IsErrorOf, Lawful};
+ghost use Rattle.lexical_flags.specs.Rules as rules;
+
+use crate::format_flags::*;
+use lexical_base::ascii::{is_valid_ascii, is_valid_letter};
+use lexical_base::digit::char_is_digit;
+use lexical_base::error::Error;
+
+// BYTES
+
+/// Returns whether `byte` is a digit of numbers in this format: a digit of the mantissa radix or of
+/// the exponent radix. Letters are digits in both cases.
+///
+/// If the exponent radix of the format is 0, the mantissa radix stands for it. The exponent base
+/// has no digits. Any word and any byte may be passed. The Rust crate has no such function.
+#[inline(always)]
+#[tactic(auto, using(crate::proofs::DigitLemmas::digits_larger))]
+pub fn is_digit(format: u128, byte: u8) -> bool
+    ensures { IsTrue result ↔ IsTrue (digits (raw format) byte) }
+{
+    char_is_digit(byte, mantissa_radix(format).max(exponent_radix(format)))
+}
+
+// Whether a byte is text, but no digit and no sign.
+#[inline(always)]
+fn is_punctuation(format: u128, byte: u8) -> bool
+    ensures { IsTrue result ↔ IsPunctuation (raw format) byte }
+{
+    is_valid_ascii(byte) && byte != b'+' && byte != b'-' && !is_digit(format, byte)
+}
+
+// Whether a byte is absent, or such punctuation.
+#[inline(always)]
+fn is_free(format: u128, byte: u8) -> bool
+    ensures { IsTrue result ↔ IsFree (raw format) byte }
+{
+    byte == 0 || is_punctuation(format, byte)
+}
+
+// Whether two bytes are the two cases of one letter.
+#[inline(always)]
+#[tactic(auto, using(crate::proofs::CaseLemmas::flipped))]
+fn are_cases(a: u8, b: u8) -> bool
+    ensures { IsTrue result ↔ (IsTrue (letters a) × (b ≡ other_case a)) }
+{
+    a ^ 0x20 == b && is_valid_letter(a)
+}
+
+// Whether no byte plays both of two roles. A role that is not case-sensitive is played by both
+// cases of its letter. A byte of 0 is absent: no byte plays its role.
+#[inline(always)]
+#[tactic(auto, unfolding(crate::specs::Roles::Disjoint, crate::specs::Roles::cased))]
+fn are_apart(a: u8, a_case_counts: bool, b: u8, b_case_counts: bool) -> bool
+    ensures { IsTrue result ↔ Disjoint (cased a_case_counts a) (cased b_case_counts b) }
+{
+    a == 0 || (a != b && (!are_cases(a, b) || (a_case_counts && b_case_counts)))
+}
+
+// Whether the base prefix is case-sensitive.
+#[inline(always)]
+fn prefix_case_counts(format: u128) -> bool
+    ensures { result ≡ (raw format).case_sensitive_base_prefix }
+{
+    format & CASE_SENSITIVE_BASE_PREFIX != 0
+}
+
+// Whether the base suffix is case-sensitive.
+#[inline(always)]
+fn suffix_case_counts(format: u128) -> bool
+    ensures { result ≡ (raw format).case_sensitive_base_suffix }
+{
+    format & CASE_SENSITIVE_BASE_SUFFIX != 0
+}
+
+// Whether the exponent character is case-sensitive.
+#[inline(always)]
+fn exponent_case_counts(format: u128) -> bool
+    ensures { result ≡ (raw format).case_sensitive_exponent }
+{
+    format & CASE_SENSITIVE_EXPONENT != 0
+}
+
+// RADIXES
+
+/// Returns whether numbers can be written in a radix, that is, whether it is 2 to 36.
+#[inline(always)]
+pub fn is_valid_radix(radix: u32) -> bool
+    ensures { IsTrue result ↔ IsRadix radix }
+{
+    radix >= 2 && radix <= 36
+}
+
+// Whether the mantissa radix is 2 to 36.
+#[inline(always)]
+fn is_valid_mantissa_radix(format: u128) -> bool
+    ensures { IsTrue result ↔ Holds rules.mantissa_radix_in_range format }
+{
+    is_valid_radix(mantissa_radix(format))
+}
+
+// Whether the exponent base, or the mantissa radix if that is 0, is 2 to 36.
+#[inline(always)]
+fn is_valid_exponent_base(format: u128) -> bool
+    ensures { IsTrue result ↔ Holds rules.exponent_base_in_range format }
+{
+    is_valid_radix(exponent_base(format))
+}
+
+// Whether the exponent radix, or the mantissa radix if that is 0, is 2 to 36.
+#[inline(always)]
+fn is_valid_exponent_radix(format: u128) -> bool
+    ensures { IsTrue result ↔ Holds rules.exponent_radix_in_range format }
+{
+    is_valid_radix(exponent_radix(format))
+}
+
+// PUNCTUATION
+
+/// Returns whether the digit separator is 0, or allowed ASCII that is no sign and no digit of the
+/// mantissa or of the exponent.
+///
+/// The raw byte is tested: a digit is rejected even if no flag allows a separator, and 0 is accepted
+/// even if one does.
+#[inline(always)]
+pub fn is_valid_digit_separator(format: u128) -> bool
+    ensures { IsTrue result ↔ Holds rules.digit_separator_is_free format }
+{
+    is_free(format, digit_separator(format))
+}
+
+/// Returns whether the base prefix is 0, or allowed ASCII that is no sign and no digit of the
+/// mantissa or of the exponent.
+#[inline(always)]
+pub fn is_valid_base_prefix(format: u128) -> bool
+    ensures { IsTrue result ↔ Holds rules.base_prefix_is_free format }
+{
+    is_free(format, base_prefix(format))
+}
+
+/// Returns whether the base suffix is 0, or allowed ASCII that is no sign and no digit of the
+/// mantissa or of the exponent.
+#[inline(always)]
+pub fn is_valid_base_suffix(format: u128) -> bool
+    ensures { IsTrue result ↔ Holds rules.base_suffix_is_free format }
+{
+    is_free(format, base_suffix(format))
+}
+
+/// Returns whether digit separator, base prefix and base suffix differ from each other.
+///
+/// A byte of 0 is absent and equals no other. A base prefix that is a letter stands for both cases
+/// of it unless [`CASE_SENSITIVE_BASE_PREFIX`] is set, and a base suffix unless
+/// [`CASE_SENSITIVE_BASE_SUFFIX`] is set: the prefix `h` and the suffix `H` clash unless both flags
+/// are set. The digit separator is always one byte. The Rust crate compares the raw bytes, so it
+/// accepts such a prefix and suffix with any flags.
+#[inline(always)]
+pub fn is_valid_punctuation(format: u128) -> bool
+    ensures { IsTrue result ↔ Holds rules.punctuation_differs format }
+{
+    let separator = digit_separator(format);
+    let prefix = base_prefix(format);
+    let suffix = base_suffix(format);
+    let prefix_case = prefix_case_counts(format);
+    let suffix_case = suffix_case_counts(format);
+    are_apart(separator, true, prefix, prefix_case)
+        && are_apart(separator, true, suffix, suffix_case)
+        && are_apart(prefix, prefix_case, suffix, suffix_case)
+}
+
+// Whether a byte clashes with none of digit separator, base prefix and base suffix.
+#[inline(always)]
+fn is_apart_from_own(format: u128, byte: u8, case_counts: bool) -> bool
+    ensures { IsTrue result ↔ AllByRecursion (Disjoint (cased case_counts byte)) (own_roles (raw format)) }
+{
+    let prefix_case = prefix_case_counts(format);
+    let suffix_case = suffix_case_counts(format);
+    are_apart(byte, case_counts, digit_separator(format), true)
+        && are_apart(byte, case_counts, base_prefix(format), prefix_case)
+        && are_apart(byte, case_counts, base_suffix(format), suffix_case)
+}
+
+// Whether both bytes are punctuation that is not in use yet.
+#[inline(always)]
+fn are_accepted(format: u128, exponent: u8, decimal_point: u8) -> bool
+    ensures { IsTrue result ↔ AreAccepted format exponent decimal_point }
+{
+    let exponent_case = exponent_case_counts(format);
+    are_apart(exponent, exponent_case, decimal_point, true)
+        && is_punctuation(format, decimal_point)
+        && is_punctuation(format, exponent)
+        && is_apart_from_own(format, decimal_point, true)
+        && is_apart_from_own(format, exponent, exponent_case)
+}
+
+/// Returns whether `exponent` can be the exponent character and `decimal_point` the decimal point in
+/// numbers of this format.
+///
+/// Both have to be allowed ASCII that is no sign and no digit of the mantissa or of the exponent, so
+/// neither may be 0. They have to differ from each other and from digit separator, base prefix and
+/// base suffix. An exponent character that is a letter stands for both cases of it unless
+/// [`CASE_SENSITIVE_EXPONENT`] is set; base prefix and base suffix are compared as in
+/// [`is_valid_punctuation`]. The decimal point is always one byte. In a lawful format, no byte then
+/// has two meanings, and for every lawful format some such pair exists. The Rust crate compares the
+/// raw bytes.
+#[inline(always)]
+pub fn is_valid_options_punctuation(format: u128, exponent: u8, decimal_point: u8) -> bool
+    ensures accepted { IsTrue result ↔ AreAccepted format exponent decimal_point }
+    // In a lawful format this is all that it takes for each byte to play at most one role.
+    ensures roles { Lawful format → (IsTrue result ↔ HaveOneRole format exponent decimal_point) }
+    ensures some { Lawful format → LeavesRoom format }
+{
+    are_accepted(format, exponent, decimal_point)
+}
+
+// FLAGS
+
+/// Returns whether [`NO_EXPONENT_NOTATION`] and [`REQUIRED_EXPONENT_NOTATION`] are not both set.
+#[inline(always)]
+pub fn is_valid_exponent_flags(format: u128) -> bool
+    ensures { IsTrue result ↔ Holds rules.exponent_flags_agree format }
+{
+    format & NO_EXPONENT_NOTATION == 0 || format & REQUIRED_EXPONENT_NOTATION == 0
+}
+
+// Not both NO_POSITIVE_MANTISSA_SIGN and REQUIRED_MANTISSA_SIGN.
+#[inline(always)]
+fn is_valid_mantissa_sign_flags(format: u128) -> bool
+    ensures { IsTrue result ↔ Holds rules.mantissa_sign_flags_agree format }
+{
+    format & NO_POSITIVE_MANTISSA_SIGN == 0 || format & REQUIRED_MANTISSA_SIGN == 0
+}
+
+// Not both NO_POSITIVE_EXPONENT_SIGN and REQUIRED_EXPONENT_SIGN.
+#[inline(always)]
+fn is_valid_exponent_sign_flags(format: u128) -> bool
+    ensures { IsTrue result ↔ Holds rules.exponent_sign_flags_agree format }
+{
+    format & NO_POSITIVE_EXPONENT_SIGN == 0 || format & REQUIRED_EXPONENT_SIGN == 0
+}
+
+// Not both NO_SPECIAL and CASE_SENSITIVE_SPECIAL.
+#[inline(always)]
+fn is_valid_special_case_flags(format: u128) -> bool
+    ensures { IsTrue result ↔ Holds rules.special_case_flags_agree format }
+{
+    format & NO_SPECIAL == 0 || format & CASE_SENSITIVE_SPECIAL == 0
+}
+
+// Not both NO_SPECIAL and SPECIAL_DIGIT_SEPARATOR.
+#[inline(always)]
+fn is_valid_special_separator_flags(format: u128) -> bool
+    ensures { IsTrue result ↔ Holds rules.special_separator_flags_agree format }
+{
+    format & NO_SPECIAL == 0 || format & SPECIAL_DIGIT_SEPARATOR == 0
+}
+
+// Not INTEGER_CONSECUTIVE_DIGIT_SEPARATOR alone among the four separator flags of the integer.
+#[inline(always)]
+fn is_valid_integer_consecutive_flags(format: u128) -> bool
+    ensures { IsTrue result ↔ Holds rules.integer_consecutive_has_place format }
+{
+    format & INTEGER_DIGIT_SEPARATOR_FLAG_MASK != INTEGER_CONSECUTIVE_DIGIT_SEPARATOR
+}
+
+// The same for the fraction.
+#[inline(always)]
+fn is_valid_fraction_consecutive_flags(format: u128) -> bool
+    ensures { IsTrue result ↔ Holds rules.fraction_consecutive_has_place format }
+{
+    format & FRACTION_DIGIT_SEPARATOR_FLAG_MASK != FRACTION_CONSECUTIVE_DIGIT_SEPARATOR
+}
+
+// The same for the exponent.
+#[inline(always)]
+fn is_valid_exponent_consecutive_flags(format: u128) -> bool
+    ensures { IsTrue result ↔ Holds rules.exponent_consecutive_has_place format }
+{
+    format & EXPONENT_DIGIT_SEPARATOR_FLAG_MASK != EXPONENT_CONSECUTIVE_DIGIT_SEPARATOR
+}
+
+// Whether all reserved bits are 0.
+#[inline(always)]
+fn is_clean(format: u128) -> bool
+    ensures { IsTrue result ↔ Holds rules.reserved_bits_are_zero format }
+{
+    format & RESERVED_MASK == 0
+}
+
+// THE FIRST BROKEN RULE
+
+// The error of the first broken rule of radixes, or `Success`.
+#[inline(always)]
+#[tactic(auto)]
+fn first_broken_radix(format: u128) -> Error
+    ensures { IsFirstBroken rules.radix_rules format result }
+{
+    if !is_valid_mantissa_radix(format) {
+        Error::InvalidMantissaRadix
+    } else if !is_valid_exponent_base(format) {
+        Error::InvalidExponentBase
+    } else if !is_valid_exponent_radix(format) {
+        Error::InvalidExponentRadix
+    } else {
+        Error::Success
+    }
+}
+
+// The same for the rules of punctuation.
+#[inline(always)]
+#[tactic(auto)]
+fn first_broken_punctuation(format: u128) -> Error
+    ensures { IsFirstBroken rules.punctuation_rules format result }
+{
+    if !is_valid_digit_separator(format) {
+        Error::InvalidDigitSeparator
+    } else if !is_valid_base_prefix(format) {
+        Error::InvalidBasePrefix
+    } else if !is_valid_base_suffix(format) {
+        Error::InvalidBaseSuffix
+    } else if !is_valid_punctuation(format) {
+        Error::InvalidPunctuation
+    } else {
+        Error::Success
+    }
+}
+
+// The same for the rules of flags.
+#[inline(always)]
+#[tactic(auto)]
+fn first_broken_flags(format: u128) -> Error
+    ensures { IsFirstBroken rules.flag_rules format result }
+{
+    if !is_valid_exponent_flags(format) {
+        Error::InvalidExponentFlags
+    } else if !is_valid_mantissa_sign_flags(format) {
+        Error::InvalidMantissaSign
+    } else if !is_valid_exponent_sign_flags(format) {
+        Error::InvalidExponentSign
+    } else if !is_valid_special_case_flags(format) || !is_valid_special_separator_flags(format) {
+        Error::InvalidSpecial
+    } else if !is_valid_integer_consecutive_flags(format) {
+        Error::InvalidConsecutiveIntegerDigitSeparator
+    } else if !is_valid_fraction_consecutive_flags(format) {
+        Error::InvalidConsecutiveFractionDigitSeparator
+    } else if !is_valid_exponent_consecutive_flags(format) {
+        Error::InvalidConsecutiveExponentDigitSeparator
+    } else {
+        Error::Success
+    }
+}
+
+// The same for the rule of reserved bits.
+#[inline(always)]
+#[tactic(auto)]
+fn first_broken_reserved(format: u128) -> Error
+    ensures { IsFirstBroken rules.reserved_rules format result }
+{
+    if is_clean(format) {
+        Error::Success
+    } else {
+        Error::InvalidFlags
+    }
+}
+
+// The same for all rules.
+#[tactic(auto, unfolding(crate::specs::Rules::IsErrorOf))]
+fn first_broken(format: u128) -> Error
+    ensures { IsErrorOf format result }
+{
+    match first_broken_radix(format) {
+        Error::Success => match first_broken_punctuation(format) {
+            Error::Success => match first_broken_flags(format) {
+                Error::Success => first_broken_reserved(format),
+                error => error,
+            },
+            error => error,
+        },
+        error => error,
+    }
+}
+
+/// Returns the error of the first of mantissa radix, exponent base and exponent radix that is not
+/// 2 to 36, and `Success` if all are.
+///
+/// If the exponent base or the exponent radix is 0, the mantissa radix stands for it.
+pub fn radix_error_impl(format: u128) -> Error
+    ensures first { IsFirstBroken rules.radix_rules format result }
+    ensures only { (other : Error) → IsFirstBroken rules.radix_rules format other → other ≡ result }
+{
+    first_broken_radix(format)
+}
+
+/// Returns the error of the first rule that a format breaks, and `Success` if it breaks none, that
+/// is, if it is lawful.
+///
+/// The rules in their order, each with its error:
+///
+/// 1. The mantissa radix is 2 to 36: `InvalidMantissaRadix`.
+/// 2. The exponent base, or the mantissa radix if that is 0, is 2 to 36: `InvalidExponentBase`.
+/// 3. The exponent radix, or the mantissa radix if that is 0, is 2 to 36: `InvalidExponentRadix`.
+/// 4. The digit separator is valid ([`is_valid_digit_separator`]): `InvalidDigitSeparator`.
+/// 5. The base prefix is valid ([`is_valid_base_prefix`]): `InvalidBasePrefix`.
+/// 6. The base suffix is valid ([`is_valid_base_suffix`]): `InvalidBaseSuffix`.
+/// 7. These three differ ([`is_valid_punctuation`]): `InvalidPunctuation`.
+/// 8. Not both [`NO_EXPONENT_NOTATION`] and [`REQUIRED_EXPONENT_NOTATION`]: `InvalidExponentFlags`.
+/// 9. Not both [`NO_POSITIVE_MANTISSA_SIGN`] and [`REQUIRED_MANTISSA_SIGN`]: `InvalidMantissaSign`.
+/// 10. Not both [`NO_POSITIVE_EXPONENT_SIGN`] and [`REQUIRED_EXPONENT_SIGN`]: `InvalidExponentSign`.
+/// 11. Not both [`NO_SPECIAL`] and [`CASE_SENSITIVE_SPECIAL`]: `InvalidSpecial`.
+/// 12. Not both [`NO_SPECIAL`] and [`SPECIAL_DIGIT_SEPARATOR`]: `InvalidSpecial`.
+/// 13. Not [`INTEGER_CONSECUTIVE_DIGIT_SEPARATOR`] without an internal, leading or trailing flag of
+///     the integer: `InvalidConsecutiveIntegerDigitSeparator`.
+/// 14. The same for the fraction: `InvalidConsecutiveFractionDigitSeparator`.
+/// 15. The same for the exponent: `InvalidConsecutiveExponentDigitSeparator`.
+/// 16. All 49 reserved bits are 0: `InvalidFlags`.
+///
+/// The Rust crate compares raw bytes in the seventh rule, and has no rule on reserved bits.
+pub fn format_error_impl(format: u128) -> Error
+    ensures first { IsErrorOf format result }
+    ensures lawful { (result ≡ Error.Success) ↔ Lawful format }
+    ensures only { (other : Error) → IsErrorOf format other → other ≡ result }
+{
+    first_broken(format)
+}
+
+#[cfg(test)]
+mod tests;
