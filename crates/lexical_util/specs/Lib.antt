@@ -3,11 +3,15 @@ pub mod Normal
 pub mod View
 pub mod Listing
 pub mod Compose
+pub mod Unfoldable
 pub use Rattle.lexical_base.specs.Ascii
 pub use Rattle.lexical_base.specs.Digits
 pub use Rattle.lexical_base.specs.Outcomes
+pub use Rattle.lexical_base.specs.OutcomeOrder
 pub use Rattle.lexical_flags.specs.Layout
 pub use Rattle.lexical_flags.specs.Record
+pub use Rattle.lexical_flags.specs.Constants
+pub use Rattle.lexical_flags.specs.Common
 pub use Rattle.lexical_flags.specs.Pairs
 pub use Rattle.lexical_flags.specs.Roles
 pub use Rattle.lexical_flags.specs.Rules

@@ -1,4 +1,5 @@
-//! Worked examples of the definitions, each a clause of a function that does nothing.
+//! Laws and worked examples, each a clause of a function with an empty body. To use them, call the
+//! function.
 
 ghost use Rattle.std.specs.Prelude.{◌≡◌, true, false, [], ◌∷◌};
 ghost use Rattle.lexical_flags.specs.Layout as layout;
@@ -6,6 +7,8 @@ ghost use Rattle.lexical_flags.specs.Record.{pack};
 ghost use Rattle.lexical_builder.specs.Writes.{write_flag, write_byte, write_flags, new_record, radix_record, after};
 ghost use Rattle.lexical_util.specs.Edits.{edited};
 ghost use Rattle.lexical_util.specs.Normal.{normal_form_of};
+
+pub use lexical_flags::laws as flags;
 
 /// Normal forms and edited words, written out.
 #[tactic(auto, unfolding(lexical_flags::specs::Record::word_of, lexical_builder::specs::Writes::after))]
