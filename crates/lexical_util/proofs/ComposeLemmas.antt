@@ -1,16 +1,18 @@
 -- Two edits one after the other are one edit exactly if the packing between them does nothing to their answer.
-use Rattle.std.proofs.Common.{◌≡◌, ℕ, ◌↔◌, inl, IsTrue, Option, Some, None, unwrap_or, refl, sym, ap, ◌∙◌, subst, List, [], ◌++◌, All, arith}
+use Rattle.std.proofs.Common.{◌≡◌, ◌≢◌, ℕ, ◌↔◌, ◌||◌, inl, Bool, true, false, IsTrue, Option, Some, None, unwrap_or, refl, sym, ap, ◌∙◌, subst, List, [], ◌∷◌, ◌++◌, All, arith}
+use Rattle.std.specs.List.{list_any, AllByRecursion}
+use Rattle.std.proofs.lemmas.Bool.{false≢true}
 use Rattle.std.proofs.lemmas.Bool.Decides.{nat_tests}
 use Rattle.lexical_flags.specs.Layout.{Flag, Byte, digit_separator_flags}
 use Rattle.lexical_flags.specs.Layout as layout
 use Rattle.lexical_flags.specs.Record.{Record, flag_of, byte_of, raw, trim, fill, pack, effective, separator_on, SeparatorIsUsed, HasBytes}
 use Rattle.lexical_flags.proofs.RecordLemmas.{record_same}
 use Rattle.lexical_flags.proofs.Packing.{raw-pack, pack-injective, HasBytes-raw, HasBytes-fill, HasBytes-trim}
-use Rattle.lexical_builder.specs.Writes.{Write, IsLegal, flag_in, last_byte, after}
+use Rattle.lexical_builder.specs.Writes.{Write, IsLegal, flag_in, last_flag, last_byte, after}
 use Rattle.lexical_builder.proofs.WriteLemmas.{left_by, flag_of-after, byte_of-after, after-append, after_none, HasBytes-after}
 use Rattle.lexical_util.specs.Edits.{edited}
-use Rattle.lexical_util.specs.Normal.{normal_form_of, IsNormal}
-use Rattle.lexical_util.specs.Compose.{edited_fields, Composes}
+use Rattle.lexical_util.specs.Normal.{normal_form_of}
+use Rattle.lexical_util.specs.Compose.{edited_fields, Composes, AlwaysCompose}
 use Rattle.lexical_util.proofs.NormalLemmas.{flag_of-trim-fill, list_any_same, use_same, used_same, unfilled, full, unused, kept}
 
 -- what is written is the same over both values; what is not is each value
@@ -86,19 +88,41 @@ edited-again w K L bytes legal =
       λ c. twice ∙ alike.1 (same_from_composed R L (c.exponent_base, c.exponent_radix, λ left on. c.digit_separator left (subst (λ (S : Record). IsTrue (separator_on S)) both on))) ∙ sym once,
     )
 
--- an answer that is a normal form with a separator flag has lost nothing
-pub Composes-normal : (w : ℕ) (K L : List Write) → HasBytes (edited_fields w K) → IsNormal (edited w K) → IsTrue (separator_on (raw (edited w K))) → Composes w K L
-unfolding IsNormal
-Composes-normal w K L bytes normal on =
-    let fields : raw (edited w K) ≡ trim (edited_fields w K) = raw-pack (edited_fields w K) bytes in
-    record {
-      exponent_base = λ left. subst (λ (S : Record). S.exponent_base ≡ 0 → S.mantissa_radix ≡ 0) fields normal.exponent_base;
-      exponent_radix = λ left. subst (λ (S : Record). S.exponent_radix ≡ 0 → S.mantissa_radix ≡ 0) fields normal.exponent_radix;
-      digit_separator = λ left both. inl (subst (λ (S : Record). IsTrue (separator_on S)) fields on);
-    }
-
+-- what an empty exponent byte was filled from
 filled_once : (own radix : ℕ) → effective own radix ≡ 0 → radix ≡ 0
 filled_once own radix e = grind (arith, nat_tests)
+
+-- an exponent byte that was filled, and that no write empties for good, is not empty
+stays_full : (o : Option ℕ) (d : ℕ) → o ≢ Some 0 → d ≢ 0 → unwrap_or o d ≢ 0
+stays_full None d kept full e = full e
+stays_full (Some v) d kept full e = kept (ap Some e)
+
+-- a flag that no write sets was set before
+set_before : (o : Option Bool) (d : Bool) → o ≢ Some true → IsTrue (unwrap_or o d) → IsTrue d
+set_before None d unset e = e
+set_before (Some v) d unset e = absurd (unset (ap Some e))
+
+-- and so of several flags
+any_before : (R : Record) (L : List Write) (fs : List Flag) → AllByRecursion (λ f. last_flag L f ≢ Some true) fs → IsTrue (list_any (flag_of (after R L)) fs) → IsTrue (list_any (flag_of R) fs)
+any_before R L [] unset on = on
+any_before R L (f ∷ fs) unset on = or_first (flag_of R f) (list_any (flag_of R) fs) (flag_of (after R L) f) (list_any (flag_of (after R L)) fs)
+    (λ set. set_before (last_flag L f) (flag_of R f) unset.0 (sym (flag_of-after R L f) ∙ set)) (any_before R L fs unset.1) on where
+  or_first : (p ps q qs : Bool) → (IsTrue q → IsTrue p) → (IsTrue qs → IsTrue ps) → IsTrue (q || qs) → IsTrue (p || ps)
+  or_first true ps q qs one rest h = refl
+  or_first false ps true qs one rest h = absurd (false≢true (one refl))
+  or_first false ps false qs one rest h = rest h
+
+-- lists that compose on every word with a mantissa radix
+pub Composes-always : (w : ℕ) (K L : List Write) → (raw w).mantissa_radix ≢ 0 → AlwaysCompose K L → Composes w K L
+Composes-always w K L radix always =
+    let R : Record = edited_fields w K in
+    record {
+      exponent_base = λ left empty. absurd (stays_full (last_byte K layout.exponent_base) (effective (raw w).exponent_base (raw w).mantissa_radix) always.exponent_base
+          (λ e. radix (filled_once (raw w).exponent_base (raw w).mantissa_radix e)) (sym (byte_of-after (fill (raw w)) K layout.exponent_base) ∙ empty));
+      exponent_radix = λ left empty. absurd (stays_full (last_byte K layout.exponent_radix) (effective (raw w).exponent_radix (raw w).mantissa_radix) always.exponent_radix
+          (λ e. radix (filled_once (raw w).exponent_radix (raw w).mantissa_radix e)) (sym (byte_of-after (fill (raw w)) K layout.exponent_radix) ∙ empty));
+      digit_separator = λ left on. inl (any_before R L digit_separator_flags (always.digit_separator left) (subst (λ (S : Record). IsTrue (separator_on S)) (sym (after-append (fill (raw w)) K L)) on));
+    }
 
 -- where no separator is dropped, editing the normal form is editing the word
 pub edited-normal : (w : ℕ) (L : List Write) → SeparatorIsUsed (raw w) → All IsLegal L → edited (normal_form_of w) L ≡ edited w L

@@ -1,10 +1,11 @@
 -- The writes of a list of edits, one edit after another.
-use Rattle.std.proofs.Common.{◌≡◌, ℕ, ◌+◌, ◌<◌, ◌≤◌, List, [], ◌∷◌, ◌++◌, length, get_or, take, sym, ap, ◌∙◌, append-nil, take_all}
+use Rattle.std.proofs.Common.{◌≡◌, ℕ, ◌+◌, ◌<◌, ◌≤◌, List, [], ◌∷◌, ◌++◌, length, get_or, take, sym, ap, ◌∙◌, append-nil, take_all, All, arith}
 use Rattle.std.proofs.lemmas.List.{take_more}
 use Rattle.std.proofs.lemmas.List.Concat.{flat_map-append}
+use Rattle.std.proofs.lemmas.List.Elements.{All-append, All-same}
 use Rattle.lexical_flags.specs.Record.{Record, raw, fill, pack}
-use Rattle.lexical_builder.specs.Writes.{Write, after, SameWrites}
-use Rattle.lexical_builder.proofs.WriteLemmas.{after-append, after-same}
+use Rattle.lexical_builder.specs.Writes.{Write, IsLegal, after, SameWrites}
+use Rattle.lexical_builder.proofs.WriteLemmas.{after_none, after-append, after-same}
 use Rattle.lexical_util.specs.Edits.{all_writes, writes_of, edited}
 use Rattle.lexical_util.specs.declared.edits.Edit.{Edit}
 
@@ -12,13 +13,29 @@ use Rattle.lexical_util.specs.declared.edits.Edit.{Edit}
 pub all_writes-more : (edits : List Edit) (i : ℕ) (e : Edit) → i < length edits → all_writes (take (i + 1) edits) ≡ all_writes (take i edits) ++ writes_of (get_or edits i e)
 all_writes-more edits i e h = ap all_writes (take_more edits i e h) ∙ flat_map-append writes_of (take i edits) (get_or edits i e ∷ []) ∙ ap (λ L. all_writes (take i edits) ++ L) (append-nil (writes_of (get_or edits i e)))
 
--- one turn of the loop over the edits
-pub writes_more : (R : Record) (edits : List Edit) (i : ℕ) (e : Edit) → i < length edits → after (after R (all_writes (take i edits))) (writes_of (get_or edits i e)) ≡ after R (all_writes (take (i + 1) edits))
-writes_more R edits i e h = after-append R (all_writes (take i edits)) (writes_of (get_or edits i e)) ∙ ap (after R) (sym (all_writes-more edits i e h))
+-- the first i edits are applied to a record
+pub record HasApplied (R : Record) (edits : List Edit) (i : ℕ) (b : Record) : Type 0 where
+  pub fields : b ≡ after R (all_writes (take i edits))
+  pub legal : All IsLegal (all_writes (take i edits))
 
--- the record at the end of the loop
-pub writes_end : (R b : Record) (edits : List Edit) (i : ℕ) → length edits ≤ i → b ≡ after R (all_writes (take i edits)) → b ≡ after R (all_writes edits)
-writes_end R b edits i h e = e ∙ ap (λ es. after R (all_writes es)) (take_all i edits h)
+-- before the first edit
+pub applied_none : (R : Record) (edits : List Edit) → HasApplied R edits 0 R
+applied_none R edits = record { fields = sym (after_none R); legal = λ k d h. absurd (omega arith) }
+
+-- one edit more
+pub applied_more : {R : Record} {edits : List Edit} {i : ℕ} {b next : Record} {e : Edit} → HasApplied R edits i b → i < length edits → e ≡ get_or edits i e → next ≡ after b (writes_of e) → All IsLegal (writes_of e) → HasApplied R edits (i + 1) next
+applied_more {R} {edits} {i} {b} {next} {e} h inside is applied legal =
+    let more : all_writes (take (i + 1) edits) ≡ all_writes (take i edits) ++ writes_of e = all_writes-more edits i e inside ∙ ap (λ x. all_writes (take i edits) ++ writes_of x) (sym is) in
+    record {
+      fields = applied ∙ ap (λ S. after S (writes_of e)) h.fields ∙ after-append R (all_writes (take i edits)) (writes_of e) ∙ ap (after R) (sym more);
+      legal = All-same IsLegal _ _ more (All-append IsLegal (all_writes (take i edits)) (writes_of e) h.legal legal);
+    }
+
+-- after the last edit
+pub applied_all : {R : Record} {edits : List Edit} {i : ℕ} {b : Record} → HasApplied R edits i b → length edits ≤ i → (b ≡ after R (all_writes edits)) × All IsLegal (all_writes edits)
+applied_all {R} {edits} {i} {b} h end =
+    let all : take i edits ≡ edits = take_all i edits end in
+    (h.fields ∙ ap (λ es. after R (all_writes es)) all, All-same IsLegal _ _ (ap all_writes (sym all)) h.legal)
 
 -- only the last write of each field counts
 pub edited-same : (w : ℕ) (K L : List Write) → SameWrites K L → edited w K ≡ edited w L

@@ -10,7 +10,7 @@ ghost use Rattle.lexical_flags.specs.Rules.{Lawful, IsErrorOf};
 ghost use Rattle.lexical_builder.specs.Writes.{Write, IsLegal, new_record, write_flags, after, SameWrites};
 ghost use Rattle.lexical_util.specs.Edits.{flags_of, writes_of, all_writes, edited};
 ghost use Rattle.lexical_util.specs.Normal.{normal_form_of, SameFormat, IsNormal};
-ghost use Rattle.lexical_util.specs.Compose.{Composes};
+ghost use Rattle.lexical_util.specs.Compose.{Composes, AlwaysCompose};
 ghost use Rattle.lexical_util.specs.View.{any_flag, bits_of};
 ghost use Rattle.lexical_util.specs.Listing.{field_edits, changes_new, changing, unchanging, IsBuiltByWrites};
 
@@ -130,7 +130,8 @@ pub enum Edit {
 /// Does the setter call that `edit` names.
 #[inline(always)]
 pub fn apply(builder: NumberFormatBuilder, edit: Edit) -> NumberFormatBuilder
-    ensures { result ≡ after builder (writes_of edit) }
+    ensures fields { result ≡ after builder (writes_of edit) }
+    ensures legal { All IsLegal (writes_of edit) }
 {
     match edit {
         Edit::Flag(setter, flag) => apply_flag(builder, setter, flag),
@@ -195,9 +196,9 @@ fn apply_flag(builder: NumberFormatBuilder, setter: FlagSetter, flag: bool) -> N
 }
 
 /// Does the setter calls that `edits` name, in their order.
-#[tactic(auto, using(crate::proofs::EditLemmas::writes_more, lexical_builder::proofs::WriteLemmas::after_none))]
 pub fn apply_all(mut builder: NumberFormatBuilder, edits: &[Edit]) -> NumberFormatBuilder
-    ensures { result ≡ after builder (all_writes edits.now) }
+    ensures fields { result ≡ after builder (all_writes edits.now) }
+    ensures legal { All IsLegal (all_writes edits.now) }
 {
     for edit in edits {
         builder = apply(builder, *edit);
@@ -230,13 +231,16 @@ pub fn edit_word(format: u128, edits: &[Edit]) -> u128
     ensures same_writes { (writes : List Write) → All IsLegal writes
         → SameWrites writes (all_writes edits.now) → edited format writes ≡ result }
 
-    // Editing the answer is editing the word with both lists exactly if no field was filled in or
-    // dropped between them: so it is where the answer is a normal form with a separator flag.
+    // Editing the result once more is editing the word with both lists exactly if they compose; on a
+    // word with a mantissa radix they do if the first list leaves no exponent byte empty, and the
+    // second sets no separator flag, unless it writes the separator too.
     ensures again { (more : List Write) → All IsLegal more
         → (edited result more ≡ edited format (all_writes edits.now ++ more))
         ↔ Composes format (all_writes edits.now) more }
-    ensures normal { IsNormal result → IsTrue (separator_on (raw result)) → (more : List Write)
-        → Composes format (all_writes edits.now) more }
+    ensures always { (raw format).mantissa_radix ≢ 0 → (more : List Write) → All IsLegal more
+        → AlwaysCompose (all_writes edits.now) more
+        → edited result more ≡ edited format (all_writes edits.now ++ more) }
+    ensures legal { All IsLegal (all_writes edits.now) }
 {
     apply_all(NumberFormatBuilder::rebuild(format), edits).build_unchecked()
 }
