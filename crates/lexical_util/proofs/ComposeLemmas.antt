@@ -107,10 +107,10 @@ any_before : (R : Record) (L : List Write) (fs : List Flag) → AllByRecursion (
 any_before R L [] unset on = on
 any_before R L (f ∷ fs) unset on = or_first (flag_of R f) (list_any (flag_of R) fs) (flag_of (after R L) f) (list_any (flag_of (after R L)) fs)
     (λ set. set_before (last_flag L f) (flag_of R f) unset.0 (sym (flag_of-after R L f) ∙ set)) (any_before R L fs unset.1) on where
-  or_first : (p ps q qs : Bool) → (IsTrue q → IsTrue p) → (IsTrue qs → IsTrue ps) → IsTrue (q || qs) → IsTrue (p || ps)
-  or_first true ps q qs one rest h = refl
-  or_first false ps true qs one rest h = absurd (false≢true (one refl))
-  or_first false ps false qs one rest h = rest h
+      or_first : (p ps q qs : Bool) → (IsTrue q → IsTrue p) → (IsTrue qs → IsTrue ps) → IsTrue (q || qs) → IsTrue (p || ps)
+      or_first true ps q qs one rest h = refl
+      or_first false ps true qs one rest h = absurd (false≢true (one refl))
+      or_first false ps false qs one rest h = rest h
 
 -- lists that compose on every word with a mantissa radix
 pub Composes-always : (w : ℕ) (K L : List Write) → (raw w).mantissa_radix ≢ 0 → AlwaysCompose K L → Composes w K L

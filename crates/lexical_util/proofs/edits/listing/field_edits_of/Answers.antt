@@ -1,6 +1,6 @@
 use Rattle.std.proofs.Common.{rules}
 use Rattle.lexical_flags.proofs.ByteParts.{exponent_base_part, exponent_radix_part}
-use Rattle.lexical_util.proofs.edits.field_edits_of.Goals as goal
+use Rattle.lexical_util.proofs.edits.listing.field_edits_of.Goals as goal
 
 pub returns : goal.returns
 returns c =

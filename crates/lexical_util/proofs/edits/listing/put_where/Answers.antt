@@ -2,8 +2,8 @@ use Rattle.std.proofs.Common.{◌∙◌, sym, ap, arith}
 use Rattle.std.proofs.Math.Bool.{beq}
 use Rattle.lexical_util.specs.Listing.{changes_new}
 use Rattle.lexical_util.proofs.PutLemmas.{put_below, put_none, put_more_yes, put_more_no, put_all}
-use Rattle.lexical_util.proofs.edits.put_where.Goals as goal
-use Rattle.lexical_util.proofs.edits.put_where.Goals.{then-is_change-changed, else-is_change-changed}
+use Rattle.lexical_util.proofs.edits.listing.put_where.Goals as goal
+use Rattle.lexical_util.proofs.edits.listing.put_where.Goals.{then-is_change-changed, else-is_change-changed}
 
 pub bounds-edits-place : goal.bounds-edits-place
 bounds-edits-place c =

@@ -4,7 +4,7 @@ use Rattle.lexical_flags.proofs.Packing.{HasBytes-raw, pack-raw}
 use Rattle.lexical_util.proofs.ListingLemmas.{length-field_edits, length-changing}
 use Rattle.lexical_util.proofs.ImageLemmas.{fewest_writes}
 use Rattle.lexical_util.proofs.ListingParts.{both_fit, count_is, edits_are, first_makes, whole_makes, whole_legal}
-use Rattle.lexical_util.proofs.edits.edits_of.Goals as goal
+use Rattle.lexical_util.proofs.edits.listing.edits_of.Goals as goal
 
 pub put_where-count-requires : goal.put_where-count-requires
 put_where-count-requires c =

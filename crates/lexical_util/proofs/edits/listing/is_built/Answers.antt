@@ -1,6 +1,6 @@
 use Rattle.std.proofs.Common.{arith}
 use Rattle.lexical_util.proofs.ImageLemmas.{IsBuiltByWrites-built, IsBuilt-by_writes}
-use Rattle.lexical_util.proofs.edits.is_built.Goals as goal
+use Rattle.lexical_util.proofs.edits.listing.is_built.Goals as goal
 
 pub returns-clause-image : goal.returns-clause-image
 returns-clause-image c = (

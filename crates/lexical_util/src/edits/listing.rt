@@ -1,0 +1,136 @@
+//! Which words a builder packs, and the setter calls that make a word.
+
+ghost use Rattle.std.specs.Prelude.{◌≡◌, ℕ, ◌+◌, ◌≤◌, ◌↔◌, ◌++◌, IsTrue, List, All, length, filter, take};
+ghost use Rattle.std.specs.Bool.{beq};
+ghost use Rattle.lexical_flags.specs.Layout.{IsClean};
+ghost use Rattle.lexical_flags.specs.Record.{raw, pack, SeparatorIsUsed, IsBuilt};
+ghost use Rattle.lexical_builder.specs.Writes.{Write, IsLegal, new_record, after};
+ghost use Rattle.lexical_util.specs.Edits.{all_writes};
+ghost use Rattle.lexical_util.specs.Listing.{field_edits, changes_new, changing, unchanging, IsBuiltByWrites};
+
+use crate::edits::{Edit, FlagSetter};
+use crate::feature_format::NumberFormat;
+use lexical_builder::format_builder::NonZeroU8;
+use lexical_flags::format_flags as flags;
+
+/// Returns whether `build_unchecked` can return this word: its reserved bits are 0, and it has a digit
+/// separator only if a flag allows one somewhere.
+pub fn is_built(format: u128) -> bool
+    ensures rule { IsTrue result ↔ IsBuilt format }
+
+    // Exactly these words are made by setter calls on a new builder.
+    ensures image { IsTrue result ↔ IsBuiltByWrites format }
+{
+    has_built_form(format)
+}
+
+// Whether the reserved bits are 0, and a separator is there only if a flag allows one.
+fn has_built_form(format: u128) -> bool
+    ensures { IsTrue result ↔ IsBuilt format }
+{
+    is_clean(format) && is_separator_used(format)
+}
+
+// Whether the reserved bits are 0: the bits 18 to 31, 45 to 63 and 72 to 87.
+fn is_clean(format: u128) -> bool
+    ensures { IsTrue result ↔ IsClean format }
+{
+    (format >> 18) % (1 << 14) == 0
+        && (format >> 45) % (1 << 19) == 0
+        && (format >> 72) % (1 << 16) == 0
+}
+
+// Whether there is no digit separator, or a flag that allows one.
+#[tactic(auto, using(lexical_flags::proofs::FlagBits::separator_flag_set, lexical_flags::proofs::FlagBits::no_separator_flag_set))]
+fn is_separator_used(format: u128) -> bool
+    ensures { IsTrue result ↔ SeparatorIsUsed (raw format) }
+{
+    flags::digit_separator(format) == 0 || format & flags::DIGIT_SEPARATOR_FLAG_MASK != 0
+}
+
+/// Returns the setter calls that make `format` from a new builder, and how many of them are needed.
+///
+/// The list has one edit for each of the 37 fields, with the field's value in `format`. The edits that
+/// change a new builder come first, and the number says how many they are; then come the others. Each
+/// part is in the order of the fields' bits. The first part alone makes a builder with exactly the
+/// fields of `format`, and so does the whole list; `build_unchecked` of it returns `format` if
+/// [`is_built`] is true of it. No shorter list of setter calls of single fields does.
+pub fn edits_of(format: u128) -> ([Edit; 37], usize)
+    ensures list { result.0 ≡ changing (raw format) ++ unchanging (raw format) }
+    ensures number { result.1 ≡ length (changing (raw format)) }
+    ensures legal { All IsLegal (all_writes result.0) }
+
+    // The first part makes the fields of the word, and so does the whole list.
+    ensures first { after new_record (all_writes (take result.1 result.0)) ≡ raw format }
+    ensures whole { after new_record (all_writes result.0) ≡ raw format }
+    ensures builds { (pack (raw format) ≡ format) ↔ IsBuilt format }
+    ensures fewest { (writes : List Write) → All IsLegal writes
+        → pack (after new_record writes) ≡ format → result.1 ≤ length writes }
+{
+    let list = field_edits_of(format);
+    let mut edits = [Edit::MantissaRadix(10); 37];
+    let count = put_where(&list, true, &mut edits, 0);
+    put_where(&list, false, &mut edits, count);
+    (edits, count)
+}
+
+// The edits that write all fields of a word, in the order of their bits.
+fn field_edits_of(format: u128) -> [Edit; 37]
+    ensures { result ≡ field_edits (raw format) }
+{
+    macro_rules! edits_of_fields {
+        (($view:ident, $base:ident, $radix:ident) $($Variant:ident $name:ident;)*) => {
+            [
+                $(Edit::Flag(FlagSetter::$Variant, $view.$name()),)*
+                Edit::DigitSeparator(NonZeroU8::new($view.digit_separator())),
+                Edit::BasePrefix(NonZeroU8::new($view.base_prefix())),
+                Edit::BaseSuffix(NonZeroU8::new($view.base_suffix())),
+                Edit::MantissaRadix($view.mantissa_radix() as u8),
+                Edit::ExponentBase(NonZeroU8::new($base)),
+                Edit::ExponentRadix(NonZeroU8::new($radix)),
+            ]
+        };
+    }
+    let view = NumberFormat::new(format);
+    let base = ((format & flags::EXPONENT_BASE) >> flags::EXPONENT_BASE_SHIFT) as u8;
+    let radix = ((format & flags::EXPONENT_RADIX) >> flags::EXPONENT_RADIX_SHIFT) as u8;
+    with_flags!(edits_of_fields(view, base, radix))
+}
+
+// Whether an edit changes a new builder.
+#[tactic(auto, using(crate::proofs::ChangeLemmas::flag_change, crate::proofs::ChangeLemmas::group_change))]
+fn is_change(edit: Edit) -> bool
+    ensures { result ≡ changes_new edit }
+{
+    match edit {
+        Edit::Flag(setter, flag) => match setter {
+            FlagSetter::RequiredDigits => true,
+            FlagSetter::RequiredExponentDigits | FlagSetter::RequiredMantissaDigits => !flag,
+            _ => flag,
+        },
+        Edit::DigitSeparator(byte)
+        | Edit::BasePrefix(byte)
+        | Edit::BaseSuffix(byte)
+        | Edit::ExponentBase(byte)
+        | Edit::ExponentRadix(byte) => byte.is_some(),
+        Edit::MantissaRadix(radix) | Edit::Radix(radix) => radix != 10,
+    }
+}
+
+// Copies those edits of `list` that change a new builder, or those that do not, into `edits` from
+// index `from` on, and returns the index after the last.
+fn put_where(list: &[Edit], changed: bool, edits: &mut [Edit], from: usize) -> usize
+    requires { from + length (filter (λ e. beq (changes_new e) changed) list.now) ≤ length edits.old }
+    ensures place { result ≡ from + length (filter (λ e. beq (changes_new e) changed) list.now) }
+    ensures written { take result edits.new
+        ≡ take from edits.old ++ filter (λ e. beq (changes_new e) changed) list.now }
+{
+    let mut place = from;
+    for edit in list {
+        if is_change(*edit) == changed {
+            edits[place] = *edit;
+            place += 1;
+        }
+    }
+    place
+}
