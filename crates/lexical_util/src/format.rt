@@ -27,16 +27,17 @@ pub use lexical_flags::format_flags::{
     REQUIRED_EXPONENT_SIGN, REQUIRED_FRACTION_DIGITS, REQUIRED_INTEGER_DIGITS,
     REQUIRED_MANTISSA_DIGITS, REQUIRED_MANTISSA_SIGN, SPECIAL_DIGIT_SEPARATOR,
     TRAILING_DIGIT_SEPARATOR, base_prefix, base_suffix, digit_separator, exponent_base,
-    exponent_radix, format_error_impl, is_valid_base_prefix, is_valid_base_suffix,
+    exponent_radix, format_error_impl, is_digit, is_valid_base_prefix, is_valid_base_suffix,
     is_valid_digit_separator, is_valid_exponent_flags, is_valid_options_punctuation,
     is_valid_punctuation, is_valid_radix, mantissa_radix, radix_error_impl, radix_from_flags,
 };
 
 /// The standard format: radix 10, digits required in the mantissa and in an exponent, and nothing
-/// else. It is what a new builder packs; its exponent base and exponent radix are left empty.
+/// else. It is what a new builder packs; its exponent base and exponent radix are 0, that is, they
+/// follow the mantissa radix.
 pub const STANDARD: u128 = 0x00000A00_00000000_00000000_0000000C;
 
-/// Whether `format` is lawful, as [`NumberFormat::is_valid`] of its view.
+/// Returns whether `format` is lawful, as [`NumberFormat::is_valid`] does.
 #[inline(always)]
 pub fn format_is_valid(format: u128) -> bool
     ensures { IsTrue result ↔ Lawful format }
@@ -44,7 +45,8 @@ pub fn format_is_valid(format: u128) -> bool
     NumberFormat::new(format).is_valid()
 }
 
-/// What is wrong with `format`, or `Success`, as [`NumberFormat::error`] of its view.
+/// Returns the error of the first rule that `format` breaks, or `Success`, as [`NumberFormat::error`]
+/// does.
 #[inline(always)]
 pub fn format_error(format: u128) -> Error
     ensures first { IsErrorOf format result }
