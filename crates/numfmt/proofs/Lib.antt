@@ -1,5 +1,6 @@
 pub mod NumeralLemmas
 pub mod FigureLemmas
 pub mod TextLemmas
-pub mod ArgumentLemmas
 pub mod EditsLemmas
+pub mod OutcomeLemmas
+pub mod ArgumentLemmas

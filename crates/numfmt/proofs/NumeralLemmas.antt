@@ -12,7 +12,7 @@ use Rattle.lexical_base.proofs.Finite.{passes_at}
 use Rattle.numfmt.specs.Numeral.{numeral, is_digit, IsNumeral}
 
 -- one more digit at the right
-numeral-push : (radix : ℕ) (digits : List ℕ) (digit : ℕ) → numeral radix (digits ++ digit ∷ []) ≡ numeral radix digits * radix + value digit
+pub numeral-push : (radix : ℕ) (digits : List ℕ) (digit : ℕ) → numeral radix (digits ++ digit ∷ []) ≡ numeral radix digits * radix + value digit
 numeral-push radix [] digit = rw (pow-zero radix) (omega arith)
 numeral-push radix (first ∷ digits) digit =
     let longer : length (digits ++ digit ∷ []) ≡ suc (length digits) = omega (arith, length-append {A = ℕ}) in

@@ -1,5 +1,5 @@
 -- What `word_text` has written so far, and that no other text has the same form and number.
-use Rattle.std.proofs.Common.{◌≡◌, ◌≢◌, ℕ, ◌+◌, ◌-◌, ◌*◌, ◌/◌, ◌%◌, ◌^◌, ◌<◌, ◌≤◌, Bool, true, List, [], ◌∷◌, ◌++◌, take, drop, get_or, length, codes, nat_lt, ◌||◌, Some, slice_get, slice_index_or, refl, sym, ap, ◌∙◌, arith, replicate, ◌⊎◌, ⊎_elim, length-drop}
+use Rattle.std.proofs.Common.{◌≡◌, ◌≢◌, ℕ, zero, suc, ◌+◌, ◌-◌, ◌*◌, ◌/◌, ◌%◌, ◌^◌, ◌<◌, ◌≤◌, Bool, true, List, [], ◌∷◌, ◌++◌, take, drop, get_or, length, codes, nat_lt, ◌==◌, ◌||◌, length-append, Some, slice_get, slice_index_or, refl, sym, ap, ◌∙◌, arith, replicate, ◌⊎◌, ⊎_elim, length-drop}
 use Rattle.std.proofs.Math.ListN.{set}
 use Rattle.std.proofs.Math.Nat.{mul-le-mul_left, pow-suc}
 use Rattle.std.proofs.lemmas.Nat.{div-mul-add}
@@ -7,12 +7,13 @@ use Rattle.std.proofs.lemmas.Bool.Decides.{nat_tests}
 use Rattle.std.proofs.lemmas.List.{drop-set, take-set-le, get_or-set_other, get_or-set_same, length-set, get_or-drop, take-append-drop}
 use Rattle.std.proofs.lemmas.List.Elements.{All-from_get_or}
 use Rattle.std.proofs.lemmas.List.Sums.{AllPass-from_list_all, list_all-from_AllPass}
+use Rattle.std.proofs.lemmas.List.Folds.{list_all-append}
 use Rattle.std.specs.List.{AllPass, list_all}
 use Rattle.lexical_base.specs.Digits.{value, figures}
 use Rattle.lexical_base.proofs.Finite.{passes_at}
 use Rattle.numfmt.specs.Numeral.{numeral, is_digit}
-use Rattle.numfmt.specs.WordText.{hex, hex_digits, is_capital_hex_digit, IsWordText, IsPrintedForm}
-use Rattle.numfmt.proofs.NumeralLemmas.{power_next}
+use Rattle.numfmt.specs.WordText.{hex, hex_digits, is_capital_hex_digit, IsWordText, IsPrintedForm, last_figures, printed}
+use Rattle.numfmt.proofs.NumeralLemmas.{power_next, numeral-push}
 use Rattle.numfmt.proofs.FigureLemmas.{both_pass, figure_from_value, hex_from_capital, capital_from_figure}
 
 -- the digits of these last places are written, and this is left of the word
@@ -145,3 +146,48 @@ IsPrintedForm-unique s t printed printed' same =
     (list_all-from_AllPass is_capital_hex_digit (hex_digits t) printed'.capitals) same in
     let prefix : take 2 s ≡ take 2 t = printed.prefix ∙ sym printed'.prefix in
     sym (take-append-drop 2 s) ∙ (λ i. prefix i ++ digits i) ∙ take-append-drop 2 t
+
+last_figures-length : (places number : ℕ) → length (last_figures places number) ≡ places
+unfolding last_figures
+last_figures-length zero number = refl
+last_figures-length (suc places) number = omega (arith, length-append {A = ℕ}, last_figures-length places (number / 16))
+
+-- the figure of a digit has the digit's value
+figure-value : (digit : ℕ) → digit < 16 → value (slice_index_or figures digit 0) ≡ digit
+unfolding value
+figure-value digit small =
+    let same : (value (slice_index_or figures digit 0) == digit) ≡ true = passes_at (λ d. value (slice_index_or figures d 0) == d) 16 digit refl small in
+    grind (arith, nat_tests)
+
+figure-capital : (digit : ℕ) → digit < 16 → is_capital_hex_digit (slice_index_or figures digit 0) ≡ true
+figure-capital digit small = passes_at (λ d. is_capital_hex_digit (slice_index_or figures d 0)) 16 digit refl small
+
+-- as many figures as a number has write it
+last_figures-numeral : (places number : ℕ) → number < 16 ^ places → numeral 16 (last_figures places number) ≡ number
+unfolding last_figures
+last_figures-numeral zero number few = omega (arith, few)
+last_figures-numeral (suc places) number few =
+    let digit : value (slice_index_or figures (number % 16) 0) ≡ number % 16 = figure-value (number % 16) (omega arith) in
+    let power : 16 ^ suc places ≡ 16 ^ places * 16 = pow-suc 16 places in
+    let rest : numeral 16 (last_figures places (number / 16)) ≡ number / 16 = last_figures-numeral places (number / 16) (omega (arith, few, power)) in
+    numeral-push 16 (last_figures places (number / 16)) (slice_index_or figures (number % 16) 0) ∙ rw (rest, digit) (omega arith)
+
+last_figures-capital : (places number : ℕ) → list_all is_capital_hex_digit (last_figures places number) ≡ true
+unfolding last_figures
+last_figures-capital zero number = refl
+last_figures-capital (suc places) number =
+    let rest : list_all is_capital_hex_digit (last_figures places (number / 16)) ≡ true = last_figures-capital places (number / 16) in
+    let here : is_capital_hex_digit (slice_index_or figures (number % 16) 0) ≡ true = figure-capital (number % 16) (omega arith) in
+    list_all-append is_capital_hex_digit (last_figures places (number / 16)) (slice_index_or figures (number % 16) 0 ∷ []) ∙ rw (rest, here) refl
+
+-- what is printed of a word has the printed form
+pub IsPrintedForm-printed : (word : ℕ) → IsPrintedForm (printed word)
+IsPrintedForm-printed word = record {
+  prefix = refl;
+  full = last_figures-length 32 word;
+  capitals = AllPass-from_list_all is_capital_hex_digit (last_figures 32 word) (last_figures-capital 32 word);
+}
+
+-- it writes the word
+pub hex-printed : (word : ℕ) → word < 2 ^ 128 → hex (printed word) ≡ word
+hex-printed word fits = last_figures-numeral 32 word fits

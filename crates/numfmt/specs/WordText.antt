@@ -1,5 +1,5 @@
 -- The text of a word: `0x` and hexadecimal digits.
-use Rattle.std.specs.Prelude.{◌≡◌, ℕ, ◌==◌, Bool, List, length, take, drop, codes}
+use Rattle.std.specs.Prelude.{◌≡◌, ℕ, zero, suc, ◌==◌, ◌/◌, ◌%◌, Bool, List, [], ◌∷◌, ◌++◌, length, take, drop, slice_index, codes}
 use Rattle.std.specs.List.{AllPass, list_any}
 use Rattle.lexical_base.specs.Digits.{figures}
 use Rattle.numfmt.specs.Numeral.{numeral, IsNumeral}
@@ -26,3 +26,12 @@ pub record IsPrintedForm (text : List ℕ) : Type 0 where
   pub prefix : take 2 text ≡ codes "0x"
   pub full : length (hex_digits text) ≡ 32
   pub capitals : AllPass is_capital_hex_digit (hex_digits text)
+
+-- the last figures of a number, so many, in capitals
+unfoldable pub last_figures : ℕ → ℕ → List ℕ
+last_figures zero number = []
+last_figures (suc places) number = last_figures places (number / 16) ++ slice_index figures (number % 16) ∷ []
+
+-- the text of a word as it is printed
+abbrev pub printed : ℕ → List ℕ
+printed word = codes "0x" ++ last_figures 32 word

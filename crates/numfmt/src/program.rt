@@ -1,12 +1,13 @@
 //! The program over its arguments and a writer.
 
-ghost use Rattle.std.specs.Prelude.{ℕ, ◌≡◌, ◌≢◌, ◌<◌, ◌≤◌, ◌↔◌, ◌+◌, ◌==◌, IfOk, IfErr, List, codes, length, map, string_bytes};
+ghost use Rattle.std.specs.Prelude.{ℕ, ◌≡◌, ◌≢◌, ◌≤◌, ◌↔◌, ◌⊎◌, ◌==◌, ◌++◌, IfOk, IfErr, OnOk, List, [], codes, decimal, length, map, string_bytes};
 ghost use Rattle.std.specs.Result.{OkIff};
+ghost use Rattle.std.specs.Io.KnownBytes.{Appends};
 ghost use Rattle.lexical_util.specs.Normal.{normal_form_of};
-ghost use Rattle.numfmt.specs.WordText.{IsWordText, hex};
+ghost use Rattle.numfmt.specs.WordText.{IsWordText, hex, printed};
 ghost use Rattle.numfmt.specs.EditText.{IsByteText};
 ghost use Rattle.numfmt.specs.Numeral.{numeral};
-ghost use Rattle.numfmt.specs.Program.{code_of, status_of, refusal_text, Shows, Edits, MakeOf, Checks, Compares, Accepts, Obeys};
+ghost use Rattle.numfmt.specs.Program.{Asks, Shows, Edits, Checks, Compares, Accepts, IsOnly, IsResponse, MakeOf, code_of, status_of, text_of, refusal_text, line, fields, field};
 
 use crate::edit::{read_byte, read_edits};
 use crate::word::{read_word, word_text};
@@ -25,7 +26,9 @@ const MAX_EDITS: usize = 64;
 /// failed. All text goes to `out`, which is flushed at the end; after a write or a flush that fails
 /// nothing more is written.
 pub fn run<W: Write>(args: &[String], out: &mut W) -> u8
-    ensures { result ≤ 3 }
+    ensures status { result ≤ 3 }
+    ensures response { (result ≡ 3) ⊎ ((text : List ℕ) × IsResponse (map string_bytes args.now) result text
+        × Appends (W.contents out.old) (W.contents out.new) text) }
 {
     respond(args, out).unwrap_or(Status::Failed).code()
 }
@@ -58,14 +61,23 @@ impl Status {
 }
 
 fn respond<W: Write>(args: &[String], out: &mut W) -> io::Result<Status>
-    ensures { IfOk result (λ status. status ≢ Status.Failed) }
+    ensures status { IfOk result (λ status. status ≢ Status.Failed) }
+    ensures response { IfOk result (λ status. (text : List ℕ) × IsResponse (map string_bytes args.now) (code_of status) text
+        × Appends (W.contents out.old) (W.contents out.new) text) }
 {
-    let status = match answer_to(args) {
-        Ok(answer) => answer.print(out)?,
-        Err(refusal) => refusal.print(out)?,
-    };
+    let status = print(answer_to(args), out)?;
     out.flush()?;
     Ok(status)
+}
+
+fn print<W: Write>(outcome: Result<Answer, Refusal>, out: &mut W) -> io::Result<Status>
+    ensures status { IfOk result (λ status. status ≡ status_of outcome) }
+    ensures text { OnOk result (Appends (W.contents out.old) (W.contents out.new) (text_of outcome)) }
+{
+    match outcome {
+        Ok(answer) => answer.print(out),
+        Err(refusal) => refusal.print(out),
+    }
 }
 
 /// What the arguments ask for, worked out and ready to be printed.
@@ -102,12 +114,7 @@ pub enum Refusal {
 
 // What the arguments ask for, or why they are refused.
 fn answer_to(args: &[String]) -> Result<Answer, Refusal>
-    ensures nothing { length args.now ≡ 0 → result ≡ Ok (Answer.Fields STANDARD) }
-    ensures show { Obeys result (map string_bytes args.now) (codes "show") Shows }
-    ensures edit { Obeys result (map string_bytes args.now) (codes "edit") Edits }
-    ensures check { Obeys result (map string_bytes args.now) (codes "check") Checks }
-    ensures same { Obeys result (map string_bytes args.now) (codes "same") Compares }
-    ensures options { Obeys result (map string_bytes args.now) (codes "options") Accepts }
+    ensures { IsOnly (Asks (map string_bytes args.now)) result }
 {
     match args {
         [] => Ok(Answer::Fields(STANDARD)),
@@ -124,8 +131,7 @@ fn answer_to(args: &[String]) -> Result<Answer, Refusal>
 
 // The fields of a word.
 fn show(args: &[String]) -> Result<Answer, Refusal>
-    ensures answer { (answer : Answer) → (result ≡ Ok answer) ↔ Shows (map string_bytes args.now) answer }
-    ensures wrong_number { (result ≡ Err Refusal.WrongNumberOfArguments) ↔ (length args.now ≢ 1) }
+    ensures { IsOnly (Shows (map string_bytes args.now)) result }
 {
     let [word] = args else {
         return Err(Refusal::WrongNumberOfArguments);
@@ -135,9 +141,7 @@ fn show(args: &[String]) -> Result<Answer, Refusal>
 
 // The word that edits make of a word; without edits its normal form.
 fn edit(args: &[String]) -> Result<Answer, Refusal>
-    ensures answer { (answer : Answer) → (result ≡ Ok answer) ↔ Edits (map string_bytes args.now) answer }
-    ensures wrong_number { (result ≡ Err Refusal.WrongNumberOfArguments) ↔ (length args.now ≡ 0) }
-    ensures too_many { (result ≡ Err Refusal.TooManyEdits) ↔ (MAX_EDITS + 1 < length args.now) }
+    ensures { IsOnly (Edits (map string_bytes args.now)) result }
 {
     let [word, texts @ ..] = args else {
         return Err(Refusal::WrongNumberOfArguments);
@@ -161,8 +165,7 @@ fn edited(format: u128, texts: &[String]) -> Result<u128, Refusal>
 
 // The first rule that a word breaks.
 fn check(args: &[String]) -> Result<Answer, Refusal>
-    ensures answer { (answer : Answer) → (result ≡ Ok answer) ↔ Checks (map string_bytes args.now) answer }
-    ensures wrong_number { (result ≡ Err Refusal.WrongNumberOfArguments) ↔ (length args.now ≢ 1) }
+    ensures { IsOnly (Checks (map string_bytes args.now)) result }
 {
     let [word] = args else {
         return Err(Refusal::WrongNumberOfArguments);
@@ -172,8 +175,7 @@ fn check(args: &[String]) -> Result<Answer, Refusal>
 
 // Whether two words mean the same.
 fn same(args: &[String]) -> Result<Answer, Refusal>
-    ensures answer { (answer : Answer) → (result ≡ Ok answer) ↔ Compares (map string_bytes args.now) answer }
-    ensures wrong_number { (result ≡ Err Refusal.WrongNumberOfArguments) ↔ (length args.now ≢ 2) }
+    ensures { IsOnly (Compares (map string_bytes args.now)) result }
 {
     let [a, b] = args else {
         return Err(Refusal::WrongNumberOfArguments);
@@ -190,8 +192,7 @@ fn sameness(a: u128, b: u128) -> Answer
 
 // Whether an exponent byte and a point fit a word.
 fn options(args: &[String]) -> Result<Answer, Refusal>
-    ensures answer { (answer : Answer) → (result ≡ Ok answer) ↔ Accepts (map string_bytes args.now) answer }
-    ensures wrong_number { (result ≡ Err Refusal.WrongNumberOfArguments) ↔ (length args.now ≢ 3) }
+    ensures { IsOnly (Accepts (map string_bytes args.now)) result }
 {
     let [word, exponent, decimal_point] = args else {
         return Err(Refusal::WrongNumberOfArguments);
@@ -234,7 +235,8 @@ impl Refusal {
     }
 
     fn print<W: Write>(self, out: &mut W) -> io::Result<Status>
-        ensures { IfOk result (λ status. status ≡ Status.Refused) }
+        ensures status { IfOk result (λ status. status ≡ status_of (Err self)) }
+        ensures text { OnOk result (Appends (W.contents out.old) (W.contents out.new) (text_of (Err self))) }
     {
         writeln!(out, "numfmt: {}", self.text())?;
         Ok(Status::Refused)
@@ -243,7 +245,8 @@ impl Refusal {
 
 impl Answer {
     fn print<W: Write>(self, out: &mut W) -> io::Result<Status>
-        ensures { IfOk result (λ status. status ≡ status_of self) }
+        ensures status { IfOk result (λ status. status ≡ status_of (Ok self)) }
+        ensures text { OnOk result (Appends (W.contents out.old) (W.contents out.new) (text_of (Ok self))) }
     {
         match self {
             Answer::Fields(format) => print_fields(format, out)?,
@@ -259,7 +262,7 @@ impl Answer {
 
     // How a run with this answer ends.
     fn status(self) -> Status
-        ensures { result ≡ status_of self }
+        ensures { result ≡ status_of (Ok self) }
     {
         match self {
             Answer::Fields(_) | Answer::Word(_) | Answer::Sameness(true) => Status::Done,
@@ -269,18 +272,32 @@ impl Answer {
     }
 }
 
-fn print_fields<W: Write>(format: u128, out: &mut W) -> io::Result<()> {
+fn print_fields<W: Write>(format: u128, out: &mut W) -> io::Result<()>
+    ensures { OnOk result (Appends (W.contents out.old) (W.contents out.new) (fields format)) }
+{
     out.write_all(b"flags ")?;
     print_word(format & flags::FLAG_MASK, out)?;
-    writeln!(out, "digit_separator {}", flags::digit_separator(format))?;
-    writeln!(out, "base_prefix {}", flags::base_prefix(format))?;
-    writeln!(out, "base_suffix {}", flags::base_suffix(format))?;
-    writeln!(out, "mantissa_radix {}", flags::mantissa_radix(format))?;
-    writeln!(out, "exponent_base {}", flags::exponent_base(format))?;
-    writeln!(out, "exponent_radix {}", flags::exponent_radix(format))
+    print_field(
+        "digit_separator",
+        u32::from(flags::digit_separator(format)),
+        out,
+    )?;
+    print_field("base_prefix", u32::from(flags::base_prefix(format)), out)?;
+    print_field("base_suffix", u32::from(flags::base_suffix(format)), out)?;
+    print_field("mantissa_radix", flags::mantissa_radix(format), out)?;
+    print_field("exponent_base", flags::exponent_base(format), out)?;
+    print_field("exponent_radix", flags::exponent_radix(format), out)
 }
 
-fn print_word<W: Write>(word: u128, out: &mut W) -> io::Result<()> {
+fn print_field<W: Write>(name: &str, value: u32, out: &mut W) -> io::Result<()>
+    ensures { OnOk result (Appends (W.contents out.old) (W.contents out.new) (field name.now (decimal value) [])) }
+{
+    writeln!(out, "{name} {value}")
+}
+
+fn print_word<W: Write>(word: u128, out: &mut W) -> io::Result<()>
+    ensures { OnOk result (Appends (W.contents out.old) (W.contents out.new) (line (printed word))) }
+{
     out.write_all(&word_text(word))?;
     out.write_all(b"\n")
 }

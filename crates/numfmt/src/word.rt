@@ -2,7 +2,7 @@
 
 ghost use Rattle.std.specs.Prelude.{◌≡◌, ℕ, List};
 ghost use Rattle.std.specs.Option.{SomeIff};
-ghost use Rattle.numfmt.specs.WordText.{IsWordText, IsPrintedForm, hex};
+ghost use Rattle.numfmt.specs.WordText.{IsWordText, IsPrintedForm, hex, printed};
 
 use crate::numeral::read_numeral;
 use lexical_util::digit::digit_to_char;
@@ -21,6 +21,7 @@ pub fn read_word(text: &str) -> Option<u128>
 /// The text of `word` as it is printed: `0x` and 32 hexadecimal digits with capital letters. To
 /// `read_word` it is the text of `word` again.
 pub fn word_text(word: u128) -> [u8; 34]
+    ensures text { result ≡ printed word }
     ensures form { IsPrintedForm result }
     ensures value { hex result ≡ word }
     ensures word_text { IsWordText result }

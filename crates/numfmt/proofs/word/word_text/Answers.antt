@@ -1,5 +1,5 @@
 use Rattle.std.proofs.Common.{arith, ◌≡◌, ◌∙◌, sym}
-use Rattle.numfmt.proofs.TextLemmas.{HasWritten-blank, HasWritten-next, HasWritten-form, IsWordText-printed, IsPrintedForm-unique}
+use Rattle.numfmt.proofs.TextLemmas.{HasWritten-blank, HasWritten-next, HasWritten-form, IsWordText-printed, IsPrintedForm-unique, IsPrintedForm-printed, hex-printed}
 use Rattle.numfmt.proofs.word.word_text.Goals as goal
 
 pub loop-place-init : goal.loop-place-init
@@ -25,3 +25,7 @@ returns-clause-word_text c = IsWordText-printed _ (returns-clause-form c)
 
 pub returns-clause-only : goal.returns-clause-only
 returns-clause-only c text printed same = IsPrintedForm-unique _ _ printed (returns-clause-form c) (same ∙ sym (returns-clause-value c))
+
+pub returns-clause-text : goal.returns-clause-text
+returns-clause-text c =
+    sym (IsPrintedForm-unique _ _ (IsPrintedForm-printed c.args.word) (returns-clause-form c) (hex-printed c.args.word c.ranges.word.fits ∙ sym (returns-clause-value c)))
