@@ -2,5 +2,4 @@ pub mod NumeralLemmas
 pub mod FigureLemmas
 pub mod TextLemmas
 pub mod EditsLemmas
-pub mod OutcomeLemmas
-pub mod ArgumentLemmas
+pub mod CommandLemmas

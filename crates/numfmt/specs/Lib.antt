@@ -1,4 +1,5 @@
 pub mod Numeral
 pub mod WordText
 pub mod EditText
-pub mod Program
+pub mod Response
+pub mod Command

@@ -16,11 +16,13 @@
 //! read.
 #![tactic(auto)]
 
+mod command;
 mod edit;
 #[cfg(test)]
 mod example;
 mod numeral;
 mod program;
+mod response;
 mod word;
 
 use program::run;

@@ -1,0 +1,71 @@
+-- The responses of the program: what each prints, and its exit status.
+use Rattle.std.specs.Prelude.{ℕ, true, false, List, [], ◌∷◌, ◌++◌, flat_map, codes, decimal, bit_and, Result, Ok, Err}
+use Rattle.lexical_base.specs.Outcomes.{printed_text}
+use Rattle.lexical_base.specs.declared.error.Error.TheVariants.{Success}
+use Rattle.lexical_flags.specs.declared.format_flags.TheConstants.{FLAG_MASK}
+use Rattle.lexical_flags.specs.Record.{raw, effective_exponent_base, effective_exponent_radix}
+use Rattle.numfmt.specs.declared.response.Answer.{Answer}
+use Rattle.numfmt.specs.declared.response.Answer.TheVariants as answers
+use Rattle.numfmt.specs.declared.response.Refusal.{Refusal}
+use Rattle.numfmt.specs.declared.response.Refusal.TheVariants as refusals
+use Rattle.numfmt.specs.WordText.{printed}
+
+-- an answer, or the reason why the arguments are refused
+abbrev pub Response : Type 0
+Response = Result Answer Refusal
+
+-- a line of text
+abbrev pub line : List ℕ → List ℕ
+line text = text ++ 10 ∷ []
+
+-- a name, a space and a value
+abbrev pub field : List ℕ → List ℕ → List ℕ
+field name value = name ++ 32 ∷ value
+
+-- the fields of a format word, one a line
+abbrev pub fields : ℕ → List ℕ
+fields word = flat_map line (
+    field (codes "flags") (printed (bit_and word FLAG_MASK))
+    ∷ field (codes "digit_separator") (decimal (raw word).digit_separator)
+    ∷ field (codes "base_prefix") (decimal (raw word).base_prefix)
+    ∷ field (codes "base_suffix") (decimal (raw word).base_suffix)
+    ∷ field (codes "mantissa_radix") (decimal (raw word).mantissa_radix)
+    ∷ field (codes "exponent_base") (decimal (effective_exponent_base (raw word)))
+    ∷ field (codes "exponent_radix") (decimal (effective_exponent_radix (raw word)))
+    ∷ [])
+
+-- the text of an answer
+abbrev pub answer_text : Answer → List ℕ
+answer_text (answers.Fields word) = fields word
+answer_text (answers.Word word) = line (printed word)
+answer_text (answers.Sameness true) = line (codes "same")
+answer_text (answers.Sameness false) = line (codes "different")
+answer_text (answers.Outcome error) = line (printed_text error)
+answer_text (answers.Acceptance true) = line (codes "accepted")
+answer_text (answers.Acceptance false) = line (codes "refused")
+
+-- the reason as a refusal states it
+abbrev pub reason_text : Refusal → List ℕ
+reason_text refusals.UnknownCommand = codes "unknown command"
+reason_text refusals.WrongNumberOfArguments = codes "wrong number of arguments"
+reason_text refusals.TooManyEdits = codes "too many edits"
+reason_text refusals.BadWord = codes "bad word"
+reason_text refusals.BadEdit = codes "bad edit"
+reason_text refusals.BadByte = codes "bad byte"
+
+-- what the program prints
+abbrev pub text_of : Response → List ℕ
+text_of (Ok answer) = answer_text answer
+text_of (Err refusal) = line (codes "numfmt: " ++ reason_text refusal)
+
+-- the exit status: 0, or 1 if the answer is no, or 2 for a refusal
+abbrev pub status_of : Response → ℕ
+status_of (Ok (answers.Fields word)) = 0
+status_of (Ok (answers.Word word)) = 0
+status_of (Ok (answers.Sameness true)) = 0
+status_of (Ok (answers.Sameness false)) = 1
+status_of (Ok (answers.Outcome Success)) = 0
+status_of (Ok (answers.Outcome _)) = 1
+status_of (Ok (answers.Acceptance true)) = 0
+status_of (Ok (answers.Acceptance false)) = 1
+status_of (Err refusal) = 2

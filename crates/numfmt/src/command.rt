@@ -1,0 +1,123 @@
+//! The commands: from the program's arguments to a response.
+
+ghost use Rattle.std.specs.Prelude.{◌≡◌, IfErr, List, [], ◌∷◌, map, string_bytes};
+ghost use Rattle.std.specs.Result.{OkIff};
+ghost use Rattle.numfmt.specs.Numeral.{numeral};
+ghost use Rattle.numfmt.specs.WordText.{IsWordText, hex};
+ghost use Rattle.numfmt.specs.EditText.{IsByteText};
+ghost use Rattle.numfmt.specs.Command.{CallsFor, ShowCallsFor, EditCallsFor, CheckCallsFor, SameCallsFor, OptionsCallsFor, IsOnly};
+
+use crate::edit::{read_byte, read_edits};
+use crate::response::{Answer, Refusal};
+use crate::word::read_word;
+use lexical_util::edits::{Edit, edit_word, same_format};
+use lexical_util::format::{STANDARD, format_error};
+use lexical_util::format_flags::is_valid_options_punctuation;
+
+/// How many edits one command takes.
+const MAX_EDITS: usize = 64;
+
+/// The response to `args`, the program's arguments without its name.
+pub fn response_to(args: &[String]) -> Result<Answer, Refusal>
+    ensures { IsOnly (CallsFor (map string_bytes args.now)) result }
+{
+    match args {
+        [] => Ok(Answer::Fields(STANDARD)),
+        [command, args @ ..] => match command.as_str() {
+            "show" => show(args),
+            "edit" => edit(args),
+            "check" => check(args),
+            "same" => same(args),
+            "options" => options(args),
+            _ => Err(Refusal::UnknownCommand),
+        },
+    }
+}
+
+fn show(args: &[String]) -> Result<Answer, Refusal>
+    ensures { IsOnly (ShowCallsFor (map string_bytes args.now)) result }
+{
+    match args {
+        [word] => Ok(Answer::Fields(parse_word(word)?)),
+        _ => Err(Refusal::WrongNumberOfArguments),
+    }
+}
+
+fn check(args: &[String]) -> Result<Answer, Refusal>
+    ensures { IsOnly (CheckCallsFor (map string_bytes args.now)) result }
+{
+    match args {
+        [word] => Ok(Answer::Outcome(format_error(parse_word(word)?))),
+        _ => Err(Refusal::WrongNumberOfArguments),
+    }
+}
+
+fn same(args: &[String]) -> Result<Answer, Refusal>
+    ensures { IsOnly (SameCallsFor (map string_bytes args.now)) result }
+{
+    match args {
+        [a, b] => same_words(a, b),
+        _ => Err(Refusal::WrongNumberOfArguments),
+    }
+}
+
+fn same_words(a: &String, b: &String) -> Result<Answer, Refusal>
+    ensures { IsOnly (SameCallsFor (string_bytes a.now ∷ string_bytes b.now ∷ [])) result }
+{
+    Ok(Answer::Sameness(same_format(parse_word(a)?, parse_word(b)?)))
+}
+
+fn options(args: &[String]) -> Result<Answer, Refusal>
+    ensures { IsOnly (OptionsCallsFor (map string_bytes args.now)) result }
+{
+    match args {
+        [word, exponent, point] => options_fit(word, exponent, point),
+        _ => Err(Refusal::WrongNumberOfArguments),
+    }
+}
+
+fn options_fit(word: &String, exponent: &String, point: &String) -> Result<Answer, Refusal>
+    ensures { IsOnly (OptionsCallsFor (string_bytes word.now ∷ string_bytes exponent.now ∷ string_bytes point.now ∷ [])) result }
+{
+    let word = parse_word(word)?;
+    let exponent = parse_byte(exponent)?;
+    let point = parse_byte(point)?;
+    Ok(Answer::Acceptance(is_valid_options_punctuation(word, exponent, point)))
+}
+
+fn edit(args: &[String]) -> Result<Answer, Refusal>
+    ensures { IsOnly (EditCallsFor (map string_bytes args.now)) result }
+{
+    match args {
+        [] => Err(Refusal::WrongNumberOfArguments),
+        [word, texts @ ..] => edit_by_texts(word, texts),
+    }
+}
+
+fn edit_by_texts(word: &String, texts: &[String]) -> Result<Answer, Refusal>
+    ensures { IsOnly (EditCallsFor (string_bytes word.now ∷ map string_bytes texts.now)) result }
+{
+    if texts.len() > MAX_EDITS {
+        return Err(Refusal::TooManyEdits);
+    }
+    let mut edits = [Edit::Radix(0); MAX_EDITS];
+    let format = parse_word(word)?;
+    read_edits(texts, &mut edits).ok_or(Refusal::BadEdit)?;
+    Ok(Answer::Word(edit_word(format, &edits[..texts.len()])))
+}
+
+// Parses an argument as a format word, or refuses it.
+fn parse_word(text: &String) -> Result<u128, Refusal>
+    ensures word { OkIff result (IsWordText (string_bytes text.now)) (hex (string_bytes text.now)) }
+    ensures refusal { IfErr result (λ refusal. refusal ≡ Refusal.BadWord) }
+{
+    read_word(text.as_str()).ok_or(Refusal::BadWord)
+}
+
+// Parses an argument as a byte, or refuses it.
+fn parse_byte(text: &String) -> Result<u8, Refusal>
+    ensures byte { OkIff result (IsByteText (string_bytes text.now)) (numeral 10 (string_bytes text.now)) }
+    ensures refusal { IfErr result (λ refusal. refusal ≡ Refusal.BadByte) }
+{
+    read_byte(text.as_str()).ok_or(Refusal::BadByte)
+}

@@ -1,0 +1,129 @@
+//! The responses of the program: answers and refusals, their texts and their exit statuses.
+
+ghost use Rattle.std.specs.Prelude.{◌≡◌, ◌++◌, OnOk, codes, decimal};
+ghost use Rattle.std.specs.Io.KnownBytes.{Appends};
+ghost use Rattle.numfmt.specs.WordText.{printed};
+ghost use Rattle.numfmt.specs.Response.{answer_text, field, fields, line, reason_text, status_of, text_of};
+
+use crate::word::word_text;
+use lexical_util::error::Error;
+use lexical_util::format_flags as flags;
+use std::io;
+use std::io::Write;
+
+/// The result of a command.
+#[derive(Clone, Copy, Debug, PartialEq, Eq)]
+pub enum Answer {
+    /// The fields of a format word.
+    Fields(u128),
+    /// A format word.
+    Word(u128),
+    /// Whether two format words mean the same.
+    Sameness(bool),
+    /// The first rule that a format word breaks, or `Success`.
+    Outcome(Error),
+    /// Whether an exponent byte and a point byte fit a format word.
+    Acceptance(bool),
+}
+
+/// Why arguments are refused.
+#[derive(Clone, Copy, Debug, PartialEq, Eq)]
+pub enum Refusal {
+    /// The first argument is not the name of a command.
+    UnknownCommand,
+    /// The command takes another number of arguments.
+    WrongNumberOfArguments,
+    /// There are more edits than one command takes.
+    TooManyEdits,
+    /// An argument is not the text of a format word.
+    BadWord,
+    /// An argument is not an edit.
+    BadEdit,
+    /// An argument is not a byte.
+    BadByte,
+}
+
+/// The exit status of a run that printed `response`: 0, or 1 if the answer is no, or 2 for a refusal.
+pub fn exit_status(response: Result<Answer, Refusal>) -> u8
+    ensures { result ≡ status_of response }
+{
+    match response {
+        Ok(Answer::Sameness(false) | Answer::Acceptance(false)) => 1,
+        Ok(Answer::Outcome(error)) if error != Error::Success => 1,
+        Ok(_) => 0,
+        Err(_) => 2,
+    }
+}
+
+/// Prints `response`, and flushes `out`.
+pub fn print<W: Write>(response: Result<Answer, Refusal>, out: &mut W) -> io::Result<()>
+    ensures { OnOk result (Appends (W.contents out.old) (W.contents out.new) (text_of response)) }
+{
+    match response {
+        Ok(answer) => answer.print(out)?,
+        Err(refusal) => writeln!(out, "numfmt: {}", refusal.reason())?,
+    }
+    out.flush()
+}
+
+impl Refusal {
+    // The reason, as the line that is printed ends with it.
+    fn reason(self) -> &'static str
+        ensures { result.now ≡ reason_text self }
+    {
+        match self {
+            Refusal::UnknownCommand => "unknown command",
+            Refusal::WrongNumberOfArguments => "wrong number of arguments",
+            Refusal::TooManyEdits => "too many edits",
+            Refusal::BadWord => "bad word",
+            Refusal::BadEdit => "bad edit",
+            Refusal::BadByte => "bad byte",
+        }
+    }
+}
+
+impl Answer {
+    fn print<W: Write>(self, out: &mut W) -> io::Result<()>
+        ensures { OnOk result (Appends (W.contents out.old) (W.contents out.new) (answer_text self)) }
+    {
+        match self {
+            Answer::Fields(format) => print_fields(format, out),
+            Answer::Word(format) => print_word(format, out),
+            Answer::Sameness(true) => out.write_all(b"same\n"),
+            Answer::Sameness(false) => out.write_all(b"different\n"),
+            Answer::Outcome(error) => writeln!(out, "{error}"),
+            Answer::Acceptance(true) => out.write_all(b"accepted\n"),
+            Answer::Acceptance(false) => out.write_all(b"refused\n"),
+        }
+    }
+}
+
+fn print_fields<W: Write>(format: u128, out: &mut W) -> io::Result<()>
+    ensures { OnOk result (Appends (W.contents out.old) (W.contents out.new) (fields format)) }
+{
+    out.write_all(b"flags ")?;
+    print_word(format & flags::FLAG_MASK, out)?;
+    print_field(
+        "digit_separator",
+        u32::from(flags::digit_separator(format)),
+        out,
+    )?;
+    print_field("base_prefix", u32::from(flags::base_prefix(format)), out)?;
+    print_field("base_suffix", u32::from(flags::base_suffix(format)), out)?;
+    print_field("mantissa_radix", flags::mantissa_radix(format), out)?;
+    print_field("exponent_base", flags::exponent_base(format), out)?;
+    print_field("exponent_radix", flags::exponent_radix(format), out)
+}
+
+fn print_field<W: Write>(name: &str, value: u32, out: &mut W) -> io::Result<()>
+    ensures { OnOk result (Appends (W.contents out.old) (W.contents out.new) (line (field name.now (decimal value)))) }
+{
+    writeln!(out, "{name} {value}")
+}
+
+fn print_word<W: Write>(format: u128, out: &mut W) -> io::Result<()>
+    ensures { OnOk result (Appends (W.contents out.old) (W.contents out.new) (line (printed format))) }
+{
+    out.write_all(&word_text(format))?;
+    out.write_all(b"\n")
+}
