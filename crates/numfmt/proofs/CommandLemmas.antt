@@ -1,5 +1,7 @@
 -- The only response where a condition decides, and lists of a known length.
-use Rattle.std.proofs.Common.{◌≡◌, ◌≢◌, ◌↔◌, ◌≤◌, ◌-◌, ℕ, Bool, true, false, IsTrue, Ok, Err, List, [], ◌∷◌, length, get_or, map, take, drop, take_all, refl, sym, ap, ◌∙◌, arith}
+use Rattle.std.proofs.Common.{◌≡◌, ◌≢◌, ◌↔◌, ◌≤◌, ◌-◌, ℕ, Bool, true, false, IsTrue, Ok, Err, List, [], ◌∷◌, length, get_or, map, take, drop, take_all, inl, inr, refl, sym, ap, ◌∙◌, arith}
+use Rattle.lexical_base.specs.declared.error.Error.{Error}
+use Rattle.lexical_flags.specs.Rules.{Rule, IsFirstBroken, IsErrorOf, rules_in_order}
 use Rattle.lexical_util.specs.declared.edits.Edit.{Edit}
 use Rattle.lexical_util.specs.Edits.{edited, all_writes}
 use Rattle.numfmt.specs.declared.response.Answer.{Answer}
@@ -8,7 +10,7 @@ use Rattle.numfmt.specs.declared.response.Refusal.{Refusal}
 use Rattle.numfmt.specs.declared.response.Refusal.TheVariants as refusals
 use Rattle.numfmt.specs.EditText.{AreTextsOf}
 use Rattle.numfmt.specs.Response.{Response}
-use Rattle.numfmt.specs.Command.{IfElse, Gives, Refuses, GivesWhether, EditsGive, SameCallsFor, OptionsCallsFor, IsOnly}
+use Rattle.numfmt.specs.Command.{IfElse, Gives, Refuses, GivesWhether, GivesErrorOf, EditsGive, SameCallsFor, OptionsCallsFor, IsOnly}
 
 -- if the condition holds
 pub IsOnly-met : (condition : Type 0) (met unmet : Response → Type 0) (response : Response) → condition → IsOnly met response → IsOnly (IfElse condition met unmet) response
@@ -27,6 +29,9 @@ pub IsOnly-told : (condition : Type 0) (answer : Bool → Answer) (truth : Bool)
 IsOnly-told condition answer true told = IsOnly-met condition _ _ _ (told.0 refl) (IsOnly-given (answer true))
 IsOnly-told condition answer false told = IsOnly-unmet condition _ _ _ (λ holds. let h : IsTrue false = told.1 holds in cc) (IsOnly-given (answer false))
 
+abbrev outcome_response : Error → Response
+outcome_response error = Ok (answers.Outcome error)
+
 abbrev word_response : ℕ → Response
 word_response word = Ok (answers.Word word)
 
@@ -37,6 +42,19 @@ IsOnly-edited word texts read made exact is other = (
   λ h. h.2 ∙ ap (λ list. word_response (edited word (all_writes list))) ((exact h.0).0 h.1) ∙ sym (ap word_response is),
   λ e. (read, (exact read).1 refl, e ∙ ap word_response is),
 )
+
+IsFirstBroken-unique : (word : ℕ) (a b : Error) (rules : List Rule) → IsFirstBroken rules word a → IsFirstBroken rules word b → a ≡ b
+IsFirstBroken-unique word a b [] h k = h ∙ sym k
+IsFirstBroken-unique word a b (rule ∷ rules) (inl h) (inl k) = h.1 ∙ sym k.1
+IsFirstBroken-unique word a b (rule ∷ rules) (inl h) (inr k) = absurd (h.0 k.0)
+IsFirstBroken-unique word a b (rule ∷ rules) (inr h) (inl k) = absurd (k.0 h.0)
+IsFirstBroken-unique word a b (rule ∷ rules) (inr h) (inr k) = IsFirstBroken-unique word a b rules h.1 k.1
+
+-- the first rule that a word breaks is the only one that is given
+pub IsOnly-error : (word : ℕ) (error : Error) → IsErrorOf word error → IsOnly (GivesErrorOf word) (Ok (answers.Outcome error))
+unfolding IsErrorOf
+IsOnly-error word error is other =
+    (λ h. h.2 ∙ ap outcome_response (IsFirstBroken-unique word h.0 error rules_in_order h.1 is), λ e. (error, is, e))
 
 -- a refusal is the only response
 IsOnly-refused : (refusal : Refusal) → IsOnly (Refuses refusal) (Err refusal)

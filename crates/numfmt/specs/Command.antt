@@ -1,7 +1,7 @@
 -- The response that each list of arguments calls for.
 use Rattle.std.specs.Prelude.{ℕ, ◌≡◌, ◌≤◌, ◌↔◌, Bool, true, false, List, [], ◌∷◌, length, codes, Ok, Err}
 use Rattle.lexical_base.specs.declared.error.Error.{Error}
-use Rattle.lexical_flags.specs.Rules.{IsErrorOf}
+use Rattle.lexical_flags.specs.Rules.{IsErrorOf, Lawful}
 use Rattle.lexical_flags.specs.Options.{AreAccepted}
 use Rattle.lexical_util.specs.declared.edits.Edit.{Edit}
 use Rattle.lexical_util.specs.declared.format.TheConstants.{STANDARD}
@@ -56,11 +56,15 @@ EditCallsFor (word ∷ texts) =
     Needs ((list : List Edit) × AreTextsOf list texts) refusals.BadEdit (
     EditsGive (hex word) texts)))
 
+-- the first rule that the word breaks, or success
+abbrev pub GivesErrorOf : ℕ → Response → Type 0
+GivesErrorOf word response = (error : Error) × IsErrorOf word error × Gives (answers.Outcome error) response
+
 -- `check WORD`: the first rule that the word breaks, or success
 abbrev pub CheckCallsFor : List (List ℕ) → Response → Type 0
 CheckCallsFor (word ∷ []) =
     Needs (IsWordText word) refusals.BadWord (
-    λ response. (error : Error) × IsErrorOf (hex word) error × Gives (answers.Outcome error) response)
+    GivesErrorOf (hex word))
 CheckCallsFor _ = Refuses refusals.WrongNumberOfArguments
 
 -- `same A B`: whether two words have one normal form
@@ -80,6 +84,20 @@ OptionsCallsFor (word ∷ e ∷ p ∷ []) =
     GivesWhether (AreAccepted (hex word) (numeral 10 e) (numeral 10 p)) answers.Acceptance)))
 OptionsCallsFor _ = Refuses refusals.WrongNumberOfArguments
 
+-- the normal form of the word if that is lawful, else the first rule that it breaks
+unfoldable pub GivesMigrated : ℕ → Response → Type 0
+GivesMigrated word =
+    IfElse (Lawful (normal_form_of word))
+    (Gives (answers.Word (normal_form_of word)))
+    (GivesErrorOf (normal_form_of word))
+
+-- `migrate WORD`: the normal form of the word, or what is wrong with it
+abbrev pub MigrateCallsFor : List (List ℕ) → Response → Type 0
+MigrateCallsFor (word ∷ []) =
+    Needs (IsWordText word) refusals.BadWord (
+    GivesMigrated (hex word))
+MigrateCallsFor _ = Refuses refusals.WrongNumberOfArguments
+
 -- the program's arguments without its name: a command and its arguments, or none
 abbrev pub CallsFor : List (List ℕ) → Response → Type 0
 CallsFor [] = Gives (answers.Fields STANDARD)
@@ -89,7 +107,8 @@ CallsFor (command ∷ args) =
     IfElse (command ≡ codes "check") (CheckCallsFor args) (
     IfElse (command ≡ codes "same") (SameCallsFor args) (
     IfElse (command ≡ codes "options") (OptionsCallsFor args) (
-    Refuses refusals.UnknownCommand)))))
+    IfElse (command ≡ codes "migrate") (MigrateCallsFor args) (
+    Refuses refusals.UnknownCommand))))))
 
 -- this response meets the demand, and no other does
 abbrev pub IsOnly : (Response → Type 0) → Response → Type 0

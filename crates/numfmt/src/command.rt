@@ -5,12 +5,12 @@ ghost use Rattle.std.specs.Result.{OkIff};
 ghost use Rattle.numfmt.specs.Numeral.{numeral};
 ghost use Rattle.numfmt.specs.WordText.{IsWordText, hex};
 ghost use Rattle.numfmt.specs.EditText.{IsByteText};
-ghost use Rattle.numfmt.specs.Command.{CallsFor, ShowCallsFor, EditCallsFor, CheckCallsFor, SameCallsFor, OptionsCallsFor, IsOnly};
+ghost use Rattle.numfmt.specs.Command.{CallsFor, ShowCallsFor, EditCallsFor, CheckCallsFor, SameCallsFor, OptionsCallsFor, MigrateCallsFor, GivesMigrated, IsOnly};
 
 use crate::edit::{read_byte, read_edits};
 use crate::response::{Answer, Refusal};
 use crate::word::read_word;
-use lexical_util::edits::{Edit, edit_word, same_format};
+use lexical_util::edits::{Edit, edit_word, migrate, same_format};
 use lexical_util::format::{STANDARD, format_error};
 use lexical_util::format_flags::is_valid_options_punctuation;
 
@@ -29,6 +29,7 @@ pub fn response_to(args: &[String]) -> Result<Answer, Refusal>
             "check" => check(args),
             "same" => same(args),
             "options" => options(args),
+            "migrate" => migrate_word(args),
             _ => Err(Refusal::UnknownCommand),
         },
     }
@@ -104,6 +105,24 @@ fn edit_by_texts(word: &String, texts: &[String]) -> Result<Answer, Refusal>
     let format = parse_word(word)?;
     read_edits(texts, &mut edits).ok_or(Refusal::BadEdit)?;
     Ok(Answer::Word(edit_word(format, &edits[..texts.len()])))
+}
+
+fn migrate_word(args: &[String]) -> Result<Answer, Refusal>
+    ensures { IsOnly (MigrateCallsFor (map string_bytes args.now)) result }
+{
+    match args {
+        [word] => Ok(migrated(parse_word(word)?)),
+        _ => Err(Refusal::WrongNumberOfArguments),
+    }
+}
+
+fn migrated(format: u128) -> Answer
+    ensures { IsOnly (GivesMigrated format) (Ok result) }
+{
+    match migrate(format) {
+        Ok(normal_form) => Answer::Word(normal_form),
+        Err(error) => Answer::Outcome(error),
+    }
 }
 
 // Parses an argument as a format word, or refuses it.

@@ -82,7 +82,7 @@ exponent_radix 0
 
 // Command lines, the line that each prints, and the exit status.
 #[rattlefmt::skip]
-const ANSWERS: [(&str, &str, u8); 18] = [
+const ANSWERS: [(&str, &str, u8); 22] = [
     ("edit 0xc radix=16 digit_separator=95 integer_digit_separator_flags=true", "0x000010000000005F000002490000000C", 0),
     ("edit 0x00000A0000000000000000000000000C radix=007", "0x0A0A070000000000000000000000000C", 0),
     ("edit 0x00000A0000000000000000000000000C", "0x0A0A0A0000000000000000000000000C", 0),
@@ -101,6 +101,10 @@ const ANSWERS: [(&str, &str, u8); 18] = [
     ("options 0x1010100000000000000000000000000C 094 046", "accepted", 0),
     ("options 0x00000A0045000000000000000001000C 101 46", "refused", 1),
     ("options 0x00000A0045000000000000000001000C 46 101", "accepted", 0),
+    ("migrate 0x00000A0000000000000000008000000C", "0x0A0A0A0000000000000000000000000C", 0),
+    ("migrate 0x0A0A0A000000005F000000000000000C", "0x0A0A0A0000000000000000000000000C", 0),
+    ("migrate 0x0", "lexical number format error: 'invalid radix for mantissa digits'", 1),
+    ("migrate 0x00000A0000000035000000000000404C", "lexical number format error: 'exponent flags set while disabling exponent notation'", 1),
 ];
 
 #[test]
@@ -113,7 +117,7 @@ fn prints_each_answer_with_its_status(rt: HostRuntime) -> Result<(), Fail> {
 
 // Command lines, and what is printed after `numfmt: `.
 #[rattlefmt::skip]
-const REFUSALS: [(&str, &str); 39] = [
+const REFUSALS: [(&str, &str); 43] = [
     ("", "unknown command"),
     ("shows 0x", "unknown command"),
     ("SHOW 0xC", "unknown command"),
@@ -126,6 +130,8 @@ const REFUSALS: [(&str, &str); 39] = [
     ("same 0x 0x 0x", "wrong number of arguments"),
     ("options 0x00000A0000000000000000000000000C 101", "wrong number of arguments"),
     ("options 0x 101 46 46", "wrong number of arguments"),
+    ("migrate", "wrong number of arguments"),
+    ("migrate 0x 0x", "wrong number of arguments"),
     ("show 0x", "bad word"),
     ("show 0x000000000000000000000000000000000", "bad word"),
     ("show 0X1", "bad word"),
@@ -137,6 +143,8 @@ const REFUSALS: [(&str, &str); 39] = [
     ("same 0x 0x1", "bad word"),
     ("options 0x 1 2", "bad word"),
     ("options 0x 256 1", "bad word"),
+    ("migrate 0x", "bad word"),
+    ("migrate 1", "bad word"),
     ("edit 0xC radix=256", "bad edit"),
     ("edit 0xC radix", "bad edit"),
     ("edit 0xC colour=1", "bad edit"),

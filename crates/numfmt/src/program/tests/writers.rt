@@ -49,7 +49,7 @@ impl Write for Writer {
 }
 
 // One command line for each form of output.
-const LINES: [&str; 9] = [
+const LINES: [&str; 11] = [
     "show 0x00000A0000000000000000000000000C",
     "edit 0xc radix=16 digit_separator=95 integer_digit_separator_flags=true",
     "check 0xC",
@@ -57,6 +57,8 @@ const LINES: [&str; 9] = [
     "same 0x0 0xC",
     "options 0x1010100000000000000000000000000C 101 46",
     "options 0x1010100000000000000000000000000C 94 46",
+    "migrate 0x00000A0000000000000000008000000C",
+    "migrate 0x0",
     "",
     "edit 0xC radix",
 ];
