@@ -21,6 +21,6 @@ returns g c =
     then last _ _ _ _ _ (rw (c.from.ensures ∙ c.digit_separator.ensures) at c.in_ok-print_field.ensures) (
     then last _ _ _ _ _ (rw (c.from-2.ensures ∙ c.base_prefix.ensures) at c.in_ok-print_field-2.ensures) (
     then last _ _ _ _ _ (rw (c.from-3.ensures ∙ c.base_suffix.ensures) at c.in_ok-print_field-3.ensures) (
-    then last _ _ _ _ _ (rw c.mantissa_radix.ensures at c.in_ok-print_field-4.ensures) (
-    then last _ _ _ _ _ (rw c.exponent_base.ensures at c.in_ok-print_field-5.ensures) (
-    end last _ _ _ (rw c.exponent_radix.ensures at c.print_field-6.ensures)))))))
+    then last _ _ _ _ _ (rw c.mantissa_radix.ensures.value at c.in_ok-print_field-4.ensures) (
+    then last _ _ _ _ _ (rw c.exponent_base.ensures.value at c.in_ok-print_field-5.ensures) (
+    end last _ _ _ (rw c.exponent_radix.ensures.value at c.print_field-6.ensures)))))))
