@@ -2,7 +2,7 @@
 use Rattle.std.proofs.Common.{◌≡◌, ℕ, ◌+◌, ◌-◌, ◌%◌, ◌<◌, ◌≤◌, ◌⊎◌, ◌↔◌, max, Bool, true, false, not, ◌||◌, nat_lt, if◌then◌else◌, IsTrue, IsSome, None, Some, slice_get, slice_index_or, refl, arith}
 use Rattle.std.proofs.lemmas.Option.{slice_get-get_or}
 use Rattle.std.proofs.lemmas.Bool.Decides.{nat_tests}
-use Rattle.lexical_base.specs.Digits.{value, figures, digit_of, digits_of, is_small_letter}
+use Rattle.lexical_base.specs.Digits.{value, figures, digit_of, digits_of, is_lowercase}
 use Rattle.lexical_base.proofs.Finite.{passes_at, same_at}
 
 -- the value of a byte, by cases
@@ -17,7 +17,7 @@ pub value_is : (byte : ℕ) → byte < 256 → value byte ≡ value_by_range byt
 unfolding value
 value_is byte below = same_at value value_by_range 256 byte refl below
 
--- a byte has the value of a digit, or 255
+-- the value of a byte is below 36, or 255
 pub value-cases : (byte : ℕ) → byte < 256 → (value byte < 36) ⊎ (value byte ≡ 255)
 value-cases byte below =
     let by_range : value byte ≡ value_by_range byte = value_is byte below in
@@ -42,46 +42,46 @@ digit_of-larger byte first second fits first_fits second_fits =
     let same : nat_lt (value byte) (max first second) ≡ (digits_of first byte || digits_of second byte) = grind (arith, nat_tests) in
     rw (← same) (IsSome-if (nat_lt (value byte) (max first second)) (value byte))
 
--- a byte less 48, modulo 256, is its value where either is below a radix up to 10
+-- a byte minus 48, modulo 256, is its value if either is below a radix up to 10
 pub small_digit : (byte radix : ℕ) → byte < 256 → radix ≤ 10 → ((byte + 208) % 256 < radix → value byte ≡ (byte + 208) % 256) × (radix ≤ (byte + 208) % 256 → radix ≤ value byte)
 small_digit byte radix fits small =
     let by_range : value byte ≡ value_by_range byte = value_is byte fits in
     (λ below. grind (arith, nat_tests), λ above. grind (arith, nat_tests))
 
--- what `digit_to_char_const` needs of the value
+-- the lemmas that `digit_to_char_const` needs about values
 pub ruleset values = (value_is, nat_tests)
 
--- the figure at a place
+-- the digit character at an index
 pub figure-get : (digit : ℕ) → digit < 36 → slice_get figures digit ≡ Some (slice_index_or figures digit 0)
 figure-get digit below = slice_get-get_or figures digit 0 below
 
--- the byte of a digit, by cases
+-- the character of a digit, by cases
 abbrev figure_by_range : ℕ → ℕ
 figure_by_range digit = if nat_lt digit 10 then 48 + digit else 55 + digit
 
--- the figures from the place 10 on are the capital letters
+-- the digit characters from index 10 on are the uppercase letters
 pub figure_is_letter : (digit byte : ℕ) → 10 ≤ digit → digit < 36 → byte ≡ 55 + digit → slice_get figures digit ≡ Some byte
 figure_is_letter digit byte large below is =
     let letter : slice_index_or figures digit 0 ≡ figure_by_range digit = same_at (λ d. slice_index_or figures d 0) figure_by_range 36 digit refl below in
     let same : figure_by_range digit ≡ byte = grind (arith, nat_tests) in
     rw (figure-get digit below, letter, same) refl
 
--- the value of the figure at a place is the place
+-- the value of the digit character at an index is the index
 pub value-figure : (digit : ℕ) → digit < 36 → value (slice_index_or figures digit 0) ≡ digit
 unfolding value
 value-figure digit below = same_at (λ d. value (slice_index_or figures d 0)) (λ d. d) 36 digit refl below
 
--- a figure is read as its place in each larger radix
+-- every larger radix reads a digit character as its index
 pub digit_of-figure : (digit : ℕ) → digit < 36 → (radix : ℕ) → digit < radix → digit_of (slice_index_or figures digit 0) radix ≡ Some digit
 digit_of-figure digit below radix in_radix =
     let is : value (slice_index_or figures digit 0) ≡ digit = value-figure digit below in
     rw is (grind (arith, nat_tests))
 
--- no figure is a small letter
-pub figure-capital : (digit : ℕ) → digit < 36 → is_small_letter (slice_index_or figures digit 0) ≡ false
-figure-capital digit below =
-    let passes : not (is_small_letter (slice_index_or figures digit 0)) ≡ true = passes_at (λ d. not (is_small_letter (slice_index_or figures d 0))) 36 digit refl below in
-    not_true (is_small_letter (slice_index_or figures digit 0)) passes
+-- no digit character is a lowercase letter
+pub figure-uppercase : (digit : ℕ) → digit < 36 → is_lowercase (slice_index_or figures digit 0) ≡ false
+figure-uppercase digit below =
+    let passes : not (is_lowercase (slice_index_or figures digit 0)) ≡ true = passes_at (λ d. not (is_lowercase (slice_index_or figures d 0))) 36 digit refl below in
+    not_true (is_lowercase (slice_index_or figures digit 0)) passes
   where
     not_true : (b : Bool) → not b ≡ true → b ≡ false
     not_true true h = cc

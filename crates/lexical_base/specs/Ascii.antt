@@ -5,7 +5,7 @@ use Rattle.std.specs.Prelude.{ℕ, Bool, nat_le, ◌&&◌, ◌||◌}
 abbrev pub ByteSet : Type 0
 ByteSet = ℕ → Bool
 
--- the bytes from low to high, both included
+-- the bytes from low to high, including both
 abbrev pub between : ℕ → ℕ → ByteSet
 between low high byte = nat_le low byte && nat_le byte high
 
@@ -17,6 +17,6 @@ in_either first second byte = between first.0 first.1 byte || between second.0 s
 abbrev pub allowed_ascii : ByteSet
 allowed_ascii byte = between 9 13 byte || between 32 126 byte
 
--- the capital letters A to Z and the small letters a to z
+-- the uppercase letters A to Z and the lowercase letters a to z
 abbrev pub letters : ByteSet
 letters byte = between 65 90 byte || between 97 122 byte

@@ -9,6 +9,6 @@ use Rattle.lexical_base.specs.Outcomes.{rank_of, held_index}
 abbrev pub compare_outcomes : Error → Error → Ordering
 compare_outcomes = then_cmp (on rank_of nat_cmp) (on held_index nat_cmp)
 
--- whether the order answers that two outcomes are equal
+-- whether two outcomes are equal in this order
 abbrev pub same_outcome : Error → Error → Bool
 same_outcome = eq_by_cmp compare_outcomes

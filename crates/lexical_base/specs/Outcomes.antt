@@ -2,147 +2,147 @@
 use Rattle.std.specs.Prelude.{ℕ, ◌++◌, List, Option, Some, None, codes, nat_lt, if◌then◌else◌, unwrap_or}
 use Rattle.std.specs.Fmt.{decimal}
 use Rattle.lexical_base.specs.declared.error.Error.{Error}
-use Rattle.lexical_base.specs.declared.error.Error.TheVariants.{Overflow, Underflow, InvalidDigit, Empty, EmptyMantissa, EmptyExponent, EmptyInteger, EmptyFraction, InvalidPositiveMantissaSign, MissingMantissaSign, InvalidExponent, InvalidPositiveExponentSign, MissingExponentSign, ExponentWithoutFraction, InvalidLeadingZeros, MissingExponent, MissingSign, InvalidPositiveSign, InvalidNegativeSign, InvalidMantissaRadix, InvalidExponentBase, InvalidExponentRadix, InvalidDigitSeparator, InvalidDecimalPoint, InvalidExponentSymbol, InvalidBasePrefix, InvalidBaseSuffix, InvalidPunctuation, InvalidExponentFlags, InvalidMantissaSign, InvalidExponentSign, InvalidSpecial, InvalidConsecutiveIntegerDigitSeparator, InvalidConsecutiveFractionDigitSeparator, InvalidConsecutiveExponentDigitSeparator, InvalidFlags, InvalidNanString, NanStringTooLong, InvalidInfString, InfStringTooLong, InvalidInfinityString, InfinityStringTooLong, InfinityStringTooShort, InvalidFloatParseAlgorithm, InvalidRadix, InvalidFloatPrecision, InvalidNegativeExponentBreak, InvalidPositiveExponentBreak, Success}
+use Rattle.lexical_base.specs.declared.error.Error.TheVariants as outcomes
 
--- the place of an outcome in the table of the 49 outcomes
+-- the rank of an outcome: its index in the table of the 49 outcomes
 abbrev pub rank_of : Error → ℕ
-rank_of (Overflow _) = 0
-rank_of (Underflow _) = 1
-rank_of (InvalidDigit _) = 2
-rank_of (Empty _) = 3
-rank_of (EmptyMantissa _) = 4
-rank_of (EmptyExponent _) = 5
-rank_of (EmptyInteger _) = 6
-rank_of (EmptyFraction _) = 7
-rank_of (InvalidPositiveMantissaSign _) = 8
-rank_of (MissingMantissaSign _) = 9
-rank_of (InvalidExponent _) = 10
-rank_of (InvalidPositiveExponentSign _) = 11
-rank_of (MissingExponentSign _) = 12
-rank_of (ExponentWithoutFraction _) = 13
-rank_of (InvalidLeadingZeros _) = 14
-rank_of (MissingExponent _) = 15
-rank_of (MissingSign _) = 16
-rank_of (InvalidPositiveSign _) = 17
-rank_of (InvalidNegativeSign _) = 18
-rank_of InvalidMantissaRadix = 19
-rank_of InvalidExponentBase = 20
-rank_of InvalidExponentRadix = 21
-rank_of InvalidDigitSeparator = 22
-rank_of InvalidDecimalPoint = 23
-rank_of InvalidExponentSymbol = 24
-rank_of InvalidBasePrefix = 25
-rank_of InvalidBaseSuffix = 26
-rank_of InvalidPunctuation = 27
-rank_of InvalidExponentFlags = 28
-rank_of InvalidMantissaSign = 29
-rank_of InvalidExponentSign = 30
-rank_of InvalidSpecial = 31
-rank_of InvalidConsecutiveIntegerDigitSeparator = 32
-rank_of InvalidConsecutiveFractionDigitSeparator = 33
-rank_of InvalidConsecutiveExponentDigitSeparator = 34
-rank_of InvalidFlags = 35
-rank_of InvalidNanString = 36
-rank_of NanStringTooLong = 37
-rank_of InvalidInfString = 38
-rank_of InfStringTooLong = 39
-rank_of InvalidInfinityString = 40
-rank_of InfinityStringTooLong = 41
-rank_of InfinityStringTooShort = 42
-rank_of InvalidFloatParseAlgorithm = 43
-rank_of InvalidRadix = 44
-rank_of InvalidFloatPrecision = 45
-rank_of InvalidNegativeExponentBreak = 46
-rank_of InvalidPositiveExponentBreak = 47
-rank_of Success = 48
+rank_of (outcomes.Overflow _) = 0
+rank_of (outcomes.Underflow _) = 1
+rank_of (outcomes.InvalidDigit _) = 2
+rank_of (outcomes.Empty _) = 3
+rank_of (outcomes.EmptyMantissa _) = 4
+rank_of (outcomes.EmptyExponent _) = 5
+rank_of (outcomes.EmptyInteger _) = 6
+rank_of (outcomes.EmptyFraction _) = 7
+rank_of (outcomes.InvalidPositiveMantissaSign _) = 8
+rank_of (outcomes.MissingMantissaSign _) = 9
+rank_of (outcomes.InvalidExponent _) = 10
+rank_of (outcomes.InvalidPositiveExponentSign _) = 11
+rank_of (outcomes.MissingExponentSign _) = 12
+rank_of (outcomes.ExponentWithoutFraction _) = 13
+rank_of (outcomes.InvalidLeadingZeros _) = 14
+rank_of (outcomes.MissingExponent _) = 15
+rank_of (outcomes.MissingSign _) = 16
+rank_of (outcomes.InvalidPositiveSign _) = 17
+rank_of (outcomes.InvalidNegativeSign _) = 18
+rank_of outcomes.InvalidMantissaRadix = 19
+rank_of outcomes.InvalidExponentBase = 20
+rank_of outcomes.InvalidExponentRadix = 21
+rank_of outcomes.InvalidDigitSeparator = 22
+rank_of outcomes.InvalidDecimalPoint = 23
+rank_of outcomes.InvalidExponentSymbol = 24
+rank_of outcomes.InvalidBasePrefix = 25
+rank_of outcomes.InvalidBaseSuffix = 26
+rank_of outcomes.InvalidPunctuation = 27
+rank_of outcomes.InvalidExponentFlags = 28
+rank_of outcomes.InvalidMantissaSign = 29
+rank_of outcomes.InvalidExponentSign = 30
+rank_of outcomes.InvalidSpecial = 31
+rank_of outcomes.InvalidConsecutiveIntegerDigitSeparator = 32
+rank_of outcomes.InvalidConsecutiveFractionDigitSeparator = 33
+rank_of outcomes.InvalidConsecutiveExponentDigitSeparator = 34
+rank_of outcomes.InvalidFlags = 35
+rank_of outcomes.InvalidNanString = 36
+rank_of outcomes.NanStringTooLong = 37
+rank_of outcomes.InvalidInfString = 38
+rank_of outcomes.InfStringTooLong = 39
+rank_of outcomes.InvalidInfinityString = 40
+rank_of outcomes.InfinityStringTooLong = 41
+rank_of outcomes.InfinityStringTooShort = 42
+rank_of outcomes.InvalidFloatParseAlgorithm = 43
+rank_of outcomes.InvalidRadix = 44
+rank_of outcomes.InvalidFloatPrecision = 45
+rank_of outcomes.InvalidNegativeExponentBreak = 46
+rank_of outcomes.InvalidPositiveExponentBreak = 47
+rank_of outcomes.Success = 48
 
--- the place at which a parse error was found; no other outcome holds one
+-- the index at which a parse error was found; no other outcome holds one
 abbrev pub index_of : Error → Option ℕ
-index_of (Overflow index) = Some index
-index_of (Underflow index) = Some index
-index_of (InvalidDigit index) = Some index
-index_of (Empty index) = Some index
-index_of (EmptyMantissa index) = Some index
-index_of (EmptyExponent index) = Some index
-index_of (EmptyInteger index) = Some index
-index_of (EmptyFraction index) = Some index
-index_of (InvalidPositiveMantissaSign index) = Some index
-index_of (MissingMantissaSign index) = Some index
-index_of (InvalidExponent index) = Some index
-index_of (InvalidPositiveExponentSign index) = Some index
-index_of (MissingExponentSign index) = Some index
-index_of (ExponentWithoutFraction index) = Some index
-index_of (InvalidLeadingZeros index) = Some index
-index_of (MissingExponent index) = Some index
-index_of (MissingSign index) = Some index
-index_of (InvalidPositiveSign index) = Some index
-index_of (InvalidNegativeSign index) = Some index
+index_of (outcomes.Overflow index) = Some index
+index_of (outcomes.Underflow index) = Some index
+index_of (outcomes.InvalidDigit index) = Some index
+index_of (outcomes.Empty index) = Some index
+index_of (outcomes.EmptyMantissa index) = Some index
+index_of (outcomes.EmptyExponent index) = Some index
+index_of (outcomes.EmptyInteger index) = Some index
+index_of (outcomes.EmptyFraction index) = Some index
+index_of (outcomes.InvalidPositiveMantissaSign index) = Some index
+index_of (outcomes.MissingMantissaSign index) = Some index
+index_of (outcomes.InvalidExponent index) = Some index
+index_of (outcomes.InvalidPositiveExponentSign index) = Some index
+index_of (outcomes.MissingExponentSign index) = Some index
+index_of (outcomes.ExponentWithoutFraction index) = Some index
+index_of (outcomes.InvalidLeadingZeros index) = Some index
+index_of (outcomes.MissingExponent index) = Some index
+index_of (outcomes.MissingSign index) = Some index
+index_of (outcomes.InvalidPositiveSign index) = Some index
+index_of (outcomes.InvalidNegativeSign index) = Some index
 index_of _ = None
 
--- what an outcome says
+-- the description of an outcome
 abbrev pub description_of : Error → List ℕ
-description_of (Overflow _) = codes "'numeric overflow occurred'"
-description_of (Underflow _) = codes "'numeric underflow occurred'"
-description_of (InvalidDigit _) = codes "'invalid digit found'"
-description_of (Empty _) = codes "'the string to parse was empty'"
-description_of (EmptyMantissa _) = codes "'no significant digits found'"
-description_of (EmptyExponent _) = codes "'exponent notation found without an exponent'"
-description_of (EmptyInteger _) = codes "'invalid float with no integer digits'"
-description_of (EmptyFraction _) = codes "'invalid float with no fraction digits'"
-description_of (InvalidPositiveMantissaSign _) = codes "'invalid `+` sign before significant digits'"
-description_of (MissingMantissaSign _) = codes "'missing required `+/-` sign for significant digits'"
-description_of (InvalidExponent _) = codes "'exponent found but not allowed'"
-description_of (InvalidPositiveExponentSign _) = codes "'invalid `+` sign in exponent'"
-description_of (MissingExponentSign _) = codes "'missing required `+/-` sign for exponent'"
-description_of (ExponentWithoutFraction _) = codes "'invalid float containing exponent without fraction'"
-description_of (InvalidLeadingZeros _) = codes "'invalid number with leading zeros before digits'"
-description_of (MissingExponent _) = codes "'missing required exponent'"
-description_of (MissingSign _) = codes "'missing required `+/-` sign for integer'"
-description_of (InvalidPositiveSign _) = codes "'invalid `+` sign for an integer was found'"
-description_of (InvalidNegativeSign _) = codes "'invalid `-` sign for an unsigned type was found'"
-description_of InvalidMantissaRadix = codes "'invalid radix for mantissa digits'"
-description_of InvalidExponentBase = codes "'invalid exponent base'"
-description_of InvalidExponentRadix = codes "'invalid radix for exponent digits'"
-description_of InvalidDigitSeparator = codes "'invalid digit separator: must be ASCII and not a digit or a `+/-` sign'"
-description_of InvalidDecimalPoint = codes "'invalid decimal point: must be ASCII and not a digit or a `+/-` sign'"
-description_of InvalidExponentSymbol = codes "'invalid exponent symbol: must be ASCII and not a digit or a `+/-` sign'"
-description_of InvalidBasePrefix = codes "'invalid base prefix character'"
-description_of InvalidBaseSuffix = codes "'invalid base suffix character'"
-description_of InvalidPunctuation = codes "'invalid punctuation: multiple characters overlap'"
-description_of InvalidExponentFlags = codes "'exponent flags set while disabling exponent notation'"
-description_of InvalidMantissaSign = codes "'disabled the `+` sign while requiring a sign for significant digits'"
-description_of InvalidExponentSign = codes "'disabled the `+` sign while requiring a sign for exponent digits'"
-description_of InvalidSpecial = codes "'special flags set while disabling special floats'"
-description_of InvalidConsecutiveIntegerDigitSeparator = codes "'enabled consecutive digit separators in the integer without setting a valid location'"
-description_of InvalidConsecutiveFractionDigitSeparator = codes "'enabled consecutive digit separators in the fraction without setting a valid location'"
-description_of InvalidConsecutiveExponentDigitSeparator = codes "'enabled consecutive digit separators in the exponent without setting a valid location'"
-description_of InvalidFlags = codes "'invalid flags enabled without the format feature'"
-description_of InvalidNanString = codes "'NaN string must started with `n`'"
-description_of NanStringTooLong = codes "'NaN string is too long'"
-description_of InvalidInfString = codes "'short infinity string must started with `i`'"
-description_of InfStringTooLong = codes "'short infinity string is too long'"
-description_of InvalidInfinityString = codes "'long infinity string must started with `i`'"
-description_of InfinityStringTooLong = codes "'long infinity string is too long'"
-description_of InfinityStringTooShort = codes "'long infinity string is too short'"
-description_of InvalidFloatParseAlgorithm = codes "'invalid combination of float parse algorithms'"
-description_of InvalidRadix = codes "'invalid radix for significant digits'"
-description_of InvalidFloatPrecision = codes "'invalid float precision: min digits is larger than max digits'"
-description_of InvalidNegativeExponentBreak = codes "'invalid negative exponent break: value is above 0'"
-description_of InvalidPositiveExponentBreak = codes "'invalid positive exponent break: value is below 0'"
-description_of Success = codes "'not actually an error'"
+description_of (outcomes.Overflow _) = codes "'numeric overflow occurred'"
+description_of (outcomes.Underflow _) = codes "'numeric underflow occurred'"
+description_of (outcomes.InvalidDigit _) = codes "'invalid digit found'"
+description_of (outcomes.Empty _) = codes "'the string to parse was empty'"
+description_of (outcomes.EmptyMantissa _) = codes "'no significant digits found'"
+description_of (outcomes.EmptyExponent _) = codes "'exponent notation found without an exponent'"
+description_of (outcomes.EmptyInteger _) = codes "'invalid float with no integer digits'"
+description_of (outcomes.EmptyFraction _) = codes "'invalid float with no fraction digits'"
+description_of (outcomes.InvalidPositiveMantissaSign _) = codes "'invalid `+` sign before significant digits'"
+description_of (outcomes.MissingMantissaSign _) = codes "'missing required `+/-` sign for significant digits'"
+description_of (outcomes.InvalidExponent _) = codes "'exponent found but not allowed'"
+description_of (outcomes.InvalidPositiveExponentSign _) = codes "'invalid `+` sign in exponent'"
+description_of (outcomes.MissingExponentSign _) = codes "'missing required `+/-` sign for exponent'"
+description_of (outcomes.ExponentWithoutFraction _) = codes "'invalid float containing exponent without fraction'"
+description_of (outcomes.InvalidLeadingZeros _) = codes "'invalid number with leading zeros before digits'"
+description_of (outcomes.MissingExponent _) = codes "'missing required exponent'"
+description_of (outcomes.MissingSign _) = codes "'missing required `+/-` sign for integer'"
+description_of (outcomes.InvalidPositiveSign _) = codes "'invalid `+` sign for an integer was found'"
+description_of (outcomes.InvalidNegativeSign _) = codes "'invalid `-` sign for an unsigned type was found'"
+description_of outcomes.InvalidMantissaRadix = codes "'invalid radix for mantissa digits'"
+description_of outcomes.InvalidExponentBase = codes "'invalid exponent base'"
+description_of outcomes.InvalidExponentRadix = codes "'invalid radix for exponent digits'"
+description_of outcomes.InvalidDigitSeparator = codes "'invalid digit separator: must be ASCII and not a digit or a `+/-` sign'"
+description_of outcomes.InvalidDecimalPoint = codes "'invalid decimal point: must be ASCII and not a digit or a `+/-` sign'"
+description_of outcomes.InvalidExponentSymbol = codes "'invalid exponent symbol: must be ASCII and not a digit or a `+/-` sign'"
+description_of outcomes.InvalidBasePrefix = codes "'invalid base prefix character'"
+description_of outcomes.InvalidBaseSuffix = codes "'invalid base suffix character'"
+description_of outcomes.InvalidPunctuation = codes "'invalid punctuation: multiple characters overlap'"
+description_of outcomes.InvalidExponentFlags = codes "'exponent flags set while disabling exponent notation'"
+description_of outcomes.InvalidMantissaSign = codes "'disabled the `+` sign while requiring a sign for significant digits'"
+description_of outcomes.InvalidExponentSign = codes "'disabled the `+` sign while requiring a sign for exponent digits'"
+description_of outcomes.InvalidSpecial = codes "'special flags set while disabling special floats'"
+description_of outcomes.InvalidConsecutiveIntegerDigitSeparator = codes "'enabled consecutive digit separators in the integer without setting a valid location'"
+description_of outcomes.InvalidConsecutiveFractionDigitSeparator = codes "'enabled consecutive digit separators in the fraction without setting a valid location'"
+description_of outcomes.InvalidConsecutiveExponentDigitSeparator = codes "'enabled consecutive digit separators in the exponent without setting a valid location'"
+description_of outcomes.InvalidFlags = codes "'invalid flags enabled without the format feature'"
+description_of outcomes.InvalidNanString = codes "'NaN string must started with `n`'"
+description_of outcomes.NanStringTooLong = codes "'NaN string is too long'"
+description_of outcomes.InvalidInfString = codes "'short infinity string must started with `i`'"
+description_of outcomes.InfStringTooLong = codes "'short infinity string is too long'"
+description_of outcomes.InvalidInfinityString = codes "'long infinity string must started with `i`'"
+description_of outcomes.InfinityStringTooLong = codes "'long infinity string is too long'"
+description_of outcomes.InfinityStringTooShort = codes "'long infinity string is too short'"
+description_of outcomes.InvalidFloatParseAlgorithm = codes "'invalid combination of float parse algorithms'"
+description_of outcomes.InvalidRadix = codes "'invalid radix for significant digits'"
+description_of outcomes.InvalidFloatPrecision = codes "'invalid float precision: min digits is larger than max digits'"
+description_of outcomes.InvalidNegativeExponentBreak = codes "'invalid negative exponent break: value is above 0'"
+description_of outcomes.InvalidPositiveExponentBreak = codes "'invalid positive exponent break: value is below 0'"
+description_of outcomes.Success = codes "'not actually an error'"
 
 -- the index of a parse error, and 0 for every other outcome
 abbrev pub held_index : Error → ℕ
 held_index error = unwrap_or (index_of error) 0
 
--- what an outcome is about
+-- the classes of outcomes
 pub data Class : Type 0 where
   parse_error : Class
   format_error : Class
   options_error : Class
   no_error : Class
 
--- the class of the outcome of a rank: 19 parse errors, 17 of formats, 12 of options, and the success
+-- the class of a rank: 19 errors of parsing, 17 of formats, 12 of options, and success
 abbrev pub class_of : ℕ → Class
 class_of rank = if nat_lt rank 19 then parse_error else if nat_lt rank 36 then format_error else if nat_lt rank 48 then options_error else no_error
 
@@ -153,6 +153,6 @@ text_in_class format_error description index = codes "lexical number format erro
 text_in_class options_error description index = codes "lexical options error: " ++ description
 text_in_class no_error description index = description
 
--- what `{}` prints of an outcome
+-- what `Display` prints of an outcome
 abbrev pub printed_text : Error → List ℕ
 printed_text error = text_in_class (class_of (rank_of error)) (description_of error) (held_index error)

@@ -1,4 +1,4 @@
-//! Tests of single bytes and of slices of bytes.
+//! Tests of single bytes and of slices of bytes: allowed ASCII and letters.
 
 ghost use Rattle.std.specs.Prelude.{◌≡◌, ◌↔◌, IsTrue};
 ghost use Rattle.std.specs.List.{AllPass, list_all};
@@ -6,11 +6,10 @@ ghost use Rattle.lexical_base.specs.Ascii.{allowed_ascii, letters, in_either};
 
 use std::simd::prelude::*;
 
-/// Whether the byte `c` is ASCII that may stand in a number format.
+/// Returns whether the byte `c` is ASCII that a number format may use.
 ///
-/// These are the bytes 9 to 13, which are the tabs and the breaks of lines and pages, the space, and
-/// the visible signs from `!` to `~`. All other control bytes are refused, 127 among them, and every
-/// byte from 128 on.
+/// That is 9 to 13 (tab, line feed, vertical tab, form feed, carriage return), the space, and the
+/// printable characters `!` to `~`. Every other byte is rejected, among them 127 and all from 128 up.
 #[inline(always)]
 pub fn is_valid_ascii(c: u8) -> bool
     ensures { IsTrue result ↔ IsTrue (allowed_ascii c) }
@@ -18,14 +17,14 @@ pub fn is_valid_ascii(c: u8) -> bool
     (c >= 0x09 && c <= 0x0d) || (c >= 0x20 && c < 0x7f)
 }
 
-/// Whether [`is_valid_ascii`] is true of each byte of `slc`, so also where `slc` is empty.
+/// Returns whether [`is_valid_ascii`] is true of every byte of `slc`; true for an empty slice.
 pub fn is_valid_ascii_slice(slc: &[u8]) -> bool
     ensures { IsTrue result ↔ AllPass allowed_ascii slc.now }
 {
     all_in_either(slc, (0x09, 0x0d), (0x20, 0x7e))
 }
 
-/// Whether the byte `c` is an ASCII letter, capital or small.
+/// Returns whether the byte `c` is an ASCII letter, uppercase or lowercase.
 #[inline(always)]
 pub fn is_valid_letter(c: u8) -> bool
     ensures { IsTrue result ↔ IsTrue (letters c) }
@@ -33,7 +32,7 @@ pub fn is_valid_letter(c: u8) -> bool
     (c >= b'A' && c <= b'Z') || (c >= b'a' && c <= b'z')
 }
 
-/// Whether [`is_valid_letter`] is true of each byte of `slc`, so also where `slc` is empty.
+/// Returns whether [`is_valid_letter`] is true of every byte of `slc`; true for an empty slice.
 pub fn is_valid_letter_slice(slc: &[u8]) -> bool
     ensures { IsTrue result ↔ AllPass letters slc.now }
 {

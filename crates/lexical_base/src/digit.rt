@@ -1,19 +1,18 @@
-//! Converts and tests digits, each call one byte or one digit. No call here goes over a text.
+//! Conversions and tests of single digits. Nothing here iterates over a text.
 //!
-//! The digits are the figures `0` to `9` and the letters `A` to `Z`, capital or small, with the
-//! values 0 to 35. A byte is a digit of a radix where its value is below the radix; every byte that
-//! is no figure and no letter has the value 255.
+//! The digit characters are `0` to `9` and the letters `A` to `Z`, uppercase or lowercase, with the
+//! values 0 to 35. Every other byte has the value 255. A byte is a digit of a radix if its value is
+//! below the radix.
 //!
-//! The calls that end in `_const` are for a radix that is known when the program is compiled: they
-//! save the look-up where the radix is at most 10.
+//! The `_const` functions are for a radix known at compile time: up to radix 10 they need no table.
 
 ghost use Rattle.std.specs.Prelude.{◌≡◌, ◌↔◌, ℕ, ◌+◌, ◌%◌, ◌<◌, ◌≤◌, ◌||◌, false, IsTrue, IsSome, IfSome, Some, nat_le, nat_lt, slice_get, if◌then◌else◌};
-ghost use Rattle.lexical_base.specs.Digits.{value, digit_of, figures, is_small_letter};
+ghost use Rattle.lexical_base.specs.Digits.{value, digit_of, figures, is_lowercase};
 
-// The digits, each at the place of its value.
-const FIGURES: [u8; 36] = *b"0123456789ABCDEFGHIJKLMNOPQRSTUVWXYZ";
+// The digit characters, each at the index of its value.
+const DIGIT_CHARACTERS: [u8; 36] = *b"0123456789ABCDEFGHIJKLMNOPQRSTUVWXYZ";
 
-// The value of each byte, at its place.
+// The value of each byte, at its index.
 const VALUES: [u8; 256] = [
     255, 255, 255, 255, 255, 255, 255, 255, 255, 255, 255, 255, 255, 255, 255, 255, 255, 255, 255,
     255, 255, 255, 255, 255, 255, 255, 255, 255, 255, 255, 255, 255, 255, 255, 255, 255, 255, 255,
@@ -30,7 +29,7 @@ const VALUES: [u8; 256] = [
     255, 255, 255, 255, 255, 255, 255, 255, 255, 255, 255, 255, 255, 255,
 ];
 
-// The value of `c`: 0 to 35 for a digit, and 255 for any other byte.
+// The value of `c`: 0 to 35 for a digit character, and 255 for any other byte.
 #[inline(always)]
 #[tactic(auto, using(crate::proofs::TableLemmas::table_entry))]
 fn byte_value(c: u8) -> u32
@@ -39,11 +38,11 @@ fn byte_value(c: u8) -> u32
     VALUES[c as usize] as u32
 }
 
-/// The value of the byte `c`, for a caller that knows `c` to be a digit of `radix`.
+/// Returns the value of the byte `c`, for a caller that knows that `c` is a digit of `radix`.
 ///
-/// `radix` is any number. Up to 10 the answer is `c` less the byte `0`, wrapped round at 256; from
-/// 11 on it is the value of `c`, which is 255 where `c` is no figure and no letter. So of a byte
-/// that is no digit of `radix` it tells nothing: [`char_to_digit_const`] does.
+/// Any `radix` is allowed. Up to radix 10 it returns `c.wrapping_sub(b'0')`, above that the value of
+/// `c`, which is 255 unless `c` is a digit character. The result is meaningful only if `c` is a
+/// digit of `radix`; [`char_to_digit_const`] tests that.
 #[inline(always)]
 pub fn char_to_valid_digit_const(c: u8, radix: u32) -> u32
     ensures small { radix ≤ 10 → result ≡ (c + 208) % 256 }
@@ -56,11 +55,11 @@ pub fn char_to_valid_digit_const(c: u8, radix: u32) -> u32
     }
 }
 
-/// The digit that the byte `c` is in `radix`: `Some` of its value where that is below `radix`, and
-/// else `None`.
+/// Returns the digit that the byte `c` is in `radix`: `Some` of its value if that is below `radix`,
+/// and `None` otherwise.
 ///
-/// `radix` is any number. Up to 36 the answer is `Some` for the digits of that radix alone, and from
-/// 36 to 255 for all figures and letters. Above 255 every other byte gives `Some(255)`.
+/// Any `radix` is allowed. From 36 to 255 all digit characters are digits; above 255 every other
+/// byte gives `Some(255)`.
 #[inline(always)]
 #[tactic(auto, using(crate::proofs::ValueLemmas::small_digit))]
 pub fn char_to_digit_const(c: u8, radix: u32) -> Option<u32>
@@ -72,7 +71,8 @@ pub fn char_to_digit_const(c: u8, radix: u32) -> Option<u32>
     if digit < radix { Some(digit) } else { None }
 }
 
-/// Whether the byte `c` is a digit of `radix`: whether [`char_to_digit_const`] answers `Some`.
+/// Returns whether the byte `c` is a digit of `radix`: whether [`char_to_digit_const`] returns
+/// `Some`.
 #[inline(always)]
 pub fn char_is_digit_const(c: u8, radix: u32) -> bool
     ensures { IsTrue result ↔ IsSome (digit_of c radix) }
@@ -80,19 +80,19 @@ pub fn char_is_digit_const(c: u8, radix: u32) -> bool
     char_to_digit_const(c, radix).is_some()
 }
 
-/// The byte that stands for `digit` in `radix`: a figure, or from 10 on a capital letter.
+/// Returns the digit character of `digit` in `radix`: `0` to `9`, or from 10 on an uppercase letter.
 ///
-/// `digit` is 0 to 35, and should be below `radix`, which is any number. Up to radix 10 the answer
-/// is the byte `0` plus `digit`, also where `digit` is 10 or more and that byte is no figure.
+/// `digit` must be below 36, and should be below `radix`; any `radix` is allowed. Up to radix 10 it
+/// returns `b'0' + digit` even for a digit of 10 or more, which is then not a digit character.
 #[inline(always)]
 #[tactic(auto, using(crate::proofs::ValueLemmas::values))]
 pub fn digit_to_char_const(digit: u32, radix: u32) -> u8
     requires { digit < 36 }
     ensures byte { result ≡ (if (nat_le radix 10) || (nat_lt digit 10) then 48 + digit else 55 + digit) }
-    // below the radix it is the byte that `digit_to_char` answers
+    // below the radix it is the byte that `digit_to_char` returns
     ensures figure { digit < radix → slice_get figures digit ≡ Some result }
     ensures back { digit < radix → value result ≡ digit }
-    ensures capital { digit < radix → is_small_letter result ≡ false }
+    ensures uppercase { digit < radix → is_lowercase result ≡ false }
     ensures read_back { digit < radix → (larger : ℕ) → digit < larger → digit_of result larger ≡ Some digit }
 {
     if radix <= 10 || digit < 10 {
@@ -102,11 +102,8 @@ pub fn digit_to_char_const(digit: u32, radix: u32) -> u8
     }
 }
 
-/// The digit that the byte `c` is in `radix`: `Some` of its value where that is below `radix`, and
-/// else `None`.
-///
-/// `radix` is any number. Up to 36 the answer is `Some` for the digits of that radix alone, and from
-/// 36 to 255 for all figures and letters. Above 255 every other byte gives `Some(255)`.
+/// Returns the digit that the byte `c` is in `radix`: `Some` of its value if that is below `radix`,
+/// and `None` otherwise. Same result as [`char_to_digit_const`], for a radix known at run time.
 #[inline(always)]
 pub fn char_to_digit(c: u8, radix: u32) -> Option<u32>
     ensures digit { result ≡ digit_of c radix }
@@ -117,7 +114,7 @@ pub fn char_to_digit(c: u8, radix: u32) -> Option<u32>
     if digit < radix { Some(digit) } else { None }
 }
 
-/// Whether the byte `c` is a digit of `radix`: whether [`char_to_digit`] answers `Some`.
+/// Returns whether the byte `c` is a digit of `radix`: whether [`char_to_digit`] returns `Some`.
 #[inline(always)]
 pub fn char_is_digit(c: u8, radix: u32) -> bool
     ensures { IsTrue result ↔ IsSome (digit_of c radix) }
@@ -125,18 +122,18 @@ pub fn char_is_digit(c: u8, radix: u32) -> bool
     char_to_digit(c, radix).is_some()
 }
 
-/// The byte that stands for `digit`: a figure, or from 10 on a capital letter.
+/// Returns the digit character of `digit`: `0` to `9`, or from 10 on an uppercase letter.
 ///
-/// `digit` is 0 to 35. In every radix above `digit` the answer is read as `digit` again.
+/// `digit` must be below 36. Every radix above `digit` reads the character as `digit`.
 #[inline(always)]
 pub fn digit_to_char(digit: u32) -> u8
     requires { digit < 36 }
     ensures figure { slice_get figures digit ≡ Some result }
     ensures back { value result ≡ digit }
-    ensures capital { is_small_letter result ≡ false }
+    ensures uppercase { is_lowercase result ≡ false }
     ensures read_back { (radix : ℕ) → digit < radix → digit_of result radix ≡ Some digit }
 {
-    FIGURES[digit as usize]
+    DIGIT_CHARACTERS[digit as usize]
 }
 
 #[cfg(test)]
@@ -144,7 +141,7 @@ mod tests {
     use super::*;
 
     #[test]
-    fn reads_digits(rt: HostRuntime) {
+    fn reads_a_digit_exactly_below_its_radix(rt: HostRuntime) {
         let cases = [
             (b'A', 16, Some(10)),
             (b'9', 9, None),
@@ -179,7 +176,7 @@ mod tests {
     }
 
     #[test]
-    fn writes_digits(rt: HostRuntime) {
+    fn writes_digits_as_decimal_digits_and_uppercase_letters(rt: HostRuntime) {
         assert_eq!(rt; digit_to_char(11), b'B');
         assert_eq!(rt; digit_to_char(35), b'Z');
         for (digit, radix, want) in [(11, 36, b'B'), (11, 10, b';'), (9, 36, b'9')] {

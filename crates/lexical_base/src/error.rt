@@ -1,7 +1,7 @@
-//! The outcomes of reading a number, and of checking a number format or its options.
+//! The errors of parsing a number, and of checking a number format or its options.
 //!
-//! A parser or a checker answers one [`Error`], and [`Error::Success`] where nothing is wrong. This
-//! crate answers none itself: it names them for the crates that stand on it.
+//! A parser or a checker returns one [`Error`], and [`Error::Success`] if nothing is wrong. This
+//! crate only defines them; the crates above return them.
 
 ghost use Rattle.std.specs.Prelude.{◌≡◌, ◌↔◌, ◌<◌, IsTrue, IsSome, Some};
 ghost use Rattle.std.specs.Fmt.{WritesStyledOnOk, decimal};
@@ -19,7 +19,7 @@ use std::fmt;
 #[cfg(test)]
 mod tests;
 
-// The rank of the first error of formats; the parse errors stand before it.
+// The rank of the first error of formats, which follows the parse errors.
 const FIRST_FORMAT_ERROR: u8 = 19;
 
 // The rank of the first error of options.
@@ -28,153 +28,129 @@ const FIRST_OPTIONS_ERROR: u8 = 36;
 // The rank of `Success`, which is the last.
 const SUCCESS: u8 = 48;
 
-/// One of the 49 outcomes.
+/// What a parser or a checker found: one of 48 errors, or [`Error::Success`].
 ///
-/// The variants stand in the order of their ranks, from 0 to 48. A value has one rank, and each
-/// test `is_..` says whether that is the rank of its variant, so exactly one test is true of a
-/// value.
+/// A parse error holds the index, counted from 0, of the byte at which it was found. The other
+/// variants hold nothing.
 ///
-/// Values are ordered by rank, and of one rank by the number that they hold. This is a total order,
-/// and two values are equal in it exactly if they are the same.
-///
-/// A parse error holds the index of the byte at which the fault was found, counted from 0.
+/// The variants are listed in the order of their ranks, from 0 to 48. Values are ordered by rank,
+/// then by index. This is a total order, in which two values are equal exactly if they are the same.
+/// Each test `is_..` returns whether the value is of its variant, so exactly one of the 49 returns
+/// true.
 #[derive(Clone, Copy, Debug)]
 pub enum Error {
-    // Parse errors, with the index of the byte at which the fault was found.
-    /// A parser answers this where the digits name a number above the largest one of its type.
+    // Errors of parsing, each with the index of the byte at which it was found.
+    /// The number is above the largest of its type.
     Overflow(usize),
-    /// A parser answers this where the digits name a number below the smallest one of its type.
+    /// The number is below the smallest of its type.
     Underflow(usize),
-    /// A parser answers this at a byte that stands where a digit was due, and is none.
+    /// A byte that is no digit stands at an index that requires one.
     InvalidDigit(usize),
-    /// A parser answers this where it was given no byte to read.
+    /// The input is empty.
     Empty(usize),
-    /// A parser answers this where the significant part has no digit, and the format wants one.
+    /// There are no significant digits, and the format requires one.
     EmptyMantissa(usize),
-    /// A parser answers this where no digit follows the symbol of an exponent.
+    /// No digit follows the exponent character.
     EmptyExponent(usize),
-    /// A parser answers this where no digit stands before the decimal point, and the format wants
-    /// one.
+    /// No digit stands before the decimal point, and the format requires one.
     EmptyInteger(usize),
-    /// A parser answers this where no digit stands after the decimal point, and the format wants
-    /// one.
+    /// No digit follows the decimal point, and the format requires one.
     EmptyFraction(usize),
-    /// A parser answers this at a `+` before the significant digits, in a format that forbids it.
+    /// A `+` before the significant digits, which the format forbids.
     InvalidPositiveMantissaSign(usize),
-    /// A parser answers this at significant digits with no sign, in a format that wants one there.
+    /// No sign before the significant digits, which the format requires.
     MissingMantissaSign(usize),
-    /// A parser answers this at an exponent, in a format that has none.
+    /// An exponent, which the format forbids.
     InvalidExponent(usize),
-    /// A parser answers this at a `+` in an exponent, in a format that forbids it.
+    /// A `+` in the exponent, which the format forbids.
     InvalidPositiveExponentSign(usize),
-    /// A parser answers this at an exponent with no sign, in a format that wants one there.
+    /// No sign in the exponent, which the format requires.
     MissingExponentSign(usize),
-    /// A parser answers this at an exponent after a number with no fraction, in a format that wants
-    /// one first.
+    /// An exponent without a fraction, which the format forbids.
     ExponentWithoutFraction(usize),
-    /// A parser answers this at a zero that leads further digits, in a format that forbids it.
+    /// A leading zero, which the format forbids.
     InvalidLeadingZeros(usize),
-    /// A parser answers this at a number with no exponent, in a format that wants one in each
-    /// number.
+    /// No exponent, which the format requires.
     MissingExponent(usize),
-    /// A parser of whole numbers answers this at digits with no sign, in a format that wants one.
+    /// An integer without the sign that the format requires.
     MissingSign(usize),
-    /// A parser of whole numbers answers this at a leading `+`, in a format that forbids it.
+    /// An integer with a leading `+`, which the format forbids.
     InvalidPositiveSign(usize),
-    /// A parser of whole numbers answers this at a leading `-`, where its type has no negative
-    /// numbers.
+    /// A leading `-` for an unsigned type.
     InvalidNegativeSign(usize),
 
-    // Errors of number formats.
-    /// A checker of formats answers this where the radix of the significant digits is not 2 to 36.
+    // Errors of number formats. A digit separator, base prefix, base suffix, decimal point or exponent
+    // character is meant by "these bytes".
+    /// The mantissa radix is not 2 to 36.
     InvalidMantissaRadix,
-    /// A checker of formats answers this where the number whose power an exponent names is not 2 to
-    /// 36.
+    /// The exponent base is not 2 to 36.
     InvalidExponentBase,
-    /// A checker of formats answers this where the radix of an exponent's digits is not 2 to 36.
+    /// The exponent radix is not 2 to 36.
     InvalidExponentRadix,
-    /// A checker of formats answers this where the byte that separates digits is a digit, a sign, or
-    /// not allowed ASCII.
+    /// The digit separator is a digit, a sign, or not allowed ASCII.
     InvalidDigitSeparator,
-    /// A checker answers this where the byte for the decimal point is a digit, a sign, or not
-    /// allowed ASCII.
+    /// The decimal point is a digit, a sign, or not allowed ASCII.
     InvalidDecimalPoint,
-    /// A checker answers this where the byte for an exponent is a digit, a sign, or not allowed
-    /// ASCII.
+    /// The exponent character is a digit, a sign, or not allowed ASCII.
     InvalidExponentSymbol,
-    /// A checker of formats answers this where the byte of a prefix, as the `x` of `0x`, is a
-    /// digit, a sign, or not allowed ASCII.
+    /// The base prefix is a digit, a sign, or not allowed ASCII.
     InvalidBasePrefix,
-    /// A checker of formats answers this where the byte of a suffix, as the `h` of `1h`, is a
-    /// digit, a sign, or not allowed ASCII.
+    /// The base suffix is a digit, a sign, or not allowed ASCII.
     InvalidBaseSuffix,
-    /// A checker of formats answers this where one byte would have two meanings, such as separator
-    /// and prefix.
+    /// Two of these bytes are equal.
     InvalidPunctuation,
-    /// A checker of formats answers this where a flag wants an exponent, and another one forbids
-    /// it.
+    /// Exponents are both required and forbidden.
     InvalidExponentFlags,
-    /// A checker of formats answers this where significant digits need a sign, and `+` is forbidden
-    /// there.
+    /// A mantissa sign is required while `+` is forbidden.
     InvalidMantissaSign,
-    /// A checker of formats answers this where an exponent needs a sign, and `+` is forbidden
-    /// there.
+    /// An exponent sign is required while `+` is forbidden.
     InvalidExponentSign,
-    /// A checker of formats answers this where a flag speaks of NaN and infinity, and another one
-    /// forbids both.
+    /// A flag for special values is set while special values are forbidden.
     InvalidSpecial,
-    /// A checker of formats answers this where an integer may have separators in a row, and no
-    /// place for one.
+    /// Consecutive separators are allowed in the integer, but no position for one is.
     InvalidConsecutiveIntegerDigitSeparator,
-    /// A checker of formats answers this where a fraction may have separators in a row, and no
-    /// place for one.
+    /// Consecutive separators are allowed in the fraction, but no position for one is.
     InvalidConsecutiveFractionDigitSeparator,
-    /// A checker of formats answers this where an exponent may have separators in a row, and no
-    /// place for one.
+    /// Consecutive separators are allowed in the exponent, but no position for one is.
     InvalidConsecutiveExponentDigitSeparator,
-    /// A checker of formats answers this where a bit is set that has no meaning.
+    /// A reserved bit is set.
     InvalidFlags,
 
     // Errors of options.
-    /// A checker of options answers this where the word for NaN does not begin with the letter `n`.
+    /// The NaN string does not start with `n`.
     InvalidNanString,
-    /// A checker of options answers this where the word for NaN is longer than its limit.
+    /// The NaN string is too long.
     NanStringTooLong,
-    /// A checker of options answers this where the short word for infinity does not begin with the
-    /// letter `i`.
+    /// The short infinity string does not start with `i`.
     InvalidInfString,
-    /// A checker of options answers this where the short word for infinity is longer than its
-    /// limit.
+    /// The short infinity string is too long.
     InfStringTooLong,
-    /// A checker of options answers this where the long word for infinity does not begin with the
-    /// letter `i`.
+    /// The long infinity string does not start with `i`.
     InvalidInfinityString,
-    /// A checker of options answers this where the long word for infinity is longer than its limit.
+    /// The long infinity string is too long.
     InfinityStringTooLong,
-    /// A checker of options answers this where the long word for infinity is shorter than the short
-    /// one.
+    /// The long infinity string is shorter than the short one.
     InfinityStringTooShort,
-    /// A checker of options answers this where two ways to read floats are asked for that exclude
-    /// each other.
+    /// Two float algorithms are asked for that exclude each other.
     InvalidFloatParseAlgorithm,
-    /// A checker of options answers this where the radix that is asked for is none that it has.
+    /// The radix is not supported.
     InvalidRadix,
-    /// A checker of options answers this where the fewest digits to write are more than the most.
+    /// The minimum number of digits is above the maximum.
     InvalidFloatPrecision,
-    /// A checker of options answers this where the exponent below which a number is written with
-    /// one is above 0.
+    /// The negative exponent break is above 0.
     InvalidNegativeExponentBreak,
-    /// A checker of options answers this where the exponent above which a number is written with
-    /// one is below 0.
+    /// The positive exponent break is below 0.
     InvalidPositiveExponentBreak,
 
     // No error.
-    /// A checker answers this where it found nothing wrong.
+    /// Nothing is wrong.
     Success,
 }
 
 impl Error {
-    /// What went wrong, in words between single quotes. It names no place: see [`Error::index`].
+    /// Returns what went wrong, as text between single quotes and without the index.
+    ///
+    /// See [`Error::index`] for the index, and `Display` for the whole text.
     pub fn description(&self) -> &'static str
         ensures { result.now ≡ description_of self.now }
     {
@@ -243,8 +219,8 @@ impl Error {
         }
     }
 
-    /// The index of the byte at which a parser found the fault: `Some` of it for the parse errors,
-    /// and `None` for every other outcome.
+    /// Returns the index of the byte at which a parser found the error: `Some` of it for a parse
+    /// error, and `None` for every other variant.
     pub fn index(&self) -> Option<&usize>
         ensures value { option_copied result ≡ index_of self.now }
         ensures held { IsSome result ↔ (rank_of self.now < 19) }
@@ -273,343 +249,343 @@ impl Error {
         }
     }
 
-    /// Whether this is [`Error::Overflow`], at any place.
+    /// Returns whether this is [`Error::Overflow`], at any index.
     pub fn is_overflow(&self) -> bool
         ensures { IsTrue result ↔ (rank_of self.now ≡ 0) }
     {
         matches!(self, Error::Overflow(_))
     }
 
-    /// Whether this is [`Error::Underflow`], at any place.
+    /// Returns whether this is [`Error::Underflow`], at any index.
     pub fn is_underflow(&self) -> bool
         ensures { IsTrue result ↔ (rank_of self.now ≡ 1) }
     {
         matches!(self, Error::Underflow(_))
     }
 
-    /// Whether this is [`Error::InvalidDigit`], at any place.
+    /// Returns whether this is [`Error::InvalidDigit`], at any index.
     pub fn is_invalid_digit(&self) -> bool
         ensures { IsTrue result ↔ (rank_of self.now ≡ 2) }
     {
         matches!(self, Error::InvalidDigit(_))
     }
 
-    /// Whether this is [`Error::Empty`], at any place.
+    /// Returns whether this is [`Error::Empty`], at any index.
     pub fn is_empty(&self) -> bool
         ensures { IsTrue result ↔ (rank_of self.now ≡ 3) }
     {
         matches!(self, Error::Empty(_))
     }
 
-    /// Whether this is [`Error::EmptyMantissa`], at any place.
+    /// Returns whether this is [`Error::EmptyMantissa`], at any index.
     pub fn is_empty_mantissa(&self) -> bool
         ensures { IsTrue result ↔ (rank_of self.now ≡ 4) }
     {
         matches!(self, Error::EmptyMantissa(_))
     }
 
-    /// Whether this is [`Error::EmptyExponent`], at any place.
+    /// Returns whether this is [`Error::EmptyExponent`], at any index.
     pub fn is_empty_exponent(&self) -> bool
         ensures { IsTrue result ↔ (rank_of self.now ≡ 5) }
     {
         matches!(self, Error::EmptyExponent(_))
     }
 
-    /// Whether this is [`Error::EmptyInteger`], at any place.
+    /// Returns whether this is [`Error::EmptyInteger`], at any index.
     pub fn is_empty_integer(&self) -> bool
         ensures { IsTrue result ↔ (rank_of self.now ≡ 6) }
     {
         matches!(self, Error::EmptyInteger(_))
     }
 
-    /// Whether this is [`Error::EmptyFraction`], at any place.
+    /// Returns whether this is [`Error::EmptyFraction`], at any index.
     pub fn is_empty_fraction(&self) -> bool
         ensures { IsTrue result ↔ (rank_of self.now ≡ 7) }
     {
         matches!(self, Error::EmptyFraction(_))
     }
 
-    /// Whether this is [`Error::InvalidPositiveMantissaSign`], at any place.
+    /// Returns whether this is [`Error::InvalidPositiveMantissaSign`], at any index.
     pub fn is_invalid_positive_mantissa_sign(&self) -> bool
         ensures { IsTrue result ↔ (rank_of self.now ≡ 8) }
     {
         matches!(self, Error::InvalidPositiveMantissaSign(_))
     }
 
-    /// Whether this is [`Error::MissingMantissaSign`], at any place.
+    /// Returns whether this is [`Error::MissingMantissaSign`], at any index.
     pub fn is_missing_mantissa_sign(&self) -> bool
         ensures { IsTrue result ↔ (rank_of self.now ≡ 9) }
     {
         matches!(self, Error::MissingMantissaSign(_))
     }
 
-    /// Whether this is [`Error::InvalidExponent`], at any place.
+    /// Returns whether this is [`Error::InvalidExponent`], at any index.
     pub fn is_invalid_exponent(&self) -> bool
         ensures { IsTrue result ↔ (rank_of self.now ≡ 10) }
     {
         matches!(self, Error::InvalidExponent(_))
     }
 
-    /// Whether this is [`Error::InvalidPositiveExponentSign`], at any place.
+    /// Returns whether this is [`Error::InvalidPositiveExponentSign`], at any index.
     pub fn is_invalid_positive_exponent_sign(&self) -> bool
         ensures { IsTrue result ↔ (rank_of self.now ≡ 11) }
     {
         matches!(self, Error::InvalidPositiveExponentSign(_))
     }
 
-    /// Whether this is [`Error::MissingExponentSign`], at any place.
+    /// Returns whether this is [`Error::MissingExponentSign`], at any index.
     pub fn is_missing_exponent_sign(&self) -> bool
         ensures { IsTrue result ↔ (rank_of self.now ≡ 12) }
     {
         matches!(self, Error::MissingExponentSign(_))
     }
 
-    /// Whether this is [`Error::ExponentWithoutFraction`], at any place.
+    /// Returns whether this is [`Error::ExponentWithoutFraction`], at any index.
     pub fn is_exponent_without_fraction(&self) -> bool
         ensures { IsTrue result ↔ (rank_of self.now ≡ 13) }
     {
         matches!(self, Error::ExponentWithoutFraction(_))
     }
 
-    /// Whether this is [`Error::InvalidLeadingZeros`], at any place.
+    /// Returns whether this is [`Error::InvalidLeadingZeros`], at any index.
     pub fn is_invalid_leading_zeros(&self) -> bool
         ensures { IsTrue result ↔ (rank_of self.now ≡ 14) }
     {
         matches!(self, Error::InvalidLeadingZeros(_))
     }
 
-    /// Whether this is [`Error::MissingExponent`], at any place.
+    /// Returns whether this is [`Error::MissingExponent`], at any index.
     pub fn is_missing_exponent(&self) -> bool
         ensures { IsTrue result ↔ (rank_of self.now ≡ 15) }
     {
         matches!(self, Error::MissingExponent(_))
     }
 
-    /// Whether this is [`Error::MissingSign`], at any place.
+    /// Returns whether this is [`Error::MissingSign`], at any index.
     pub fn is_missing_sign(&self) -> bool
         ensures { IsTrue result ↔ (rank_of self.now ≡ 16) }
     {
         matches!(self, Error::MissingSign(_))
     }
 
-    /// Whether this is [`Error::InvalidPositiveSign`], at any place.
+    /// Returns whether this is [`Error::InvalidPositiveSign`], at any index.
     pub fn is_invalid_positive_sign(&self) -> bool
         ensures { IsTrue result ↔ (rank_of self.now ≡ 17) }
     {
         matches!(self, Error::InvalidPositiveSign(_))
     }
 
-    /// Whether this is [`Error::InvalidNegativeSign`], at any place.
+    /// Returns whether this is [`Error::InvalidNegativeSign`], at any index.
     pub fn is_invalid_negative_sign(&self) -> bool
         ensures { IsTrue result ↔ (rank_of self.now ≡ 18) }
     {
         matches!(self, Error::InvalidNegativeSign(_))
     }
 
-    /// Whether this is [`Error::InvalidMantissaRadix`].
+    /// Returns whether this is [`Error::InvalidMantissaRadix`].
     pub fn is_invalid_mantissa_radix(&self) -> bool
         ensures { IsTrue result ↔ (rank_of self.now ≡ 19) }
     {
         matches!(self, Error::InvalidMantissaRadix)
     }
 
-    /// Whether this is [`Error::InvalidExponentBase`].
+    /// Returns whether this is [`Error::InvalidExponentBase`].
     pub fn is_invalid_exponent_base(&self) -> bool
         ensures { IsTrue result ↔ (rank_of self.now ≡ 20) }
     {
         matches!(self, Error::InvalidExponentBase)
     }
 
-    /// Whether this is [`Error::InvalidExponentRadix`].
+    /// Returns whether this is [`Error::InvalidExponentRadix`].
     pub fn is_invalid_exponent_radix(&self) -> bool
         ensures { IsTrue result ↔ (rank_of self.now ≡ 21) }
     {
         matches!(self, Error::InvalidExponentRadix)
     }
 
-    /// Whether this is [`Error::InvalidDigitSeparator`].
+    /// Returns whether this is [`Error::InvalidDigitSeparator`].
     pub fn is_invalid_digit_separator(&self) -> bool
         ensures { IsTrue result ↔ (rank_of self.now ≡ 22) }
     {
         matches!(self, Error::InvalidDigitSeparator)
     }
 
-    /// Whether this is [`Error::InvalidDecimalPoint`].
+    /// Returns whether this is [`Error::InvalidDecimalPoint`].
     pub fn is_invalid_decimal_point(&self) -> bool
         ensures { IsTrue result ↔ (rank_of self.now ≡ 23) }
     {
         matches!(self, Error::InvalidDecimalPoint)
     }
 
-    /// Whether this is [`Error::InvalidExponentSymbol`].
+    /// Returns whether this is [`Error::InvalidExponentSymbol`].
     pub fn is_invalid_exponent_symbol(&self) -> bool
         ensures { IsTrue result ↔ (rank_of self.now ≡ 24) }
     {
         matches!(self, Error::InvalidExponentSymbol)
     }
 
-    /// Whether this is [`Error::InvalidBasePrefix`].
+    /// Returns whether this is [`Error::InvalidBasePrefix`].
     pub fn is_invalid_base_prefix(&self) -> bool
         ensures { IsTrue result ↔ (rank_of self.now ≡ 25) }
     {
         matches!(self, Error::InvalidBasePrefix)
     }
 
-    /// Whether this is [`Error::InvalidBaseSuffix`].
+    /// Returns whether this is [`Error::InvalidBaseSuffix`].
     pub fn is_invalid_base_suffix(&self) -> bool
         ensures { IsTrue result ↔ (rank_of self.now ≡ 26) }
     {
         matches!(self, Error::InvalidBaseSuffix)
     }
 
-    /// Whether this is [`Error::InvalidPunctuation`].
+    /// Returns whether this is [`Error::InvalidPunctuation`].
     pub fn is_invalid_punctuation(&self) -> bool
         ensures { IsTrue result ↔ (rank_of self.now ≡ 27) }
     {
         matches!(self, Error::InvalidPunctuation)
     }
 
-    /// Whether this is [`Error::InvalidExponentFlags`].
+    /// Returns whether this is [`Error::InvalidExponentFlags`].
     pub fn is_invalid_exponent_flags(&self) -> bool
         ensures { IsTrue result ↔ (rank_of self.now ≡ 28) }
     {
         matches!(self, Error::InvalidExponentFlags)
     }
 
-    /// Whether this is [`Error::InvalidMantissaSign`].
+    /// Returns whether this is [`Error::InvalidMantissaSign`].
     pub fn is_invalid_mantissa_sign(&self) -> bool
         ensures { IsTrue result ↔ (rank_of self.now ≡ 29) }
     {
         matches!(self, Error::InvalidMantissaSign)
     }
 
-    /// Whether this is [`Error::InvalidExponentSign`].
+    /// Returns whether this is [`Error::InvalidExponentSign`].
     pub fn is_invalid_exponent_sign(&self) -> bool
         ensures { IsTrue result ↔ (rank_of self.now ≡ 30) }
     {
         matches!(self, Error::InvalidExponentSign)
     }
 
-    /// Whether this is [`Error::InvalidSpecial`].
+    /// Returns whether this is [`Error::InvalidSpecial`].
     pub fn is_invalid_special(&self) -> bool
         ensures { IsTrue result ↔ (rank_of self.now ≡ 31) }
     {
         matches!(self, Error::InvalidSpecial)
     }
 
-    /// Whether this is [`Error::InvalidConsecutiveIntegerDigitSeparator`].
+    /// Returns whether this is [`Error::InvalidConsecutiveIntegerDigitSeparator`].
     pub fn is_invalid_consecutive_integer_digit_separator(&self) -> bool
         ensures { IsTrue result ↔ (rank_of self.now ≡ 32) }
     {
         matches!(self, Error::InvalidConsecutiveIntegerDigitSeparator)
     }
 
-    /// Whether this is [`Error::InvalidConsecutiveFractionDigitSeparator`].
+    /// Returns whether this is [`Error::InvalidConsecutiveFractionDigitSeparator`].
     pub fn is_invalid_consecutive_fraction_digit_separator(&self) -> bool
         ensures { IsTrue result ↔ (rank_of self.now ≡ 33) }
     {
         matches!(self, Error::InvalidConsecutiveFractionDigitSeparator)
     }
 
-    /// Whether this is [`Error::InvalidConsecutiveExponentDigitSeparator`].
+    /// Returns whether this is [`Error::InvalidConsecutiveExponentDigitSeparator`].
     pub fn is_invalid_consecutive_exponent_digit_separator(&self) -> bool
         ensures { IsTrue result ↔ (rank_of self.now ≡ 34) }
     {
         matches!(self, Error::InvalidConsecutiveExponentDigitSeparator)
     }
 
-    /// Whether this is [`Error::InvalidFlags`].
+    /// Returns whether this is [`Error::InvalidFlags`].
     pub fn is_invalid_flags(&self) -> bool
         ensures { IsTrue result ↔ (rank_of self.now ≡ 35) }
     {
         matches!(self, Error::InvalidFlags)
     }
 
-    /// Whether this is [`Error::InvalidNanString`].
+    /// Returns whether this is [`Error::InvalidNanString`].
     pub fn is_invalid_nan_string(&self) -> bool
         ensures { IsTrue result ↔ (rank_of self.now ≡ 36) }
     {
         matches!(self, Error::InvalidNanString)
     }
 
-    /// Whether this is [`Error::NanStringTooLong`].
+    /// Returns whether this is [`Error::NanStringTooLong`].
     pub fn is_nan_string_too_long(&self) -> bool
         ensures { IsTrue result ↔ (rank_of self.now ≡ 37) }
     {
         matches!(self, Error::NanStringTooLong)
     }
 
-    /// Whether this is [`Error::InvalidInfString`].
+    /// Returns whether this is [`Error::InvalidInfString`].
     pub fn is_invalid_inf_string(&self) -> bool
         ensures { IsTrue result ↔ (rank_of self.now ≡ 38) }
     {
         matches!(self, Error::InvalidInfString)
     }
 
-    /// Whether this is [`Error::InfStringTooLong`].
+    /// Returns whether this is [`Error::InfStringTooLong`].
     pub fn is_inf_string_too_long(&self) -> bool
         ensures { IsTrue result ↔ (rank_of self.now ≡ 39) }
     {
         matches!(self, Error::InfStringTooLong)
     }
 
-    /// Whether this is [`Error::InvalidInfinityString`].
+    /// Returns whether this is [`Error::InvalidInfinityString`].
     pub fn is_invalid_infinity_string(&self) -> bool
         ensures { IsTrue result ↔ (rank_of self.now ≡ 40) }
     {
         matches!(self, Error::InvalidInfinityString)
     }
 
-    /// Whether this is [`Error::InfinityStringTooLong`].
+    /// Returns whether this is [`Error::InfinityStringTooLong`].
     pub fn is_infinity_string_too_long(&self) -> bool
         ensures { IsTrue result ↔ (rank_of self.now ≡ 41) }
     {
         matches!(self, Error::InfinityStringTooLong)
     }
 
-    /// Whether this is [`Error::InfinityStringTooShort`].
+    /// Returns whether this is [`Error::InfinityStringTooShort`].
     pub fn is_infinity_string_too_short(&self) -> bool
         ensures { IsTrue result ↔ (rank_of self.now ≡ 42) }
     {
         matches!(self, Error::InfinityStringTooShort)
     }
 
-    /// Whether this is [`Error::InvalidFloatParseAlgorithm`].
+    /// Returns whether this is [`Error::InvalidFloatParseAlgorithm`].
     pub fn is_invalid_float_parse_algorithm(&self) -> bool
         ensures { IsTrue result ↔ (rank_of self.now ≡ 43) }
     {
         matches!(self, Error::InvalidFloatParseAlgorithm)
     }
 
-    /// Whether this is [`Error::InvalidRadix`].
+    /// Returns whether this is [`Error::InvalidRadix`].
     pub fn is_invalid_radix(&self) -> bool
         ensures { IsTrue result ↔ (rank_of self.now ≡ 44) }
     {
         matches!(self, Error::InvalidRadix)
     }
 
-    /// Whether this is [`Error::InvalidFloatPrecision`].
+    /// Returns whether this is [`Error::InvalidFloatPrecision`].
     pub fn is_invalid_float_precision(&self) -> bool
         ensures { IsTrue result ↔ (rank_of self.now ≡ 45) }
     {
         matches!(self, Error::InvalidFloatPrecision)
     }
 
-    /// Whether this is [`Error::InvalidNegativeExponentBreak`].
+    /// Returns whether this is [`Error::InvalidNegativeExponentBreak`].
     pub fn is_invalid_negative_exponent_break(&self) -> bool
         ensures { IsTrue result ↔ (rank_of self.now ≡ 46) }
     {
         matches!(self, Error::InvalidNegativeExponentBreak)
     }
 
-    /// Whether this is [`Error::InvalidPositiveExponentBreak`].
+    /// Returns whether this is [`Error::InvalidPositiveExponentBreak`].
     pub fn is_invalid_positive_exponent_break(&self) -> bool
         ensures { IsTrue result ↔ (rank_of self.now ≡ 47) }
     {
         matches!(self, Error::InvalidPositiveExponentBreak)
     }
 
-    /// Whether this is [`Error::Success`].
+    /// Returns whether this is [`Error::Success`].
     pub fn is_success(&self) -> bool
         ensures rank { IsTrue result ↔ (rank_of self.now ≡ 48) }
         ensures same { IsTrue result ↔ (self.now ≡ Error.Success) }
@@ -617,7 +593,7 @@ impl Error {
         matches!(self, Error::Success)
     }
 
-    // The place in the order of the variants.
+    // The rank of the variant.
     fn rank(&self) -> u8
         ensures value { result ≡ rank_of self.now }
         ensures last { result < 49 }
@@ -675,7 +651,7 @@ impl Error {
         }
     }
 
-    // The index that a parse error holds, and 0 for every other outcome.
+    // The index of a parse error, and 0 for every other variant.
     fn held_index(&self) -> usize
         ensures { result ≡ held_index self.now }
     {
@@ -703,7 +679,7 @@ impl Eq for Error {
 impl Ord for Error {
     ghost cmp = { compare_outcomes };
 
-    // A total order: turned round it answers the reverse, and it is transitive.
+    // A total order: transitive, and reversed if the two values change places.
     ghost total = { Prim.search (comparing, rules) };
 
     ghost matches_partial_cmp = { Prim.search (comparing, rules) };
@@ -731,9 +707,10 @@ impl PartialOrd for Error {
     }
 }
 
-/// The class of the error and its description, and for a parse error its index besides; of
-/// [`Error::Success`] the description alone. Width, fill and alignment change nothing, and a fault
-/// comes only from the formatter.
+/// Writes the class and the description, and for a parse error also the index; for
+/// [`Error::Success`] the description alone.
+///
+/// Width, fill, alignment, sign and precision are ignored. Fails only if the formatter does.
 impl fmt::Display for Error {
     ghost output = { λ error. Some (printed_text error) };
 
@@ -758,7 +735,7 @@ impl fmt::Display for Error {
     }
 }
 
-// Writes the digits of `n`, whatever options `f` has.
+// Writes `n` in decimal, whatever options `f` has.
 fn write_decimal<W: fmt::Write>(f: &mut fmt::Formatter<W>, n: usize) -> fmt::Result
     ensures { WritesStyledOnOk W.write_str_gives f.old result (decimal n) f.new }
 {

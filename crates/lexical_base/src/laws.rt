@@ -3,11 +3,11 @@
 ghost use Rattle.std.specs.Prelude.{◌≡◌, ◌↔◌, ◌⊎◌, ℕ, ◌<◌, max, IsSome, IsTrue, ◌||◌};
 ghost use Rattle.lexical_base.specs.Digits.{value, digit_of, digits_of};
 
-/// The values of bytes, and the digits of two radixes.
+/// The values of bytes, and the digits of one radix and of two.
 pub fn digit_facts()
-    // A byte is a digit with a value below 36, or its value is 255.
+    // The value of a byte is below 36, or 255.
     ensures values { (byte : ℕ) → byte < 256 → (value byte < 36) ⊎ (value byte ≡ 255) }
-    // The digits of a radix, which is at most 255, are the bytes that have a digit in it.
+    // The digits of a radix are the bytes that have a digit in it.
     ensures digits { (byte radix : ℕ) → byte < 256 → radix < 256 → IsSome (digit_of byte radix) ↔ IsTrue (digits_of radix byte) }
     // The digits of two radixes together are those of the larger one.
     ensures larger { (byte first second : ℕ) → byte < 256 → first < 256 → second < 256 →

@@ -1,5 +1,5 @@
-//! Bytes, digits, and the outcomes of parsing and checking: what the crates of number formats stand
-//! on. No call takes memory.
+//! Tests of bytes, digits, and the error type: what the crates of number formats depend on. Nothing
+//! here allocates.
 #![tactic(auto)]
 
 pub mod ascii;
