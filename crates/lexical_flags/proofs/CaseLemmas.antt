@@ -1,5 +1,5 @@
 -- Letters in the other case.
-use Rattle.std.proofs.Common.{ℕ, ◌≡◌, ◌≢◌, ◌<◌, ◌⊎◌, inl, inr, ◌∙◌, ◌↔◌, ◌==◌, ◌||◌, ◌&&◌, Bool, true, false, not, IsTrue, bit_xor, refl, ap, sym, subst, arith, min, nat_lt}
+use Rattle.std.proofs.Common.{ℕ, ◌≡◌, ◌≢◌, ◌<◌, ◌⊎◌, inl, inr, ◌∙◌, ◌↔◌, ◌==◌, ◌||◌, ◌&&◌, Bool, true, false, not, IsTrue, bit_or, bit_xor, eqb-true, refl, ap, sym, subst, arith, min, nat_lt}
 use Rattle.std.specs.Prelude.{position, unwrap_or}
 use Rattle.std.proofs.lemmas.Bool.{false≢true}
 use Rattle.std.proofs.lemmas.Bool.Decides.{nat_tests}
@@ -42,6 +42,17 @@ differ_apart a_counts a b_counts b differ other byte is_a is_b =
         | inr b_other ↦ differ (sym (other_case-twice a) ∙ ap other_case (sym a_other ∙ b_other) ∙ other_case-twice b)
       ]
     ]
+
+-- the two cases of a letter have all bits in common but one
+other_case-bits : (byte : ℕ) → byte < 256 → bit_or (other_case byte) 32 ≡ bit_or byte 32
+other_case-bits byte below =
+    eqb-true _ _ (passes_at (λ b. bit_or (other_case b) 32 == bit_or b 32) 256 byte refl below)
+
+-- so bytes that differ in another bit have no role in common
+pub other_bits_apart : (a_counts : Bool) (a : ℕ) (b_counts : Bool) (b : ℕ) → a < 256 → bit_or a 32 ≢ bit_or b 32 → Disjoint (cased a_counts a) (cased b_counts b)
+other_bits_apart a_counts a b_counts b below differ =
+    differ_apart a_counts a b_counts b (λ same. differ (ap (λ n. bit_or n 32) same))
+    (λ other. differ (sym (ap (λ n. bit_or n 32) other ∙ other_case-bits a below)))
 
 -- two cases of one letter have no role in common where both cases count
 both_count : (a b : ℕ) → a ≢ b → Disjoint (cased true a) (cased true b)

@@ -20,7 +20,7 @@ is_radix radix = nat_le 2 radix && nat_le radix 36
 abbrev is_free : Record → ℕ → Bool
 is_free r byte = (byte == 0) || (allowed_ascii byte && (not (digits r byte) && not (signs byte)))
 
-abbrev are_apart : Bool → ℕ → Bool → ℕ → Bool
+abbrev pub are_apart : Bool → ℕ → Bool → ℕ → Bool
 are_apart a_counts a b_counts b = (a == 0) || (not (a == b) && (not (b == other_case a) || (a_counts && b_counts)))
 
 abbrev has_place : Bool → Bool → Bool → Bool → Bool
@@ -60,15 +60,15 @@ keeps reserved_bits_are_zero word = (part word 18 14 == 0) && ((part word 45 19 
 keeps rule word = passes rule (raw word)
 
 -- truth values
-not_true : (a : Bool) → not a ≡ true → IsTrue a → ⊥
+pub not_true : (a : Bool) → not a ≡ true → IsTrue a → ⊥
 not_true true e h = cc
 not_true false e h = cc
 
-not_from : (a : Bool) → (IsTrue a → ⊥) → not a ≡ true
+pub not_from : (a : Bool) → (IsTrue a → ⊥) → not a ≡ true
 not_from true h = absurd (h refl)
 not_from false h = refl
 
-and_from : (a b : Bool) → a ≡ true → b ≡ true → (a && b) ≡ true
+pub and_from : (a b : Bool) → a ≡ true → b ≡ true → (a && b) ≡ true
 and_from a b h k = ap (λ t. t && b) h ∙ k
 
 or_second : (a b : Bool) → b ≡ true → (a || b) ≡ true
@@ -115,7 +115,7 @@ module _ (a_counts : Bool) (a : ℕ) (b_counts : Bool) (b : ℕ) where
       let other : b ≡ other_case a = eqb-true b (other_case a) k in
       cases_apart a a_counts b b_counts (differ a b e) (letter_with_case a (subst (λ c. a ≢ c) other (differ a b e))) other
 
-  Disjoint-test : are_apart a_counts a b_counts b ≡ true → Disjoint (cased a_counts a) (cased b_counts b)
+  pub Disjoint-test : are_apart a_counts a b_counts b ≡ true → Disjoint (cased a_counts a) (cased b_counts b)
   unfolding Disjoint
   Disjoint-test test = parts (a == 0) (a == b) (b == other_case a) refl refl refl test where
     parts : (none same other : Bool) → (a == 0) ≡ none → (a == b) ≡ same → (b == other_case a) ≡ other
@@ -125,7 +125,7 @@ module _ (a_counts : Bool) (a : ℕ) (b_counts : Bool) (b : ℕ) where
     parts false false false e k o t = differ_apart a_counts a b_counts b (differ a b k) (differ b (other_case a) o)
     parts false false true e k o t = (letters_apart k o).0 t
 
-  Disjoint-passes : Disjoint (cased a_counts a) (cased b_counts b) → are_apart a_counts a b_counts b ≡ true
+  pub Disjoint-passes : Disjoint (cased a_counts a) (cased b_counts b) → are_apart a_counts a b_counts b ≡ true
   unfolding Disjoint
   Disjoint-passes apart = parts (a == 0) (a == b) (b == other_case a) refl refl refl where
     parts : (none same other : Bool) → (a == 0) ≡ none → (a == b) ≡ same → (b == other_case a) ≡ other

@@ -14,4 +14,5 @@ pub mod OneRole
 pub mod RuleLemmas
 pub mod OptionLemmas
 pub mod LawfulTest
+pub mod OptionTest
 pub mod NormalRules

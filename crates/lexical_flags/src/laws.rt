@@ -1,26 +1,27 @@
-//! Facts of the layout and of packing, each a clause of a function that does nothing.
+//! Laws of the layout, of packing, of the rules and of the roles, stated as the clauses of functions
+//! with empty bodies; and examples of the definitions, proved by computation.
 
-ghost use Rattle.std.specs.Prelude.{◌≡◌, ℕ, ◌*◌, ◌/◌, ◌^◌, ◌<◌, ◌↔◌, [], ◌∷◌, map, pos, bit_or};
+ghost use Rattle.std.specs.Prelude.{◌≡◌, ℕ, ◌*◌, ◌/◌, ◌^◌, ◌<◌, ◌↔◌, [], ◌∷◌, map, pos, bit_or, true, false};
+ghost use Rattle.lexical_base.specs.declared.error.Error.TheVariants as errors;
 ghost use Rattle.lexical_flags.specs.Layout as layout;
 ghost use Rattle.lexical_flags.specs.Layout.{Flag, Byte, bit, shift, IsClean};
-ghost use Rattle.lexical_flags.specs.Record.{Record, raw, fill, trim, pack, HasBytes, IsBuilt, SeparatorIsUsed};
-ghost use Rattle.lexical_flags.specs.Rules.{Rule, Demands, Lawful, IsErrorOf};
-ghost use Rattle.lexical_flags.specs.Roles.{Disjoint, seven_roles, AtMostOneRole};
-ghost use Rattle.lexical_flags.specs.Options.{AreAccepted};
-ghost use Rattle.lexical_base.specs.declared.error.Error.TheVariants as Error;
+ghost use Rattle.lexical_flags.specs.Record.{Record, raw, fill, trim, pack, HasBytes, IsBuilt, SeparatorIsUsed, effective_exponent_base, effective_exponent_radix, separator_on};
 ghost use Rattle.lexical_flags.specs.Pairs.{ArePairwise};
+ghost use Rattle.lexical_flags.specs.Roles.{Disjoint, seven_roles, AtMostOneRole, digits};
+ghost use Rattle.lexical_flags.specs.Rules.{Rule, Demands, Lawful, IsErrorOf};
+ghost use Rattle.lexical_flags.specs.Options.{AreAccepted};
 ghost use Rattle.lexical_flags.specs.Constants.{flag_constant, byte_mask, byte_shift, mask_of, doublings, AreApart};
 
 use crate::format_flags::*;
 
 /// The value of every constant of `format_flags`, and what must hold between them.
 pub fn layout_facts()
-    // Each flag is the bit at its place, and the double of the one before.
+    // Each flag is a power of two, and the double of the one before.
     ensures flag { (f : Flag) → flag_constant f ≡ 2 ^ bit f }
     ensures base_flags { map flag_constant layout.base_flags ≡ doublings 1 18 }
     ensures separator_flags { map flag_constant layout.digit_separator_flags ≡ doublings (2 ^ 32) 13 }
 
-    // Each byte is eight bits from its shift on.
+    // Each byte is eight bits from its shift up.
     ensures shift { (b : Byte) → byte_shift b ≡ pos (shift b) }
     ensures mask { (b : Byte) → byte_mask b ≡ 255 * 2 ^ shift b }
     ensures shifted_mask { (b : Byte) → byte_mask b / 2 ^ shift b ≡ 255 }
@@ -30,7 +31,11 @@ pub fn layout_facts()
     ensures radix_shift { RADIX_SHIFT ≡ MANTISSA_RADIX_SHIFT }
     ensures radix_mask { RADIX_MASK ≡ bit_or MANTISSA_RADIX EXPONENT_RADIX }
 
-    // Each mask over flags is the sum of its flags.
+    // Flags with the same bit are the same flag, and bytes with the same shift the same byte.
+    ensures bit_is_injective { (f g : Flag) → bit f ≡ bit g → f ≡ g }
+    ensures shift_is_injective { (b d : Byte) → shift b ≡ shift d → b ≡ d }
+
+    // Each mask of flags is the sum of its flags.
     ensures required_digits { REQUIRED_DIGITS ≡ mask_of layout.required_digits }
     ensures internal { INTERNAL_DIGIT_SEPARATOR ≡ mask_of layout.internal_digit_separator }
     ensures leading { LEADING_DIGIT_SEPARATOR ≡ mask_of layout.leading_digit_separator }
@@ -44,69 +49,155 @@ pub fn layout_facts()
     ensures fraction { FRACTION_DIGIT_SEPARATOR_FLAG_MASK ≡ mask_of layout.fraction_digit_separator_flags }
     ensures exponent { EXPONENT_DIGIT_SEPARATOR_FLAG_MASK ≡ mask_of layout.exponent_digit_separator_flags }
 
-    // The digit separator flags are those of integers, fractions, exponents and special values.
+    // The digit separator flags are those of the integer, the fraction, the exponent and special values.
     ensures separators_are_apart { ArePairwise AreApart (INTEGER_DIGIT_SEPARATOR_FLAG_MASK
         ∷ FRACTION_DIGIT_SEPARATOR_FLAG_MASK ∷ EXPONENT_DIGIT_SEPARATOR_FLAG_MASK ∷ SPECIAL_DIGIT_SEPARATOR ∷ []) }
     ensures separators_together { bit_or INTEGER_DIGIT_SEPARATOR_FLAG_MASK (bit_or FRACTION_DIGIT_SEPARATOR_FLAG_MASK
         (bit_or EXPONENT_DIGIT_SEPARATOR_FLAG_MASK SPECIAL_DIGIT_SEPARATOR)) ≡ DIGIT_SEPARATOR_FLAG_MASK }
 {}
 
-/// What a packed record holds, and which words are packed: what the crates above know of `pack`.
+/// The laws of `pack`: what a packed word holds, and which words are packed.
 pub fn packing_facts()
-    // The fields of a packed record are its own, but for a separator that may stand nowhere.
+    // Packing and reading back gives the trimmed record.
     ensures fields { (r : Record) → HasBytes r → raw (pack r) ≡ trim r }
     ensures clean { (r : Record) → HasBytes r → IsClean (pack r) }
     ensures fits { (r : Record) → HasBytes r → pack r < 2 ^ 128 }
 
-    // Two records are packed alike exactly if they are the same when trimmed.
+    // Two records are packed into the same word exactly if they are equal when trimmed.
     ensures alike { (r s : Record) → HasBytes r → HasBytes s → (pack s ≡ pack r) ↔ (trim s ≡ trim r) }
 
-    // A word is packed from its own fields exactly if it is one that packing can give.
+    // Packing the fields of a word gives the word exactly if some record is packed into it.
     ensures built { (w : ℕ) → w < 2 ^ 128 → (pack (raw w) ≡ w) ↔ IsBuilt w }
 {}
 
-/// What the rules ask of fields whose exponent bytes are filled in, and whose separator is dropped
-/// where it may stand nowhere: the fields of a normal form.
+/// What the rules demand of a normal form: of fields whose exponent bytes are filled in, and whose
+/// digit separator is dropped if no flag allows one.
 pub fn rule_facts()
-    // Each rule that the fields keep, these keep.
+    // A rule that the fields keep is kept by the normal form.
     ensures kept { (rule : Rule) → (r : Record) → Demands rule r → Demands rule (trim (fill r)) }
 
-    // Where no separator is dropped, they keep no other.
+    // If no separator is dropped, the normal form keeps no other.
     ensures same { (rule : Rule) → (r : Record) → SeparatorIsUsed r
         → Demands rule r ↔ Demands rule (trim (fill r)) }
 {}
 
 /// Which bytes play which roles.
 pub fn role_facts()
-    // No byte plays two roles exactly if the sets of any two roles are disjoint.
+    // A byte plays at most one role exactly if the sets of any two roles are disjoint.
     ensures pairs { (r : Record) → (exponent_byte point_byte : ℕ)
         → ArePairwise Disjoint (seven_roles r exponent_byte point_byte) ↔ AtMostOneRole r exponent_byte point_byte }
 
-    // In a lawful format a byte plays at most one role beside two bytes that are accepted.
+    // In a lawful format with accepted options a byte plays at most one role.
     ensures lawful { (word exponent_byte point_byte : ℕ) → Lawful word → AreAccepted word exponent_byte point_byte
         → AtMostOneRole (raw word) exponent_byte point_byte }
 {}
 
-/// Answers to some words, written out.
+/// Examples of the fields of words.
+#[tactic(auto, unfolding(crate::specs::Record::word_of))]
+pub fn field_examples()
+    ensures separator { (raw 0x06050403_02000001_00000000_0000000C).digit_separator ≡ 1 }
+    ensures prefix { (raw 0x06050403_02000001_00000000_0000000C).base_prefix ≡ 2 }
+    ensures suffix { (raw 0x06050403_02000001_00000000_0000000C).base_suffix ≡ 3 }
+    ensures radix { (raw 0x06050403_02000001_00000000_0000000C).mantissa_radix ≡ 4 }
+    ensures base { (raw 0x06050403_02000001_00000000_0000000C).exponent_base ≡ 5 }
+    ensures exponent_radix { (raw 0x06050403_02000001_00000000_0000000C).exponent_radix ≡ 6 }
+
+    // Bits 2 and 3 are set in 0xC.
+    ensures fraction_digits { (raw 0xC).required_fraction_digits ≡ false }
+    ensures exponent_digits { (raw 0xC).required_exponent_digits ≡ true }
+    ensures mantissa_digits { (raw 0xC).required_mantissa_digits ≡ true }
+
+    // An empty exponent byte is the mantissa radix.
+    ensures filled_base { effective_exponent_base (raw 0x0A001000_00000000_00000000_0000000C) ≡ 16 }
+    ensures filled_radix { effective_exponent_radix (raw 0x000A0200_00000000_00000000_0000000C) ≡ 2 }
+
+    // Bit 44 alone allows a separator; all the others below 64 do not.
+    ensures allowed { separator_on (raw 0x00000A00_0000005F_00001000_0000000C) ≡ true }
+    ensures not_allowed { separator_on (raw 0x00000A00_0000005F_FFFFE000_FFFFFFFF) ≡ false }
+
+    // The standard format and two words of its builder, packed; a separator that no flag allows is dropped.
+    ensures standard { pack (raw 0x00000A00_00000000_00000000_0000000C) ≡ 0x00000A00_00000000_00000000_0000000C }
+    ensures kept { pack (raw 0x00000A00_0000005F_00001000_0000000C) ≡ 0x00000A00_0000005F_00001000_0000000C }
+    ensures dropped { pack (raw 0x0A0A0A00_0000005F_00000000_0000000C) ≡ 0x0A0A0A00_00000000_00000000_0000000C }
+
+    // A packed word has no reserved bit.
+    ensures cleared { pack (raw 0xFFFFFFFF_FFFFFFFF_FFFFFFFF_FFFFFFFF) ≡ 0xFFFFFFFF_FF0000FF_00001FFF_0003FFFF }
+{}
+
+/// Examples of the digits of a format.
+#[tactic(auto, unfolding(lexical_base::specs::Digits::value))]
+pub fn digit_examples()
+    ensures nine { digits (raw 0x00000A00_00000000_00000000_0000000C) 0x39 ≡ true }
+    ensures letter { digits (raw 0x00000A00_00000000_00000000_0000000C) 0x61 ≡ false }
+
+    // Letters are digits in both cases.
+    ensures lowercase { digits (raw 0x10101000_00000000_00000000_0000000C) 0x66 ≡ true }
+    ensures uppercase { digits (raw 0x10101000_00000000_00000000_0000000C) 0x46 ≡ true }
+    ensures beyond { digits (raw 0x10101000_00000000_00000000_0000000C) 0x67 ≡ false }
+
+    // The exponent radix has digits, the exponent base has none.
+    ensures exponent { digits (raw 0x10000A00_00000061_00000000_0000000C) 0x61 ≡ true }
+    ensures base { digits (raw 0x000A0200_00000035_00001FFF_0000000C) 0x35 ≡ false }
+{}
+
+/// Examples of the first broken rule of a word: each rule, two broken ones, and lawful words.
 #[tactic(auto, using(crate::proofs::LawfulTest::error_tested, crate::proofs::LawfulTest::lawful_tested), unfolding(lexical_base::specs::Digits::value))]
 pub fn error_examples()
-    // The standard format is lawful, but not with a reserved bit.
+    // Each rule, broken by a word that keeps those before it.
+    ensures mantissa_radix { IsErrorOf 0x25252500_00000000_00000000_0000000C errors.InvalidMantissaRadix }
+    ensures exponent_base { IsErrorOf 0x0A010A00_00000000_00000000_0000000C errors.InvalidExponentBase }
+    ensures exponent_radix { IsErrorOf 0x250A0A00_00000000_00000000_0000000C errors.InvalidExponentRadix }
+    ensures separator { IsErrorOf 0x00000A00_0000002B_00000000_0000000C errors.InvalidDigitSeparator }
+    ensures prefix { IsErrorOf 0x00000A00_2D000000_00000000_0000000C errors.InvalidBasePrefix }
+    ensures suffix { IsErrorOf 0x00000A7F_00000000_00000000_0000000C errors.InvalidBaseSuffix }
+    ensures punctuation { IsErrorOf 0x00000A68_68000000_00000000_0000000C errors.InvalidPunctuation }
+    ensures exponent_flags { IsErrorOf 0x00000A00_00000000_00000000_0000404C errors.InvalidExponentFlags }
+    ensures mantissa_sign { IsErrorOf 0x00000A00_00000000_00000000_0000003C errors.InvalidMantissaSign }
+    ensures exponent_sign { IsErrorOf 0x00000A00_00000000_00000000_0000018C errors.InvalidExponentSign }
+    ensures special_case { IsErrorOf 0x00000A00_00000000_00000000_00000C0C errors.InvalidSpecial }
+    ensures special_separator { IsErrorOf 0x00000A00_00000000_00001000_0000040C errors.InvalidSpecial }
+    ensures integer { IsErrorOf 0x00000A00_00000000_00000200_0000000C errors.InvalidConsecutiveIntegerDigitSeparator }
+    ensures fraction { IsErrorOf 0x00000A00_00000000_00000400_0000000C errors.InvalidConsecutiveFractionDigitSeparator }
+    ensures exponent { IsErrorOf 0x00000A00_00000000_00000800_0000000C errors.InvalidConsecutiveExponentDigitSeparator }
+    ensures reserved { IsErrorOf 0x00000A00_00000000_00000000_8000000C errors.InvalidFlags }
+
+    // Of two broken rules it is the first.
+    ensures first { IsErrorOf 0x00000A00_00000000_00000200_00000C0C errors.InvalidSpecial }
+    ensures ones { IsErrorOf 0xFFFFFFFF_FFFFFFFF_FFFFFFFF_FFFFFFFF errors.InvalidMantissaRadix }
+
+    // Digits are those of both radixes, and a separator counts even if no flag allows it.
+    ensures exponent_digit { IsErrorOf 0x10000A00_00000061_00000000_0000000C errors.InvalidDigitSeparator }
+    ensures unused_digit { IsErrorOf 0x0A0A0A00_00000035_00000000_0000000C errors.InvalidDigitSeparator }
+
+    // The prefix h and the suffix H clash unless both are case-sensitive.
+    ensures both_cases { IsErrorOf 0x00000A48_68000000_00000000_0000000C errors.InvalidPunctuation }
+    ensures suffix_in_both_cases { IsErrorOf 0x00000A48_68000000_00000000_0001000C errors.InvalidPunctuation }
+    ensures one_case { IsErrorOf 0x00000A48_68000000_00000000_0003000C errors.Success }
+
+    // Lawful words.
     ensures standard { Lawful 0x00000A00_00000000_00000000_0000000C }
-    ensures reserved { IsErrorOf 0x00000A00_00000000_00000000_8000000C Error.InvalidFlags }
+    ensures largest_radix { Lawful 0x20202000_00000000_00000000_0000000C }
+    ensures unused_separator { Lawful 0x0A0A0A00_0000005F_00000000_0000000C }
+    ensures separator_five { Lawful 0x000A0200_00000035_00001FFF_0000000C }
+    ensures two_flags { Lawful 0x00000A00_00000000_00000000_0000044C }
+    ensures separator_beside_prefix { Lawful 0x00000A00_78000058_00000000_0001000C }
+{}
 
-    // Of two broken rules the first is answered.
-    ensures zero { IsErrorOf 0 Error.InvalidMantissaRadix }
-    ensures ones { IsErrorOf 0xFFFFFFFF_FFFFFFFF_FFFFFFFF_FFFFFFFF Error.InvalidMantissaRadix }
-    ensures first { IsErrorOf 0x00000A00_00000000_00000200_00000C0C Error.InvalidSpecial }
-    ensures second { IsErrorOf 0x00000A00_00000000_00000200_0000000C
-        Error.InvalidConsecutiveIntegerDigitSeparator }
+/// Examples of options: an exponent character and a decimal point that a format accepts or refuses.
+pub fn option_examples()
+    // e and . in decimal, and in hexadecimal, in which e is a digit; ^ and . there.
+    ensures decimal { AreAccepted 0x0A0A0A00_00000000_00000000_0000000C 0x65 0x2E }
+    ensures digit { AreAccepted 0x10101000_00000000_00000000_0000000C 0x65 0x2E → ⊥ }
+    ensures hexadecimal { AreAccepted 0x10101000_00000000_00000000_0000000C 0x5E 0x2E }
 
-    // A separator counts also where it has no flag, and digits are those of both radixes.
-    ensures digit { IsErrorOf 0x0A0A0A00_00000035_00000000_0000000C Error.InvalidDigitSeparator }
-    ensures no_digit { IsErrorOf 0x000A0200_00000035_00001FFF_0000000C Error.Success }
-    ensures exponent_digit { IsErrorOf 0x10000A00_00000061_00000000_0000000C Error.InvalidDigitSeparator }
+    // The same byte twice, no byte, and the separator.
+    ensures same { AreAccepted 0x0A0A0A00_00000000_00000000_0000000C 0x65 0x65 → ⊥ }
+    ensures absent { AreAccepted 0x0A0A0A00_00000000_00000000_0000000C 0 0x2E → ⊥ }
+    ensures separator { AreAccepted 0x0A0A0A00_0000005F_00000000_0000000C 0x5F 0x2E → ⊥ }
 
-    // No byte has two roles, and absent bytes have none.
-    ensures twice { IsErrorOf 0x00000A68_68000000_00000000_0000000C Error.InvalidPunctuation }
-    ensures absent { IsErrorOf 0x0A0A0A00_00000000_00000000_0000000C Error.Success }
+    // The exponent e beside the point E, and beside the prefix E.
+    ensures both_cases { AreAccepted 0x0A0A0A00_00000000_00000000_0000000C 0x65 0x45 → ⊥ }
+    ensures one_case { AreAccepted 0x0A0A0A00_00000000_00000000_0000800C 0x65 0x45 }
+    ensures prefix { AreAccepted 0x00000A00_45000000_00000000_0000000C 0x65 0x2E → ⊥ }
+    ensures prefix_in_one_case { AreAccepted 0x00000A00_45000000_00000000_0001800C 0x65 0x2E }
 {}

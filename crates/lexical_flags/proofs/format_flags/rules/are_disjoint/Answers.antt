@@ -1,7 +1,7 @@
 use Rattle.std.proofs.Common.{◌&&◌, ap, sym, subst, ◌∙◌, IsTrue, ◌↔◌}
 use Rattle.lexical_flags.specs.Roles.{Disjoint, cased}
 use Rattle.lexical_flags.proofs.CaseLemmas.{cases_apart}
-use Rattle.lexical_flags.proofs.format_flags.rules.are_apart.Goals as goal
+use Rattle.lexical_flags.proofs.format_flags.rules.are_disjoint.Goals as goal
 
 pub returns-then-a_case_counts : goal.returns-then-a_case_counts
 returns-then-a_case_counts c =

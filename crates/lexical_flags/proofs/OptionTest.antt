@@ -1,0 +1,79 @@
+-- A test of an exponent character and a decimal point that computes at literals, proved to decide whether they are accepted.
+use Rattle.std.proofs.Common.{ℕ, ◌≡◌, Bool, true, false, not, ◌&&◌, List, [], ◌∷◌, IsTrue, sym, ◌∙◌}
+use Rattle.std.specs.List.{AllByRecursion}
+use Rattle.std.proofs.lemmas.Bool.{false≢true}
+use Rattle.lexical_base.specs.Ascii.{allowed_ascii}
+use Rattle.lexical_flags.specs.Record.{Record, raw}
+use Rattle.lexical_flags.specs.Roles.{Disjoint, cased, digits, signs, own_roles}
+use Rattle.lexical_flags.specs.Rules.{IsPunctuation}
+use Rattle.lexical_flags.specs.Options.{AreAccepted}
+use Rattle.lexical_flags.proofs.Masks.{both}
+use Rattle.lexical_flags.proofs.LawfulTest.{are_apart, Disjoint-test, Disjoint-passes, not_true, not_from, and_from}
+
+-- whether a byte is text that is no digit and no sign
+abbrev is_punctuation : Record → ℕ → Bool
+is_punctuation r byte = allowed_ascii byte && (not (digits r byte) && not (signs byte))
+
+IsPunctuation-test : (r : Record) (byte : ℕ) → is_punctuation r byte ≡ true → IsPunctuation r byte
+unfolding IsPunctuation
+IsPunctuation-test r byte test =
+    let text = both (allowed_ascii byte) _ test in
+    let neither = both (not (digits r byte)) (not (signs byte)) text.1 in
+    (text.0, not_true (digits r byte) neither.0, not_true (signs byte) neither.1)
+
+IsPunctuation-passes : (r : Record) (byte : ℕ) → IsPunctuation r byte → is_punctuation r byte ≡ true
+unfolding IsPunctuation
+IsPunctuation-passes r byte h =
+    and_from (allowed_ascii byte) _ h.0 (and_from (not (digits r byte)) _ (not_from (digits r byte) h.1) (not_from (signs byte) h.2))
+
+-- whether a byte clashes with no byte of the format
+abbrev is_new : Record → Bool → ℕ → Bool
+is_new r counts byte =
+    are_apart counts byte true r.digit_separator &&
+    (are_apart counts byte r.case_sensitive_base_prefix r.base_prefix && are_apart counts byte r.case_sensitive_base_suffix r.base_suffix)
+
+is_new-test : (r : Record) (counts : Bool) (byte : ℕ) → is_new r counts byte ≡ true → AllByRecursion (Disjoint (cased counts byte)) (own_roles r)
+is_new-test r counts byte test =
+    let separator = both (are_apart counts byte true r.digit_separator) _ test in
+    let rest = both (are_apart counts byte r.case_sensitive_base_prefix r.base_prefix) (are_apart counts byte r.case_sensitive_base_suffix r.base_suffix) separator.1 in
+    (Disjoint-test counts byte true _ separator.0, (Disjoint-test counts byte _ _ rest.0, (Disjoint-test counts byte _ _ rest.1, tt)))
+
+is_new-passes : (r : Record) (counts : Bool) (byte : ℕ) → AllByRecursion (Disjoint (cased counts byte)) (own_roles r) → is_new r counts byte ≡ true
+is_new-passes r counts byte (separator, (prefix, (suffix, _))) =
+    and_from (are_apart counts byte true r.digit_separator) _ (Disjoint-passes counts byte true _ separator)
+    (and_from (are_apart counts byte r.case_sensitive_base_prefix r.base_prefix) _ (Disjoint-passes counts byte _ _ prefix) (Disjoint-passes counts byte _ _ suffix))
+
+-- whether a format accepts both
+abbrev pub accepts : Record → ℕ → ℕ → Bool
+accepts r e p =
+    (is_punctuation r e && is_punctuation r p) &&
+    (are_apart r.case_sensitive_exponent e true p && (is_new r r.case_sensitive_exponent e && is_new r true p))
+
+-- a pair that passes is accepted; at literals the premise is `refl`
+pub accepted_tested : (word e p : ℕ) → accepts (raw word) e p ≡ true → AreAccepted word e p
+accepted_tested word e p test =
+    let r : Record = raw word in
+    let parts = both (is_punctuation r e && is_punctuation r p) _ test in
+    let bytes = both (is_punctuation r e) (is_punctuation r p) parts.0 in
+    let rest = both (are_apart r.case_sensitive_exponent e true p) _ parts.1 in
+    let new = both (is_new r r.case_sensitive_exponent e) (is_new r true p) rest.1 in
+    record {
+      exponent_is_punctuation = IsPunctuation-test r e bytes.0;
+      point_is_punctuation = IsPunctuation-test r p bytes.1;
+      apart = Disjoint-test r.case_sensitive_exponent e true p rest.0;
+      exponent_is_new = is_new-test r r.case_sensitive_exponent e new.0;
+      point_is_new = is_new-test r true p new.1;
+    }
+
+-- a pair that is accepted passes
+accepted-passes : (word e p : ℕ) → AreAccepted word e p → accepts (raw word) e p ≡ true
+accepted-passes word e p h =
+    let r : Record = raw word in
+    and_from (is_punctuation r e && is_punctuation r p) _
+    (and_from (is_punctuation r e) _ (IsPunctuation-passes r e h.exponent_is_punctuation) (IsPunctuation-passes r p h.point_is_punctuation))
+    (and_from (are_apart r.case_sensitive_exponent e true p) _ (Disjoint-passes r.case_sensitive_exponent e true p h.apart)
+    (and_from (is_new r r.case_sensitive_exponent e) _ (is_new-passes r r.case_sensitive_exponent e h.exponent_is_new) (is_new-passes r true p h.point_is_new)))
+
+-- so one that does not is refused
+pub refused_tested : (word e p : ℕ) → accepts (raw word) e p ≡ false → AreAccepted word e p → ⊥
+refused_tested word e p test h = false≢true (sym test ∙ accepted-passes word e p h)
