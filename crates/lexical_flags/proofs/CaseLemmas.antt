@@ -1,11 +1,10 @@
 -- Letters in the other case.
 use Rattle.std.proofs.Common.{ℕ, ◌≡◌, ◌≢◌, ◌<◌, ◌⊎◌, inl, inr, ◌∙◌, ◌↔◌, ◌==◌, ◌||◌, ◌&&◌, Bool, true, false, not, IsTrue, bit_or, bit_xor, eqb-true, refl, ap, sym, subst, arith, min, nat_lt}
 use Rattle.std.specs.Prelude.{position, unwrap_or}
-use Rattle.std.proofs.lemmas.Bool.{false≢true}
+use Rattle.std.proofs.lemmas.Bool.{false≢true, agree_below_at}
 use Rattle.std.proofs.lemmas.Bool.Decides.{nat_tests}
 use Rattle.lexical_base.specs.Ascii.{letters}
 use Rattle.lexical_base.specs.Digits.{value, figures, capital}
-use Rattle.lexical_base.proofs.Finite.{passes_at}
 use Rattle.lexical_flags.specs.Record.{Record, effective_exponent_radix}
 use Rattle.lexical_flags.specs.Roles.{Disjoint, cased, other_case, digits, signs}
 
@@ -16,7 +15,7 @@ letter_flipped false same e h = cc
 
 pub flipped : (byte : ℕ) → byte < 256 → IsTrue (letters byte) → bit_xor byte 32 ≡ other_case byte
 flipped byte below is_letter =
-    let all : (not (letters byte) || (bit_xor byte 32 == other_case byte)) ≡ true = passes_at (λ b. not (letters b) || (bit_xor b 32 == other_case b)) 256 byte refl below in
+    let all : (not (letters byte) || (bit_xor byte 32 == other_case byte)) ≡ true = agree_below_at (λ b. not (letters b) || (bit_xor b 32 == other_case b)) (λ _. true) 256 byte refl below in
     let same : (bit_xor byte 32 == other_case byte) ≡ true = letter_flipped (letters byte) _ all is_letter in
     grind (arith, nat_tests)
 
@@ -46,7 +45,7 @@ differ_apart a_counts a b_counts b differ other byte is_a is_b =
 -- the two cases of a letter have all bits in common but one
 other_case-bits : (byte : ℕ) → byte < 256 → bit_or (other_case byte) 32 ≡ bit_or byte 32
 other_case-bits byte below =
-    eqb-true _ _ (passes_at (λ b. bit_or (other_case b) 32 == bit_or b 32) 256 byte refl below)
+    eqb-true _ _ (agree_below_at (λ b. bit_or (other_case b) 32 == bit_or b 32) (λ _. true) 256 byte refl below)
 
 -- so bytes that differ in another bit have no role in common
 pub other_bits_apart : (a_counts : Bool) (a : ℕ) (b_counts : Bool) (b : ℕ) → a < 256 → bit_or a 32 ≢ bit_or b 32 → Disjoint (cased a_counts a) (cased b_counts b)

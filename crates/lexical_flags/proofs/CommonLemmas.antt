@@ -32,27 +32,6 @@ common-bit_and v w fits =
     ∙ and_mask (bit_and v w) 128
     ∙ mod-eq_of_lt (lt_of_le_of_lt (and_le_r v w) fits)
 
--- every flag stands below the place 45
-below_45 : (f : Flag) → bit f + 1 ≤ 45
-below_45 layout.required_integer_digits = omega arith
-below_45 _ = omega arith
-
-above-le : (fs : List Flag) (s : ℕ) → s ≤ 45 → above bit 1 s fs ≤ 45
-above-le [] s l = l
-above-le (f ∷ fs) s l = above-le fs (bit f + 1) (below_45 f)
-
--- the mask of some flags has 128 bits
-pub mask_of-lt : (fs : List Flag) → ascends bit 1 0 fs ≡ true → mask_of fs < 2 ^ 128
-mask_of-lt fs up =
-    let below : fold (λ a f. a + 1 * 2 ^ bit f) 0 fs < 2 ^ above bit 1 0 fs = sum-below bit (λ _. 1) 1 (λ _. omega arith) fs 0 0 (omega arith) up in
-    let same : fold (λ a f. a + 1 * 2 ^ bit f) 0 fs ≡ mask_of fs = λ i. fold (λ a f. a + one-mul (2 ^ bit f) i) 0 fs in
-    let room : 2 ^ above bit 1 0 fs ≤ 2 ^ 45 = pow-le-pow_right {n = 2} (omega arith) (above-le fs 0 (omega arith)) in
-    omega arith
-
--- a word has something in common with the mask of some flags exactly where one of them is set
-pub common-mask_of : (fs : List Flag) (word : ℕ) → ascends bit 1 0 fs ≡ true → (common word (mask_of fs) == 0) ≡ not (list_any (flag_of (raw word)) fs)
-common-mask_of fs word up = ap (λ n. n == 0) (common-bit_and word (mask_of fs) (mask_of-lt fs up)) ∙ mask_test fs word up
-
 -- what `radix_from_flags` reads before it looks at the mantissa radix
 pub common_part : (v w : ℕ) (z : ℤ) → w < 2 ^ 128 → SFits w32 z →
     bit_and (bit_and v w / 2 ^ unsigned_abs (to_z w32 (of_z w32 z))) 0xFFFF_FFFF ≡ common v w / 2 ^ unsigned_abs z % 2 ^ 32

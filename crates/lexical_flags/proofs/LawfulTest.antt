@@ -1,6 +1,6 @@
 -- Tests of the rules that compute at a literal word, each proved to decide its rule.
 use Rattle.std.proofs.Common.{◌≡◌, ◌≢◌, ◌⊎◌, ◌↔◌, ℕ, inl, inr, Bool, true, false, not, nat_le, ◌||◌, ◌&&◌, ◌==◌, if◌then◌else◌, IsTrue, List, [], ◌∷◌, refl, sym, ap, ◌∙◌, subst, eq-eqb, eqb-true, arith}
-use Rattle.std.proofs.lemmas.Bool.{false≢true}
+use Rattle.std.proofs.lemmas.Bool.{false≢true, and_parts, and_from, or_right}
 use Rattle.std.proofs.lemmas.Bool.Decides.{nat_tests}
 use Rattle.lexical_base.specs.Ascii.{allowed_ascii, letters}
 use Rattle.lexical_base.specs.declared.error.Error.{Error}
@@ -9,7 +9,6 @@ use Rattle.lexical_flags.specs.Layout.{part, IsClean}
 use Rattle.lexical_flags.specs.Record.{Record, raw, effective_exponent_base, effective_exponent_radix}
 use Rattle.lexical_flags.specs.Roles.{Disjoint, cased, other_case, digits, signs}
 use Rattle.lexical_flags.specs.Rules.{Rule, mantissa_radix_in_range, exponent_base_in_range, exponent_radix_in_range, digit_separator_is_free, base_prefix_is_free, base_suffix_is_free, punctuation_differs, exponent_flags_agree, mantissa_sign_flags_agree, exponent_sign_flags_agree, special_case_flags_agree, special_separator_flags_agree, integer_consecutive_has_place, fraction_consecutive_has_place, exponent_consecutive_has_place, reserved_bits_are_zero, IsRadix, IsFree, IsPunctuation, NotBoth, HasPlace, Demands, Holds, IsFirstBroken, IsErrorOf, Lawful, answer, rules_in_order}
-use Rattle.lexical_flags.proofs.Masks.{both}
 use Rattle.lexical_flags.proofs.CaseLemmas.{cased-cases, differ_apart, cases_apart}
 use Rattle.lexical_flags.proofs.RuleLemmas.{Lawful-from_success}
 
@@ -68,13 +67,6 @@ pub not_from : (a : Bool) → (IsTrue a → ⊥) → not a ≡ true
 not_from true h = absurd (h refl)
 not_from false h = refl
 
-pub and_from : (a b : Bool) → a ≡ true → b ≡ true → (a && b) ≡ true
-and_from a b h k = ap (λ t. t && b) h ∙ k
-
-or_second : (a b : Bool) → b ≡ true → (a || b) ≡ true
-or_second true b h = refl
-or_second false b h = h
-
 IsRadix-test : (radix : ℕ) → is_radix radix ≡ true → IsRadix radix
 IsRadix-test radix test = grind (arith, nat_tests)
 
@@ -88,14 +80,14 @@ IsFree-test r byte test = parts (byte == 0) refl test
     parts : (none : Bool) → none ≡ (byte == 0) → (none || (allowed_ascii byte && (not (digits r byte) && not (signs byte)))) ≡ true → IsFree r byte
     parts true is e = inl (grind (arith, nat_tests))
     parts false is e =
-        let text = both (allowed_ascii byte) _ e in
-        let roles = both (not (digits r byte)) (not (signs byte)) text.1 in
+        let text = and_parts (allowed_ascii byte) _ e in
+        let roles = and_parts (not (digits r byte)) (not (signs byte)) text.1 in
         inr (text.0, not_true (digits r byte) roles.0, not_true (signs byte) roles.1)
 
 IsFree-passes : (r : Record) (byte : ℕ) → IsFree r byte → is_free r byte ≡ true
 unfolding IsPunctuation
 IsFree-passes r byte (inl none) = ap (λ t. t || (allowed_ascii byte && (not (digits r byte) && not (signs byte)))) (eq-eqb byte 0 none)
-IsFree-passes r byte (inr free) = or_second (byte == 0) _ (and_from (allowed_ascii byte) _ free.0 (and_from (not (digits r byte)) _ (not_from (digits r byte) free.1) (not_from (signs byte) free.2)))
+IsFree-passes r byte (inr free) = or_right (byte == 0) _ (and_from (allowed_ascii byte) _ free.0 (and_from (not (digits r byte)) _ (not_from (digits r byte) free.1) (not_from (signs byte) free.2)))
 
 -- a byte that has another case is a letter
 letter_with_case : (a : ℕ) → a ≢ other_case a → IsTrue (letters a)
@@ -159,8 +151,8 @@ Demands-test base_suffix_is_free r e = IsFree-test r _ e
 Demands-test punctuation_differs r e =
     let prefix : Bool = r.case_sensitive_base_prefix in
     let suffix : Bool = r.case_sensitive_base_suffix in
-    let first = both (are_apart true r.digit_separator prefix r.base_prefix) _ e in
-    let rest = both (are_apart true r.digit_separator suffix r.base_suffix) (are_apart prefix r.base_prefix suffix r.base_suffix) first.1 in
+    let first = and_parts (are_apart true r.digit_separator prefix r.base_prefix) _ e in
+    let rest = and_parts (are_apart true r.digit_separator suffix r.base_suffix) (are_apart prefix r.base_prefix suffix r.base_suffix) first.1 in
     ((Disjoint-test true _ prefix _ first.0, (Disjoint-test true _ suffix _ rest.0, tt)), ((Disjoint-test prefix _ suffix _ rest.1, tt), (tt, tt)))
 Demands-test exponent_flags_agree r e = NotBoth-test r.no_exponent_notation r.required_exponent_notation e
 Demands-test mantissa_sign_flags_agree r e = NotBoth-test r.no_positive_mantissa_sign r.required_mantissa_sign e
@@ -199,8 +191,8 @@ Demands-passes _ r h = ap not h
 
 IsClean-test : (word : ℕ) → keeps reserved_bits_are_zero word ≡ true → IsClean word
 IsClean-test word e =
-    let first = both (part word 18 14 == 0) _ e in
-    let rest = both (part word 45 19 == 0) (part word 72 16 == 0) first.1 in
+    let first = and_parts (part word 18 14 == 0) _ e in
+    let rest = and_parts (part word 45 19 == 0) (part word 72 16 == 0) first.1 in
     record { below_separator_flags = grind (arith, nat_tests); below_separator = grind (arith, nat_tests); below_prefix = grind (arith, nat_tests) }
 
 IsClean-passes : (word : ℕ) → IsClean word → keeps reserved_bits_are_zero word ≡ true

@@ -4,15 +4,16 @@ pub mod Segments
 pub mod Packing
 pub mod Masks
 pub mod FlagBits
-pub mod ReservedBits
-pub mod CaseLemmas
-pub mod FlagTests
 pub mod CommonLemmas
-pub mod DigitLemmas
-pub mod PairLemmas
-pub mod OneRole
 pub mod RuleLemmas
-pub mod OptionLemmas
 pub mod LawfulTest
-pub mod OptionTest
 pub mod NormalRules
+mod PairLemmas
+mod OneRole
+mod CaseLemmas
+mod RoleLemmas
+mod OptionLemmas
+mod OptionTest
+mod ReservedBits
+mod FlagTests
+mod DigitLemmas

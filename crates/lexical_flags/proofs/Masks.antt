@@ -3,7 +3,7 @@ use Rattle.std.proofs.Common.{ℕ, ◌≡◌, ◌+◌, ◌-◌, ◌*◌, ◌/◌
 use Rattle.std.specs.Int.Bits.{and_zero_r}
 use Rattle.std.specs.List.{fold}
 use Rattle.std.proofs.Math.Nat.{mul-le-mul_left, mod-eq_of_lt, mod-lt, pow-le-pow_right, lt_of_le_of_lt}
-use Rattle.std.proofs.lemmas.Bool.{leb-true}
+use Rattle.std.proofs.lemmas.Bool.{leb-true, and_parts}
 use Rattle.std.proofs.lemmas.Nat.{pow-add, pow_pos, shr_split, and_block, and_mask, and_mod, and_le_r, or_comm, or_shifted}
 use Rattle.std.proofs.lemmas.Nat.Bits.{shr_and_one}
 use Rattle.lexical_flags.specs.Layout.{part}
@@ -12,14 +12,6 @@ use Rattle.lexical_flags.specs.Layout.{part}
 abbrev pub ascends : {X : Type 0} → (X → ℕ) → ℕ → ℕ → List X → Bool
 ascends place width s [] = true
 ascends place width s (x ∷ xs) = leb s (place x) && ascends place width (place x + width) xs
-
--- what a conjunction says
-pub both : (a b : Bool) → (a && b) ≡ true → (a ≡ true) × (b ≡ true)
-both true b e = (refl, e)
-both false b e = cc
-
-pub and_zero : (w : ℕ) → bit_and w 0 ≡ 0
-and_zero w = and_zero_r w
 
 -- the place above the last field
 abbrev pub above : {X : Type 0} → (X → ℕ) → ℕ → ℕ → List X → ℕ
@@ -62,7 +54,7 @@ module _ {X : Type 0} (place value : X → ℕ) (n : ℕ) (fits : (x : X) → va
   pub or_all : (xs : List X) (s low : ℕ) → low < 2 ^ s → ascends place n s xs ≡ true → fold (λ a x. bit_or a (value x * 2 ^ place x)) low xs ≡ fold (λ a x. a + value x * 2 ^ place x) low xs
   or_all [] s low l up = refl
   or_all (x ∷ xs) s low l up =
-      let parts = both (leb s (place x)) (ascends place n (place x + n) xs) up in
+      let parts = and_parts (leb s (place x)) (ascends place n (place x + n) xs) up in
       let more = or_more low s (place x) n (value x) l (leb-true s (place x) parts.0) (fits x) in
       ap (λ a. fold (λ a x. bit_or a (value x * 2 ^ place x)) a xs) more.0
       ∙ or_all xs (place x + n) (low + value x * 2 ^ place x) more.1 parts.1
@@ -70,7 +62,7 @@ module _ {X : Type 0} (place value : X → ℕ) (n : ℕ) (fits : (x : X) → va
   pub sum-below : (xs : List X) (s low : ℕ) → low < 2 ^ s → ascends place n s xs ≡ true → fold (λ a x. a + value x * 2 ^ place x) low xs < 2 ^ above place n s xs
   sum-below [] s low l up = l
   sum-below (x ∷ xs) s low l up =
-      let parts = both (leb s (place x)) (ascends place n (place x + n) xs) up in
+      let parts = and_parts (leb s (place x)) (ascends place n (place x + n) xs) up in
       let more = or_more low s (place x) n (value x) l (leb-true s (place x) parts.0) (fits x) in
       sum-below xs (place x + n) (low + value x * 2 ^ place x) more.1 parts.1
 
@@ -78,7 +70,7 @@ module _ {X : Type 0} (place : X → ℕ) where
   and_from : (xs : List X) (s w low : ℕ) → low < 2 ^ s → ascends place 1 s xs ≡ true → bit_and w (fold (λ a x. a + 2 ^ place x) low xs) ≡ fold (λ a x. a + part w (place x) 1 * 2 ^ place x) (bit_and w low) xs
   and_from [] s w low l up = refl
   and_from (x ∷ xs) s w low l up =
-      let parts = both (leb s (place x)) (ascends place 1 (place x + 1) xs) up in
+      let parts = and_parts (leb s (place x)) (ascends place 1 (place x + 1) xs) up in
       let wide : 2 ^ s ≤ 2 ^ place x = pow-le-pow_right {n = 2} (omega arith) (leb-true s (place x) parts.0) in
       let below : low < 2 ^ place x = omega arith in
       let next : low + 2 ^ place x < 2 ^ (place x + 1) = rw (pow-add 2 (place x) 1) (omega arith) in
@@ -87,4 +79,4 @@ module _ {X : Type 0} (place : X → ℕ) where
 
   -- a word and a mask have in common the bits of the mask's places
   pub and_all : (xs : List X) (w : ℕ) → ascends place 1 0 xs ≡ true → bit_and w (sum_by (λ x. 2 ^ place x) xs) ≡ sum_by (λ x. part w (place x) 1 * 2 ^ place x) xs
-  and_all xs w up = and_from xs 0 w 0 (omega arith) up ∙ ap (λ a. fold (λ a x. a + part w (place x) 1 * 2 ^ place x) a xs) (and_zero w)
+  and_all xs w up = and_from xs 0 w 0 (omega arith) up ∙ ap (λ a. fold (λ a x. a + part w (place x) 1 * 2 ^ place x) a xs) (and_zero_r w)

@@ -1,18 +1,17 @@
 -- An exponent character and a decimal point beside the five roles of a word.
-use Rattle.std.proofs.Common.{ℕ, ◌+◌, ◌≤◌, ◌≢◌, inl, inr, Bool, true, IsTrue, sym, arith}
-use Rattle.std.specs.List.{AllByRecursion}
-use Rattle.std.proofs.lemmas.Bool.{cases_eq}
+use Rattle.std.proofs.Common.{ℕ, zero, suc, ◌≡◌, ◌+◌, ◌≤◌, ◌<◌, ◌≢◌, ◌⊎◌, ◌==◌, inl, inr, if◌then◌else◌, Bool, true, false, not, IsTrue, List, [], ◌∷◌, length, refl, sym, ◌∙◌, eqb-true, arith}
+use Rattle.std.specs.List.{AllByRecursion, filter}
+use Rattle.std.proofs.lemmas.Bool.{eqb-false}
 use Rattle.std.proofs.lemmas.Bool.Decides.{nat_tests}
 use Rattle.lexical_base.specs.Ascii.{ByteSet, allowed_ascii}
 use Rattle.lexical_flags.specs.Record.{Record, raw}
-use Rattle.lexical_flags.specs.Roles.{Disjoint, cased, digits, signs, separator, prefix, suffix, exponent, point, own_roles}
+use Rattle.lexical_flags.specs.Roles as roles
+use Rattle.lexical_flags.specs.Roles.{Disjoint, Role, cased, digits, signs, separator, prefix, suffix, exponent, point, own_roles, role_set, seven_roles}
 use Rattle.lexical_flags.specs.Rules.{IsPunctuation, Lawful}
 use Rattle.lexical_flags.specs.Options.{AreAccepted, HaveOneRole, LeavesRoom}
-use Rattle.lexical_flags.proofs.RuleLemmas.{Disjoint-digits-cased, Disjoint-signs-cased, not_in, no_digit}
-
-Disjoint-sym : (A B : ByteSet) → Disjoint A B → Disjoint B A
-unfolding Disjoint
-Disjoint-sym A B apart byte in_b in_a = apart byte in_a in_b
+use Rattle.lexical_flags.proofs.OneRole.{before, among, Disjoint-at, pairwise-from_Disjoint}
+use Rattle.lexical_flags.proofs.RoleLemmas.{Disjoint-sym, Disjoint-digits-cased, Disjoint-signs-cased, not_in, no_digit}
+use Rattle.lexical_flags.proofs.RuleLemmas.{Disjoint-from_lawful}
 
 -- 0 is no text
 text-positive : (byte : ℕ) → IsTrue (allowed_ascii byte) → byte ≢ 0
@@ -23,104 +22,128 @@ pub AreAccepted-from_roles : (word e p : ℕ) → HaveOneRole word e p → AreAc
 unfolding IsPunctuation
 AreAccepted-from_roles word e p h =
     let r : Record = raw word in
-    let E : ByteSet = exponent r e in
-    let P : ByteSet = point p in
+    let apart = Disjoint-at 7 (omega arith) (role_set r e p) h.roles in
     let e_some : e ≢ 0 = text-positive e h.exponent_is_text in
     let p_some : p ≢ 0 = text-positive p h.point_is_text in
+    let e_apart : (a : Role) → before a roles.exponent_character ≡ true → Disjoint (role_set r e p a) (exponent r e) = λ a first. apart a roles.exponent_character first refl in
+    let p_apart : (a : Role) → before a roles.decimal_point ≡ true → Disjoint (role_set r e p a) (point p) = λ a first. apart a roles.decimal_point first refl in
     record {
-      exponent_is_punctuation = (h.exponent_is_text, not_in (digits r) r.case_sensitive_exponent e h.roles.0.1.1.1.1.0 e_some, not_in signs r.case_sensitive_exponent e h.roles.1.0.1.1.1.0 e_some);
-      point_is_punctuation = (h.point_is_text, not_in (digits r) true p h.roles.0.1.1.1.1.1.0 p_some, not_in signs true p h.roles.1.0.1.1.1.1.0 p_some);
-      apart = h.roles.1.1.1.1.1.0.0;
+      exponent_is_punctuation = (
+        h.exponent_is_text,
+        not_in (digits r) r.case_sensitive_exponent e (e_apart roles.digit refl) e_some,
+        not_in signs r.case_sensitive_exponent e (e_apart roles.sign refl) e_some,
+      );
+      point_is_punctuation = (
+        h.point_is_text,
+        not_in (digits r) true p (p_apart roles.digit refl) p_some,
+        not_in signs true p (p_apart roles.sign refl) p_some,
+      );
+      apart = p_apart roles.exponent_character refl;
       exponent_is_new = (
-        Disjoint-sym (separator r) E h.roles.1.1.0.1.1.0,
-        (Disjoint-sym (prefix r) E h.roles.1.1.1.0.1.0, (Disjoint-sym (suffix r) E h.roles.1.1.1.1.0.0, tt)),
+        Disjoint-sym (separator r) (exponent r e) (e_apart roles.digit_separator refl),
+        (Disjoint-sym (prefix r) (exponent r e) (e_apart roles.base_prefix refl), (Disjoint-sym (suffix r) (exponent r e) (e_apart roles.base_suffix refl), tt)),
       );
       point_is_new = (
-        Disjoint-sym (separator r) P h.roles.1.1.0.1.1.1.0,
-        (Disjoint-sym (prefix r) P h.roles.1.1.1.0.1.1.0, (Disjoint-sym (suffix r) P h.roles.1.1.1.1.0.1.0, tt)),
+        Disjoint-sym (separator r) (point p) (p_apart roles.digit_separator refl),
+        (Disjoint-sym (prefix r) (point p) (p_apart roles.base_prefix refl), (Disjoint-sym (suffix r) (point p) (p_apart roles.base_suffix refl), tt)),
       );
     }
+
+-- a byte that is new beside the bytes that a format names
+module _ (r : Record) (N : ByteSet) (new : AllByRecursion (Disjoint N) (own_roles r)) where
+  new_separator : Disjoint (separator r) N
+  new_separator = Disjoint-sym N (separator r) new.0
+
+  new_prefix : Disjoint (prefix r) N
+  new_prefix = Disjoint-sym N (prefix r) (assumption new)
+
+  new_suffix : Disjoint (suffix r) N
+  new_suffix = Disjoint-sym N (suffix r) (assumption new)
 
 -- and in a lawful word those that are accepted keep each to one role
 pub HaveOneRole-from_accepted : (word e p : ℕ) → Lawful word → AreAccepted word e p → HaveOneRole word e p
-unfolding IsPunctuation Lawful
-HaveOneRole-from_accepted word e p lawful h =
-    let r : Record = raw word in
-    let E : ByteSet = exponent r e in
-    let P : ByteSet = point p in
-    let five = lawful.roles in
-    let from_digits : (counts : Bool) (b : ℕ) → IsPunctuation r b → Disjoint (digits r) (cased counts b) = λ counts b free. Disjoint-digits-cased r counts b (λ _. free.1) in
-    let from_signs : (counts : Bool) (b : ℕ) → IsPunctuation r b → Disjoint signs (cased counts b) = λ counts b free. Disjoint-signs-cased counts b (λ _. free.2) in
-    let counts : Bool = r.case_sensitive_exponent in
-    let e_free = h.exponent_is_punctuation in
-    let p_free = h.point_is_punctuation in
-    let e_new = h.exponent_is_new in
-    let p_new = h.point_is_new in
-    record {
-      exponent_is_text = e_free.0;
-      point_is_text = p_free.0;
-      roles = (
-        (five.0.0, (five.0.1.0, (five.0.1.1.0, (five.0.1.1.1.0, (from_digits counts e e_free, (from_digits true p p_free, tt)))))),
-        (
-          (five.1.0.0, (five.1.0.1.0, (five.1.0.1.1.0, (from_signs counts e e_free, (from_signs true p p_free, tt))))),
-          (
-            (five.1.1.0.0, (five.1.1.0.1.0, (Disjoint-sym E (separator r) e_new.0, (Disjoint-sym P (separator r) p_new.0, tt)))),
-            (
-              (five.1.1.1.0.0, (Disjoint-sym E (prefix r) e_new.1.0, (Disjoint-sym P (prefix r) p_new.1.0, tt))),
-              (
-                (Disjoint-sym E (suffix r) e_new.1.1.0, (Disjoint-sym P (suffix r) p_new.1.1.0, tt)),
-                ((h.apart, tt), (tt, tt)),
-              ),
-            ),
-          ),
-        ),
-      );
-    }
+unfolding IsPunctuation
+HaveOneRole-from_accepted word e p lawful h = record {
+  exponent_is_text = h.exponent_is_punctuation.0;
+  point_is_text = h.point_is_punctuation.0;
+  roles = pairwise-from_Disjoint 7 (omega arith) (role_set (raw word) e p) apart;
+} where
+  r : Record
+  r = raw word
 
--- a number from low on that is none of these
-one : (low x : ℕ) → (a : ℕ) × (low ≤ a) × (a ≤ low + 1) × (a ≢ x)
-one low x = elim (cases_eq low x) [ inl e ↦ (low + 1, omega arith, omega arith, omega arith) | inr n ↦ (low, omega arith, omega arith, n) ]
+  from_digits : (counts : Bool) (b : ℕ) → IsPunctuation r b → Disjoint (digits r) (cased counts b)
+  from_digits counts b free = Disjoint-digits-cased r counts b (λ _. free.1)
 
-two : (low x y : ℕ) → (a : ℕ) × (low ≤ a) × (a ≤ low + 2) × (a ≢ x) × (a ≢ y)
-two low x y =
-    elim (cases_eq low x) [
-      | inl e ↦ let more = one (low + 1) y in (more.0, omega arith, omega arith, omega arith, more.3)
-      | inr nx ↦ elim (cases_eq low y) [
-        | inl e ↦ let more = one (low + 1) x in (more.0, omega arith, omega arith, more.3, omega arith)
-        | inr ny ↦ (low, omega arith, omega arith, nx, ny)
-      ]
+  from_signs : (counts : Bool) (b : ℕ) → IsPunctuation r b → Disjoint signs (cased counts b)
+  from_signs counts b free = Disjoint-signs-cased counts b (λ _. free.2)
+
+  apart : (a b : Role) → before a b ≡ true → among 7 b ≡ true → Disjoint (role_set r e p a) (role_set r e p b)
+  apart roles.digit roles.exponent_character first last = from_digits r.case_sensitive_exponent e h.exponent_is_punctuation
+  apart roles.sign roles.exponent_character first last = from_signs r.case_sensitive_exponent e h.exponent_is_punctuation
+  apart roles.digit_separator roles.exponent_character first last = new_separator r (exponent r e) h.exponent_is_new
+  apart roles.base_prefix roles.exponent_character first last = new_prefix r (exponent r e) h.exponent_is_new
+  apart roles.base_suffix roles.exponent_character first last = new_suffix r (exponent r e) h.exponent_is_new
+  apart roles.exponent_character roles.exponent_character first last = cc
+  apart roles.decimal_point roles.exponent_character first last = cc
+  apart roles.digit roles.decimal_point first last = from_digits true p h.point_is_punctuation
+  apart roles.sign roles.decimal_point first last = from_signs true p h.point_is_punctuation
+  apart roles.digit_separator roles.decimal_point first last = new_separator r (point p) h.point_is_new
+  apart roles.base_prefix roles.decimal_point first last = new_prefix r (point p) h.point_is_new
+  apart roles.base_suffix roles.decimal_point first last = new_suffix r (point p) h.point_is_new
+  apart roles.exponent_character roles.decimal_point first last = h.apart
+  apart roles.decimal_point roles.decimal_point first last = cc
+  apart a roles.digit first last = Disjoint-from_lawful word e p lawful a roles.digit first refl
+  apart a roles.sign first last = Disjoint-from_lawful word e p lawful a roles.sign first refl
+  apart a roles.digit_separator first last = Disjoint-from_lawful word e p lawful a roles.digit_separator first refl
+  apart a roles.base_prefix first last = Disjoint-from_lawful word e p lawful a roles.base_prefix first refl
+  apart a roles.base_suffix first last = Disjoint-from_lawful word e p lawful a roles.base_suffix first refl
+
+-- the numbers of a list but one
+abbrev without : ℕ → List ℕ → List ℕ
+without x taken = filter (λ t. not (t == x)) taken
+
+-- what is none of these, and not that one, is none of all
+none_of-without : (a x : ℕ) (taken : List ℕ) → a ≢ x → AllByRecursion (λ t. a ≢ t) (without x taken) → AllByRecursion (λ t. a ≢ t) taken
+none_of-without a x [] differ h = tt
+none_of-without a x (t ∷ taken) differ h = by (t == x) refl h (none_of-without a x taken differ) where
+  by : (same : Bool) → (t == x) ≡ same → AllByRecursion (λ t. a ≢ t) (if not same then t ∷ without x taken else without x taken)
+      → (AllByRecursion (λ t. a ≢ t) (without x taken) → AllByRecursion (λ t. a ≢ t) taken) → a ≢ t × AllByRecursion (λ t. a ≢ t) taken
+  by true is rest others = (λ e. differ (e ∙ eqb-true t x is), others rest)
+  by false is rest others = (rest.0, others rest.1)
+
+shorter : (x : ℕ) (taken : List ℕ) → length (without x taken) ≤ length taken
+shorter x [] = omega arith
+shorter x (t ∷ taken) = by (t == x) (shorter x taken) where
+  by : (same : Bool) → length (without x taken) ≤ length taken → length (if not same then t ∷ without x taken else without x taken) ≤ suc (length taken)
+  by true less = omega arith
+  by false less = omega arith
+
+-- a number is none of a list, or the list is shorter without it
+taken_or_not : (x : ℕ) (taken : List ℕ) → AllByRecursion (λ t. x ≢ t) taken ⊎ (length (without x taken) < length taken)
+taken_or_not x [] = inl tt
+taken_or_not x (t ∷ taken) = by (t == x) refl (taken_or_not x taken) where
+  by : (same : Bool) → (t == x) ≡ same → AllByRecursion (λ t. x ≢ t) taken ⊎ (length (without x taken) < length taken)
+      → (x ≢ t × AllByRecursion (λ t. x ≢ t) taken) ⊎ (length (if not same then t ∷ without x taken else without x taken) < suc (length taken))
+  by true is found = let less = shorter x taken in inr (omega arith)
+  by false is (inl none) = inl (λ e. eqb-false t x is (sym e), none)
+  by false is (inr less) = inr (omega arith)
+
+-- a number from low on that is none of a list, no further up than the list is long
+abbrev Fresh : ℕ → ℕ → List ℕ → Type 0
+Fresh low n taken = (a : ℕ) × (low ≤ a) × (a ≤ low + n) × AllByRecursion (λ t. a ≢ t) taken
+
+fresh_from : (n low : ℕ) (taken : List ℕ) → length taken ≤ n → Fresh low n taken
+fresh_from zero low [] few = (low, omega arith, omega arith, tt)
+fresh_from zero low (t ∷ taken) few = absurd (omega arith)
+fresh_from (suc n) low taken few =
+    elim (taken_or_not low taken) [
+      | inl none ↦ (low, omega arith, omega arith, none)
+      | inr less ↦
+        let next = fresh_from n (low + 1) (without low taken) (omega arith) in
+        (next.0, omega arith, omega arith, none_of-without next.0 low taken (omega arith) next.3)
     ]
 
-three : (low x y z : ℕ) → (a : ℕ) × (low ≤ a) × (a ≤ low + 3) × (a ≢ x) × (a ≢ y) × (a ≢ z)
-three low x y z =
-    elim (cases_eq low x) [
-      | inl e ↦ let more = two (low + 1) y z in (more.0, omega arith, omega arith, omega arith, more.3, more.4)
-      | inr nx ↦ elim (cases_eq low y) [
-        | inl e ↦ let more = two (low + 1) x z in (more.0, omega arith, omega arith, more.3, omega arith, more.4)
-        | inr ny ↦ elim (cases_eq low z) [
-          | inl e ↦ let more = two (low + 1) x y in (more.0, omega arith, omega arith, more.3, more.4, omega arith)
-          | inr nz ↦ (low, omega arith, omega arith, nx, ny, nz)
-        ]
-      ]
-    ]
-
-four : (low x y z t : ℕ) → (a : ℕ) × (low ≤ a) × (a ≤ low + 4) × (a ≢ x) × (a ≢ y) × (a ≢ z) × (a ≢ t)
-four low x y z t =
-    elim (cases_eq low x) [
-      | inl e ↦ let more = three (low + 1) y z t in (more.0, omega arith, omega arith, omega arith, more.3, more.4, more.5)
-      | inr nx ↦ elim (cases_eq low y) [
-        | inl e ↦ let more = three (low + 1) x z t in (more.0, omega arith, omega arith, more.3, omega arith, more.4, more.5)
-        | inr ny ↦ elim (cases_eq low z) [
-          | inl e ↦ let more = three (low + 1) x y t in (more.0, omega arith, omega arith, more.3, more.4, omega arith, more.5)
-          | inr nz ↦ elim (cases_eq low t) [
-            | inl e ↦ let more = three (low + 1) x y z in (more.0, omega arith, omega arith, more.3, more.4, more.5, omega arith)
-            | inr nt ↦ (low, omega arith, omega arith, nx, ny, nz, nt)
-          ]
-        ]
-      ]
-    ]
-
--- the bytes ! \" # $ % have no part in numbers
+-- the bytes ! " # $ % have no part in numbers
 IsPunctuation-mark : (r : Record) (byte : ℕ) → 33 ≤ byte → byte ≤ 37 → IsPunctuation r byte
 unfolding IsPunctuation
 IsPunctuation-mark r byte low high = (grind (arith, nat_tests), no_digit r byte (omega arith), (λ is_sign. grind (arith, nat_tests)))
@@ -130,25 +153,27 @@ Disjoint-mark : (a : ℕ) (a_counts : Bool) (b : ℕ) (b_counts : Bool) → 33 �
 unfolding Disjoint cased
 Disjoint-mark a a_counts b b_counts low high differ byte is_a is_b = grind (arith, nat_tests)
 
--- such a byte that differs from three has none of their roles
-is_new : (r : Record) (byte : ℕ) (counts : Bool) → 33 ≤ byte → byte ≤ 37 → byte ≢ r.digit_separator → byte ≢ r.base_prefix → byte ≢ r.base_suffix → AllByRecursion (Disjoint (cased counts byte)) (own_roles r)
-is_new r byte counts low high s p f = (
-  Disjoint-mark byte counts _ true low high s,
-  (Disjoint-mark byte counts _ r.case_sensitive_base_prefix low high p, (Disjoint-mark byte counts _ r.case_sensitive_base_suffix low high f, tt)),
+-- such a byte that differs from the three of a format has none of their roles
+is_new : (r : Record) (byte : ℕ) (counts : Bool) → 33 ≤ byte → byte ≤ 37
+    → AllByRecursion (λ t. byte ≢ t) (r.digit_separator ∷ r.base_prefix ∷ r.base_suffix ∷ []) → AllByRecursion (Disjoint (cased counts byte)) (own_roles r)
+is_new r byte counts low high (separator, (prefix, (suffix, _))) = (
+  Disjoint-mark byte counts _ true low high separator,
+  (Disjoint-mark byte counts _ r.case_sensitive_base_prefix low high prefix, (Disjoint-mark byte counts _ r.case_sensitive_base_suffix low high suffix, tt)),
 )
 
 -- of the five marks two are left
 pub LeavesRoom-from_lawful : (word : ℕ) → Lawful word → LeavesRoom word
 LeavesRoom-from_lawful word lawful =
     let r : Record = raw word in
-    let e = three 33 r.digit_separator r.base_prefix r.base_suffix in
-    let p = four 33 r.digit_separator r.base_prefix r.base_suffix e.0 in
+    let taken : List ℕ = r.digit_separator ∷ r.base_prefix ∷ r.base_suffix ∷ [] in
+    let e = fresh_from 3 33 taken (omega arith) in
+    let p = fresh_from 4 33 (e.0 ∷ taken) (omega arith) in
     let high : e.0 ≤ 37 = omega arith in
     let accepted : AreAccepted word e.0 p.0 = record {
       exponent_is_punctuation = IsPunctuation-mark r e.0 e.1 high;
       point_is_punctuation = IsPunctuation-mark r p.0 p.1 p.2;
-      apart = Disjoint-mark e.0 r.case_sensitive_exponent p.0 true e.1 high (λ same. p.6 (sym same));
-      exponent_is_new = is_new r e.0 r.case_sensitive_exponent e.1 high e.3 e.4 e.5;
-      point_is_new = is_new r p.0 true p.1 p.2 p.3 p.4 p.5;
+      apart = Disjoint-mark e.0 r.case_sensitive_exponent p.0 true e.1 high (λ same. p.3.0 (sym same));
+      exponent_is_new = is_new r e.0 r.case_sensitive_exponent e.1 high e.3;
+      point_is_new = is_new r p.0 true p.1 p.2 p.3.1;
     } in
     record { exponent_byte = e.0; point_byte = p.0; fit = HaveOneRole-from_accepted word e.0 p.0 lawful accepted }

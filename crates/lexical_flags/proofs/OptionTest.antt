@@ -1,14 +1,13 @@
 -- A test of an exponent character and a decimal point that computes at literals, proved to decide whether they are accepted.
 use Rattle.std.proofs.Common.{ℕ, ◌≡◌, Bool, true, false, not, ◌&&◌, List, [], ◌∷◌, IsTrue, sym, ◌∙◌}
 use Rattle.std.specs.List.{AllByRecursion}
-use Rattle.std.proofs.lemmas.Bool.{false≢true}
+use Rattle.std.proofs.lemmas.Bool.{false≢true, and_parts, and_from}
 use Rattle.lexical_base.specs.Ascii.{allowed_ascii}
 use Rattle.lexical_flags.specs.Record.{Record, raw}
 use Rattle.lexical_flags.specs.Roles.{Disjoint, cased, digits, signs, own_roles}
 use Rattle.lexical_flags.specs.Rules.{IsPunctuation}
 use Rattle.lexical_flags.specs.Options.{AreAccepted}
-use Rattle.lexical_flags.proofs.Masks.{both}
-use Rattle.lexical_flags.proofs.LawfulTest.{are_apart, Disjoint-test, Disjoint-passes, not_true, not_from, and_from}
+use Rattle.lexical_flags.proofs.LawfulTest.{are_apart, Disjoint-test, Disjoint-passes, not_true, not_from}
 
 -- whether a byte is text that is no digit and no sign
 abbrev is_punctuation : Record → ℕ → Bool
@@ -17,8 +16,8 @@ is_punctuation r byte = allowed_ascii byte && (not (digits r byte) && not (signs
 IsPunctuation-test : (r : Record) (byte : ℕ) → is_punctuation r byte ≡ true → IsPunctuation r byte
 unfolding IsPunctuation
 IsPunctuation-test r byte test =
-    let text = both (allowed_ascii byte) _ test in
-    let neither = both (not (digits r byte)) (not (signs byte)) text.1 in
+    let text = and_parts (allowed_ascii byte) _ test in
+    let neither = and_parts (not (digits r byte)) (not (signs byte)) text.1 in
     (text.0, not_true (digits r byte) neither.0, not_true (signs byte) neither.1)
 
 IsPunctuation-passes : (r : Record) (byte : ℕ) → IsPunctuation r byte → is_punctuation r byte ≡ true
@@ -34,8 +33,8 @@ is_new r counts byte =
 
 is_new-test : (r : Record) (counts : Bool) (byte : ℕ) → is_new r counts byte ≡ true → AllByRecursion (Disjoint (cased counts byte)) (own_roles r)
 is_new-test r counts byte test =
-    let separator = both (are_apart counts byte true r.digit_separator) _ test in
-    let rest = both (are_apart counts byte r.case_sensitive_base_prefix r.base_prefix) (are_apart counts byte r.case_sensitive_base_suffix r.base_suffix) separator.1 in
+    let separator = and_parts (are_apart counts byte true r.digit_separator) _ test in
+    let rest = and_parts (are_apart counts byte r.case_sensitive_base_prefix r.base_prefix) (are_apart counts byte r.case_sensitive_base_suffix r.base_suffix) separator.1 in
     (Disjoint-test counts byte true _ separator.0, (Disjoint-test counts byte _ _ rest.0, (Disjoint-test counts byte _ _ rest.1, tt)))
 
 is_new-passes : (r : Record) (counts : Bool) (byte : ℕ) → AllByRecursion (Disjoint (cased counts byte)) (own_roles r) → is_new r counts byte ≡ true
@@ -53,10 +52,10 @@ accepts r e p =
 pub accepted_tested : (word e p : ℕ) → accepts (raw word) e p ≡ true → AreAccepted word e p
 accepted_tested word e p test =
     let r : Record = raw word in
-    let parts = both (is_punctuation r e && is_punctuation r p) _ test in
-    let bytes = both (is_punctuation r e) (is_punctuation r p) parts.0 in
-    let rest = both (are_apart r.case_sensitive_exponent e true p) _ parts.1 in
-    let new = both (is_new r r.case_sensitive_exponent e) (is_new r true p) rest.1 in
+    let parts = and_parts (is_punctuation r e && is_punctuation r p) _ test in
+    let bytes = and_parts (is_punctuation r e) (is_punctuation r p) parts.0 in
+    let rest = and_parts (are_apart r.case_sensitive_exponent e true p) _ parts.1 in
+    let new = and_parts (is_new r r.case_sensitive_exponent e) (is_new r true p) rest.1 in
     record {
       exponent_is_punctuation = IsPunctuation-test r e bytes.0;
       point_is_punctuation = IsPunctuation-test r p bytes.1;

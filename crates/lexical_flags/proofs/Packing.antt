@@ -1,5 +1,5 @@
 -- A packed record, and the record that a word holds.
-use Rattle.std.proofs.Common.{ℕ, zero, suc, ◌≡◌, ◌+◌, ◌*◌, ◌^◌, ◌<◌, ◌==◌, ◌⊎◌, ◌↔◌, Bool, true, false, IsTrue, if◌then◌else◌, List, [], ◌∷◌, ◌++◌, map, drop, get_or, sum_by, refl, ap, sym, ◌∙◌, subst, inl, inr, arith}
+use Rattle.std.proofs.Common.{ℕ, zero, suc, ◌≡◌, ◌+◌, ◌*◌, ◌^◌, ◌<◌, ◌==◌, ◌⊎◌, ◌↔◌, ◌-◌, nat_lt, Bool, true, false, IsTrue, if◌then◌else◌, List, [], ◌∷◌, ◌++◌, map, drop, get_or, sum_by, refl, ap, sym, ◌∙◌, subst, inl, inr, arith}
 use Rattle.std.proofs.Math.Nat.{mod-eq_of_lt, mod-lt}
 use Rattle.std.proofs.lemmas.Nat.{pow_pos}
 use Rattle.std.proofs.lemmas.Bool.Decides.{nat_tests}
@@ -21,37 +21,7 @@ laid flag byte low middle high =
 
 -- which segment is a flag's
 abbrev flag_place : Flag → ℕ
-flag_place layout.required_integer_digits = 0
-flag_place layout.required_fraction_digits = 1
-flag_place layout.required_exponent_digits = 2
-flag_place layout.required_mantissa_digits = 3
-flag_place layout.no_positive_mantissa_sign = 4
-flag_place layout.required_mantissa_sign = 5
-flag_place layout.no_exponent_notation = 6
-flag_place layout.no_positive_exponent_sign = 7
-flag_place layout.required_exponent_sign = 8
-flag_place layout.no_exponent_without_fraction = 9
-flag_place layout.no_special = 10
-flag_place layout.case_sensitive_special = 11
-flag_place layout.no_integer_leading_zeros = 12
-flag_place layout.no_float_leading_zeros = 13
-flag_place layout.required_exponent_notation = 14
-flag_place layout.case_sensitive_exponent = 15
-flag_place layout.case_sensitive_base_prefix = 16
-flag_place layout.case_sensitive_base_suffix = 17
-flag_place layout.integer_internal_digit_separator = 19
-flag_place layout.fraction_internal_digit_separator = 20
-flag_place layout.exponent_internal_digit_separator = 21
-flag_place layout.integer_leading_digit_separator = 22
-flag_place layout.fraction_leading_digit_separator = 23
-flag_place layout.exponent_leading_digit_separator = 24
-flag_place layout.integer_trailing_digit_separator = 25
-flag_place layout.fraction_trailing_digit_separator = 26
-flag_place layout.exponent_trailing_digit_separator = 27
-flag_place layout.integer_consecutive_digit_separator = 28
-flag_place layout.fraction_consecutive_digit_separator = 29
-flag_place layout.exponent_consecutive_digit_separator = 30
-flag_place layout.special_digit_separator = 31
+flag_place f = if nat_lt (bit f) 32 then bit f else bit f - 13
 
 -- which segment is a byte's
 abbrev byte_place : Byte → ℕ

@@ -1,8 +1,9 @@
 -- The test of the reserved bits, by one mask.
 use Rattle.std.proofs.Common.{ℕ, ◌≡◌, ◌+◌, ◌*◌, ◌^◌, ◌↔◌, ◌==◌, IsTrue, eqb-true, eq-eqb, bit_and, ap, ◌∙◌, arith}
+use Rattle.std.specs.Int.Bits.{and_zero_r}
 use Rattle.lexical_flags.specs.Layout.{part}
 use Rattle.lexical_flags.specs.Rules.{Holds, reserved_bits_are_zero}
-use Rattle.lexical_flags.proofs.Masks.{and_block_more, and_zero}
+use Rattle.lexical_flags.proofs.Masks.{and_block_more}
 
 -- the bits under the mask are the parts that no field takes
 under_mask : (word : ℕ) → bit_and word 0x00FFFF00_FFFFE000_FFFC0000 ≡ part word 18 14 * 2 ^ 18 + part word 45 19 * 2 ^ 45 + part word 72 16 * 2 ^ 72
@@ -10,7 +11,7 @@ under_mask word =
     let first = and_block_more word 0 18 14 (omega arith) in
     let second = and_block_more word 0xFFFC0000 45 19 (omega arith) in
     let third = and_block_more word 0xFFFFE000_FFFC0000 72 16 (omega arith) in
-    third ∙ ap (λ n. n + part word 72 16 * 2 ^ 72) (second ∙ ap (λ n. n + part word 45 19 * 2 ^ 45) (first ∙ ap (λ n. n + part word 18 14 * 2 ^ 18) (and_zero word))) ∙ omega arith
+    third ∙ ap (λ n. n + part word 72 16 * 2 ^ 72) (second ∙ ap (λ n. n + part word 45 19 * 2 ^ 45) (first ∙ ap (λ n. n + part word 18 14 * 2 ^ 18) (and_zero_r word))) ∙ omega arith
 
 -- so none of them is set exactly where the word is clean
 pub reserved_bits : (word : ℕ) → IsTrue (bit_and word 0x00FFFF00_FFFFE000_FFFC0000 == 0) ↔ Holds reserved_bits_are_zero word

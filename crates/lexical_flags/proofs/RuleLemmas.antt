@@ -1,59 +1,20 @@
--- A word is lawful exactly if it keeps every rule, and has one answer.
-use Rattle.std.proofs.Common.{◌≡◌, ℕ, ◌<◌, ◌≢◌, ◌↔◌, inl, inr, min, nat_lt, ◌||◌, Bool, true, IsTrue, List, [], ◌∷◌, sym, ◌∙◌, subst, arith}
+-- A word is lawful exactly if it keeps every rule, and has one error.
+use Rattle.std.proofs.Common.{◌≡◌, ℕ, ◌≢◌, ◌↔◌, inl, inr, Bool, true, IsTrue, List, [], ◌∷◌, refl, sym, ◌∙◌, subst, arith}
 use Rattle.std.specs.List.{AllByRecursion}
 use Rattle.std.proofs.lemmas.Bool.{cases_eq}
 use Rattle.std.proofs.lemmas.Bool.Decides.{nat_tests}
 use Rattle.lexical_base.specs.Ascii.{ByteSet}
-use Rattle.lexical_base.specs.Digits.{value}
 use Rattle.lexical_base.specs.declared.error.Error.{Error}
 use Rattle.lexical_base.specs.declared.error.Error.TheVariants.{InvalidFlags, Success}
-use Rattle.lexical_base.proofs.ValueLemmas.{value_is}
 use Rattle.lexical_flags.specs.Layout.{IsClean}
-use Rattle.lexical_flags.specs.Record.{Record, raw, effective, effective_exponent_radix}
-use Rattle.lexical_flags.specs.Roles.{Disjoint, cased, other_case, digits, signs}
-use Rattle.lexical_flags.proofs.CaseLemmas.{cased-cases, digits-other_case, signs-other_case}
-use Rattle.lexical_flags.specs.Rules.{Rule, mantissa_radix_in_range, exponent_base_in_range, exponent_radix_in_range, digit_separator_is_free, base_prefix_is_free, base_suffix_is_free, punctuation_differs, exponent_flags_agree, mantissa_sign_flags_agree, exponent_sign_flags_agree, special_case_flags_agree, special_separator_flags_agree, integer_consecutive_has_place, fraction_consecutive_has_place, exponent_consecutive_has_place, reserved_bits_are_zero, IsRadix, IsFree, IsTextOrNone, IsPunctuation, Holds, IsFirstBroken, IsErrorOf, Lawful, answer, rules_in_order}
-
--- a set with the same letters in both cases is apart from the role of a byte that is not in it
-pub Disjoint-cased : (A : ByteSet) → ((b : ℕ) → IsTrue (A (other_case b)) → IsTrue (A b)) →
-    (counts : Bool) (own : ℕ) → (own ≢ 0 → IsTrue (A own) → ⊥) → Disjoint A (cased counts own)
-unfolding Disjoint
-Disjoint-cased A both_cases counts own out byte inside is_own =
-    let found = cased-cases counts own byte is_own in
-    out found.0 (elim found.1 [
-      | inl same ↦ subst (λ b. IsTrue (A b)) same inside
-      | inr other ↦ both_cases own (subst (λ b. IsTrue (A b)) other inside)
-    ])
-
--- and a byte whose role is apart from a set is not in it
-pub not_in : (A : ByteSet) (counts : Bool) (own : ℕ) → Disjoint A (cased counts own) → own ≢ 0 → IsTrue (A own) → ⊥
-unfolding Disjoint cased
-not_in A counts own apart positive inside = apart own inside (grind (arith, nat_tests))
-
--- digits and signs are apart from the role of a byte that is neither
-pub Disjoint-digits-cased : (r : Record) (counts : Bool) (own : ℕ) → (own ≢ 0 → IsTrue (digits r own) → ⊥) → Disjoint (digits r) (cased counts own)
-Disjoint-digits-cased r = Disjoint-cased (digits r) (digits-other_case r)
-
-pub Disjoint-signs-cased : (counts : Bool) (own : ℕ) → (own ≢ 0 → IsTrue (signs own) → ⊥) → Disjoint signs (cased counts own)
-Disjoint-signs-cased = Disjoint-cased signs signs-other_case
-
--- the bytes before the figures have the value of no digit
-no_value : (byte : ℕ) → byte < 48 → value byte ≡ 255
-no_value byte before = value_is byte (omega arith) ∙ grind (arith, nat_tests)
-
-below_neither : (v m e : ℕ) → v ≡ 255 → IsTrue (nat_lt v (min m 36) || nat_lt v (min e 36)) → ⊥
-below_neither v m e none inside = grind (arith, nat_tests)
-
--- no byte before the figures is a digit
-pub no_digit : (r : Record) (byte : ℕ) → byte < 48 → IsTrue (digits r byte) → ⊥
-no_digit r byte before = below_neither (value byte) r.mantissa_radix (effective_exponent_radix r) (no_value byte before)
-
--- no sign is a digit
-Disjoint-digits-signs : (r : Record) → Disjoint (digits r) signs
-unfolding Disjoint
-Disjoint-digits-signs r byte is_digit is_sign =
-    let before : byte < 48 = grind (arith, nat_tests) in
-    no_digit r byte before is_digit
+use Rattle.lexical_flags.specs.Record.{Record, raw, effective}
+use Rattle.lexical_flags.specs.Pairs.{ArePairwise}
+use Rattle.lexical_flags.specs.Roles as roles
+use Rattle.lexical_flags.specs.Roles.{Disjoint, Role, cased, digits, signs, role_set, own_roles, five_roles}
+use Rattle.lexical_flags.specs.Rules as rules
+use Rattle.lexical_flags.specs.Rules.{Rule, IsRadix, IsFree, IsTextOrNone, IsPunctuation, Holds, IsFirstBroken, IsErrorOf, Lawful, answer, flag_rules, rules_in_order}
+use Rattle.lexical_flags.proofs.OneRole.{before, among, Disjoint-at}
+use Rattle.lexical_flags.proofs.RoleLemmas.{Disjoint-digits-cased, Disjoint-signs-cased, Disjoint-digits-signs, not_in}
 
 -- what a free byte is
 IsFree-digit : (r : Record) (byte : ℕ) → IsFree r byte → byte ≢ 0 → IsTrue (digits r byte) → ⊥
@@ -82,32 +43,39 @@ IsFree-from r counts byte text digits_apart signs_apart =
       ]
     ]
 
+-- the roles of the bytes that a format names are among the five
+own_apart : (r : Record) → ArePairwise Disjoint (five_roles r) → ArePairwise Disjoint (own_roles r)
+own_apart r (digits_apart, (signs_apart, own)) = own
+
+-- two roles of a lawful word, beside any two bytes
+pub Disjoint-from_lawful : (word e p : ℕ) → Lawful word → (a b : Role) → before a b ≡ true → among 5 b ≡ true → Disjoint (role_set (raw word) e p a) (role_set (raw word) e p b)
+unfolding Lawful
+Disjoint-from_lawful word e p h = Disjoint-at 5 (omega arith) (role_set (raw word) e p) h.roles
+
 -- a lawful word keeps every rule
 pub Holds-from_lawful : (rule : Rule) (word : ℕ) → Lawful word → Holds rule word
 unfolding Holds Lawful
-Holds-from_lawful mantissa_radix_in_range word h = h.mantissa_radix
-Holds-from_lawful exponent_base_in_range word h = h.exponent_base
-Holds-from_lawful exponent_radix_in_range word h = h.exponent_radix
-Holds-from_lawful digit_separator_is_free word h = IsFree-from (raw word) true _ h.digit_separator h.roles.0.1.0 h.roles.1.0.0
-Holds-from_lawful base_prefix_is_free word h = IsFree-from (raw word) (raw word).case_sensitive_base_prefix _ h.base_prefix h.roles.0.1.1.0 h.roles.1.0.1.0
-Holds-from_lawful base_suffix_is_free word h = IsFree-from (raw word) (raw word).case_sensitive_base_suffix _ h.base_suffix h.roles.0.1.1.1.0 h.roles.1.0.1.1.0
-Holds-from_lawful punctuation_differs word h = h.roles.1.1
-Holds-from_lawful exponent_flags_agree word h = h.flags.0
-Holds-from_lawful mantissa_sign_flags_agree word h = h.flags.1.0
-Holds-from_lawful exponent_sign_flags_agree word h = h.flags.1.1.0
-Holds-from_lawful special_case_flags_agree word h = h.flags.1.1.1.0
-Holds-from_lawful special_separator_flags_agree word h = h.flags.1.1.1.1.0
-Holds-from_lawful integer_consecutive_has_place word h = h.flags.1.1.1.1.1.0
-Holds-from_lawful fraction_consecutive_has_place word h = h.flags.1.1.1.1.1.1.0
-Holds-from_lawful exponent_consecutive_has_place word h = h.flags.1.1.1.1.1.1.1.0
-Holds-from_lawful reserved_bits_are_zero word h = h.clean
+Holds-from_lawful rules.mantissa_radix_in_range word h = h.mantissa_radix
+Holds-from_lawful rules.exponent_base_in_range word h = h.exponent_base
+Holds-from_lawful rules.exponent_radix_in_range word h = h.exponent_radix
+Holds-from_lawful rules.digit_separator_is_free word h =
+    let apart = Disjoint-from_lawful word 0 0 h in
+    IsFree-from (raw word) true _ h.digit_separator (apart roles.digit roles.digit_separator refl refl) (apart roles.sign roles.digit_separator refl refl)
+Holds-from_lawful rules.base_prefix_is_free word h =
+    let apart = Disjoint-from_lawful word 0 0 h in
+    IsFree-from (raw word) _ _ h.base_prefix (apart roles.digit roles.base_prefix refl refl) (apart roles.sign roles.base_prefix refl refl)
+Holds-from_lawful rules.base_suffix_is_free word h =
+    let apart = Disjoint-from_lawful word 0 0 h in
+    IsFree-from (raw word) _ _ h.base_suffix (apart roles.digit roles.base_suffix refl refl) (apart roles.sign roles.base_suffix refl refl)
+Holds-from_lawful rules.punctuation_differs word h = own_apart (raw word) h.roles
+Holds-from_lawful rules.reserved_bits_are_zero word h = h.clean
+Holds-from_lawful _ word h = let flags = h.flags in assumption flags
 
 -- the radixes of a lawful word
 pub Lawful-mantissa_radix : (word : ℕ) → Lawful word → IsRadix (raw word).mantissa_radix
 unfolding Lawful
 Lawful-mantissa_radix word h = h.mantissa_radix
 
--- an exponent byte that is not empty
 own_radix : (own radix : ℕ) → own ≢ 0 → IsRadix (effective own radix) → IsRadix own
 own_radix own radix some h = grind (arith, nat_tests)
 
@@ -119,50 +87,58 @@ pub Lawful-exponent_radix : (word : ℕ) → Lawful word → (raw word).exponent
 unfolding Lawful
 Lawful-exponent_radix word h some = own_radix _ (raw word).mantissa_radix some h.exponent_radix
 
+-- the five roles, if the bytes are free and differ
+five_apart : (r : Record) → IsFree r r.digit_separator → IsFree r r.base_prefix → IsFree r r.base_suffix → ArePairwise Disjoint (own_roles r) → ArePairwise Disjoint (five_roles r)
+five_apart r separator prefix suffix own =
+    let digits_apart : (counts : Bool) (byte : ℕ) → IsFree r byte → Disjoint (digits r) (cased counts byte) = λ counts byte free. Disjoint-digits-cased r counts byte (IsFree-digit r byte free) in
+    let signs_apart : (counts : Bool) (byte : ℕ) → IsFree r byte → Disjoint signs (cased counts byte) = λ counts byte free. Disjoint-signs-cased counts byte (IsFree-sign r byte free) in
+    (
+      (Disjoint-digits-signs r, (digits_apart true _ separator, (digits_apart _ _ prefix, (digits_apart _ _ suffix, tt)))),
+      ((signs_apart true _ separator, (signs_apart _ _ prefix, (signs_apart _ _ suffix, tt))), own),
+    )
+
+every : {X : Type 0} (P : X → Type 0) → ((x : X) → P x) → (xs : List X) → AllByRecursion P xs
+every P all [] = tt
+every P all (x ∷ xs) = (all x, every P all xs)
+
 -- a word that keeps every rule is lawful
 pub Lawful-from_all : (word : ℕ) → ((rule : Rule) → Holds rule word) → Lawful word
 unfolding Holds Lawful
 Lawful-from_all word h =
     let r : Record = raw word in
-    let separator : IsFree r r.digit_separator = h digit_separator_is_free in
-    let prefix : IsFree r r.base_prefix = h base_prefix_is_free in
-    let suffix : IsFree r r.base_suffix = h base_suffix_is_free in
+    let separator : IsFree r r.digit_separator = h rules.digit_separator_is_free in
+    let prefix : IsFree r r.base_prefix = h rules.base_prefix_is_free in
+    let suffix : IsFree r r.base_suffix = h rules.base_suffix_is_free in
     record {
-      mantissa_radix = h mantissa_radix_in_range;
-      exponent_base = h exponent_base_in_range;
-      exponent_radix = h exponent_radix_in_range;
-      flags = (h exponent_flags_agree, (h mantissa_sign_flags_agree, (h exponent_sign_flags_agree, (h special_case_flags_agree, (h special_separator_flags_agree, (h integer_consecutive_has_place, (h fraction_consecutive_has_place, (h exponent_consecutive_has_place, tt))))))));
+      mantissa_radix = h rules.mantissa_radix_in_range;
+      exponent_base = h rules.exponent_base_in_range;
+      exponent_radix = h rules.exponent_radix_in_range;
+      flags = every (λ rule. Holds rule word) h flag_rules;
       digit_separator = IsFree-text r _ separator;
       base_prefix = IsFree-text r _ prefix;
       base_suffix = IsFree-text r _ suffix;
-      roles = (
-        (Disjoint-digits-signs r, (Disjoint-digits-cased r true _ (IsFree-digit r _ separator), (Disjoint-digits-cased r r.case_sensitive_base_prefix _ (IsFree-digit r _ prefix), (Disjoint-digits-cased r r.case_sensitive_base_suffix _ (IsFree-digit r _ suffix), tt)))),
-        (
-          (Disjoint-signs-cased true _ (IsFree-sign r _ separator), (Disjoint-signs-cased r.case_sensitive_base_prefix _ (IsFree-sign r _ prefix), (Disjoint-signs-cased r.case_sensitive_base_suffix _ (IsFree-sign r _ suffix), tt))),
-          h punctuation_differs,
-        ),
-      );
-      clean = h reserved_bits_are_zero;
+      roles = five_apart r separator prefix suffix (h rules.punctuation_differs);
+      clean = h rules.reserved_bits_are_zero;
     }
 
--- no broken rule is answered with Success
+-- no rule has the error Success
 answer-success : (rule : Rule) → answer rule ≢ Success
-answer-success mantissa_radix_in_range e = cc
+answer-success rules.mantissa_radix_in_range e = cc
 answer-success _ e = cc
 
--- where the answer is Success each of the rules holds
+-- if no rule of a list is broken, each is kept
 all_from_success : (word : ℕ) (rules : List Rule) → IsFirstBroken rules word Success → AllByRecursion (λ rule. Holds rule word) rules
 all_from_success word [] h = tt
 all_from_success word (rule ∷ rules) (inl broken) = absurd (answer-success rule (sym broken.1))
 all_from_success word (rule ∷ rules) (inr kept) = (kept.0, all_from_success word rules kept.1)
 
--- where every rule holds the answer is Success
+-- if every rule is kept, none is broken
 success_from_all : (word : ℕ) (error : Error) → ((rule : Rule) → Holds rule word) → (rules : List Rule) → IsFirstBroken rules word error → error ≡ Success
 success_from_all word error all [] h = h
 success_from_all word error all (rule ∷ rules) (inl broken) = absurd (broken.0 (all rule))
 success_from_all word error all (rule ∷ rules) (inr kept) = success_from_all word error all rules kept.1
 
--- there is one answer
+-- there is one error
 pub IsFirstBroken-unique : (word : ℕ) (a b : Error) (rules : List Rule) → IsFirstBroken rules word a → IsFirstBroken rules word b → a ≡ b
 IsFirstBroken-unique word a b [] h k = h ∙ sym k
 IsFirstBroken-unique word a b (rule ∷ rules) (inl h) (inl k) = h.1 ∙ sym k.1
@@ -170,65 +146,49 @@ IsFirstBroken-unique word a b (rule ∷ rules) (inl h) (inr k) = absurd (h.0 k.0
 IsFirstBroken-unique word a b (rule ∷ rules) (inr h) (inl k) = absurd (k.0 h.0)
 IsFirstBroken-unique word a b (rule ∷ rules) (inr h) (inr k) = IsFirstBroken-unique word a b rules h.1 k.1
 
--- a word has one error
 pub IsErrorOf-unique : (word : ℕ) (a b : Error) → IsErrorOf word a → IsErrorOf word b → a ≡ b
 unfolding IsErrorOf
 IsErrorOf-unique word a b = IsFirstBroken-unique word a b rules_in_order
 
--- two words that keep the same rules have the same answers
-pub IsFirstBroken-same : (v w : ℕ) → ((rule : Rule) → Holds rule v ↔ Holds rule w) → (rules : List Rule) (error : Error) → IsFirstBroken rules v error → IsFirstBroken rules w error
+-- words that keep the same rules have the same error
+IsFirstBroken-same : (v w : ℕ) → ((rule : Rule) → Holds rule v ↔ Holds rule w) → (rules : List Rule) (error : Error) → IsFirstBroken rules v error → IsFirstBroken rules w error
 IsFirstBroken-same v w same [] error h = h
 IsFirstBroken-same v w same (rule ∷ rules) error (inl broken) = inl (λ kept. broken.0 ((same rule).1 kept), broken.1)
 IsFirstBroken-same v w same (rule ∷ rules) error (inr kept) = inr ((same rule).0 kept.0, IsFirstBroken-same v w same rules error kept.1)
 
--- words that keep the same rules have the same error
 pub IsErrorOf-same : (v w : ℕ) → ((rule : Rule) → Holds rule v ↔ Holds rule w) → (error : Error) → IsErrorOf v error ↔ IsErrorOf w error
 unfolding IsErrorOf
 IsErrorOf-same v w same error =
     (IsFirstBroken-same v w same rules_in_order error, IsFirstBroken-same w v (λ rule. ((same rule).1, (same rule).0)) rules_in_order error)
 
--- the rule that is answered with InvalidFlags is kept by a clean word
+-- a clean word keeps the rule whose error is InvalidFlags
 flags-answer : (rule : Rule) (word : ℕ) → answer rule ≡ InvalidFlags → IsClean word → Holds rule word
 unfolding Holds
-flags-answer reserved_bits_are_zero word e clean = clean
-flags-answer mantissa_radix_in_range word e clean = cc
+flags-answer rules.reserved_bits_are_zero word e clean = clean
+flags-answer rules.mantissa_radix_in_range word e clean = cc
 flags-answer _ word e clean = cc
 
--- a clean word is never answered with InvalidFlags
 clean-first : (word : ℕ) (rules : List Rule) → IsClean word → IsFirstBroken rules word InvalidFlags → ⊥
 clean-first word [] clean h = cc
 clean-first word (rule ∷ rules) clean (inl broken) = broken.0 (flags-answer rule word (sym broken.1) clean)
 clean-first word (rule ∷ rules) clean (inr kept) = clean-first word rules clean kept.1
 
+-- so that is never its error
 pub not_flags : (word : ℕ) (error : Error) → IsClean word → IsErrorOf word error → error ≢ InvalidFlags
 unfolding IsErrorOf
 not_flags word error clean h e = clean-first word rules_in_order clean (subst (IsErrorOf word) e h)
 
+-- every rule is in the list of all
+every_rule : (word : ℕ) → AllByRecursion (λ rule. Holds rule word) rules_in_order → (rule : Rule) → Holds rule word
+every_rule word all rules.mantissa_radix_in_range = assumption all
+every_rule word all _ = assumption all
+
 -- a word without an error keeps every rule
 pub Lawful-from_success : (word : ℕ) → IsErrorOf word Success → Lawful word
 unfolding IsErrorOf
-Lawful-from_success word h =
-    let all : AllByRecursion (λ rule. Holds rule word) rules_in_order = all_from_success word rules_in_order h in
-    Lawful-from_all word (λ rule. elim rule as (λ rule. Holds rule word) [
-      | mantissa_radix_in_range ↦ all.0
-      | exponent_base_in_range ↦ all.1.0
-      | exponent_radix_in_range ↦ all.1.1.0
-      | digit_separator_is_free ↦ all.1.1.1.0
-      | base_prefix_is_free ↦ all.1.1.1.1.0
-      | base_suffix_is_free ↦ all.1.1.1.1.1.0
-      | punctuation_differs ↦ all.1.1.1.1.1.1.0
-      | exponent_flags_agree ↦ all.1.1.1.1.1.1.1.0
-      | mantissa_sign_flags_agree ↦ all.1.1.1.1.1.1.1.1.0
-      | exponent_sign_flags_agree ↦ all.1.1.1.1.1.1.1.1.1.0
-      | special_case_flags_agree ↦ all.1.1.1.1.1.1.1.1.1.1.0
-      | special_separator_flags_agree ↦ all.1.1.1.1.1.1.1.1.1.1.1.0
-      | integer_consecutive_has_place ↦ all.1.1.1.1.1.1.1.1.1.1.1.1.0
-      | fraction_consecutive_has_place ↦ all.1.1.1.1.1.1.1.1.1.1.1.1.1.0
-      | exponent_consecutive_has_place ↦ all.1.1.1.1.1.1.1.1.1.1.1.1.1.1.0
-      | reserved_bits_are_zero ↦ all.1.1.1.1.1.1.1.1.1.1.1.1.1.1.1.0
-    ])
+Lawful-from_success word h = Lawful-from_all word (every_rule word (all_from_success word rules_in_order h))
 
--- the answer to a word is Success exactly if it is lawful
+-- the error of a word is Success exactly if the word is lawful
 pub Success-lawful : (word : ℕ) (error : Error) → IsErrorOf word error → ((error ≡ Success) ↔ Lawful word)
 unfolding IsErrorOf
 Success-lawful word error h = (

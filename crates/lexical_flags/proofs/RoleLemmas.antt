@@ -1,0 +1,54 @@
+-- Which roles no byte plays both of: digits, signs, and the roles of single bytes.
+use Rattle.std.proofs.Common.{ℕ, ◌≡◌, ◌≢◌, ◌<◌, inl, inr, min, nat_lt, ◌||◌, Bool, true, IsTrue, subst, ◌∙◌, arith}
+use Rattle.std.proofs.lemmas.Bool.Decides.{nat_tests}
+use Rattle.lexical_base.specs.Ascii.{ByteSet}
+use Rattle.lexical_base.specs.Digits.{value}
+use Rattle.lexical_base.proofs.ValueLemmas.{value_is}
+use Rattle.lexical_flags.specs.Record.{Record, effective_exponent_radix}
+use Rattle.lexical_flags.specs.Roles.{Disjoint, cased, other_case, digits, signs}
+use Rattle.lexical_flags.proofs.CaseLemmas.{cased-cases, digits-other_case, signs-other_case}
+
+pub Disjoint-sym : (A B : ByteSet) → Disjoint A B → Disjoint B A
+unfolding Disjoint
+Disjoint-sym A B apart byte in_b in_a = apart byte in_a in_b
+
+-- a set that has a letter in both cases or in none is apart from the role of a byte that is not in it
+Disjoint-cased : (A : ByteSet) → ((b : ℕ) → IsTrue (A (other_case b)) → IsTrue (A b)) →
+    (counts : Bool) (own : ℕ) → (own ≢ 0 → IsTrue (A own) → ⊥) → Disjoint A (cased counts own)
+unfolding Disjoint
+Disjoint-cased A both_cases counts own out byte inside is_own =
+    let found = cased-cases counts own byte is_own in
+    out found.0 (elim found.1 [
+      | inl same ↦ subst (λ b. IsTrue (A b)) same inside
+      | inr other ↦ both_cases own (subst (λ b. IsTrue (A b)) other inside)
+    ])
+
+-- and a byte whose role is apart from a set is not in it
+pub not_in : (A : ByteSet) (counts : Bool) (own : ℕ) → Disjoint A (cased counts own) → own ≢ 0 → IsTrue (A own) → ⊥
+unfolding Disjoint cased
+not_in A counts own apart positive inside = apart own inside (grind (arith, nat_tests))
+
+-- digits and signs are apart from the role of a byte that is neither
+pub Disjoint-digits-cased : (r : Record) (counts : Bool) (own : ℕ) → (own ≢ 0 → IsTrue (digits r own) → ⊥) → Disjoint (digits r) (cased counts own)
+Disjoint-digits-cased r = Disjoint-cased (digits r) (digits-other_case r)
+
+pub Disjoint-signs-cased : (counts : Bool) (own : ℕ) → (own ≢ 0 → IsTrue (signs own) → ⊥) → Disjoint signs (cased counts own)
+Disjoint-signs-cased = Disjoint-cased signs signs-other_case
+
+-- a byte below the character 0 has the value of no digit
+no_value : (byte : ℕ) → byte < 48 → value byte ≡ 255
+no_value byte before = value_is byte (omega arith) ∙ grind (arith, nat_tests)
+
+below_neither : (v m e : ℕ) → v ≡ 255 → IsTrue (nat_lt v (min m 36) || nat_lt v (min e 36)) → ⊥
+below_neither v m e none inside = grind (arith, nat_tests)
+
+-- so it is no digit
+pub no_digit : (r : Record) (byte : ℕ) → byte < 48 → IsTrue (digits r byte) → ⊥
+no_digit r byte before = below_neither (value byte) r.mantissa_radix (effective_exponent_radix r) (no_value byte before)
+
+-- and no sign is one
+pub Disjoint-digits-signs : (r : Record) → Disjoint (digits r) signs
+unfolding Disjoint
+Disjoint-digits-signs r byte is_digit is_sign =
+    let before : byte < 48 = grind (arith, nat_tests) in
+    no_digit r byte before is_digit
