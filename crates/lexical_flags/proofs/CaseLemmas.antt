@@ -1,4 +1,4 @@
--- Letters in the other case.
+-- The two cases of a letter, and the roles that they play.
 use Rattle.std.proofs.Common.{ℕ, ◌≡◌, ◌≢◌, ◌<◌, ◌⊎◌, inl, inr, ◌∙◌, ◌↔◌, ◌==◌, ◌||◌, ◌&&◌, Bool, true, false, not, IsTrue, bit_or, bit_xor, eqb-true, refl, ap, sym, subst, arith, min, nat_lt}
 use Rattle.std.specs.Prelude.{position, unwrap_or}
 use Rattle.std.proofs.lemmas.Bool.{false≢true, agree_below_at}
@@ -8,7 +8,7 @@ use Rattle.lexical_base.specs.Digits.{value, figures, capital}
 use Rattle.lexical_flags.specs.Record.{Record, effective_exponent_radix}
 use Rattle.lexical_flags.specs.Roles.{Disjoint, cased, other_case, digits, signs}
 
--- the bit that tells the cases of a letter apart
+-- the other case of a letter has the bit 32 flipped
 letter_flipped : (letter same : Bool) → (not letter || same) ≡ true → IsTrue letter → same ≡ true
 letter_flipped true same e h = e
 letter_flipped false same e h = cc
@@ -19,7 +19,7 @@ flipped byte below is_letter =
     let same : (bit_xor byte 32 == other_case byte) ≡ true = letter_flipped (letters byte) _ all is_letter in
     grind (arith, nat_tests)
 
--- what is in the role of a byte
+-- the bytes that play the role of a byte
 pub cased-cases : (counts : Bool) (own byte : ℕ) → IsTrue (cased counts own byte) → (own ≢ 0) × ((byte ≡ own) ⊎ (byte ≡ other_case own))
 unfolding cased
 cased-cases counts own byte inside = grind (arith, nat_tests)
@@ -27,7 +27,7 @@ cased-cases counts own byte inside = grind (arith, nat_tests)
 other_case-twice : (byte : ℕ) → other_case (other_case byte) ≡ byte
 other_case-twice byte = grind (arith, nat_tests)
 
--- bytes that differ, and are not one letter in two cases, have no role in common
+-- bytes that differ, and are not the two cases of a letter, have disjoint roles
 pub differ_apart : (a_counts : Bool) (a : ℕ) (b_counts : Bool) (b : ℕ) → a ≢ b → b ≢ other_case a → Disjoint (cased a_counts a) (cased b_counts b)
 unfolding Disjoint
 differ_apart a_counts a b_counts b differ other byte is_a is_b =
@@ -47,18 +47,18 @@ other_case-bits : (byte : ℕ) → byte < 256 → bit_or (other_case byte) 32 �
 other_case-bits byte below =
     eqb-true _ _ (agree_below_at (λ b. bit_or (other_case b) 32 == bit_or b 32) (λ _. true) 256 byte refl below)
 
--- so bytes that differ in another bit have no role in common
+-- so bytes that differ in another bit have disjoint roles
 pub other_bits_apart : (a_counts : Bool) (a : ℕ) (b_counts : Bool) (b : ℕ) → a < 256 → bit_or a 32 ≢ bit_or b 32 → Disjoint (cased a_counts a) (cased b_counts b)
 other_bits_apart a_counts a b_counts b below differ =
     differ_apart a_counts a b_counts b (λ same. differ (ap (λ n. bit_or n 32) same))
     (λ other. differ (sym (ap (λ n. bit_or n 32) other ∙ other_case-bits a below)))
 
--- two cases of one letter have no role in common where both cases count
+-- the two cases of a letter have disjoint roles if both roles are case-sensitive
 both_count : (a b : ℕ) → a ≢ b → Disjoint (cased true a) (cased true b)
 unfolding Disjoint cased
 both_count a b differ byte is_a is_b = grind (arith, nat_tests)
 
--- and elsewhere they have one
+-- and else not
 first_counts_not : (a : ℕ) (b_counts : Bool) (b : ℕ) → IsTrue (letters a) → b ≡ other_case a → Disjoint (cased false a) (cased b_counts b) → ⊥
 unfolding Disjoint cased
 first_counts_not a b_counts b letter other apart = apart b (grind (arith, nat_tests)) (grind (arith, nat_tests))
@@ -85,6 +85,6 @@ pub digits-other_case : (r : Record) (byte : ℕ) → IsTrue (digits r (other_ca
 digits-other_case r byte inside =
     subst (λ v. IsTrue (nat_lt v (min r.mantissa_radix 36) || nat_lt v (min (effective_exponent_radix r) 36))) (value-other_case byte) inside
 
--- and so it is with signs
+-- no sign is a letter
 pub signs-other_case : (byte : ℕ) → IsTrue (signs (other_case byte)) → IsTrue (signs byte)
 signs-other_case byte inside = grind (arith, nat_tests)

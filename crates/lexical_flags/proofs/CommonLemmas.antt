@@ -14,21 +14,21 @@ use Rattle.lexical_flags.specs.Common.{common, common_at}
 use Rattle.lexical_flags.proofs.Masks.{ascends, above, and_all, sum-below}
 use Rattle.lexical_flags.proofs.FlagBits.{mask_test}
 
--- two bits are both one exactly where the lesser is
+-- two bits are both 1 exactly if the smaller is
 both_bits : (a b unit : ℕ) → a < 2 → b < 2 → (if (a == 1) && (b == 1) then unit else 0) ≡ min a b * unit
 both_bits a b unit la lb = grind (arith, nat_tests)
 
-common_at-bit : (v w place : ℕ) → common_at v w place ≡ part (bit_and v w) place 1 * 2 ^ place
-common_at-bit v w place =
-    both_bits (part v place 1) (part w place 1) (2 ^ place) (mod-lt _ (pow_pos 1)) (mod-lt _ (pow_pos 1))
-    ∙ ap (λ b. b * 2 ^ place) (sym (bit_at_and v w place))
+common_at-bit : (v w k : ℕ) → common_at v w k ≡ part (bit_and v w) k 1 * 2 ^ k
+common_at-bit v w k =
+    both_bits (part v k 1) (part w k 1) (2 ^ k) (mod-lt _ (pow_pos 1)) (mod-lt _ (pow_pos 1))
+    ∙ ap (λ b. b * 2 ^ k) (sym (bit_at_and v w k))
 
--- what two words have in common is their `&`, where the second has 128 bits
+-- what two words have in common is their `&`, if the second has 128 bits
 pub common-bit_and : (v w : ℕ) → w < 2 ^ 128 → common v w ≡ bit_and v w
 unfolding common
 common-bit_and v w fits =
-    (λ i. sum_by (λ place. common_at-bit v w place i) (range_with_len 0 128))
-    ∙ sym (and_all (λ place. place) (range_with_len 0 128) (bit_and v w) refl)
+    (λ i. sum_by (λ k. common_at-bit v w k i) (range_with_len 0 128))
+    ∙ sym (and_all (λ k. k) (range_with_len 0 128) (bit_and v w) refl)
     ∙ and_mask (bit_and v w) 128
     ∙ mod-eq_of_lt (lt_of_le_of_lt (and_le_r v w) fits)
 

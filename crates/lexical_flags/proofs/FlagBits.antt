@@ -14,7 +14,7 @@ use Rattle.lexical_flags.proofs.RecordLemmas.{flag_of-raw}
 use Rattle.lexical_flags.proofs.Packing.{bit_value, bit_value-lt, flag_bits-value, raw-word_of, HasBytes-by_name}
 use Rattle.lexical_flags.proofs.Masks.{ascends, and_all, or_all, sum-below}
 
--- a bit that is moved up is 0 exactly where it was
+-- a bit times a power of two is 0 exactly if the bit is
 moved_bit-zero : (n p : ℕ) → n < 2 → 0 < p → (n * p == 0) ≡ not (n == 1)
 moved_bit-zero n p small high = elim (cases_lt n 1) [
   | inl l ↦ let none : n ≡ 0 = omega arith in rw none (rw (zero-mul p) refl)
@@ -26,11 +26,11 @@ not-not true = refl
 not-not false = refl
 
 -- the test of one flag, as the code writes it
-pub flag_test : (word place : ℕ) → not (bit_and word (2 ^ place) == 0) ≡ (part word place 1 == 1)
-flag_test word place =
-    ap (λ n. not (n == 0)) (and_pow word place)
-    ∙ ap not (moved_bit-zero (part word place 1) (2 ^ place) (mod-lt _ (omega arith)) (pow_pos place))
-    ∙ not-not (part word place 1 == 1)
+pub flag_test : (word k : ℕ) → not (bit_and word (2 ^ k) == 0) ≡ (part word k 1 == 1)
+flag_test word k =
+    ap (λ n. not (n == 0)) (and_pow word k)
+    ∙ ap not (moved_bit-zero (part word k 1) (2 ^ k) (mod-lt _ (omega arith)) (pow_pos k))
+    ∙ not-not (part word k 1 == 1)
 
 sum-zero : (m n : ℕ) → (m + n == 0) ≡ ((m == 0) && (n == 0))
 sum-zero m n = grind (arith, nat_tests)
@@ -39,7 +39,7 @@ not_either : (a b : Bool) → (not a && not b) ≡ not (a || b)
 not_either true b = refl
 not_either false b = refl
 
--- a sum of bits is 0 exactly where none of the flags is set
+-- the bits of some flags add up to 0 exactly if none of the flags is set
 sum_by-zero : (fs : List Flag) (word : ℕ) → (sum_by (λ f. part word (bit f) 1 * 2 ^ bit f) fs == 0) ≡ not (list_any (flag_of (raw word)) fs)
 sum_by-zero [] word = refl
 sum_by-zero (f ∷ fs) word =
@@ -50,30 +50,29 @@ sum_by-zero (f ∷ fs) word =
     ∙ (λ i. here i && sum_by-zero fs word i)
     ∙ not_either (flag_of (raw word) f) (list_any (flag_of (raw word)) fs)
 
--- a word shares no bit with the mask of some flags exactly where none of them is set
+-- a word has no bit in common with the mask of some flags exactly if none of them is set
 pub mask_test : (fs : List Flag) (word : ℕ) → ascends bit 1 0 fs ≡ true → (bit_and word (mask_of fs) == 0) ≡ not (list_any (flag_of (raw word)) fs)
 mask_test fs word up = ap (λ n. n == 0) (and_all bit fs word up) ∙ sum_by-zero fs word
 
 negated : (a b : Bool) → a ≡ not b → b ≡ not a
 negated a b e = sym (not-not b) ∙ ap not (sym e)
 
--- a word that meets the mask of some flags has one of them set
+-- if it has one, one of them is set
 pub any_set : (fs : List Flag) (word : ℕ) → ascends bit 1 0 fs ≡ true → bit_and word (mask_of fs) ≢ 0 → list_any (flag_of (raw word)) fs ≡ true
 any_set fs word up some =
     let test : (bit_and word (mask_of fs) == 0) ≡ false = ne_eqb _ _ some in
     negated _ _ (mask_test fs word up) ∙ ap not test
 
--- a word that misses the mask of some flags has none of them set
+-- if it has none, none of them is
 pub none_set : (fs : List Flag) (word : ℕ) → ascends bit 1 0 fs ≡ true → bit_and word (mask_of fs) ≡ 0 → list_any (flag_of (raw word)) fs ≡ false
 none_set fs word up none =
     let test : (bit_and word (mask_of fs) == 0) ≡ true = eq-eqb _ _ none in
     negated _ _ (mask_test fs word up) ∙ ap not test
 
--- whether a digit separator may stand somewhere, as the code asks it
+-- whether some flag allows a digit separator, as the code tests it
 pub separator_flag_set : (word : ℕ) → bit_and word 0x1FFF_0000_0000 ≢ 0 → separator_on (raw word) ≡ true
 separator_flag_set word = any_set digit_separator_flags word refl
 
--- a word that misses the mask of the separator flags has no separator on
 pub no_separator_flag_set : (word : ℕ) → bit_and word 0x1FFF_0000_0000 ≡ 0 → separator_on (raw word) ≡ false
 no_separator_flag_set word = none_set digit_separator_flags word refl
 
@@ -92,7 +91,7 @@ flags-lt r =
     sym (λ i. fold (λ bits f. bits + flag_bits-value (flag_of r f) (bit f) i) 0 flags) in
     omega arith
 
--- the bytes joined above them
+-- and the bytes joined with them
 pub fields_joined : (r : Record) → HasBytes r → fold (λ bits b. bit_or bits (byte_bits r b)) (sum_by (flag_bits r) flags) bytes ≡ word_of r
 unfolding word_of
 fields_joined r h =
@@ -107,7 +106,7 @@ word_of-flags_only : (r : Record) → sum_by (flag_bits r) flags ≡ word_of (fl
 unfolding word_of
 word_of-flags_only r = omega arith
 
--- the flags by themselves tell whether a separator may stand somewhere
+-- the flags alone tell whether a digit separator is allowed
 pub separator_on-flags : (r : Record) → separator_on (raw (sum_by (flag_bits r) flags)) ≡ separator_on r
 separator_on-flags r =
     let none : HasBytes (flags_only r) = HasBytes-by_name (flags_only r) (omega arith) (omega arith) (omega arith) (omega arith) (omega arith) (omega arith) in

@@ -8,7 +8,8 @@ use Rattle.lexical_base.specs.declared.error.Error.TheVariants.{Success}
 use Rattle.lexical_flags.specs.Layout.{part, IsClean}
 use Rattle.lexical_flags.specs.Record.{Record, raw, effective_exponent_base, effective_exponent_radix}
 use Rattle.lexical_flags.specs.Roles.{Disjoint, cased, other_case, digits, signs}
-use Rattle.lexical_flags.specs.Rules.{Rule, mantissa_radix_in_range, exponent_base_in_range, exponent_radix_in_range, digit_separator_is_free, base_prefix_is_free, base_suffix_is_free, punctuation_differs, exponent_flags_agree, mantissa_sign_flags_agree, exponent_sign_flags_agree, special_case_flags_agree, special_separator_flags_agree, integer_consecutive_has_place, fraction_consecutive_has_place, exponent_consecutive_has_place, reserved_bits_are_zero, IsRadix, IsFree, IsPunctuation, NotBoth, HasPlace, Demands, Holds, IsFirstBroken, IsErrorOf, Lawful, answer, rules_in_order}
+use Rattle.lexical_flags.specs.Rules as rules
+use Rattle.lexical_flags.specs.Rules.{Rule, IsRadix, IsFree, IsPunctuation, NotBoth, HasPlace, Demands, Holds, IsFirstBroken, IsErrorOf, Lawful, error_of, rules_in_order}
 use Rattle.lexical_flags.proofs.CaseLemmas.{cased-cases, differ_apart, cases_apart}
 use Rattle.lexical_flags.proofs.RuleLemmas.{Lawful-from_success}
 
@@ -27,38 +28,38 @@ has_place consecutive internal leading trailing = not consecutive || (internal |
 
 -- whether a record meets what a rule demands
 abbrev passes : Rule → Record → Bool
-passes mantissa_radix_in_range r = is_radix r.mantissa_radix
-passes exponent_base_in_range r = is_radix (effective_exponent_base r)
-passes exponent_radix_in_range r = is_radix (effective_exponent_radix r)
-passes digit_separator_is_free r = is_free r r.digit_separator
-passes base_prefix_is_free r = is_free r r.base_prefix
-passes base_suffix_is_free r = is_free r r.base_suffix
-passes punctuation_differs r =
+passes rules.mantissa_radix_in_range r = is_radix r.mantissa_radix
+passes rules.exponent_base_in_range r = is_radix (effective_exponent_base r)
+passes rules.exponent_radix_in_range r = is_radix (effective_exponent_radix r)
+passes rules.digit_separator_is_free r = is_free r r.digit_separator
+passes rules.base_prefix_is_free r = is_free r r.base_prefix
+passes rules.base_suffix_is_free r = is_free r r.base_suffix
+passes rules.punctuation_differs r =
     are_apart true r.digit_separator r.case_sensitive_base_prefix r.base_prefix &&
     (are_apart true r.digit_separator r.case_sensitive_base_suffix r.base_suffix &&
     are_apart r.case_sensitive_base_prefix r.base_prefix r.case_sensitive_base_suffix r.base_suffix)
-passes exponent_flags_agree r = not (r.no_exponent_notation && r.required_exponent_notation)
-passes mantissa_sign_flags_agree r = not (r.no_positive_mantissa_sign && r.required_mantissa_sign)
-passes exponent_sign_flags_agree r = not (r.no_positive_exponent_sign && r.required_exponent_sign)
-passes special_case_flags_agree r = not (r.no_special && r.case_sensitive_special)
-passes special_separator_flags_agree r = not (r.no_special && r.special_digit_separator)
-passes integer_consecutive_has_place r =
+passes rules.exponent_flags_agree r = not (r.no_exponent_notation && r.required_exponent_notation)
+passes rules.mantissa_sign_flags_agree r = not (r.no_positive_mantissa_sign && r.required_mantissa_sign)
+passes rules.exponent_sign_flags_agree r = not (r.no_positive_exponent_sign && r.required_exponent_sign)
+passes rules.special_case_flags_agree r = not (r.no_special && r.case_sensitive_special)
+passes rules.special_separator_flags_agree r = not (r.no_special && r.special_digit_separator)
+passes rules.integer_consecutive_has_place r =
     has_place r.integer_consecutive_digit_separator r.integer_internal_digit_separator
     r.integer_leading_digit_separator r.integer_trailing_digit_separator
-passes fraction_consecutive_has_place r =
+passes rules.fraction_consecutive_has_place r =
     has_place r.fraction_consecutive_digit_separator r.fraction_internal_digit_separator
     r.fraction_leading_digit_separator r.fraction_trailing_digit_separator
-passes exponent_consecutive_has_place r =
+passes rules.exponent_consecutive_has_place r =
     has_place r.exponent_consecutive_digit_separator r.exponent_internal_digit_separator
     r.exponent_leading_digit_separator r.exponent_trailing_digit_separator
-passes reserved_bits_are_zero r = true
+passes rules.reserved_bits_are_zero r = true
 
 -- whether a word keeps a rule
 abbrev keeps : Rule → ℕ → Bool
-keeps reserved_bits_are_zero word = (part word 18 14 == 0) && ((part word 45 19 == 0) && (part word 72 16 == 0))
+keeps rules.reserved_bits_are_zero word = (part word 18 14 == 0) && ((part word 45 19 == 0) && (part word 72 16 == 0))
 keeps rule word = passes rule (raw word)
 
--- truth values
+-- facts of `bool`
 pub not_true : (a : Bool) → not a ≡ true → IsTrue a → ⊥
 not_true true e h = cc
 not_true false e h = cc
@@ -101,7 +102,7 @@ unfolding cased
 cased-own counts a e = and_from (not (a == 0)) _ (ap not e) (ap (λ t. t || (not counts && (a == other_case a))) (eq-eqb a a refl))
 
 module _ (a_counts : Bool) (a : ℕ) (b_counts : Bool) (b : ℕ) where
-  -- two cases of one letter are apart exactly if both count
+  -- the two cases of a letter are apart exactly if both roles are case-sensitive
   letters_apart : (a == b) ≡ false → (b == other_case a) ≡ true → IsTrue (a_counts && b_counts) ↔ Disjoint (cased a_counts a) (cased b_counts b)
   letters_apart e k =
       let other : b ≡ other_case a = eqb-true b (other_case a) k in
@@ -142,60 +143,60 @@ HasPlace-passes false i l t h = refl
 
 -- a record that passes a rule's test meets the rule
 Demands-test : (rule : Rule) (r : Record) → passes rule r ≡ true → Demands rule r
-Demands-test mantissa_radix_in_range r e = IsRadix-test _ e
-Demands-test exponent_base_in_range r e = IsRadix-test _ e
-Demands-test exponent_radix_in_range r e = IsRadix-test _ e
-Demands-test digit_separator_is_free r e = IsFree-test r _ e
-Demands-test base_prefix_is_free r e = IsFree-test r _ e
-Demands-test base_suffix_is_free r e = IsFree-test r _ e
-Demands-test punctuation_differs r e =
+Demands-test rules.mantissa_radix_in_range r e = IsRadix-test _ e
+Demands-test rules.exponent_base_in_range r e = IsRadix-test _ e
+Demands-test rules.exponent_radix_in_range r e = IsRadix-test _ e
+Demands-test rules.digit_separator_is_free r e = IsFree-test r _ e
+Demands-test rules.base_prefix_is_free r e = IsFree-test r _ e
+Demands-test rules.base_suffix_is_free r e = IsFree-test r _ e
+Demands-test rules.punctuation_differs r e =
     let prefix : Bool = r.case_sensitive_base_prefix in
     let suffix : Bool = r.case_sensitive_base_suffix in
     let first = and_parts (are_apart true r.digit_separator prefix r.base_prefix) _ e in
     let rest = and_parts (are_apart true r.digit_separator suffix r.base_suffix) (are_apart prefix r.base_prefix suffix r.base_suffix) first.1 in
     ((Disjoint-test true _ prefix _ first.0, (Disjoint-test true _ suffix _ rest.0, tt)), ((Disjoint-test prefix _ suffix _ rest.1, tt), (tt, tt)))
-Demands-test exponent_flags_agree r e = NotBoth-test r.no_exponent_notation r.required_exponent_notation e
-Demands-test mantissa_sign_flags_agree r e = NotBoth-test r.no_positive_mantissa_sign r.required_mantissa_sign e
-Demands-test exponent_sign_flags_agree r e = NotBoth-test r.no_positive_exponent_sign r.required_exponent_sign e
-Demands-test special_case_flags_agree r e = NotBoth-test r.no_special r.case_sensitive_special e
-Demands-test special_separator_flags_agree r e = NotBoth-test r.no_special r.special_digit_separator e
-Demands-test integer_consecutive_has_place r e =
+Demands-test rules.exponent_flags_agree r e = NotBoth-test r.no_exponent_notation r.required_exponent_notation e
+Demands-test rules.mantissa_sign_flags_agree r e = NotBoth-test r.no_positive_mantissa_sign r.required_mantissa_sign e
+Demands-test rules.exponent_sign_flags_agree r e = NotBoth-test r.no_positive_exponent_sign r.required_exponent_sign e
+Demands-test rules.special_case_flags_agree r e = NotBoth-test r.no_special r.case_sensitive_special e
+Demands-test rules.special_separator_flags_agree r e = NotBoth-test r.no_special r.special_digit_separator e
+Demands-test rules.integer_consecutive_has_place r e =
     HasPlace-test r.integer_consecutive_digit_separator r.integer_internal_digit_separator
     r.integer_leading_digit_separator r.integer_trailing_digit_separator e
-Demands-test fraction_consecutive_has_place r e =
+Demands-test rules.fraction_consecutive_has_place r e =
     HasPlace-test r.fraction_consecutive_digit_separator r.fraction_internal_digit_separator
     r.fraction_leading_digit_separator r.fraction_trailing_digit_separator e
-Demands-test exponent_consecutive_has_place r e =
+Demands-test rules.exponent_consecutive_has_place r e =
     HasPlace-test r.exponent_consecutive_digit_separator r.exponent_internal_digit_separator
     r.exponent_leading_digit_separator r.exponent_trailing_digit_separator e
-Demands-test reserved_bits_are_zero r e = tt
+Demands-test rules.reserved_bits_are_zero r e = tt
 
 -- a record that meets a rule passes its test
 Demands-passes : (rule : Rule) (r : Record) → Demands rule r → passes rule r ≡ true
-Demands-passes mantissa_radix_in_range r h = IsRadix-passes _ h
-Demands-passes exponent_base_in_range r h = IsRadix-passes _ h
-Demands-passes exponent_radix_in_range r h = IsRadix-passes _ h
-Demands-passes digit_separator_is_free r h = IsFree-passes r _ h
-Demands-passes base_prefix_is_free r h = IsFree-passes r _ h
-Demands-passes base_suffix_is_free r h = IsFree-passes r _ h
-Demands-passes punctuation_differs r h =
+Demands-passes rules.mantissa_radix_in_range r h = IsRadix-passes _ h
+Demands-passes rules.exponent_base_in_range r h = IsRadix-passes _ h
+Demands-passes rules.exponent_radix_in_range r h = IsRadix-passes _ h
+Demands-passes rules.digit_separator_is_free r h = IsFree-passes r _ h
+Demands-passes rules.base_prefix_is_free r h = IsFree-passes r _ h
+Demands-passes rules.base_suffix_is_free r h = IsFree-passes r _ h
+Demands-passes rules.punctuation_differs r ((separator_prefix, (separator_suffix, _)), ((prefix_suffix, _), _)) =
     let prefix : Bool = r.case_sensitive_base_prefix in
     let suffix : Bool = r.case_sensitive_base_suffix in
-    and_from (are_apart true r.digit_separator prefix r.base_prefix) _ (Disjoint-passes true _ prefix _ h.0.0)
-    (and_from (are_apart true r.digit_separator suffix r.base_suffix) _ (Disjoint-passes true _ suffix _ h.0.1.0) (Disjoint-passes prefix _ suffix _ h.1.0.0))
-Demands-passes integer_consecutive_has_place r h = HasPlace-passes r.integer_consecutive_digit_separator r.integer_internal_digit_separator r.integer_leading_digit_separator r.integer_trailing_digit_separator h
-Demands-passes fraction_consecutive_has_place r h = HasPlace-passes r.fraction_consecutive_digit_separator r.fraction_internal_digit_separator r.fraction_leading_digit_separator r.fraction_trailing_digit_separator h
-Demands-passes exponent_consecutive_has_place r h = HasPlace-passes r.exponent_consecutive_digit_separator r.exponent_internal_digit_separator r.exponent_leading_digit_separator r.exponent_trailing_digit_separator h
-Demands-passes reserved_bits_are_zero r h = refl
+    and_from (are_apart true r.digit_separator prefix r.base_prefix) _ (Disjoint-passes true _ prefix _ separator_prefix)
+    (and_from (are_apart true r.digit_separator suffix r.base_suffix) _ (Disjoint-passes true _ suffix _ separator_suffix) (Disjoint-passes prefix _ suffix _ prefix_suffix))
+Demands-passes rules.integer_consecutive_has_place r h = HasPlace-passes r.integer_consecutive_digit_separator r.integer_internal_digit_separator r.integer_leading_digit_separator r.integer_trailing_digit_separator h
+Demands-passes rules.fraction_consecutive_has_place r h = HasPlace-passes r.fraction_consecutive_digit_separator r.fraction_internal_digit_separator r.fraction_leading_digit_separator r.fraction_trailing_digit_separator h
+Demands-passes rules.exponent_consecutive_has_place r h = HasPlace-passes r.exponent_consecutive_digit_separator r.exponent_internal_digit_separator r.exponent_leading_digit_separator r.exponent_trailing_digit_separator h
+Demands-passes rules.reserved_bits_are_zero r h = refl
 Demands-passes _ r h = ap not h
 
-IsClean-test : (word : ℕ) → keeps reserved_bits_are_zero word ≡ true → IsClean word
+IsClean-test : (word : ℕ) → keeps rules.reserved_bits_are_zero word ≡ true → IsClean word
 IsClean-test word e =
     let first = and_parts (part word 18 14 == 0) _ e in
     let rest = and_parts (part word 45 19 == 0) (part word 72 16 == 0) first.1 in
     record { below_separator_flags = grind (arith, nat_tests); below_separator = grind (arith, nat_tests); below_prefix = grind (arith, nat_tests) }
 
-IsClean-passes : (word : ℕ) → IsClean word → keeps reserved_bits_are_zero word ≡ true
+IsClean-passes : (word : ℕ) → IsClean word → keeps rules.reserved_bits_are_zero word ≡ true
 IsClean-passes word h =
     and_from (part word 18 14 == 0) _ (eq-eqb (part word 18 14) 0 h.below_separator_flags)
     (and_from (part word 45 19 == 0) _ (eq-eqb (part word 45 19) 0 h.below_separator) (eq-eqb (part word 72 16) 0 h.below_prefix))
@@ -203,27 +204,27 @@ IsClean-passes word h =
 -- each test decides its rule
 Holds-test : (rule : Rule) (word : ℕ) → keeps rule word ≡ true ↔ Holds rule word
 unfolding Holds
-Holds-test reserved_bits_are_zero word = (IsClean-test word, IsClean-passes word)
-Holds-test mantissa_radix_in_range word = (Demands-test mantissa_radix_in_range (raw word), Demands-passes mantissa_radix_in_range (raw word))
+Holds-test rules.reserved_bits_are_zero word = (IsClean-test word, IsClean-passes word)
+Holds-test rules.mantissa_radix_in_range word = (Demands-test rules.mantissa_radix_in_range (raw word), Demands-passes rules.mantissa_radix_in_range (raw word))
 Holds-test rule word = (Demands-test rule (raw word), Demands-passes rule (raw word))
 
--- the answer to the first rule whose test a word does not pass
-abbrev pub first_answer : List Rule → ℕ → Error
-first_answer [] word = Success
-first_answer (rule ∷ rules) word = if keeps rule word then first_answer rules word else answer rule
+-- the error of the first rule whose test a word does not pass
+abbrev pub first_error : List Rule → ℕ → Error
+first_error [] word = Success
+first_error (rule ∷ rules) word = if keeps rule word then first_error rules word else error_of rule
 
-found : (rules : List Rule) (word : ℕ) → IsFirstBroken rules word (first_answer rules word)
+found : (rules : List Rule) (word : ℕ) → IsFirstBroken rules word (first_error rules word)
 found [] word = refl
 found (rule ∷ rules) word = by (found rules word) (keeps rule word) refl where
-  by : IsFirstBroken rules word (first_answer rules word) → (t : Bool) → keeps rule word ≡ t → IsFirstBroken (rule ∷ rules) word (if t then first_answer rules word else answer rule)
+  by : IsFirstBroken rules word (first_error rules word) → (t : Bool) → keeps rule word ≡ t → IsFirstBroken (rule ∷ rules) word (if t then first_error rules word else error_of rule)
   by rest true e = inr ((Holds-test rule word).0 e, rest)
   by rest false e = inl (λ h. false≢true (sym e ∙ (Holds-test rule word).1 h), refl)
 
--- the answer to a word is the one that the tests find; at a literal the premise is `refl`
-pub error_tested : (word : ℕ) (error : Error) → first_answer rules_in_order word ≡ error → IsErrorOf word error
+-- the error of a word is the one that the tests find; at a literal the premise is `refl`
+pub error_tested : (word : ℕ) (error : Error) → first_error rules_in_order word ≡ error → IsErrorOf word error
 unfolding IsErrorOf
 error_tested word error e = subst (IsFirstBroken rules_in_order word) e (found rules_in_order word)
 
 -- a word that passes every test is lawful
-pub lawful_tested : (word : ℕ) → first_answer rules_in_order word ≡ Success → Lawful word
+pub lawful_tested : (word : ℕ) → first_error rules_in_order word ≡ Success → Lawful word
 lawful_tested word e = Lawful-from_success word (error_tested word Success e)

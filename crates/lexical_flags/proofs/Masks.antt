@@ -1,4 +1,4 @@
--- Fields at ascending places, joined by `|` and picked by `&`.
+-- Fields one above the other, joined by `|` and picked by `&`.
 use Rattle.std.proofs.Common.{ℕ, ◌≡◌, ◌+◌, ◌-◌, ◌*◌, ◌/◌, ◌%◌, ◌^◌, ◌<◌, ◌≤◌, Bool, true, false, ◌&&◌, leb, List, [], ◌∷◌, sum_by, bit_and, bit_or, refl, ap, sym, ◌∙◌, arith}
 use Rattle.std.specs.Int.Bits.{and_zero_r}
 use Rattle.std.specs.List.{fold}
@@ -8,15 +8,15 @@ use Rattle.std.proofs.lemmas.Nat.{pow-add, pow_pos, shr_split, and_block, and_ma
 use Rattle.std.proofs.lemmas.Nat.Bits.{shr_and_one}
 use Rattle.lexical_flags.specs.Layout.{part}
 
--- each place is `width` or more above the one before, the first s or more
+-- each field starts at the end of the one before or above it, the first at bit s or above
 abbrev pub ascends : {X : Type 0} → (X → ℕ) → ℕ → ℕ → List X → Bool
-ascends place width s [] = true
-ascends place width s (x ∷ xs) = leb s (place x) && ascends place width (place x + width) xs
+ascends start width s [] = true
+ascends start width s (x ∷ xs) = leb s (start x) && ascends start width (start x + width) xs
 
--- the place above the last field
+-- the end of the last field
 abbrev pub above : {X : Type 0} → (X → ℕ) → ℕ → ℕ → List X → ℕ
-above place width s [] = s
-above place width s (x ∷ xs) = above place width (place x + width) xs
+above start width s [] = s
+above start width s (x ∷ xs) = above start width (start x + width) xs
 
 -- one more bit of a mask
 and_more : (w a k : ℕ) → a < 2 ^ k → bit_and w (a + 2 ^ k) ≡ bit_and w a + part w k 1 * 2 ^ k
@@ -44,39 +44,39 @@ and_block_more w a k n l =
 
 -- one more field
 or_more : (low s k n v : ℕ) → low < 2 ^ s → s ≤ k → v < 2 ^ n → (bit_or low (v * 2 ^ k) ≡ low + v * 2 ^ k) × (low + v * 2 ^ k < 2 ^ (k + n))
-or_more low s k n v l place fits =
-    let wide : 2 ^ s ≤ 2 ^ k = pow-le-pow_right {n = 2} (omega arith) place in
+or_more low s k n v l start fits =
+    let wide : 2 ^ s ≤ 2 ^ k = pow-le-pow_right {n = 2} (omega arith) start in
     let below : low < 2 ^ k = omega arith in
     let room = mul-le-mul_left (2 ^ k) fits in
     (or_comm low (v * 2 ^ k) ∙ or_shifted v k low below ∙ omega arith, rw (pow-add 2 k n) (omega arith))
 
-module _ {X : Type 0} (place value : X → ℕ) (n : ℕ) (fits : (x : X) → value x < 2 ^ n) where
-  pub or_all : (xs : List X) (s low : ℕ) → low < 2 ^ s → ascends place n s xs ≡ true → fold (λ a x. bit_or a (value x * 2 ^ place x)) low xs ≡ fold (λ a x. a + value x * 2 ^ place x) low xs
+module _ {X : Type 0} (start value : X → ℕ) (n : ℕ) (fits : (x : X) → value x < 2 ^ n) where
+  pub or_all : (xs : List X) (s low : ℕ) → low < 2 ^ s → ascends start n s xs ≡ true → fold (λ a x. bit_or a (value x * 2 ^ start x)) low xs ≡ fold (λ a x. a + value x * 2 ^ start x) low xs
   or_all [] s low l up = refl
   or_all (x ∷ xs) s low l up =
-      let parts = and_parts (leb s (place x)) (ascends place n (place x + n) xs) up in
-      let more = or_more low s (place x) n (value x) l (leb-true s (place x) parts.0) (fits x) in
-      ap (λ a. fold (λ a x. bit_or a (value x * 2 ^ place x)) a xs) more.0
-      ∙ or_all xs (place x + n) (low + value x * 2 ^ place x) more.1 parts.1
+      let parts = and_parts (leb s (start x)) (ascends start n (start x + n) xs) up in
+      let more = or_more low s (start x) n (value x) l (leb-true s (start x) parts.0) (fits x) in
+      ap (λ a. fold (λ a x. bit_or a (value x * 2 ^ start x)) a xs) more.0
+      ∙ or_all xs (start x + n) (low + value x * 2 ^ start x) more.1 parts.1
 
-  pub sum-below : (xs : List X) (s low : ℕ) → low < 2 ^ s → ascends place n s xs ≡ true → fold (λ a x. a + value x * 2 ^ place x) low xs < 2 ^ above place n s xs
+  pub sum-below : (xs : List X) (s low : ℕ) → low < 2 ^ s → ascends start n s xs ≡ true → fold (λ a x. a + value x * 2 ^ start x) low xs < 2 ^ above start n s xs
   sum-below [] s low l up = l
   sum-below (x ∷ xs) s low l up =
-      let parts = and_parts (leb s (place x)) (ascends place n (place x + n) xs) up in
-      let more = or_more low s (place x) n (value x) l (leb-true s (place x) parts.0) (fits x) in
-      sum-below xs (place x + n) (low + value x * 2 ^ place x) more.1 parts.1
+      let parts = and_parts (leb s (start x)) (ascends start n (start x + n) xs) up in
+      let more = or_more low s (start x) n (value x) l (leb-true s (start x) parts.0) (fits x) in
+      sum-below xs (start x + n) (low + value x * 2 ^ start x) more.1 parts.1
 
-module _ {X : Type 0} (place : X → ℕ) where
-  and_from : (xs : List X) (s w low : ℕ) → low < 2 ^ s → ascends place 1 s xs ≡ true → bit_and w (fold (λ a x. a + 2 ^ place x) low xs) ≡ fold (λ a x. a + part w (place x) 1 * 2 ^ place x) (bit_and w low) xs
+module _ {X : Type 0} (start : X → ℕ) where
+  and_from : (xs : List X) (s w low : ℕ) → low < 2 ^ s → ascends start 1 s xs ≡ true → bit_and w (fold (λ a x. a + 2 ^ start x) low xs) ≡ fold (λ a x. a + part w (start x) 1 * 2 ^ start x) (bit_and w low) xs
   and_from [] s w low l up = refl
   and_from (x ∷ xs) s w low l up =
-      let parts = and_parts (leb s (place x)) (ascends place 1 (place x + 1) xs) up in
-      let wide : 2 ^ s ≤ 2 ^ place x = pow-le-pow_right {n = 2} (omega arith) (leb-true s (place x) parts.0) in
-      let below : low < 2 ^ place x = omega arith in
-      let next : low + 2 ^ place x < 2 ^ (place x + 1) = rw (pow-add 2 (place x) 1) (omega arith) in
-      and_from xs (place x + 1) w (low + 2 ^ place x) next parts.1
-      ∙ ap (λ a. fold (λ a x. a + part w (place x) 1 * 2 ^ place x) a xs) (and_more w low (place x) below)
+      let parts = and_parts (leb s (start x)) (ascends start 1 (start x + 1) xs) up in
+      let wide : 2 ^ s ≤ 2 ^ start x = pow-le-pow_right {n = 2} (omega arith) (leb-true s (start x) parts.0) in
+      let below : low < 2 ^ start x = omega arith in
+      let next : low + 2 ^ start x < 2 ^ (start x + 1) = rw (pow-add 2 (start x) 1) (omega arith) in
+      and_from xs (start x + 1) w (low + 2 ^ start x) next parts.1
+      ∙ ap (λ a. fold (λ a x. a + part w (start x) 1 * 2 ^ start x) a xs) (and_more w low (start x) below)
 
-  -- a word and a mask have in common the bits of the mask's places
-  pub and_all : (xs : List X) (w : ℕ) → ascends place 1 0 xs ≡ true → bit_and w (sum_by (λ x. 2 ^ place x) xs) ≡ sum_by (λ x. part w (place x) 1 * 2 ^ place x) xs
-  and_all xs w up = and_from xs 0 w 0 (omega arith) up ∙ ap (λ a. fold (λ a x. a + part w (place x) 1 * 2 ^ place x) a xs) (and_zero_r w)
+  -- a word and a mask have in common the bits that the mask has
+  pub and_all : (xs : List X) (w : ℕ) → ascends start 1 0 xs ≡ true → bit_and w (sum_by (λ x. 2 ^ start x) xs) ≡ sum_by (λ x. part w (start x) 1 * 2 ^ start x) xs
+  and_all xs w up = and_from xs 0 w 0 (omega arith) up ∙ ap (λ a. fold (λ a x. a + part w (start x) 1 * 2 ^ start x) a xs) (and_zero_r w)

@@ -8,41 +8,41 @@ use Rattle.lexical_flags.specs.Layout as layout
 use Rattle.lexical_flags.specs.Record.{Record, tabulate, flag_of, byte_of, raw, fill, trim, pack, word_of, byte_bits, effective, separator_on, HasBytes, IsBuilt}
 use Rattle.lexical_flags.proofs.Segments.{joined, segments, segments-joined, joined-segments, joined-below, Fit}
 
--- the widths of a word's segments from the lowest on, those that no field takes among them
+-- the widths of the segments of a word from the lowest up, with the three reserved ones
 abbrev widths : List ℕ
 widths = map (λ _. 1) base_flags ++ 14 ∷ (map (λ _. 1) digit_separator_flags ++ 19 ∷ 8 ∷ 16 ∷ 8 ∷ 8 ∷ 8 ∷ 8 ∷ 8 ∷ [])
 
--- the values of all segments: of flags, of bytes, and of the three that no field takes
+-- the values of all segments: flags, bytes, and the three reserved ones
 abbrev laid : (Flag → ℕ) → (Byte → ℕ) → ℕ → ℕ → ℕ → List ℕ
 laid flag byte low middle high =
     map flag base_flags ++ low ∷ (map flag digit_separator_flags ++ middle ∷ byte layout.digit_separator ∷ high
     ∷ byte layout.base_prefix ∷ byte layout.base_suffix ∷ byte layout.mantissa_radix
     ∷ byte layout.exponent_base ∷ byte layout.exponent_radix ∷ [])
 
--- which segment is a flag's
-abbrev flag_place : Flag → ℕ
-flag_place f = if nat_lt (bit f) 32 then bit f else bit f - 13
+-- the index of the segment of a flag
+abbrev flag_index : Flag → ℕ
+flag_index f = if nat_lt (bit f) 32 then bit f else bit f - 13
 
--- which segment is a byte's
-abbrev byte_place : Byte → ℕ
-byte_place layout.digit_separator = 33
-byte_place layout.base_prefix = 35
-byte_place layout.base_suffix = 36
-byte_place layout.mantissa_radix = 37
-byte_place layout.exponent_base = 38
-byte_place layout.exponent_radix = 39
+-- the index of the segment of a byte
+abbrev byte_index : Byte → ℕ
+byte_index layout.digit_separator = 33
+byte_index layout.base_prefix = 35
+byte_index layout.base_suffix = 36
+byte_index layout.mantissa_radix = 37
+byte_index layout.exponent_base = 38
+byte_index layout.exponent_radix = 39
 
--- a truth value as a bit
+-- a `bool` as a bit
 abbrev pub bit_value : Bool → ℕ
 bit_value b = if b then 1 else 0
 
--- a record's values, with 0 where no field is
+-- the values of a record, with 0 in the reserved segments
 abbrev values : Record → List ℕ
 values r = laid (λ f. bit_value (flag_of r f)) (byte_of r) 0 0 0
 
 -- the record with these values
 abbrev from_values : List ℕ → Record
-from_values vs = tabulate (λ f. get_or vs (flag_place f) 0 == 1) (λ b. get_or vs (byte_place b) 0)
+from_values vs = tabulate (λ f. get_or vs (flag_index f) 0 == 1) (λ b. get_or vs (byte_index b) 0)
 
 bit_value-one : (b : Bool) → (bit_value b == 1) ≡ b
 bit_value-one true = refl
@@ -51,7 +51,7 @@ bit_value-one false = refl
 from_values-values : (r : Record) → from_values (values r) ≡ r
 from_values-values r = λ i. tabulate (λ f. bit_value-one (flag_of r f) i) (byte_of r)
 
--- a flag counts as its bit at its place
+-- a flag adds its bit times a power of two
 pub flag_bits-value : (b : Bool) (k : ℕ) → (if b then 2 ^ k else 0) ≡ bit_value b * 2 ^ k
 flag_bits-value true k = omega arith
 flag_bits-value false k = omega arith
@@ -61,7 +61,7 @@ unfolding word_of
 word_of-joined r =
     (λ i. sum_by (λ f. flag_bits-value (flag_of r f) (bit f) i) flags + sum_by (byte_bits r) bytes) ∙ omega arith
 
--- a flag counts as zero or one
+-- a bit is 0 or 1
 pub bit_value-lt : (b : Bool) → bit_value b < 2
 bit_value-lt true = omega arith
 bit_value-lt false = omega arith
@@ -109,7 +109,7 @@ word_of-clean r h =
 word_of-lt : (r : Record) → HasBytes r → word_of r < 2 ^ 128
 word_of-lt r h = omega (arith, word_of-joined r, joined-below 0 widths (values r) 0 (omega arith) (values-fit r h))
 
--- a part of one bit, as a truth value and back
+-- a part of one bit, as a `bool` and back
 bit_value-test : (n : ℕ) → n < 2 → bit_value (n == 1) ≡ n
 bit_value-test zero l = refl
 bit_value-test (suc n) l = let none : n ≡ 0 = omega arith in rw none refl
@@ -133,7 +133,7 @@ by_name r separator prefix suffix radix base exponent layout.mantissa_radix = ra
 by_name r separator prefix suffix radix base exponent layout.exponent_base = base
 by_name r separator prefix suffix radix base exponent layout.exponent_radix = exponent
 
--- a record has bytes when each of the six is one
+-- a record has bytes if each of the six is one
 pub HasBytes-by_name : (r : Record) → r.digit_separator < 256 → r.base_prefix < 256 → r.base_suffix < 256 → r.mantissa_radix < 256 → r.exponent_base < 256 → r.exponent_radix < 256
     → HasBytes r
 HasBytes-by_name r separator prefix suffix radix base exponent = record { each = by_name r separator prefix suffix radix base exponent }
@@ -183,7 +183,7 @@ kept_same true n h = refl
 kept_same false n (inl on) = cc
 kept_same false n (inr absent) = sym absent
 
--- where the separator is used, or absent, nothing is trimmed
+-- if the separator is allowed, or absent, nothing is trimmed
 pub trim-same : (r : Record) → IsTrue (separator_on r) ⊎ (r.digit_separator ≡ 0) → trim r ≡ r
 trim-same r h = ap (λ n. record r { digit_separator = n }) (kept_same (separator_on r) r.digit_separator h)
 

@@ -5,7 +5,7 @@ use Rattle.std.proofs.lemmas.List.Elements.{All-from_recursion, recursion_from_A
 use Rattle.lexical_flags.specs.Pairs.{ArePairwise}
 
 module _ {X : Type 0} (R : X → X → Type 0) where
-  -- an element is so related to every one at a later index
+  -- an element is related to every one at a later index
   pub AllPairs-from_pairwise : (xs : List X) → ArePairwise R xs → AllPairs R xs
   AllPairs-from_pairwise [] h i j d less inside = absurd (omega arith)
   AllPairs-from_pairwise (x ∷ xs) h i zero d less inside = absurd (omega arith)

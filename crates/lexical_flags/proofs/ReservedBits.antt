@@ -5,7 +5,7 @@ use Rattle.lexical_flags.specs.Layout.{part}
 use Rattle.lexical_flags.specs.Rules.{Holds, reserved_bits_are_zero}
 use Rattle.lexical_flags.proofs.Masks.{and_block_more}
 
--- the bits under the mask are the parts that no field takes
+-- the bits under the mask are the three reserved parts
 under_mask : (word : ℕ) → bit_and word 0x00FFFF00_FFFFE000_FFFC0000 ≡ part word 18 14 * 2 ^ 18 + part word 45 19 * 2 ^ 45 + part word 72 16 * 2 ^ 72
 under_mask word =
     let first = and_block_more word 0 18 14 (omega arith) in
@@ -13,7 +13,7 @@ under_mask word =
     let third = and_block_more word 0xFFFFE000_FFFC0000 72 16 (omega arith) in
     third ∙ ap (λ n. n + part word 72 16 * 2 ^ 72) (second ∙ ap (λ n. n + part word 45 19 * 2 ^ 45) (first ∙ ap (λ n. n + part word 18 14 * 2 ^ 18) (and_zero_r word))) ∙ omega arith
 
--- so none of them is set exactly where the word is clean
+-- so none of them is set exactly if the word is clean
 pub reserved_bits : (word : ℕ) → IsTrue (bit_and word 0x00FFFF00_FFFFE000_FFFC0000 == 0) ↔ Holds reserved_bits_are_zero word
 unfolding Holds
 reserved_bits word =

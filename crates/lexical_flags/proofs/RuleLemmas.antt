@@ -12,7 +12,7 @@ use Rattle.lexical_flags.specs.Pairs.{ArePairwise}
 use Rattle.lexical_flags.specs.Roles as roles
 use Rattle.lexical_flags.specs.Roles.{Disjoint, Role, cased, digits, signs, role_set, own_roles, five_roles}
 use Rattle.lexical_flags.specs.Rules as rules
-use Rattle.lexical_flags.specs.Rules.{Rule, IsRadix, IsFree, IsTextOrNone, IsPunctuation, Holds, IsFirstBroken, IsErrorOf, Lawful, answer, flag_rules, rules_in_order}
+use Rattle.lexical_flags.specs.Rules.{Rule, IsRadix, IsFree, IsTextOrNone, IsPunctuation, Holds, IsFirstBroken, IsErrorOf, Lawful, error_of, flag_rules, rules_in_order}
 use Rattle.lexical_flags.proofs.OneRole.{before, among, Disjoint-at}
 use Rattle.lexical_flags.proofs.RoleLemmas.{Disjoint-digits-cased, Disjoint-signs-cased, Disjoint-digits-signs, not_in}
 
@@ -122,14 +122,14 @@ Lawful-from_all word h =
     }
 
 -- no rule has the error Success
-answer-success : (rule : Rule) → answer rule ≢ Success
-answer-success rules.mantissa_radix_in_range e = cc
-answer-success _ e = cc
+error_of-success : (rule : Rule) → error_of rule ≢ Success
+error_of-success rules.mantissa_radix_in_range e = cc
+error_of-success _ e = cc
 
 -- if no rule of a list is broken, each is kept
 all_from_success : (word : ℕ) (rules : List Rule) → IsFirstBroken rules word Success → AllByRecursion (λ rule. Holds rule word) rules
 all_from_success word [] h = tt
-all_from_success word (rule ∷ rules) (inl broken) = absurd (answer-success rule (sym broken.1))
+all_from_success word (rule ∷ rules) (inl broken) = absurd (error_of-success rule (sym broken.1))
 all_from_success word (rule ∷ rules) (inr kept) = (kept.0, all_from_success word rules kept.1)
 
 -- if every rule is kept, none is broken
@@ -162,15 +162,15 @@ IsErrorOf-same v w same error =
     (IsFirstBroken-same v w same rules_in_order error, IsFirstBroken-same w v (λ rule. ((same rule).1, (same rule).0)) rules_in_order error)
 
 -- a clean word keeps the rule whose error is InvalidFlags
-flags-answer : (rule : Rule) (word : ℕ) → answer rule ≡ InvalidFlags → IsClean word → Holds rule word
+reserved-error : (rule : Rule) (word : ℕ) → error_of rule ≡ InvalidFlags → IsClean word → Holds rule word
 unfolding Holds
-flags-answer rules.reserved_bits_are_zero word e clean = clean
-flags-answer rules.mantissa_radix_in_range word e clean = cc
-flags-answer _ word e clean = cc
+reserved-error rules.reserved_bits_are_zero word e clean = clean
+reserved-error rules.mantissa_radix_in_range word e clean = cc
+reserved-error _ word e clean = cc
 
 clean-first : (word : ℕ) (rules : List Rule) → IsClean word → IsFirstBroken rules word InvalidFlags → ⊥
 clean-first word [] clean h = cc
-clean-first word (rule ∷ rules) clean (inl broken) = broken.0 (flags-answer rule word (sym broken.1) clean)
+clean-first word (rule ∷ rules) clean (inl broken) = broken.0 (reserved-error rule word (sym broken.1) clean)
 clean-first word (rule ∷ rules) clean (inr kept) = clean-first word rules clean kept.1
 
 -- so that is never its error

@@ -1,21 +1,21 @@
--- A number as segments that stand one above the other, given by their widths from the lowest on.
+-- A number as segments one above the other, given by their widths from the lowest up.
 use Rattle.std.proofs.Common.{ℕ, ◌≡◌, ◌+◌, ◌*◌, ◌/◌, ◌%◌, ◌^◌, ◌<◌, List, [], ◌∷◌, refl, ap, sym, ◌∙◌, add_assoc, arith}
 use Rattle.std.proofs.Math.Nat.{add_comm, mul-le-mul_left}
 use Rattle.std.proofs.lemmas.Nat.{pow-add, shr_high, mod_low, mod-pow-add}
 use Rattle.lexical_flags.specs.Layout.{part}
 
--- the sum of the values, each at its place, from place s on
+-- the sum of the values, each times the power of two of its segment, the first segment at bit s
 abbrev pub joined : ℕ → List ℕ → List ℕ → ℕ
 joined s [] values = 0
 joined s (n ∷ widths) [] = 0
 joined s (n ∷ widths) (v ∷ values) = v * 2 ^ s + joined (s + n) widths values
 
--- the values in w, from place s on
+-- the values of the segments of w
 abbrev pub segments : ℕ → List ℕ → ℕ → List ℕ
 segments s [] w = []
 segments s (n ∷ widths) w = part w s n ∷ segments (s + n) widths w
 
--- the place above the last segment
+-- the end of the last segment
 abbrev pub top : ℕ → List ℕ → ℕ
 top s [] = s
 top s (n ∷ widths) = top (s + n) widths
@@ -27,7 +27,7 @@ Fit [] (v ∷ values) = ⊥
 Fit (n ∷ widths) [] = ⊥
 Fit (n ∷ widths) (v ∷ values) = (v < 2 ^ n) × Fit widths values
 
--- what is joined from place s on is a multiple of 2 ^ s
+-- what is joined from bit s up is a multiple of 2 ^ s
 joined-multiple : (s : ℕ) (widths values : List ℕ) → (q : ℕ) × (joined s widths values ≡ q * 2 ^ s)
 joined-multiple s [] values = (0, omega arith)
 joined-multiple s (n ∷ widths) [] = (0, omega arith)
@@ -35,7 +35,7 @@ joined-multiple s (n ∷ widths) (v ∷ values) =
     let above = joined-multiple (s + n) widths values in
     (v + above.0 * 2 ^ n, rw (above.1, pow-add 2 s n) (omega arith))
 
--- a value is found at its place, between what is below and a multiple of what is above
+-- a value is found between what is below it and what is above
 part_between : (s n v low q : ℕ) → low < 2 ^ s → v < 2 ^ n → part (low + (v * 2 ^ s + q * 2 ^ (s + n))) s n ≡ v
 part_between s n v low q l fits =
     let shape : low + (v * 2 ^ s + q * 2 ^ (s + n)) ≡ (q * 2 ^ n + v) * 2 ^ s + low = rw (pow-add 2 s n) (omega arith) in
@@ -61,7 +61,7 @@ segments-joined s (n ∷ widths) (v ∷ values) low l fit =
     ∙ segments-joined (s + n) widths values (low + v * 2 ^ s) (below_next s n v low l fit.0) fit.1 in
     λ i. here i ∷ rest i
 
--- what is found is joined again, and what stands below is left
+-- what is found is joined again, and what is below is left
 pub joined-segments : (s : ℕ) (widths : List ℕ) (w : ℕ) → w % 2 ^ s + joined s widths (segments s widths w) ≡ w % 2 ^ top s widths
 joined-segments s [] w = omega arith
 joined-segments s (n ∷ widths) w =
@@ -69,7 +69,7 @@ joined-segments s (n ∷ widths) w =
     let above = joined-segments (s + n) widths w in
     omega arith
 
--- what is joined stays below the top of the last segment
+-- what is joined is below the end of the last segment
 pub joined-below : (s : ℕ) (widths values : List ℕ) (low : ℕ) → low < 2 ^ s → Fit widths values → low + joined s widths values < 2 ^ top s widths
 joined-below s [] [] low l fit = omega arith
 joined-below s [] (v ∷ values) low l fit = absurd fit

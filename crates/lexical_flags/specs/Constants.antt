@@ -47,7 +47,7 @@ byte_mask layout.mantissa_radix = constants.MANTISSA_RADIX
 byte_mask layout.exponent_base = constants.EXPONENT_BASE
 byte_mask layout.exponent_radix = constants.EXPONENT_RADIX
 
--- the constant that holds a byte's lowest place
+-- the constant of the lowest bit of a byte
 abbrev pub byte_shift : Byte → ℤ
 byte_shift layout.digit_separator = constants.DIGIT_SEPARATOR_SHIFT
 byte_shift layout.base_prefix = constants.BASE_PREFIX_SHIFT
@@ -60,11 +60,11 @@ byte_shift layout.exponent_radix = constants.EXPONENT_RADIX_SHIFT
 abbrev pub mask_of : List Flag → ℕ
 mask_of fs = sum_by (λ f. 2 ^ bit f) fs
 
--- so many numbers, from the first on each the double of the one before
+-- `count` numbers from `first` on, each twice the one before
 abbrev pub doublings : ℕ → ℕ → List ℕ
 doublings first zero = []
 doublings first (suc count) = first ∷ doublings (2 * first) count
 
--- two masks share no bit
+-- two masks have no bit in common
 abbrev pub AreApart : ℕ → ℕ → Type 0
 AreApart a b = bit_and a b ≡ 0

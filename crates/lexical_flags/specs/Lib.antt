@@ -6,3 +6,5 @@ pub mod Common
 pub mod Roles
 pub mod Rules
 pub mod Options
+pub use Rattle.lexical_base.specs.Ascii
+pub use Rattle.lexical_base.specs.Digits

@@ -7,7 +7,7 @@ use Rattle.lexical_flags.specs.Pairs.{ArePairwise}
 use Rattle.lexical_flags.specs.Roles.{Disjoint, exponent, point, own_roles, seven_roles}
 use Rattle.lexical_flags.specs.Rules.{IsPunctuation}
 
--- both bytes are punctuation, they differ, and neither has a role that the format names
+-- both bytes are punctuation, and neither role shares a byte with the other or with one that the format names
 pub record AreAccepted (word exponent_byte point_byte : ℕ) : Type 0 where
   pub exponent_is_punctuation : IsPunctuation (raw word) exponent_byte
   pub point_is_punctuation : IsPunctuation (raw word) point_byte
@@ -15,13 +15,13 @@ pub record AreAccepted (word exponent_byte point_byte : ℕ) : Type 0 where
   pub exponent_is_new : AllByRecursion (Disjoint (exponent (raw word) exponent_byte)) (own_roles (raw word))
   pub point_is_new : AllByRecursion (Disjoint (point point_byte)) (own_roles (raw word))
 
--- both bytes are text, and with them no byte of the format has two roles
+-- both bytes are text, and no byte plays two of the seven roles
 pub record HaveOneRole (word exponent_byte point_byte : ℕ) : Type 0 where
   pub exponent_is_text : IsTrue (allowed_ascii exponent_byte)
   pub point_is_text : IsTrue (allowed_ascii point_byte)
   pub roles : ArePairwise Disjoint (seven_roles (raw word) exponent_byte point_byte)
 
--- some two bytes can be chosen so
+-- some pair of bytes fits
 pub record LeavesRoom (word : ℕ) : Type 0 where
   pub exponent_byte : ℕ
   pub point_byte : ℕ

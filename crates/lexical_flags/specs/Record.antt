@@ -4,7 +4,7 @@ use Rattle.std.specs.List.{list_any}
 use Rattle.lexical_flags.specs.Layout.{part, Flag, Byte, bit, shift, flags, bytes, digit_separator_flags, IsClean}
 use Rattle.lexical_flags.specs.Layout as layout
 
--- the fields of a format; a byte that is absent, or empty, is 0
+-- the fields of a format; a byte that is absent is 0
 pub record Record : Type 0 where
   pub required_integer_digits : Bool
   pub required_fraction_digits : Bool
@@ -44,7 +44,7 @@ pub record Record : Type 0 where
   pub exponent_base : ℕ
   pub exponent_radix : ℕ
 
--- the flag of that name
+-- the field of a flag
 abbrev pub flag_of : Record → Flag → Bool
 flag_of r layout.required_integer_digits = r.required_integer_digits
 flag_of r layout.required_fraction_digits = r.required_fraction_digits
@@ -78,7 +78,7 @@ flag_of r layout.fraction_consecutive_digit_separator = r.fraction_consecutive_d
 flag_of r layout.exponent_consecutive_digit_separator = r.exponent_consecutive_digit_separator
 flag_of r layout.special_digit_separator = r.special_digit_separator
 
--- the byte of that name
+-- the field of a byte
 abbrev pub byte_of : Record → Byte → ℕ
 byte_of r layout.digit_separator = r.digit_separator
 byte_of r layout.base_prefix = r.base_prefix
@@ -129,19 +129,19 @@ tabulate flag byte = record {
   exponent_radix = byte layout.exponent_radix;
 }
 
--- the fields as they stand in a word
+-- the fields of a word
 abbrev pub raw : ℕ → Record
 raw word = tabulate (λ f. part word (bit f) 1 == 1) (λ b. part word (shift b) 8)
 
--- an exponent byte, or where it is empty the mantissa radix
+-- an exponent byte, or the mantissa radix if that is 0
 abbrev pub effective : ℕ → ℕ → ℕ
 effective own mantissa_radix = if own == 0 then mantissa_radix else own
 
--- the base that an exponent is a power of
+-- the base that an exponent raises
 abbrev pub effective_exponent_base : Record → ℕ
 effective_exponent_base r = effective r.exponent_base r.mantissa_radix
 
--- the radix of an exponent's digits
+-- the radix of the digits of an exponent
 abbrev pub effective_exponent_radix : Record → ℕ
 effective_exponent_radix r = effective r.exponent_radix r.mantissa_radix
 
@@ -149,15 +149,15 @@ effective_exponent_radix r = effective r.exponent_radix r.mantissa_radix
 abbrev pub fill : Record → Record
 fill r = record r { exponent_base = effective_exponent_base r; exponent_radix = effective_exponent_radix r }
 
--- whether some flag lets a digit separator stand somewhere
+-- whether some flag allows a digit separator
 abbrev pub separator_on : Record → Bool
 separator_on r = list_any (flag_of r) digit_separator_flags
 
--- a digit separator is there only where it may stand somewhere
+-- there is no digit separator unless a flag allows one
 abbrev pub SeparatorIsUsed : Record → Type 0
 SeparatorIsUsed r = IsTrue (separator_on r) ⊎ (r.digit_separator ≡ 0)
 
--- the record with no digit separator where none may stand
+-- the record without its digit separator if no flag allows one
 abbrev pub trim : Record → Record
 trim r = record r { digit_separator = if separator_on r then r.digit_separator else 0 }
 
@@ -169,7 +169,7 @@ flag_bits r f = if flag_of r f then 2 ^ bit f else 0
 abbrev pub byte_bits : Record → Byte → ℕ
 byte_bits r b = byte_of r b * 2 ^ shift b
 
--- the sum of all fields, each at its place
+-- the sum of all fields, each at its bits
 unfoldable pub word_of : Record → ℕ
 word_of r = sum_by (flag_bits r) flags + sum_by (byte_bits r) bytes
 
@@ -177,7 +177,7 @@ word_of r = sum_by (flag_bits r) flags + sum_by (byte_bits r) bytes
 abbrev pub pack : Record → ℕ
 pack r = word_of (trim r)
 
--- a word that is packed from some record: clean, and with a separator only where one may stand
+-- a word that some record is packed into: no reserved bit, and no digit separator unless a flag allows one
 pub record IsBuilt (word : ℕ) : Type 0 where
   pub clean : IsClean word
   pub separator_used : SeparatorIsUsed (raw word)

@@ -8,11 +8,11 @@ use Rattle.lexical_flags.specs.Record.{Record, effective_exponent_radix}
 unfoldable pub Disjoint : ByteSet → ByteSet → Type 0
 Disjoint A B = (byte : ℕ) → IsTrue (A byte) → IsTrue (B byte) → ⊥
 
--- a letter in the other case, small or capital; any other byte stays as it is
+-- a letter in the other case; any other byte as it is
 abbrev pub other_case : ℕ → ℕ
 other_case byte = if between 65 90 byte then byte + 32 else if between 97 122 byte then byte - 32 else byte
 
--- this byte, and where its case does not count also the letter in the other case; no byte where it is 0, since 0 stands for none
+-- this byte, and if its case does not count also the letter in the other case; no byte if it is 0, which stands for none
 unfoldable pub cased : Bool → ℕ → ByteSet
 cased case_counts own byte = not (own == 0) && ((byte == own) || (not case_counts && (byte == other_case own)))
 
@@ -20,7 +20,7 @@ cased case_counts own byte = not (own == 0) && ((byte == own) || (not case_count
 abbrev pub only : ℕ → ByteSet
 only own = cased true own
 
--- the digits of a radix; above 36 there are no more than the 36 figures and letters
+-- the digits of a radix; above 36 they are the 36 digit characters, letters in both cases
 abbrev pub digits_of : ℕ → ByteSet
 digits_of radix byte = nat_lt (value byte) (min radix 36)
 
@@ -44,11 +44,11 @@ prefix r = cased r.case_sensitive_base_prefix r.base_prefix
 abbrev pub suffix : Record → ByteSet
 suffix r = cased r.case_sensitive_base_suffix r.base_suffix
 
--- the character of an exponent, which a caller chooses beside the format
+-- the exponent character, which is chosen beside the format
 abbrev pub exponent : Record → ℕ → ByteSet
 exponent r chosen = cased r.case_sensitive_exponent chosen
 
--- the decimal point, which a caller chooses beside the format
+-- the decimal point, which is chosen beside the format
 abbrev pub point : ℕ → ByteSet
 point chosen = only chosen
 
@@ -56,11 +56,11 @@ point chosen = only chosen
 abbrev pub own_roles : Record → List ByteSet
 own_roles r = separator r ∷ prefix r ∷ suffix r ∷ []
 
--- all roles in a format
+-- the roles of a format
 abbrev pub five_roles : Record → List ByteSet
 five_roles r = digits r ∷ signs ∷ own_roles r
 
--- the roles by name, those of a format beside which an exponent character and a decimal point are chosen
+-- the roles by name: those of a format, and the two that are chosen beside it
 pub data Role : Type 0 where
   digit : Role
   sign : Role
@@ -74,7 +74,7 @@ pub data Role : Type 0 where
 abbrev pub roles : List Role
 roles = digit ∷ sign ∷ digit_separator ∷ base_prefix ∷ base_suffix ∷ exponent_character ∷ decimal_point ∷ []
 
--- the bytes that play a role
+-- the bytes that play a role, beside this exponent character and this decimal point
 abbrev pub role_set : Record → ℕ → ℕ → Role → ByteSet
 role_set r exponent_byte point_byte digit = digits r
 role_set r exponent_byte point_byte sign = signs

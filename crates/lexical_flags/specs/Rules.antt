@@ -1,9 +1,9 @@
--- The rules that a format word has to keep, and what is answered where it breaks one.
+-- The rules of a format word, and the error of the first that it breaks.
 use Rattle.std.specs.Prelude.{ℕ, Bool, ◌≡◌, ◌≤◌, ◌⊎◌, ◌&&◌, ◌||◌, IsTrue, IsFalse, List, [], ◌∷◌, ◌++◌, ⊤}
 use Rattle.std.specs.List.{AllByRecursion}
 use Rattle.lexical_base.specs.Ascii.{allowed_ascii}
 use Rattle.lexical_base.specs.declared.error.Error.{Error}
-use Rattle.lexical_base.specs.declared.error.Error.TheVariants.{InvalidMantissaRadix, InvalidExponentBase, InvalidExponentRadix, InvalidDigitSeparator, InvalidBasePrefix, InvalidBaseSuffix, InvalidPunctuation, InvalidExponentFlags, InvalidMantissaSign, InvalidExponentSign, InvalidSpecial, InvalidConsecutiveIntegerDigitSeparator, InvalidConsecutiveFractionDigitSeparator, InvalidConsecutiveExponentDigitSeparator, InvalidFlags, Success}
+use Rattle.lexical_base.specs.declared.error.Error.TheVariants as errors
 use Rattle.lexical_flags.specs.Layout.{IsClean}
 use Rattle.lexical_flags.specs.Record.{Record, raw, effective_exponent_base, effective_exponent_radix}
 use Rattle.lexical_flags.specs.Pairs.{ArePairwise}
@@ -29,7 +29,7 @@ IsTextOrNone byte = (byte ≡ 0) ⊎ IsTrue (allowed_ascii byte)
 abbrev pub NotBoth : Bool → Bool → Type 0
 NotBoth a b = IsFalse (a && b)
 
--- separators may stand in a row only where one may stand between, before or after digits
+-- consecutive separators are allowed only if one is allowed between, before or after digits
 abbrev pub HasPlace : Bool → Bool → Bool → Bool → Type 0
 HasPlace consecutive internal leading trailing = IsTrue consecutive → IsTrue (internal || leading || trailing)
 
@@ -52,7 +52,7 @@ pub data Rule : Type 0 where
   exponent_consecutive_has_place : Rule
   reserved_bits_are_zero : Rule
 
--- what a rule demands of the fields of a word
+-- what a rule demands of the fields of a word; the rule of reserved bits demands nothing of them
 abbrev pub Demands : Rule → Record → Type 0
 Demands mantissa_radix_in_range r = IsRadix r.mantissa_radix
 Demands exponent_base_in_range r = IsRadix (effective_exponent_base r)
@@ -77,35 +77,35 @@ Demands exponent_consecutive_has_place r =
     r.exponent_leading_digit_separator r.exponent_trailing_digit_separator
 Demands reserved_bits_are_zero r = ⊤
 
--- a word keeps a rule; one on reserved bits demands nothing of the fields
+-- a word keeps a rule
 unfoldable pub Holds : Rule → ℕ → Type 0
 Holds reserved_bits_are_zero word = IsClean word
 Holds rule word = Demands rule (raw word)
 
--- what is answered to a word that breaks a rule
-abbrev pub answer : Rule → Error
-answer mantissa_radix_in_range = InvalidMantissaRadix
-answer exponent_base_in_range = InvalidExponentBase
-answer exponent_radix_in_range = InvalidExponentRadix
-answer digit_separator_is_free = InvalidDigitSeparator
-answer base_prefix_is_free = InvalidBasePrefix
-answer base_suffix_is_free = InvalidBaseSuffix
-answer punctuation_differs = InvalidPunctuation
-answer exponent_flags_agree = InvalidExponentFlags
-answer mantissa_sign_flags_agree = InvalidMantissaSign
-answer exponent_sign_flags_agree = InvalidExponentSign
-answer special_case_flags_agree = InvalidSpecial
-answer special_separator_flags_agree = InvalidSpecial
-answer integer_consecutive_has_place = InvalidConsecutiveIntegerDigitSeparator
-answer fraction_consecutive_has_place = InvalidConsecutiveFractionDigitSeparator
-answer exponent_consecutive_has_place = InvalidConsecutiveExponentDigitSeparator
-answer reserved_bits_are_zero = InvalidFlags
+-- the error of a word that breaks a rule
+abbrev pub error_of : Rule → Error
+error_of mantissa_radix_in_range = errors.InvalidMantissaRadix
+error_of exponent_base_in_range = errors.InvalidExponentBase
+error_of exponent_radix_in_range = errors.InvalidExponentRadix
+error_of digit_separator_is_free = errors.InvalidDigitSeparator
+error_of base_prefix_is_free = errors.InvalidBasePrefix
+error_of base_suffix_is_free = errors.InvalidBaseSuffix
+error_of punctuation_differs = errors.InvalidPunctuation
+error_of exponent_flags_agree = errors.InvalidExponentFlags
+error_of mantissa_sign_flags_agree = errors.InvalidMantissaSign
+error_of exponent_sign_flags_agree = errors.InvalidExponentSign
+error_of special_case_flags_agree = errors.InvalidSpecial
+error_of special_separator_flags_agree = errors.InvalidSpecial
+error_of integer_consecutive_has_place = errors.InvalidConsecutiveIntegerDigitSeparator
+error_of fraction_consecutive_has_place = errors.InvalidConsecutiveFractionDigitSeparator
+error_of exponent_consecutive_has_place = errors.InvalidConsecutiveExponentDigitSeparator
+error_of reserved_bits_are_zero = errors.InvalidFlags
 
--- the rules of radixes, in the order in which they are asked
+-- the rules of radixes, in their order
 abbrev pub radix_rules : List Rule
 radix_rules = mantissa_radix_in_range ∷ exponent_base_in_range ∷ exponent_radix_in_range ∷ []
 
--- those of separator, prefix and suffix
+-- those of punctuation
 abbrev pub punctuation_rules : List Rule
 punctuation_rules = digit_separator_is_free ∷ base_prefix_is_free ∷ base_suffix_is_free ∷ punctuation_differs ∷ []
 
@@ -116,25 +116,25 @@ flag_rules =
     special_case_flags_agree ∷ special_separator_flags_agree ∷
     integer_consecutive_has_place ∷ fraction_consecutive_has_place ∷ exponent_consecutive_has_place ∷ []
 
--- that of the bits that no field takes
+-- that of reserved bits
 abbrev pub reserved_rules : List Rule
 reserved_rules = reserved_bits_are_zero ∷ []
 
--- all rules, in the order in which they are asked
+-- all rules, in their order
 abbrev pub rules_in_order : List Rule
 rules_in_order = radix_rules ++ punctuation_rules ++ flag_rules ++ reserved_rules
 
--- the answer to the first of some rules that a word breaks, and Success where it breaks none
+-- the error of the first of these rules that a word breaks, and Success if it breaks none
 abbrev pub IsFirstBroken : List Rule → ℕ → Error → Type 0
-IsFirstBroken [] word error = error ≡ Success
+IsFirstBroken [] word error = error ≡ errors.Success
 IsFirstBroken (rule ∷ rules) word error =
-    ((Holds rule word → ⊥) × (error ≡ answer rule)) ⊎ (Holds rule word × IsFirstBroken rules word error)
+    ((Holds rule word → ⊥) × (error ≡ error_of rule)) ⊎ (Holds rule word × IsFirstBroken rules word error)
 
--- the answer to a word by all rules
+-- the same for all rules; one word, so that a search does not take it apart
 unfoldable pub IsErrorOf : ℕ → Error → Type 0
 IsErrorOf word error = IsFirstBroken rules_in_order word error
 
--- what makes a word lawful: its radixes and flags are sound, its bytes are text, no byte has two roles, and the rest is 0
+-- what makes a word lawful: its radixes are in range, its flags agree, its bytes are text, no byte plays two roles, and the reserved bits are 0
 pub record LawfulParts (word : ℕ) : Type 0 where
   pub mantissa_radix : IsRadix (raw word).mantissa_radix
   pub exponent_base : IsRadix (effective_exponent_base (raw word))
@@ -146,6 +146,6 @@ pub record LawfulParts (word : ℕ) : Type 0 where
   pub roles : ArePairwise Disjoint (five_roles (raw word))
   pub clean : IsClean word
 
--- a word that describes numbers with one reading
+-- a word that breaks no rule: the parts above under one word, so that a search does not take it apart
 unfoldable pub Lawful : ℕ → Type 0
 Lawful word = LawfulParts word
