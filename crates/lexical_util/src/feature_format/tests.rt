@@ -13,7 +13,7 @@ macro_rules! check_flags {
 }
 
 #[test]
-fn flags_of_digits_and_signs(rt: HostRuntime) {
+fn getters_of_digit_and_sign_flags_see_their_bit_alone(rt: HostRuntime) {
     check_flags! { rt;
         required_integer_digits 0;
         required_fraction_digits 1;
@@ -28,7 +28,7 @@ fn flags_of_digits_and_signs(rt: HostRuntime) {
 }
 
 #[test]
-fn flags_of_notation_and_case(rt: HostRuntime) {
+fn getters_of_notation_and_case_flags_see_their_bit_alone(rt: HostRuntime) {
     check_flags! { rt;
         no_exponent_without_fraction 9;
         no_special 10;
@@ -43,7 +43,7 @@ fn flags_of_notation_and_case(rt: HostRuntime) {
 }
 
 #[test]
-fn flags_of_separators_between_and_before_digits(rt: HostRuntime) {
+fn getters_of_separators_between_and_before_digits_see_their_bit_alone(rt: HostRuntime) {
     check_flags! { rt;
         integer_internal_digit_separator 32;
         fraction_internal_digit_separator 33;
@@ -55,7 +55,7 @@ fn flags_of_separators_between_and_before_digits(rt: HostRuntime) {
 }
 
 #[test]
-fn flags_of_separators_after_digits_and_in_a_row(rt: HostRuntime) {
+fn getters_of_separators_after_digits_and_in_a_row_see_their_bit_alone(rt: HostRuntime) {
     check_flags! { rt;
         integer_trailing_digit_separator 38;
         fraction_trailing_digit_separator 39;
@@ -76,7 +76,7 @@ macro_rules! check_groups {
 }
 
 #[test]
-fn groups(rt: HostRuntime) {
+fn group_getters_see_each_member(rt: HostRuntime) {
     check_groups! { rt;
         required_digits 0xF 0 1 2 3;
         internal_digit_separator 0x7_0000_0000 32 33 34;
@@ -92,7 +92,7 @@ fn one_required_digit_is_enough(rt: HostRuntime) {
 }
 
 #[test]
-fn flag_groups(rt: HostRuntime) {
+fn flag_groups_mask_out_everything_else(rt: HostRuntime) {
     let view = NumberFormat::new(ALL_ONES);
     assert_eq!(rt; view.flags(), 0x1FFF_0003_FFFF);
     assert_eq!(rt; view.interface_flags(), 0xFFF_0000_63CF);
@@ -104,7 +104,7 @@ fn flag_groups(rt: HostRuntime) {
 }
 
 #[test]
-fn bytes(rt: HostRuntime) {
+fn reads_each_byte(rt: HostRuntime) {
     let view = NumberFormat::new(0x06050403_02000001_00000000_0000000C);
     assert_eq!(rt; view.digit_separator(), 1);
     assert_eq!(rt; view.base_prefix(), 2);
@@ -126,11 +126,20 @@ fn bytes(rt: HostRuntime) {
 }
 
 #[test]
-fn separators_in_a_row(rt: HostRuntime) {
+fn a_flag_of_separators_in_a_row_is_no_other_flag(rt: HostRuntime) {
     let view = NumberFormat::new(0x00000A00_00000000_00000200_0000000C);
     assert!(rt; view.consecutive_digit_separator());
     assert!(rt; !view.internal_digit_separator());
     assert!(rt; !view.has_digit_separator());
+}
+
+#[test]
+fn digits_are_those_of_both_radixes(rt: HostRuntime) {
+    let decimal = NumberFormat::new(0x00000A00_00000000_00000000_0000000C);
+    assert!(rt; decimal.is_digit(b'9') && !decimal.is_digit(b'A') && !decimal.is_digit(b'.'));
+    let hexadecimal_exponent = NumberFormat::new(0x10000A00_00000000_00000000_0000000C);
+    assert!(rt; hexadecimal_exponent.is_digit(b'f') && hexadecimal_exponent.is_digit(b'F'));
+    assert!(rt; !hexadecimal_exponent.is_digit(b'g'));
 }
 
 #[test]
@@ -150,7 +159,7 @@ fn powers_of_the_radix(rt: HostRuntime) {
 }
 
 #[test]
-fn errors(rt: HostRuntime) {
+fn error_is_that_of_the_first_broken_rule(rt: HostRuntime) {
     let cases = [
         (0x0A0A0A00_00000000_00000000_0000000C, Error::Success),
         (0x00000A00_00000000_00000000_0000000C, Error::Success),
@@ -166,6 +175,24 @@ fn errors(rt: HostRuntime) {
             0x0A010A00_00000000_00000000_0000000C,
             Error::InvalidExponentBase,
         ),
+        (
+            0x00000A48_68000000_00000000_0000000C,
+            Error::InvalidPunctuation,
+        ),
+        (
+            0x00000A48_68000000_00000000_0001000C,
+            Error::InvalidPunctuation,
+        ),
+        (
+            0x00000A48_68000000_00000000_0002000C,
+            Error::InvalidPunctuation,
+        ),
+        (0x00000A48_68000000_00000000_0003000C, Error::Success),
+        (
+            0x00000A00_78000058_00000000_0000000C,
+            Error::InvalidPunctuation,
+        ),
+        (0x00000A00_78000058_00000000_0001000C, Error::Success),
     ];
     for (format, want) in cases {
         let view = NumberFormat::new(format);
@@ -177,7 +204,7 @@ fn errors(rt: HostRuntime) {
 }
 
 #[test]
-fn errors_of_radixes(rt: HostRuntime) {
+fn error_radix_looks_at_radixes_alone(rt: HostRuntime) {
     let cases = [
         (0x0A0A0A00_00000035_00000000_0000000C, Error::Success),
         (0, Error::InvalidMantissaRadix),
@@ -198,7 +225,7 @@ fn errors_of_radixes(rt: HostRuntime) {
 }
 
 #[test]
-fn builders(rt: HostRuntime) -> Result<(), Fail> {
+fn builders_pack_the_standard_and_the_decimal_format(rt: HostRuntime) -> Result<(), Fail> {
     let decimal = 0x0A0A0A00_00000000_00000000_0000000C;
     assert_eq!(rt;
         NumberFormat::default().rebuild().build_unchecked(),
