@@ -271,6 +271,18 @@ fn migrate_returns_the_normal_form_or_its_error(rt: HostRuntime) {
 
 // The words of docs/MIGRATING.md that are not above.
 #[test]
+fn what_migrate_does_not_mend_an_edit_does(rt: HostRuntime) {
+    let contradiction = 0x00000A00_00000035_00000000_0000404C;
+    assert_eq!(rt; format_error(contradiction), Error::InvalidDigitSeparator);
+    let mended = edit_word(
+        contradiction,
+        &[Edit::Flag(FlagSetter::RequiredExponentNotation, false)],
+    );
+    assert_eq!(rt; mended, 0x0A0A0A00_00000000_00000000_0000004C);
+    assert_eq!(rt; format_error(mended), Error::Success);
+}
+
+#[test]
 fn letters_in_two_cases_are_told_apart_by_the_flags_of_case(rt: HostRuntime) {
     let prefix_and_suffix = 0x00000A48_68000000_00000000_0000000C;
     let apart = edit_word(
