@@ -1,7 +1,7 @@
 -- The only response where a condition decides, and lists of a known length.
 use Rattle.std.proofs.Common.{◌≡◌, ◌≢◌, ◌↔◌, ◌≤◌, ◌-◌, ℕ, Bool, true, false, IsTrue, Ok, Err, List, [], ◌∷◌, length, get_or, map, take, drop, take_all, inl, inr, refl, sym, ap, ◌∙◌, arith}
-use Rattle.lexical_base.specs.declared.error.Error.{Error}
-use Rattle.lexical_flags.specs.Rules.{Rule, IsFirstBroken, IsErrorOf, rules_in_order}
+use Rattle.lexical_util.specs.declared.error.Error.{Error}
+use Rattle.lexical_util.specs.Rules.{Rule, IsFirstBroken, IsErrorOf, rules_in_order}
 use Rattle.lexical_util.specs.declared.edits.Edit.{Edit}
 use Rattle.lexical_util.specs.Edits.{edited, all_writes}
 use Rattle.numfmt.specs.declared.response.Answer.{Answer}

@@ -1,5 +1,5 @@
-pub mod NumeralLemmas
-pub mod FigureLemmas
-pub mod TextLemmas
-pub mod EditsLemmas
-pub mod CommandLemmas
+mod NumeralLemmas
+mod DigitLemmas
+mod TextLemmas
+mod EditsLemmas
+mod CommandLemmas

@@ -1,14 +1,13 @@
 -- Numerals, digit by digit.
 use Rattle.std.proofs.Common.{◌≡◌, ℕ, suc, ◌+◌, ◌*◌, ◌^◌, ◌<◌, ◌≤◌, Bool, true, false, List, [], ◌∷◌, ◌++◌, length, take, get_or, nat_lt, nat_le, refl, sym, ap, ◌∙◌, arith, length-append, Some, None, inl, inr, if◌then◌else◌}
 use Rattle.std.proofs.Math.Nat.{mul-zero, pow-zero, pow-suc, mul_assoc, pow-le-pow_left, mul-le-mul_left}
-use Rattle.std.proofs.lemmas.Bool.{cases_lt}
+use Rattle.std.proofs.lemmas.Bool.{agree_below_at, cases_lt}
 use Rattle.std.proofs.lemmas.Bool.Decides.{nat_tests}
 use Rattle.std.proofs.lemmas.List.{take_more}
 use Rattle.std.proofs.lemmas.List.Elements.{All-from_get_or}
 use Rattle.std.proofs.lemmas.List.{take_all}
 use borrow.Author.Count.{below_more}
-use Rattle.lexical_base.specs.Digits.{value, digit_of}
-use Rattle.lexical_base.proofs.Finite.{passes_at}
+use Rattle.lexical_util.specs.Digits.{value, digit_of}
 use Rattle.numfmt.specs.Numeral.{numeral, is_digit, IsNumeral}
 
 -- one more digit at the right
@@ -28,7 +27,7 @@ numeral-take radix digits i inside = ap (numeral radix) (take_more digits i 0 in
 -- 32 digits of radix 16 fit 128 bits
 sixteen-fits : (places : ℕ) → places < 33 → 16 ^ places ≤ 2 ^ 128
 sixteen-fits places few =
-    let fits : nat_le (16 ^ places) (2 ^ 128) ≡ true = passes_at (λ k. nat_le (16 ^ k) (2 ^ 128)) 33 places refl few in
+    let fits : nat_le (16 ^ places) (2 ^ 128) ≡ true = agree_below_at (λ k. nat_le (16 ^ k) (2 ^ 128)) (λ _. true) 33 places refl few in
     grind (arith, nat_tests)
 
 -- one place more multiplies by the radix

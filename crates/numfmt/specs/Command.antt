@@ -1,8 +1,8 @@
 -- The response that each list of arguments calls for.
 use Rattle.std.specs.Prelude.{ℕ, ◌≡◌, ◌≤◌, ◌↔◌, Bool, true, false, List, [], ◌∷◌, length, codes, Ok, Err}
-use Rattle.lexical_base.specs.declared.error.Error.{Error}
-use Rattle.lexical_flags.specs.Rules.{IsErrorOf, Lawful}
-use Rattle.lexical_flags.specs.Options.{AreAccepted}
+use Rattle.lexical_util.specs.declared.error.Error.{Error}
+use Rattle.lexical_util.specs.Rules.{IsErrorOf, Lawful}
+use Rattle.lexical_util.specs.Options.{AreAccepted}
 use Rattle.lexical_util.specs.declared.edits.Edit.{Edit}
 use Rattle.lexical_util.specs.declared.format.TheConstants.{STANDARD}
 use Rattle.lexical_util.specs.Edits.{edited, all_writes}

@@ -1,7 +1,7 @@
--- The texts of edits: names of setters, truth values and bytes.
-use Rattle.std.specs.Prelude.{ℕ, ◌≡◌, ◌<◌, ◌≤◌, ◌⊎◌, if◌then◌else◌, ◌==◌, Bool, true, false, Option, None, List, [], length, get_or, codes, bytes_eq}
-use Rattle.std.specs.List.{before_first, after_first}
-use Rattle.lexical_builder.specs.OptionByte.{byte_option}
+-- The texts of edits: names of setters, `bool`s and bytes.
+use Rattle.std.specs.Prelude.{ℕ, ◌≡◌, ◌≤◌, ◌⊎◌, if◌then◌else◌, ◌==◌, Bool, true, false, Option, None, List, codes, bytes_eq}
+use Rattle.std.specs.List.{AllZip, before_first, after_first}
+use Rattle.lexical_util.specs.OptionByte.{byte_option}
 use Rattle.lexical_util.specs.declared.edits.FlagSetter.{FlagSetter}
 use Rattle.lexical_util.specs.declared.edits.FlagSetter.TheVariants as setters
 use Rattle.lexical_util.specs.declared.edits.Edit.{Edit}
@@ -51,12 +51,12 @@ setter_name setters.IntegerDigitSeparatorFlags = codes "integer_digit_separator_
 setter_name setters.FractionDigitSeparatorFlags = codes "fraction_digit_separator_flags"
 setter_name setters.ExponentDigitSeparatorFlags = codes "exponent_digit_separator_flags"
 
--- a text that writes a byte: one to three figures whose number is at most 255
+-- a text that writes a byte: 1 to 3 decimal digits, a number of at most 255
 pub record IsByteText (text : List ℕ) : Type 0 where
-  pub figures : IsNumeral 10 3 text
+  pub digits : IsNumeral 10 3 text
   pub fits : numeral 10 text ≤ 255
 
--- the text of a truth value
+-- the text of a `bool`
 abbrev pub truth_text : Bool → List ℕ
 truth_text true = codes "true"
 truth_text false = codes "false"
@@ -91,11 +91,10 @@ WritesValueOf (edits.BaseSuffix byte) text = IsOptionalByteText text × (byte �
 WritesValueOf (edits.ExponentBase byte) text = IsOptionalByteText text × (byte ≡ optional_byte text)
 WritesValueOf (edits.ExponentRadix byte) text = IsOptionalByteText text × (byte ≡ optional_byte text)
 
--- a text NAME=VALUE that writes an edit; the first `=` parts the two
+-- a text NAME=VALUE that writes an edit, split at the first `=`
 abbrev pub IsTextOf : Edit → List ℕ → Type 0
 IsTextOf edit text = (before_first (λ b. b == 61) text ≡ edit_name edit) × WritesValueOf edit (after_first (λ b. b == 61) text)
 
--- texts that write these edits, each its own
-pub record AreTextsOf (list : List Edit) (texts : List (List ℕ)) : Type 0 where
-  pub long : length list ≡ length texts
-  pub each : (k : ℕ) (edit : Edit) → k < length texts → IsTextOf (get_or list k edit) (get_or texts k [])
+-- the texts write the edits, one each, in order
+abbrev pub AreTextsOf : List Edit → List (List ℕ) → Type 0
+AreTextsOf list texts = AllZip IsTextOf list texts

@@ -1,7 +1,7 @@
 -- Numerals: digits of a radix, and the number that they write.
 use Rattle.std.specs.Prelude.{ℕ, ◌+◌, ◌*◌, ◌^◌, ◌≤◌, Bool, List, [], ◌∷◌, length, nat_lt}
 use Rattle.std.specs.List.{AllPass}
-use Rattle.lexical_base.specs.Digits.{value}
+use Rattle.lexical_util.specs.Digits.{value}
 
 -- whether a byte is a digit of the radix
 abbrev pub is_digit : ℕ → ℕ → Bool

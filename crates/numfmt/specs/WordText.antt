@@ -1,7 +1,6 @@
--- The text of a word: `0x` and hexadecimal digits.
-use Rattle.std.specs.Prelude.{◌≡◌, ℕ, zero, suc, ◌==◌, ◌/◌, ◌%◌, Bool, List, [], ◌∷◌, ◌++◌, length, take, drop, slice_index, codes}
+-- The text of a format word: `0x` and hexadecimal digits.
+use Rattle.std.specs.Prelude.{◌≡◌, ℕ, zero, suc, ◌==◌, ◌/◌, ◌%◌, ◌^◌, Bool, List, [], ◌∷◌, ◌++◌, length, take, drop, slice_index, codes}
 use Rattle.std.specs.List.{AllPass, list_any}
-use Rattle.lexical_base.specs.Digits.{figures}
 use Rattle.numfmt.specs.Numeral.{numeral, IsNumeral}
 
 -- what follows `0x`
@@ -17,21 +16,29 @@ pub record IsWordText (text : List ℕ) : Type 0 where
   pub prefix : take 2 text ≡ codes "0x"
   pub digits : IsNumeral 16 32 (hex_digits text)
 
--- 0-9 or A-F
-abbrev pub is_capital_hex_digit : ℕ → Bool
-is_capital_hex_digit byte = list_any (λ figure. figure == byte) (take 16 figures)
+-- the hexadecimal digits with uppercase letters, in order of their value
+abbrev pub uppercase_digits : List ℕ
+uppercase_digits = codes "0123456789ABCDEF"
 
--- the form in which words are printed: `0x` and 32 digits with capital letters
+-- whether a byte is one of them
+abbrev pub is_uppercase_digit : ℕ → Bool
+is_uppercase_digit byte = list_any (λ digit. digit == byte) uppercase_digits
+
+-- the form in which words are printed: `0x` and 32 of these digits
 pub record IsPrintedForm (text : List ℕ) : Type 0 where
   pub prefix : take 2 text ≡ codes "0x"
   pub full : length (hex_digits text) ≡ 32
-  pub capitals : AllPass is_capital_hex_digit (hex_digits text)
+  pub uppercase : AllPass is_uppercase_digit (hex_digits text)
 
--- the last figures of a number, so many, in capitals
-unfoldable pub last_figures : ℕ → ℕ → List ℕ
-last_figures zero number = []
-last_figures (suc places) number = last_figures places (number / 16) ++ slice_index figures (number % 16) ∷ []
+-- the digit of a number at a position, counted from 0 at the right
+abbrev pub digit_at : ℕ → ℕ → ℕ
+digit_at number position = slice_index uppercase_digits (number / 16 ^ position % 16)
+
+-- the last `count` digits of a number
+unfoldable pub last_digits : ℕ → ℕ → List ℕ
+last_digits zero number = []
+last_digits (suc count) number = digit_at number count ∷ last_digits count number
 
 -- the text of a word as it is printed
 abbrev pub printed : ℕ → List ℕ
-printed word = codes "0x" ++ last_figures 32 word
+printed word = codes "0x" ++ last_digits 32 word

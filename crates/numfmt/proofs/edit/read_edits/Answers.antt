@@ -1,8 +1,8 @@
--- Each text is read into the place of its number.
+-- Each text is read into the element of its index.
 use Rattle.std.proofs.Common.{◌≡◌, ◌↔◌, Option, None, Some, IsSome, [], string_bytes, length, refl, sym, ap, ◌∙◌, subst, arith}
 use Rattle.std.proofs.lemmas.List.{length-map, get_or-map}
 use Rattle.numfmt.specs.EditText.{IsTextOf}
-use Rattle.numfmt.proofs.EditsLemmas.{HaveRead-next, AreTextsOf-read, AreTextsOf-fault}
+use Rattle.numfmt.proofs.EditsLemmas.{HaveRead-next, AreTextsOf-read, AreTextsOf-none}
 use Rattle.numfmt.proofs.edit.read_edits.Goals as goal
 
 not_some : {X : Type 0} (result : Option X) → result ≡ None → IsSome result → ⊥
@@ -15,7 +15,7 @@ loop-i-init c k d e l = absurd (omega arith)
 pub returns-in_err-edits : goal.returns-in_err-edits
 returns-in_err-edits c list =
     let text = c.as_str.ensures.value ∙ ap string_bytes c.index-texts-i.is ∙ sym (get_or-map string_bytes c.args.texts.now c.loop-i.i c.index-texts-i.result [] c.loop-i-test.true) in (
-      λ h. absurd (AreTextsOf-fault _ c.loop-i.i c.read_edit.result (omega (arith, length-map c.args.texts.now string_bytes)) c.in_err-edits.was
+      λ h. absurd (AreTextsOf-none _ c.loop-i.i c.read_edit.result (omega (arith, length-map c.args.texts.now string_bytes)) c.in_err-edits.was
           (λ e. subst (λ t. (c.read_edit.result ≡ Some e) ↔ IsTextOf e t) text (c.read_edit.ensures e)) list h),
       λ h. absurd (not_some c.from_residual.result c.from_residual.ensures h.0),
     )
