@@ -1,4 +1,4 @@
--- The only response where a condition decides, and lists of a known length.
+-- The only response that a demand allows, and lists of a known length.
 use Rattle.std.proofs.Common.{◌≡◌, ◌≢◌, ◌↔◌, ◌≤◌, ◌-◌, ℕ, Bool, true, false, IsTrue, Ok, Err, List, [], ◌∷◌, length, get_or, map, take, drop, take_all, inl, inr, refl, sym, ap, ◌∙◌, arith}
 use Rattle.lexical_util.specs.declared.error.Error.{Error}
 use Rattle.lexical_util.specs.Rules.{Rule, IsFirstBroken, IsErrorOf, rules_in_order}
@@ -13,12 +13,12 @@ use Rattle.numfmt.specs.Response.{Response}
 use Rattle.numfmt.specs.Command.{IfElse, Gives, Refuses, GivesWhether, GivesErrorOf, EditsGive, SameCallsFor, OptionsCallsFor, IsOnly}
 
 -- if the condition holds
-pub IsOnly-met : (condition : Type 0) (met unmet : Response → Type 0) (response : Response) → condition → IsOnly met response → IsOnly (IfElse condition met unmet) response
-IsOnly-met condition met unmet response holds only other = (λ h. (only other).0 (h.0 holds), λ e. (λ _. (only other).1 e, λ fails. absurd (fails holds)))
+pub IsOnly-met : {condition : Type 0} {met : Response → Type 0} {response : Response} (unmet : Response → Type 0) → condition → IsOnly met response → IsOnly (IfElse condition met unmet) response
+IsOnly-met unmet holds only other = (λ h. (only other).0 (h.0 holds), λ e. (λ _. (only other).1 e, λ fails. absurd (fails holds)))
 
 -- if it does not hold
-pub IsOnly-unmet : (condition : Type 0) (met unmet : Response → Type 0) (response : Response) → ¬ condition → IsOnly unmet response → IsOnly (IfElse condition met unmet) response
-IsOnly-unmet condition met unmet response fails only other = (λ h. (only other).0 (h.1 fails), λ e. (λ holds. absurd (fails holds), λ _. (only other).1 e))
+pub IsOnly-unmet : {condition : Type 0} {unmet : Response → Type 0} {response : Response} (met : Response → Type 0) → ¬ condition → IsOnly unmet response → IsOnly (IfElse condition met unmet) response
+IsOnly-unmet met fails only other = (λ h. (only other).0 (h.1 fails), λ e. (λ holds. absurd (fails holds), λ _. (only other).1 e))
 
 -- an answer that is given is the only one
 pub IsOnly-given : (answer : Answer) → IsOnly (Gives answer) (Ok answer)
@@ -26,8 +26,8 @@ IsOnly-given answer other = (λ e. e, λ e. e)
 
 -- an answer that tells what a test told
 pub IsOnly-told : (condition : Type 0) (answer : Bool → Answer) (truth : Bool) → (IsTrue truth ↔ condition) → IsOnly (GivesWhether condition answer) (Ok (answer truth))
-IsOnly-told condition answer true told = IsOnly-met condition _ _ _ (told.0 refl) (IsOnly-given (answer true))
-IsOnly-told condition answer false told = IsOnly-unmet condition _ _ _ (λ holds. let h : IsTrue false = told.1 holds in cc) (IsOnly-given (answer false))
+IsOnly-told condition answer true told = IsOnly-met _ (told.0 refl) (IsOnly-given (answer true))
+IsOnly-told condition answer false told = IsOnly-unmet _ (λ holds. let h : IsTrue false = told.1 holds in cc) (IsOnly-given (answer false))
 
 abbrev outcome_response : Error → Response
 outcome_response error = Ok (answers.Outcome error)

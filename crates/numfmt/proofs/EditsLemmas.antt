@@ -15,7 +15,7 @@ HaveRead texts i read = (k : ℕ) (d e : Edit) → k < i → IsTextOf e (get_or 
 one_read : (text : List ℕ) (result : Option Edit) (a e : Edit) → result ≡ Some a → ((e : Edit) → (result ≡ Some e) ↔ IsTextOf e text) → IsTextOf e text ↔ (e ≡ a)
 one_read text result a e is exact = (λ h. let same : Some a ≡ Some e = sym is ∙ (exact e).1 h in cc, λ h. (exact e).0 (is ∙ ap Some (sym h)))
 
--- one text more is read
+-- one more text is read
 pub HaveRead-next : (texts : List (List ℕ)) (i : ℕ) (read : List Edit) (result : Option Edit) (a : Edit) → HaveRead texts i read → i < length read
     → result ≡ Some a → ((e : Edit) → (result ≡ Some e) ↔ IsTextOf e (get_or texts i [])) → HaveRead texts (i + 1) (set read i a)
 HaveRead-next texts i read result a before room is exact k d e l = elim (cases_lt k i) [

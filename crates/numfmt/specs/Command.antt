@@ -43,11 +43,12 @@ ShowCallsFor (word ∷ []) =
     Gives (answers.Fields (hex word)))
 ShowCallsFor _ = Refuses refusals.WrongNumberOfArguments
 
--- texts of edits, and the word that these edits make of a word
+-- the word after the edits in the texts
 abbrev pub EditsGive : ℕ → List (List ℕ) → Response → Type 0
-EditsGive word texts response = (list : List Edit) × AreTextsOf list texts × Gives (answers.Word (edited word (all_writes list))) response
+EditsGive word texts response =
+    (list : List Edit) × AreTextsOf list texts × Gives (answers.Word (edited word (all_writes list))) response
 
--- `edit WORD NAME=VALUE ..`: the word that these edits, at most 64, make of the word
+-- `edit WORD NAME=VALUE ..`: the word after at most 64 edits
 abbrev pub EditCallsFor : List (List ℕ) → Response → Type 0
 EditCallsFor [] = Refuses refusals.WrongNumberOfArguments
 EditCallsFor (word ∷ texts) =

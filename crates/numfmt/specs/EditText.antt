@@ -8,7 +8,7 @@ use Rattle.lexical_util.specs.declared.edits.Edit.{Edit}
 use Rattle.lexical_util.specs.declared.edits.Edit.TheVariants as edits
 use Rattle.numfmt.specs.Numeral.{numeral, IsNumeral}
 
--- the name of a setter
+-- the name of the setter of a flag or a group
 abbrev pub setter_name : FlagSetter → List ℕ
 setter_name setters.RequiredIntegerDigits = codes "required_integer_digits"
 setter_name setters.RequiredFractionDigits = codes "required_fraction_digits"
@@ -61,11 +61,11 @@ abbrev pub truth_text : Bool → List ℕ
 truth_text true = codes "true"
 truth_text false = codes "false"
 
--- a text that writes a byte which may be absent
+-- a text that writes a byte or its absence
 abbrev pub IsOptionalByteText : List ℕ → Type 0
 IsOptionalByteText text = (text ≡ codes "none") ⊎ IsByteText text
 
--- the byte that it writes, absent for `none` and for 0
+-- the byte that it writes; `none` and 0 mean that it is absent
 abbrev pub optional_byte : List ℕ → Option ℕ
 optional_byte text = if bytes_eq text (codes "none") then None else byte_option (numeral 10 text)
 
@@ -93,7 +93,8 @@ WritesValueOf (edits.ExponentRadix byte) text = IsOptionalByteText text × (byte
 
 -- a text NAME=VALUE that writes an edit, split at the first `=`
 abbrev pub IsTextOf : Edit → List ℕ → Type 0
-IsTextOf edit text = (before_first (λ b. b == 61) text ≡ edit_name edit) × WritesValueOf edit (after_first (λ b. b == 61) text)
+IsTextOf edit text =
+    (before_first (λ b. b == 61) text ≡ edit_name edit) × WritesValueOf edit (after_first (λ b. b == 61) text)
 
 -- the texts write the edits, one each, in order
 abbrev pub AreTextsOf : List Edit → List (List ℕ) → Type 0

@@ -7,12 +7,12 @@ use Rattle.lexical_util.specs.Digits.{value}
 abbrev pub is_digit : ℕ → ℕ → Bool
 is_digit radix byte = nat_lt (value byte) radix
 
--- the sum of each digit's value times the radix to the power of its place, counted from 0 at the right
+-- the sum of each digit's value times the radix to the power of its position, counted from 0 at the right
 abbrev pub numeral : ℕ → List ℕ → ℕ
 numeral radix [] = 0
 numeral radix (digit ∷ digits) = value digit * radix ^ length digits + numeral radix digits
 
--- one to so many digits of the radix
+-- 1 to `most` digits of the radix
 pub record IsNumeral (radix most : ℕ) (digits : List ℕ) : Type 0 where
   pub some : 1 ≤ length digits
   pub few : length digits ≤ most

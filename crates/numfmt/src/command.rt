@@ -1,11 +1,12 @@
-//! The commands: from the program's arguments to a response.
+//! The commands: which response the program's arguments call for.
 
 ghost use Rattle.std.specs.Prelude.{◌≡◌, IfErr, List, [], ◌∷◌, map, string_bytes};
 ghost use Rattle.std.specs.Result.{OkIff};
 ghost use Rattle.numfmt.specs.Numeral.{numeral};
 ghost use Rattle.numfmt.specs.WordText.{IsWordText, hex};
 ghost use Rattle.numfmt.specs.EditText.{IsByteText};
-ghost use Rattle.numfmt.specs.Command.{CallsFor, ShowCallsFor, EditCallsFor, CheckCallsFor, SameCallsFor, OptionsCallsFor, MigrateCallsFor, GivesMigrated, IsOnly};
+ghost use Rattle.numfmt.specs.Command.{CallsFor, ShowCallsFor, EditCallsFor, CheckCallsFor, SameCallsFor};
+ghost use Rattle.numfmt.specs.Command.{OptionsCallsFor, MigrateCallsFor, GivesMigrated, IsOnly};
 
 use crate::edit::{read_byte, read_edits};
 use crate::response::{Answer, Refusal};
@@ -14,10 +15,12 @@ use lexical_util::edits::{Edit, edit_word, migrate, same_format};
 use lexical_util::format::{STANDARD, format_error};
 use lexical_util::format_flags::is_valid_options_punctuation;
 
-/// How many edits one command takes.
+// The maximum number of edits in one command.
 const MAX_EDITS: usize = 64;
 
-/// The response to `args`, the program's arguments without its name.
+/// The response that `args`, the program's arguments without its name, call for: an answer, or the
+/// first reason to refuse them. The reasons are tried in this order: an unknown command, a wrong
+/// number of arguments, too many edits, then each argument from left to right.
 pub fn response_to(args: &[String]) -> Result<Answer, Refusal>
     ensures { IsOnly (CallsFor (map string_bytes args.now)) result }
 {
@@ -35,6 +38,7 @@ pub fn response_to(args: &[String]) -> Result<Answer, Refusal>
     }
 }
 
+// `show WORD`
 fn show(args: &[String]) -> Result<Answer, Refusal>
     ensures { IsOnly (ShowCallsFor (map string_bytes args.now)) result }
 {
@@ -44,6 +48,7 @@ fn show(args: &[String]) -> Result<Answer, Refusal>
     }
 }
 
+// `check WORD`
 fn check(args: &[String]) -> Result<Answer, Refusal>
     ensures { IsOnly (CheckCallsFor (map string_bytes args.now)) result }
 {
@@ -53,6 +58,7 @@ fn check(args: &[String]) -> Result<Answer, Refusal>
     }
 }
 
+// `same A B`
 fn same(args: &[String]) -> Result<Answer, Refusal>
     ensures { IsOnly (SameCallsFor (map string_bytes args.now)) result }
 {
@@ -62,12 +68,14 @@ fn same(args: &[String]) -> Result<Answer, Refusal>
     }
 }
 
+// Whether two words have one normal form.
 fn same_words(a: &String, b: &String) -> Result<Answer, Refusal>
     ensures { IsOnly (SameCallsFor (string_bytes a.now ∷ string_bytes b.now ∷ [])) result }
 {
     Ok(Answer::Sameness(same_format(parse_word(a)?, parse_word(b)?)))
 }
 
+// `options WORD E P`
 fn options(args: &[String]) -> Result<Answer, Refusal>
     ensures { IsOnly (OptionsCallsFor (map string_bytes args.now)) result }
 {
@@ -77,8 +85,10 @@ fn options(args: &[String]) -> Result<Answer, Refusal>
     }
 }
 
+// Whether the exponent byte and the point byte fit the word.
 fn options_fit(word: &String, exponent: &String, point: &String) -> Result<Answer, Refusal>
-    ensures { IsOnly (OptionsCallsFor (string_bytes word.now ∷ string_bytes exponent.now ∷ string_bytes point.now ∷ [])) result }
+    ensures { IsOnly
+        (OptionsCallsFor (string_bytes word.now ∷ string_bytes exponent.now ∷ string_bytes point.now ∷ [])) result }
 {
     let word = parse_word(word)?;
     let exponent = parse_byte(exponent)?;
@@ -86,6 +96,7 @@ fn options_fit(word: &String, exponent: &String, point: &String) -> Result<Answe
     Ok(Answer::Acceptance(is_valid_options_punctuation(word, exponent, point)))
 }
 
+// `edit WORD NAME=VALUE ..`
 fn edit(args: &[String]) -> Result<Answer, Refusal>
     ensures { IsOnly (EditCallsFor (map string_bytes args.now)) result }
 {
@@ -95,6 +106,7 @@ fn edit(args: &[String]) -> Result<Answer, Refusal>
     }
 }
 
+// Parses `texts` as edits and applies them to the word.
 fn edit_by_texts(word: &String, texts: &[String]) -> Result<Answer, Refusal>
     ensures { IsOnly (EditCallsFor (string_bytes word.now ∷ map string_bytes texts.now)) result }
 {
@@ -107,6 +119,7 @@ fn edit_by_texts(word: &String, texts: &[String]) -> Result<Answer, Refusal>
     Ok(Answer::Word(edit_word(format, &edits[..texts.len()])))
 }
 
+// `migrate WORD`
 fn migrate_word(args: &[String]) -> Result<Answer, Refusal>
     ensures { IsOnly (MigrateCallsFor (map string_bytes args.now)) result }
 {
@@ -116,6 +129,7 @@ fn migrate_word(args: &[String]) -> Result<Answer, Refusal>
     }
 }
 
+// The normal form of a word if that is lawful, else the first rule that it breaks.
 fn migrated(format: u128) -> Answer
     ensures { IsOnly (GivesMigrated format) (Ok result) }
 {

@@ -2,16 +2,17 @@
 
 ghost use Rattle.std.specs.Prelude.{◌≡◌, ◌≤◌, ◌↔◌, Bool, Some, IsSome, List, length, take, map, string_bytes};
 ghost use Rattle.std.specs.Option.{SomeIff};
-ghost use Rattle.numfmt.specs.EditText.{setter_name, truth_text, IsByteText, IsOptionalByteText, optional_byte, edit_name, WritesValueOf, IsTextOf, AreTextsOf};
+ghost use Rattle.numfmt.specs.EditText.{setter_name, truth_text, IsByteText, IsOptionalByteText, optional_byte};
+ghost use Rattle.numfmt.specs.EditText.{edit_name, WritesValueOf, IsTextOf, AreTextsOf};
 ghost use Rattle.numfmt.specs.Numeral.{numeral};
 
 use crate::numeral::read_numeral;
 use lexical_util::edits::{Edit, FlagSetter};
 use lexical_util::format_builder::{NonZeroU8, OptionU8};
 
-/// The edit that `text` names, if it is NAME=VALUE, parted at the first `=`. NAME is that of a
-/// setter of a builder. VALUE is `true` or `false` for a flag or a group, a byte for a radix that
-/// cannot be absent, and `none` or a byte, where 0 is the same as `none`, for any other.
+// Parses `text` as an edit NAME=VALUE, split at the first `=`. NAME is the name of one of the
+// builder's setters. VALUE is `true` or `false` for a flag or a group of flags, a byte for
+// `mantissa_radix` and `radix`, and `none` or a byte for the other five bytes; 0 means `none`.
 fn read_edit(text: &str) -> Option<Edit>
     ensures { (edit : Edit) → (result ≡ Some edit) ↔ IsTextOf edit text.now }
 {
@@ -19,7 +20,8 @@ fn read_edit(text: &str) -> Option<Edit>
     named_edit(name, value)
 }
 
-/// Reads `texts` into the first places of `edits`, each into its own; `None` if one is not an edit.
+/// Parses `texts` as edits, in their order, into the front of `edits`, which has to be at least as
+/// long; `None` if any of them is not an edit.
 pub fn read_edits(texts: &[String], edits: &mut [Edit]) -> Option<()>
     requires { length texts.now ≤ length edits.old }
     ensures { (list : List Edit) → AreTextsOf list (map string_bytes texts.now)
@@ -31,7 +33,7 @@ pub fn read_edits(texts: &[String], edits: &mut [Edit]) -> Option<()>
     Some(())
 }
 
-// The edit of this name with the value that a text writes.
+// The edit with this name and the value that a text writes.
 fn named_edit(name: &str, value: &str) -> Option<Edit>
     ensures { (edit : Edit) → (result ≡ Some edit) ↔ (name.now ≡ edit_name edit) × WritesValueOf edit value.now }
 {
@@ -47,7 +49,7 @@ fn named_edit(name: &str, value: &str) -> Option<Edit>
     }
 }
 
-// The setter of a flag or a group by its name.
+// The setter of a flag or of a group of flags by its name.
 fn flag_setter(name: &str) -> Option<FlagSetter>
     ensures { (setter : FlagSetter) → (result ≡ Some setter) ↔ (setter_name setter ≡ name.now) }
 {
@@ -96,7 +98,7 @@ fn flag_setter(name: &str) -> Option<FlagSetter>
     })
 }
 
-// A truth value, `true` or `false`.
+// Parses `true` or `false`.
 fn read_bool(text: &str) -> Option<bool>
     ensures { (on : Bool) → (result ≡ Some on) ↔ (text.now ≡ truth_text on) }
 {
@@ -107,7 +109,7 @@ fn read_bool(text: &str) -> Option<bool>
     }
 }
 
-// A byte that may be absent: `none`, or a byte, of which 0 stands for none.
+// Parses `none` or a byte; 0 means `none`.
 fn read_optional_byte(text: &str) -> Option<OptionU8>
     ensures { SomeIff result (IsOptionalByteText text.now) (optional_byte text.now) }
 {
@@ -117,7 +119,7 @@ fn read_optional_byte(text: &str) -> Option<OptionU8>
     }
 }
 
-/// The byte that `text` writes, if it is one to three figures whose value is at most 255.
+/// Parses `text`, 1 to 3 decimal digits, as a number of at most 255; `None` if it is anything else.
 pub fn read_byte(text: &str) -> Option<u8>
     ensures { SomeIff result (IsByteText text.now) (numeral 10 text.now) }
 {

@@ -1,4 +1,4 @@
-//! The example of the README. A user of the library names `lexical_util` alone.
+//! The example of the README. A user of the library depends on `lexical_util` alone.
 
 use lexical_util::edits::{Edit, edit_word, same_format};
 use lexical_util::error::Error;
@@ -8,7 +8,7 @@ use std::test::Fail;
 
 #[test]
 fn builds_reads_edits_and_checks(rt: HostRuntime) -> Result<(), Fail> {
-    // Build a format whose digits may be grouped, as in `1_000_000`, or learn what is wrong with it.
+    // Build a format whose digits may be grouped, as in `1_000_000`, or get the first rule that it breaks.
     let format = NumberFormatBuilder::new()
         .digit_separator(NonZeroU8::new(b'_'))
         .internal_digit_separator(true)
@@ -20,7 +20,7 @@ fn builds_reads_edits_and_checks(rt: HostRuntime) -> Result<(), Fail> {
     assert!(rt; view.integer_internal_digit_separator());
     assert_eq!(rt; view.radix(), 10);
 
-    // Edit the word: all fields that are not named stay as they were.
+    // Edit the word: the fields that no edit names stay as they are.
     let hexadecimal = edit_word(
         format,
         &[

@@ -1,19 +1,21 @@
-//! `numfmt` shows, edits, compares and checks number formats.
+//! `numfmt` shows, edits, compares, checks and migrates number formats.
 //!
-//! A format is written as a word: `0x` and 1 to 32 hexadecimal digits.
+//! A number format is a format word, a `u128`. A WORD is written as `0x` and 1 to 32 hexadecimal
+//! digits.
 //!
 //! | Command | Prints |
 //! |---|---|
 //! | none | the fields of the standard format |
-//! | `show WORD` | the fields of a word |
-//! | `edit WORD NAME=VALUE ..` | the word that the edits make of a word; without edits its normal form |
-//! | `check WORD` | the first rule that a word breaks |
+//! | `show WORD` | the fields of the word |
+//! | `edit WORD NAME=VALUE ..` | the word with the fields that the edits name changed; without edits its normal form |
+//! | `check WORD` | the first rule that the word breaks |
 //! | `same A B` | whether two words mean the same format: `same` or `different` |
-//! | `options WORD E P` | whether the exponent byte E and the point byte P fit a word: `accepted` or `refused` |
+//! | `options WORD E P` | whether the exponent byte E and the point byte P fit the word: `accepted` or `refused` |
+//! | `migrate WORD` | the normal form of an old word, or what is wrong with it |
 //!
-//! The exit status is 0; 1 where the answer is no; 2 where the arguments are refused, with one line
-//! that says why; and 3, with nothing more printed, where a write fails or the arguments cannot be
-//! read.
+//! The exit status is 0 on success; 1 if the answer is no; 2 if the arguments are refused, and then
+//! one line says why; 3 if a write fails or the arguments cannot be read, and then nothing more is
+//! printed.
 #![tactic(auto)]
 
 mod command;
@@ -26,17 +28,16 @@ mod response;
 mod word;
 
 use program::run;
+use std::env;
 use std::process::ExitCode;
-use std::{env, io};
 
 fn main(rt: HostRuntime) -> ExitCode {
-    match arguments(&rt) {
-        Ok(args) => ExitCode::from(run(args.as_slice(), &mut rt.stdout())),
-        Err(_) => ExitCode::from(3),
-    }
-}
-
-// The words after the program's name.
-fn arguments(rt: &HostRuntime) -> io::Result<Vec<String>> {
-    Ok(env::args(rt)?.skip(1).collect(rt.alloc())?)
+    // An argument that is not UTF-8 is an error.
+    let Ok(args) = env::args(&rt) else {
+        return ExitCode::from(3);
+    };
+    let Ok(args) = args.skip(1).collect::<Vec<String>>(rt.alloc()) else {
+        return ExitCode::from(3);
+    };
+    ExitCode::from(run(args.as_slice(), &mut rt.stdout()))
 }

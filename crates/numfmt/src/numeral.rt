@@ -1,4 +1,4 @@
-//! Numbers as digits of a radix.
+//! Numbers written as digits of a radix.
 
 ghost use Rattle.std.specs.Prelude.{◌≤◌};
 ghost use Rattle.std.specs.Option.{SomeIff};
@@ -6,9 +6,9 @@ ghost use Rattle.numfmt.specs.Numeral.{IsNumeral, numeral};
 
 use lexical_util::digit::char_to_digit;
 
-/// The number that `digits` write in `radix`: `Some` exactly if they are digits of this radix, one
-/// to `most` of them. At radix 16 and 32 digits the numbers are those of a word, and no larger radix
-/// or longer numeral is read here.
+/// Parses `digits` as a number in `radix`: `Some` if they are 1 to `most` digit characters of this
+/// radix, and else `None`. The radix is at most 16 and `most` at most 32, so that the number fits a
+/// `u128`.
 pub fn read_numeral(digits: &[u8], radix: u32, most: usize) -> Option<u128>
     requires radix { radix ≤ 16 }
     requires most { most ≤ 32 }

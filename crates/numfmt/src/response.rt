@@ -31,9 +31,9 @@ pub enum Answer {
 pub enum Refusal {
     /// The first argument is not the name of a command.
     UnknownCommand,
-    /// The command takes another number of arguments.
+    /// The command has another number of arguments.
     WrongNumberOfArguments,
-    /// There are more edits than one command takes.
+    /// There are more than 64 edits.
     TooManyEdits,
     /// An argument is not the text of a format word.
     BadWord,
@@ -43,7 +43,7 @@ pub enum Refusal {
     BadByte,
 }
 
-/// The exit status of a run that printed `response`: 0, or 1 if the answer is no, or 2 for a refusal.
+/// The exit status of a run that printed `response`: 0, 1 if the answer is no, or 2 for a refusal.
 pub fn exit_status(response: Result<Answer, Refusal>) -> u8
     ensures { result ≡ status_of response }
 {
@@ -55,7 +55,7 @@ pub fn exit_status(response: Result<Answer, Refusal>) -> u8
     }
 }
 
-/// Prints `response`, and flushes `out`.
+/// Writes the text of `response` to `out` and flushes it. After an error nothing more is written.
 pub fn print<W: Write>(response: Result<Answer, Refusal>, out: &mut W) -> io::Result<()>
     ensures { OnOk result (Appends (W.contents out.old) (W.contents out.new) (text_of response)) }
 {
@@ -67,7 +67,7 @@ pub fn print<W: Write>(response: Result<Answer, Refusal>, out: &mut W) -> io::Re
 }
 
 impl Refusal {
-    // The reason, as the line that is printed ends with it.
+    // The message after `numfmt: `.
     fn reason(self) -> &'static str
         ensures { result.now ≡ reason_text self }
     {

@@ -1,4 +1,4 @@
-//! Words as text: `0x` and hexadecimal digits.
+//! Format words as text: `0x` and hexadecimal digits.
 
 ghost use Rattle.std.specs.Prelude.{◌≡◌, ℕ, List};
 ghost use Rattle.std.specs.Option.{SomeIff};
@@ -7,8 +7,8 @@ ghost use Rattle.numfmt.specs.WordText.{IsWordText, IsPrintedForm, hex, printed}
 use crate::numeral::read_numeral;
 use lexical_util::digit::digit_to_char;
 
-/// The word that `text` writes: `Some` exactly if `text` is `0x` and 1 to 32 hexadecimal digits, of
-/// either case.
+/// Parses `text` as a format word: `Some` if it is `0x` and 1 to 32 hexadecimal digits of either
+/// case, and else `None`.
 pub fn read_word(text: &str) -> Option<u128>
     ensures { SomeIff result (IsWordText text.now) (hex text.now) }
 {
@@ -18,13 +18,13 @@ pub fn read_word(text: &str) -> Option<u128>
     }
 }
 
-/// The text of `word` as it is printed: `0x` and 32 hexadecimal digits with capital letters. To
-/// `read_word` it is the text of `word` again.
+/// The text of `word` as it is printed: `0x` and 32 hexadecimal digits with uppercase letters.
+/// `read_word` reads it back.
 pub fn word_text(word: u128) -> [u8; 34]
     ensures text { result ≡ printed word }
     ensures form { IsPrintedForm result }
     ensures value { hex result ≡ word }
-    ensures word_text { IsWordText result }
+    ensures read_back { IsWordText result }
 
     // No other text has this form and this number.
     ensures only { (text : List ℕ) → IsPrintedForm text → hex text ≡ word → text ≡ result }
@@ -32,8 +32,8 @@ pub fn word_text(word: u128) -> [u8; 34]
     let mut text = [b'0'; 34];
     text[1] = b'x';
     let mut rest = word;
-    for place in 0..32usize {
-        text[33 - place] = digit_to_char((rest % 16) as u32);
+    for count in 0..32usize {
+        text[33 - count] = digit_to_char((rest % 16) as u32);
         rest /= 16;
     }
     text

@@ -8,5 +8,5 @@ returns c =
     let word = c.in_ok-word.ensures.word in
     let exponent = c.in_ok-exponent.ensures.byte in
     let point = c.in_ok-point.ensures.byte in
-    IsOnly-met _ _ _ _ word.0 (IsOnly-met _ _ _ _ exponent.0 (IsOnly-met _ _ _ _ point.0 (
+    IsOnly-met _ word.0 (IsOnly-met _ exponent.0 (IsOnly-met _ point.0 (
     IsOnly-told _ answers.Acceptance _ (rw (word.1, exponent.1, point.1) at c.is_valid_options_punctuation.ensures.accepted))))

@@ -10,6 +10,6 @@ pub returns : goal.returns
 returns c =
     let a = c.in_ok-parse_word.ensures.word in
     let b = c.in_ok-parse_word-2.ensures.word in
-    IsOnly-met _ _ _ _ a.0 (IsOnly-met _ _ _ _ b.0 (
+    IsOnly-met _ a.0 (IsOnly-met _ b.0 (
     IsOnly-told (normal_form_of (hex (string_bytes c.args.a.now)) ≡ normal_form_of (hex (string_bytes c.args.b.now)))
     answers.Sameness _ (rw (a.1, b.1) at c.same_format.ensures.normal_forms)))

@@ -5,17 +5,17 @@ use Rattle.numfmt.proofs.DigitLemmas.{uppercase_digit-from_library}
 use Rattle.numfmt.proofs.TextLemmas.{HasWritten-none, HasWritten-next, printed-written, IsPrintedForm-printed, hex-printed, IsWordText-printed, IsPrintedForm-unique}
 use Rattle.numfmt.proofs.word.word_text.Goals as goal
 
-pub loop-place-init : goal.loop-place-init
-loop-place-init c = HasWritten-none c.args.word
+pub loop-count-init : goal.loop-count-init
+loop-count-init c = HasWritten-none c.args.word
 
-pub loop-place-preserved : goal.loop-place-preserved
-loop-place-preserved c =
-    HasWritten-next _ _ _ _ _ c.loop-place.invariant c.loop-place-test.true (uppercase_digit-from_library _ _ (omega arith) c.digit_to_char.ensures.figure)
+pub loop-count-preserved : goal.loop-count-preserved
+loop-count-preserved c =
+    HasWritten-next _ _ _ _ _ c.loop-count.invariant c.loop-count-test.true (uppercase_digit-from_library _ _ (omega arith) c.digit_to_char.ensures.figure)
 
 pub returns-clause-text : goal.returns-clause-text
 returns-clause-text c =
-    let done : c.loop-place.place ≡ 32 = omega arith in
-    printed-written c.args.word c.loop-place.rest c.loop-place.text (rw done at c.loop-place.invariant)
+    let done : c.loop-count.count ≡ 32 = omega arith in
+    printed-written c.args.word c.loop-count.rest c.loop-count.text (rw done at c.loop-count.invariant)
 
 pub returns-clause-form : goal.returns-clause-form
 returns-clause-form c = subst IsPrintedForm (sym (returns-clause-text c)) (IsPrintedForm-printed c.args.word)
@@ -23,8 +23,8 @@ returns-clause-form c = subst IsPrintedForm (sym (returns-clause-text c)) (IsPri
 pub returns-clause-value : goal.returns-clause-value
 returns-clause-value c = ap hex (returns-clause-text c) ∙ hex-printed c.args.word c.ranges.word.fits
 
-pub returns-clause-word_text : goal.returns-clause-word_text
-returns-clause-word_text c = IsWordText-printed _ (returns-clause-form c)
+pub returns-clause-read_back : goal.returns-clause-read_back
+returns-clause-read_back c = IsWordText-printed _ (returns-clause-form c)
 
 pub returns-clause-only : goal.returns-clause-only
 returns-clause-only c text form same = IsPrintedForm-unique _ _ form (returns-clause-form c) (same ∙ sym (returns-clause-value c))
