@@ -1,0 +1,4 @@
+pub mod KeptLemmas
+pub mod ReadLemmas
+pub mod RoleLemmas
+pub mod SourceLemmas

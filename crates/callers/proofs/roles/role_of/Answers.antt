@@ -1,0 +1,54 @@
+-- One role a branch: the byte is in its set, and so in no other.
+use Rattle.std.proofs.Common.{IsTrue, sym, ◌∙◌}
+use Rattle.std.proofs.lemmas.Bool.{false≢true}
+use Rattle.lexical_util.specs.Record.{raw}
+use Rattle.lexical_util.specs.Roles.{Role, role_set, AtMostOneRole}
+use Rattle.lexical_util.specs.Roles as library
+use Rattle.callers.proofs.RoleLemmas.{one_role, no_role}
+use Rattle.callers.proofs.roles.role_of.Goals as goal
+
+pub returns-then-is_digit : goal.returns-then-is_digit
+returns-then-is_digit c =
+    let law = c.role_facts.ensures.lawful c.args.format c.args.exponent c.args.decimal_point c.requires.lawful c.requires.accepted in
+    one_role (raw c.args.format) c.args.exponent c.args.decimal_point c.args.byte law library.digit (c.is_digit.ensures.0 c.if-is_digit.true)
+
+pub returns-then-is_sign : goal.returns-then-is_sign
+returns-then-is_sign c =
+    let law = c.role_facts.ensures.lawful c.args.format c.args.exponent c.args.decimal_point c.requires.lawful c.requires.accepted in
+    one_role (raw c.args.format) c.args.exponent c.args.decimal_point c.args.byte law library.sign (sym c.is_sign.ensures ∙ c.if-is_sign.true)
+
+pub returns-then-is_separator : goal.returns-then-is_separator
+returns-then-is_separator c =
+    let law = c.role_facts.ensures.lawful c.args.format c.args.exponent c.args.decimal_point c.requires.lawful c.requires.accepted in
+    one_role (raw c.args.format) c.args.exponent c.args.decimal_point c.args.byte law library.digit_separator (sym c.is_separator.ensures ∙ c.if-is_separator.true)
+
+pub returns-then-is_prefix : goal.returns-then-is_prefix
+returns-then-is_prefix c =
+    let law = c.role_facts.ensures.lawful c.args.format c.args.exponent c.args.decimal_point c.requires.lawful c.requires.accepted in
+    one_role (raw c.args.format) c.args.exponent c.args.decimal_point c.args.byte law library.base_prefix (sym c.is_prefix.ensures ∙ c.if-is_prefix.true)
+
+pub returns-then-is_suffix : goal.returns-then-is_suffix
+returns-then-is_suffix c =
+    let law = c.role_facts.ensures.lawful c.args.format c.args.exponent c.args.decimal_point c.requires.lawful c.requires.accepted in
+    one_role (raw c.args.format) c.args.exponent c.args.decimal_point c.args.byte law library.base_suffix (sym c.is_suffix.ensures ∙ c.if-is_suffix.true)
+
+pub returns-then-is_exponent : goal.returns-then-is_exponent
+returns-then-is_exponent c =
+    let law = c.role_facts.ensures.lawful c.args.format c.args.exponent c.args.decimal_point c.requires.lawful c.requires.accepted in
+    one_role (raw c.args.format) c.args.exponent c.args.decimal_point c.args.byte law library.exponent_character (sym c.is_exponent.ensures ∙ c.if-is_exponent.true)
+
+pub returns-then-is_byte : goal.returns-then-is_byte
+returns-then-is_byte c =
+    let law = c.role_facts.ensures.lawful c.args.format c.args.exponent c.args.decimal_point c.requires.lawful c.requires.accepted in
+    one_role (raw c.args.format) c.args.exponent c.args.decimal_point c.args.byte law library.decimal_point (sym c.is_byte.ensures ∙ c.if-is_byte.true)
+
+pub returns-else-is_byte : goal.returns-else-is_byte
+returns-else-is_byte c = no_role (raw c.args.format) c.args.exponent c.args.decimal_point c.args.byte in_no_set where
+  in_no_set : (role : Role) → IsTrue (role_set (raw c.args.format) c.args.exponent c.args.decimal_point role c.args.byte) → ⊥
+  in_no_set library.digit plays = false≢true (sym c.if-is_digit.false ∙ c.is_digit.ensures.1 plays)
+  in_no_set library.sign plays = false≢true (sym c.if-is_sign.false ∙ c.is_sign.ensures ∙ plays)
+  in_no_set library.digit_separator plays = false≢true (sym c.if-is_separator.false ∙ c.is_separator.ensures ∙ plays)
+  in_no_set library.base_prefix plays = false≢true (sym c.if-is_prefix.false ∙ c.is_prefix.ensures ∙ plays)
+  in_no_set library.base_suffix plays = false≢true (sym c.if-is_suffix.false ∙ c.is_suffix.ensures ∙ plays)
+  in_no_set library.exponent_character plays = false≢true (sym c.if-is_exponent.false ∙ c.is_exponent.ensures ∙ plays)
+  in_no_set library.decimal_point plays = false≢true (sym c.if-is_byte.false ∙ c.is_byte.ensures ∙ plays)

@@ -1,0 +1,3 @@
+pub mod Playing
+pub mod Reading
+pub mod Source

@@ -1,0 +1,62 @@
+-- The number that a text writes in the mantissa radix of a format, and which byte is refused if it writes none.
+use Rattle.std.specs.Prelude.{ℕ, zero, suc, ◌≡◌, ◌+◌, ◌*◌, ◌^◌, ◌<◌, ◌≤◌, ◌&&◌, ◌||◌, nat_lt, IsTrue, IsFalse, Bool, List, [], ◌∷◌, length, take, filter, get_or}
+use Rattle.lexical_util.specs.Ascii.{ByteSet}
+use Rattle.lexical_util.specs.Digits.{value}
+use Rattle.lexical_util.specs.Record.{Record}
+use Rattle.lexical_util.specs.Roles.{separator}
+use Rattle.lexical_util.specs.declared.error.Error.{Error}
+use Rattle.lexical_util.specs.declared.error.Error.TheVariants as errors
+
+-- the digits of the mantissa
+abbrev pub is_digit : Record → ByteSet
+is_digit r byte = nat_lt (value byte) r.mantissa_radix
+
+-- what may stand beside a digit separator: a digit, and another separator if several may stand in a row
+abbrev pub is_neighbour : Record → ByteSet
+is_neighbour r byte = is_digit r byte || (r.integer_consecutive_digit_separator && separator r byte)
+
+-- the byte at an index, and the one before it; 0 if there is none, which is no digit and no separator
+abbrev pub byte_at : List ℕ → ℕ → ℕ
+byte_at text i = get_or text i 0
+
+abbrev pub byte_before : List ℕ → ℕ → ℕ
+byte_before text zero = 0
+byte_before text (suc i) = byte_at text i
+
+-- whether a digit separator stands at an index, and may stand there
+abbrev pub is_skipped : Record → List ℕ → ℕ → Bool
+is_skipped r text i =
+    r.integer_internal_digit_separator && separator r (byte_at text i) &&
+    is_neighbour r (byte_before text i) && is_neighbour r (byte_at text (i + 1))
+
+-- whether a digit stands at an index, or such a separator
+abbrev pub is_read : Record → List ℕ → ℕ → Bool
+is_read r text i = is_skipped r text i || is_digit r (byte_at text i)
+
+-- the sum of each digit's value times the radix to the power of the number of digits after it
+abbrev pub sum_of : ℕ → List ℕ → ℕ
+sum_of radix [] = 0
+sum_of radix (digit ∷ digits) = value digit * radix ^ length digits + sum_of radix digits
+
+-- the number that the digits of a text write
+abbrev pub number_of : Record → List ℕ → ℕ
+number_of r text = sum_of r.mantissa_radix (filter (is_digit r) text)
+
+-- a text that writes a number of 64 bits
+pub record IsNumeral (r : Record) (text : List ℕ) : Type 0 where
+  pub some : 1 ≤ length text
+  pub read : (i : ℕ) → i < length text → IsTrue (is_read r text i)
+  pub fits : number_of r text < 2 ^ 64
+
+-- the bytes before an index of a text are read, and write a number of 64 bits
+pub record IsReadTo (r : Record) (text : List ℕ) (i : ℕ) : Type 0 where
+  pub inside : i < length text
+  pub read : (k : ℕ) → k < i → IsTrue (is_read r text k)
+  pub fits : number_of r (take i text) < 2 ^ 64
+
+-- why a text writes no number: the first byte that is no digit and may not stand there, or the first at which the number is too large
+abbrev pub IsRefusal : Record → List ℕ → Error → Type 0
+IsRefusal r text (errors.InvalidDigit i) = IsReadTo r text i × IsFalse (is_read r text i)
+IsRefusal r text (errors.Overflow i) = IsReadTo r text i × IsTrue (is_read r text i) × (2 ^ 64 ≤ number_of r (take (i + 1) text))
+IsRefusal r text (errors.Empty i) = (i ≡ 0) × (length text ≡ 0)
+IsRefusal r text _ = ⊥

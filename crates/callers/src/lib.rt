@@ -1,0 +1,7 @@
+//! Callers of the library, one for each kind of user.
+#![tactic(auto)]
+
+pub mod keep;
+pub mod read;
+pub mod roles;
+pub mod source;

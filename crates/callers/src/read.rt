@@ -1,0 +1,116 @@
+//! A reader of whole numbers: the digits of any lawful format into a `u64`.
+
+ghost use Rattle.std.specs.Prelude.{◌≡◌, ◌+◌, ◌*◌, ◌<◌, ◌^◌, ◌⊎◌, IfErr, IsTrue, length};
+ghost use Rattle.std.specs.Option.{SomeIff};
+ghost use Rattle.std.specs.Result.{OkIff};
+ghost use Rattle.lexical_util.specs.Digits.{value};
+ghost use Rattle.lexical_util.specs.Record.{raw};
+ghost use Rattle.lexical_util.specs.Rules.{Lawful, IsErrorOf};
+ghost use Rattle.callers.specs.Reading.{byte_at, byte_before, is_digit, is_neighbour, is_skipped, number_of, IsNumeral, IsRefusal};
+
+use crate::roles::is_separator;
+use lexical_util::digit::char_to_digit;
+use lexical_util::error::Error;
+use lexical_util::format::{NumberFormat, format_error, mantissa_radix};
+
+/// Reads `text` as a whole number in the mantissa radix of `format`, which is any lawful format.
+///
+/// A digit separator is skipped between two digits if the flag `integer_internal_digit_separator`
+/// lets it stand there, and several in a row if `integer_consecutive_digit_separator` is set too.
+/// Anywhere else it is refused as any other byte that is no digit.
+pub fn read_digits(format: u128, text: &[u8]) -> Result<u64, Error>
+    requires { Lawful format }
+    ensures number { OkIff result (IsNumeral (raw format) text.now) (number_of (raw format) text.now) }
+    ensures refusal { IfErr result (IsRefusal (raw format) text.now) }
+{
+    let mut number: u64 = 0;
+    for (index, byte) in text.iter().enumerate() {
+        if !is_skipped(format, text, index) {
+            let Some(digit) = digit_value(format, *byte) else {
+                return Err(Error::InvalidDigit(index));
+            };
+            let Some(longer) = push(format, number, digit) else {
+                return Err(Error::Overflow(index));
+            };
+            number = longer;
+        }
+    }
+    if text.is_empty() {
+        Err(Error::Empty(0))
+    } else {
+        Ok(number)
+    }
+}
+
+/// Reads `text` as [`read_digits`] does if `format` is lawful; else the error is the first rule that
+/// `format` breaks.
+pub fn read_checked(format: u128, text: &[u8]) -> Result<u64, Error>
+    ensures number { OkIff result (Lawful format × IsNumeral (raw format) text.now) (number_of (raw format) text.now) }
+    ensures refusal { IfErr result (λ error. IsErrorOf format error ⊎ (Lawful format × IsRefusal (raw format) text.now error)) }
+{
+    match format_error(format) {
+        Error::Success => read_digits(format, text),
+        error => Err(error),
+    }
+}
+
+/// The value of `byte` as a digit of the mantissa: 0 to 35, `None` if it is no such digit.
+pub fn digit_value(format: u128, byte: u8) -> Option<u32>
+    ensures { SomeIff result (IsTrue (is_digit (raw format) byte)) (value byte) }
+{
+    char_to_digit(byte, mantissa_radix(format))
+}
+
+// The number with one digit more, if that fits.
+fn push(format: u128, number: u64, digit: u32) -> Option<u64>
+    ensures { SomeIff result (number * (raw format).mantissa_radix + digit < 2 ^ 64)
+        (number * (raw format).mantissa_radix + digit) }
+{
+    number
+        .checked_mul(u64::from(mantissa_radix(format)))?
+        .checked_add(u64::from(digit))
+}
+
+// Whether a digit separator stands at `index`, and may stand there.
+fn is_skipped(format: u128, text: &[u8], index: usize) -> bool
+    requires { index < length text.now }
+    ensures { result ≡ is_skipped (raw format) text.now index }
+{
+    NumberFormat::new(format).integer_internal_digit_separator()
+        && is_separator(format, text[index])
+        && is_neighbour(format, byte_before(text, index))
+        && is_neighbour(format, byte_at(text, index + 1))
+}
+
+// Whether `byte` may stand beside a digit separator.
+fn is_neighbour(format: u128, byte: u8) -> bool
+    ensures { result ≡ is_neighbour (raw format) byte }
+{
+    digit_value(format, byte).is_some()
+        || NumberFormat::new(format).integer_consecutive_digit_separator()
+            && is_separator(format, byte)
+}
+
+// The byte at `index`, 0 if there is none.
+fn byte_at(text: &[u8], index: usize) -> u8
+    ensures { result ≡ byte_at text.now index }
+{
+    match text.get(index) {
+        Some(byte) => *byte,
+        None => 0,
+    }
+}
+
+// The byte before `index`, 0 if there is none.
+fn byte_before(text: &[u8], index: usize) -> u8
+    ensures { result ≡ byte_before text.now index }
+{
+    if index == 0 {
+        0
+    } else {
+        byte_at(text, index - 1)
+    }
+}
+
+#[cfg(test)]
+mod tests;

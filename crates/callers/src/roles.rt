@@ -1,0 +1,172 @@
+//! The role of a byte: what it stands for in the numbers of a format.
+
+ghost use Rattle.std.specs.Prelude.{◌≡◌, ◌↔◌, IsTrue, IsOk, IfOk};
+ghost use Rattle.lexical_util.specs.Record.{raw};
+ghost use Rattle.lexical_util.specs.Roles.{cased, digits, exponent as exponent_set, point, prefix, separator, signs, suffix};
+ghost use Rattle.lexical_util.specs.Rules.{Lawful};
+ghost use Rattle.lexical_util.specs.Options.{AreAccepted};
+ghost use Rattle.callers.specs.Playing.{IsRoleOf};
+
+use lexical_util::error::Error;
+use lexical_util::format::{NumberFormat, format_error, is_valid_options_punctuation};
+use lexical_util::format_flags::is_digit;
+use lexical_util::laws;
+
+/// What a byte stands for in a number.
+#[derive(Debug, Clone, Copy, PartialEq, Eq)]
+pub enum Role {
+    /// A digit of the mantissa or of the exponent.
+    Digit,
+    /// `+` or `-`.
+    Sign,
+    /// The digit separator.
+    Separator,
+    /// The base prefix.
+    Prefix,
+    /// The base suffix.
+    Suffix,
+    /// The exponent character.
+    Exponent,
+    /// The decimal point.
+    Point,
+}
+
+/// The role of `byte` in a lawful format with an exponent character and a decimal point that it
+/// accepts: the one role whose set has `byte` in it, `None` if no set has.
+pub fn role_of(format: u128, exponent: u8, decimal_point: u8, byte: u8) -> Option<Role>
+    requires lawful { Lawful format }
+    requires accepted { AreAccepted format exponent decimal_point }
+    ensures { IsRoleOf format exponent decimal_point byte result }
+{
+    laws::flags::role_facts();
+    if is_digit(format, byte) {
+        Some(Role::Digit)
+    } else if is_sign(byte) {
+        Some(Role::Sign)
+    } else if is_separator(format, byte) {
+        Some(Role::Separator)
+    } else if is_prefix(format, byte) {
+        Some(Role::Prefix)
+    } else if is_suffix(format, byte) {
+        Some(Role::Suffix)
+    } else if is_exponent(format, exponent, byte) {
+        Some(Role::Exponent)
+    } else if is_byte(decimal_point, true, byte) {
+        Some(Role::Point)
+    } else {
+        None
+    }
+}
+
+/// The role of `byte` as [`role_of`] for any format and any two bytes. The error is the first rule
+/// that `format` breaks, or `InvalidPunctuation` if it does not accept the two bytes.
+pub fn checked_role_of(
+    format: u128,
+    exponent: u8,
+    decimal_point: u8,
+    byte: u8,
+) -> Result<Option<Role>, Error>
+    ensures role { IfOk result (IsRoleOf format exponent decimal_point byte) }
+    ensures checked { IsOk result ↔ Lawful format × AreAccepted format exponent decimal_point }
+{
+    let error = format_error(format);
+    if error != Error::Success {
+        Err(error)
+    } else if is_valid_options_punctuation(format, exponent, decimal_point) {
+        Ok(role_of(format, exponent, decimal_point, byte))
+    } else {
+        Err(Error::InvalidPunctuation)
+    }
+}
+
+// Whether `byte` is a sign.
+fn is_sign(byte: u8) -> bool
+    ensures { result ≡ signs byte }
+{
+    matches!(byte, b'+' | b'-')
+}
+
+// Whether `byte` is the digit separator.
+pub(crate) fn is_separator(format: u128, byte: u8) -> bool
+    ensures { result ≡ separator (raw format) byte }
+{
+    is_byte(NumberFormat::new(format).digit_separator(), true, byte)
+}
+
+// Whether `byte` is the base prefix.
+fn is_prefix(format: u128, byte: u8) -> bool
+    ensures { result ≡ prefix (raw format) byte }
+{
+    let view = NumberFormat::new(format);
+    is_byte(view.base_prefix(), view.case_sensitive_base_prefix(), byte)
+}
+
+// Whether `byte` is the base suffix.
+fn is_suffix(format: u128, byte: u8) -> bool
+    ensures { result ≡ suffix (raw format) byte }
+{
+    let view = NumberFormat::new(format);
+    is_byte(view.base_suffix(), view.case_sensitive_base_suffix(), byte)
+}
+
+// Whether `byte` is the exponent character `chosen`.
+fn is_exponent(format: u128, chosen: u8, byte: u8) -> bool
+    ensures { result ≡ exponent_set (raw format) chosen byte }
+{
+    let view = NumberFormat::new(format);
+    is_byte(chosen, view.case_sensitive_exponent(), byte)
+}
+
+// Whether `byte` is `own`, or the same letter in the other case if `case_counts` is false. Nothing
+// is 0, which stands for none.
+#[tactic(auto, unfolding(lexical_util::specs::Unfoldable::cased))]
+fn is_byte(own: u8, case_counts: bool, byte: u8) -> bool
+    ensures { result ≡ cased case_counts own byte }
+{
+    own != 0 && (byte == own || !case_counts && byte.eq_ignore_ascii_case(&own))
+}
+
+#[cfg(test)]
+mod tests {
+    use super::*;
+
+    #[test]
+    fn each_byte_has_one_role_or_none(rt: HostRuntime) {
+        // Radix 16, `_` between digits, prefix `x`, suffix `h` in lowercase alone.
+        let format = 0x10101068_7800005F_00000007_0002000C;
+        let cases = [
+            (b'7', Some(Role::Digit)),
+            (b'f', Some(Role::Digit)),
+            (b'-', Some(Role::Sign)),
+            (b'_', Some(Role::Separator)),
+            (b'x', Some(Role::Prefix)),
+            (b'X', Some(Role::Prefix)),
+            (b'h', Some(Role::Suffix)),
+            (b'H', None),
+            (b'p', Some(Role::Exponent)),
+            (b'P', Some(Role::Exponent)),
+            (b'.', Some(Role::Point)),
+            (b'g', None),
+            (0, None),
+        ];
+        for (byte, role) in cases {
+            assert_eq!(rt;
+                checked_role_of(format, b'p', b'.', byte),
+                Ok(role),
+                "{byte}"
+            );
+        }
+    }
+
+    #[test]
+    fn roles_are_asked_of_checked_formats_alone(rt: HostRuntime) {
+        let format = 0x10101068_7800005F_00000007_0002000C;
+        let clash = Err(Error::InvalidPunctuation);
+        assert_eq!(rt; checked_role_of(format, b'e', b'.', b'7'), clash);
+        assert_eq!(rt; checked_role_of(format, b'X', b'.', b'7'), clash);
+        assert_eq!(rt;
+            checked_role_of(0xC, b'e', b'.', b'7'),
+            Err(Error::InvalidMantissaRadix)
+        );
+    }
+}
