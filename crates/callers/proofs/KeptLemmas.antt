@@ -4,10 +4,11 @@ use Rattle.std.specs.List.{AllByRecursion, list_any}
 use Rattle.std.proofs.lemmas.Bool.{false≢true, cases_Bool, cond-true, cond-false}
 use Rattle.lexical_util.specs.Ascii.{ByteSet}
 use Rattle.lexical_util.specs.Layout.{IsClean, digit_separator_flags}
-use Rattle.lexical_util.specs.Record.{Record, raw, fill, trim, effective, separator_on, tabulate, byte_of}
+use Rattle.lexical_util.specs.Record.{Record, raw, fill, trim, effective, separator_on, tabulate, byte_of, word_of, pack}
 use Rattle.lexical_util.specs.Pairs.{ArePairwise}
 use Rattle.lexical_util.specs.Roles.{Disjoint, cased, only, digits, digits_of, signs, prefix, suffix, five_roles}
 use Rattle.lexical_util.specs.Rules.{Lawful, Holds, Demands, IsRadix, IsTextOrNone, flag_rules}
+use Rattle.lexical_util.specs.Writes.{after}
 use Rattle.lexical_util.specs.Normal.{SameFormat}
 
 -- filling twice is filling once
@@ -77,6 +78,14 @@ same_fields r s same =
       exponent_base = same.exponent_base i;
       exponent_radix = same.exponent_radix i;
     }
+
+after_none : (r : Record) → after r [] ≡ r
+unfolding after
+after_none r = refl
+
+-- and so are their normal forms
+pub same_forms : (r s : Record) → SameFormat r s → pack (after (fill r) []) ≡ pack (after (fill s) [])
+same_forms r s same = ap word_of (ap trim (after_none (fill r)) ∙ same_fields r s same ∙ sym (ap trim (after_none (fill s))))
 
 -- a word whose fields are those of this one, filled and trimmed, is lawful if some word that means the same is
 pub lawful_of_same : (word kept other : ℕ) → IsClean kept → raw kept ≡ trim (fill (raw word)) → SameFormat (raw word) (raw other) → Lawful other → Lawful kept

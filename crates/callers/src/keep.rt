@@ -10,13 +10,16 @@ use lexical_util::edits::normal_form;
 use lexical_util::error::Error;
 use lexical_util::format::format_error;
 
-/// The word to keep for a stored `word`: its normal form if that is lawful, else what is wrong with
-/// it. Two words that mean the same are kept as one.
+/// Returns the word to keep for a stored `word`: its normal form if that is lawful, else the first
+/// rule that the normal form breaks. Two words that mean the same are kept as one.
 pub fn keep(word: u128) -> Result<u128, Error>
     ensures value { OkIff result (Lawful (normal_form_of word)) (normal_form_of word) }
     ensures lawful { IfOk result Lawful }
     ensures normal { IfOk result IsNormal }
     ensures same { IfOk result (λ kept. SameFormat (raw word) (raw kept)) }
+
+    // Every word that means the same has this normal form, so it is kept as the same word.
+    ensures one { (other : ℕ) → SameFormat (raw word) (raw other) → normal_form_of other ≡ normal_form_of word }
     ensures error { IfErr result (IsErrorOf (normal_form_of word)) }
     ensures not_success { result ≢ Err Error.Success }
 

@@ -13,11 +13,14 @@ use lexical_util::digit::char_to_digit;
 use lexical_util::error::Error;
 use lexical_util::format::{NumberFormat, format_error, mantissa_radix};
 
-/// Reads `text` as a whole number in the mantissa radix of `format`, which is any lawful format.
+/// Returns the whole number that `text` writes in the mantissa radix of `format`, which is any
+/// lawful format.
 ///
-/// A digit separator is skipped between two digits if the flag `integer_internal_digit_separator`
-/// lets it stand there, and several in a row if `integer_consecutive_digit_separator` is set too.
-/// Anywhere else it is refused as any other byte that is no digit.
+/// A digit separator between two digits is skipped if the flag `integer_internal_digit_separator`
+/// is set, and several in a row if `integer_consecutive_digit_separator` is set too. Anywhere else
+/// the error is `InvalidDigit` with its index, as for any other byte that is no digit. The error is
+/// `Overflow` with the index of the first digit at which the number no longer fits 64 bits, and
+/// `Empty(0)` if there is no byte.
 pub fn read_digits(format: u128, text: &[u8]) -> Result<u64, Error>
     requires { Lawful format }
     ensures number { OkIff result (IsNumeral (raw format) text.now) (number_of (raw format) text.now) }
@@ -42,8 +45,8 @@ pub fn read_digits(format: u128, text: &[u8]) -> Result<u64, Error>
     }
 }
 
-/// Reads `text` as [`read_digits`] does if `format` is lawful; else the error is the first rule that
-/// `format` breaks.
+/// Returns the whole number that `text` writes, as [`read_digits`], for any word. The error is that
+/// of the first rule which `format` breaks, if there is one.
 pub fn read_checked(format: u128, text: &[u8]) -> Result<u64, Error>
     ensures number { OkIff result (Lawful format × IsNumeral (raw format) text.now) (number_of (raw format) text.now) }
     ensures refusal { IfErr result (λ error. IsErrorOf format error ⊎ (Lawful format × IsRefusal (raw format) text.now error)) }
@@ -54,7 +57,8 @@ pub fn read_checked(format: u128, text: &[u8]) -> Result<u64, Error>
     }
 }
 
-/// The value of `byte` as a digit of the mantissa: 0 to 35, `None` if it is no such digit.
+/// Returns the value of `byte` as a digit of the mantissa, 0 to 35 in a lawful format; `None` if it
+/// is no such digit.
 pub fn digit_value(format: u128, byte: u8) -> Option<u32>
     ensures { SomeIff result (IsTrue (is_digit (raw format) byte)) (value byte) }
 {

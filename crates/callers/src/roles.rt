@@ -1,9 +1,9 @@
 //! The role of a byte: what it stands for in the numbers of a format.
 
-ghost use Rattle.std.specs.Prelude.{◌≡◌, ◌↔◌, IsTrue, IsOk, IfOk};
+ghost use Rattle.std.specs.Prelude.{◌≡◌, ◌↔◌, ◌⊎◌, IsTrue, IsOk, IfOk, IfErr};
 ghost use Rattle.lexical_util.specs.Record.{raw};
 ghost use Rattle.lexical_util.specs.Roles.{cased, digits, exponent as exponent_set, point, prefix, separator, signs, suffix};
-ghost use Rattle.lexical_util.specs.Rules.{Lawful};
+ghost use Rattle.lexical_util.specs.Rules.{Lawful, IsErrorOf};
 ghost use Rattle.lexical_util.specs.Options.{AreAccepted};
 ghost use Rattle.callers.specs.Playing.{IsRoleOf};
 
@@ -31,8 +31,8 @@ pub enum Role {
     Point,
 }
 
-/// The role of `byte` in a lawful format with an exponent character and a decimal point that it
-/// accepts: the one role whose set has `byte` in it, `None` if no set has.
+/// Returns the role of `byte` in a lawful format, with an exponent character and a decimal point
+/// that the format accepts; `None` if it has no role. No byte has two.
 pub fn role_of(format: u128, exponent: u8, decimal_point: u8, byte: u8) -> Option<Role>
     requires lawful { Lawful format }
     requires accepted { AreAccepted format exponent decimal_point }
@@ -58,8 +58,8 @@ pub fn role_of(format: u128, exponent: u8, decimal_point: u8, byte: u8) -> Optio
     }
 }
 
-/// The role of `byte` as [`role_of`] for any format and any two bytes. The error is the first rule
-/// that `format` breaks, or `InvalidPunctuation` if it does not accept the two bytes.
+/// Returns the role of `byte`, as [`role_of`], for any word and any two bytes. The error is that of
+/// the first rule which `format` breaks, or `InvalidPunctuation` if it does not accept the two bytes.
 pub fn checked_role_of(
     format: u128,
     exponent: u8,
@@ -68,6 +68,8 @@ pub fn checked_role_of(
 ) -> Result<Option<Role>, Error>
     ensures role { IfOk result (IsRoleOf format exponent decimal_point byte) }
     ensures checked { IsOk result ↔ Lawful format × AreAccepted format exponent decimal_point }
+    ensures rule { IfErr result (λ error. Lawful format ⊎ IsErrorOf format error) }
+    ensures clash { Lawful format → IfErr result (λ error. error ≡ Error.InvalidPunctuation) }
 {
     let error = format_error(format);
     if error != Error::Success {

@@ -13,11 +13,11 @@ use lexical_util::format::{NumberFormatBuilder, OptionU8};
 use std::io;
 use std::io::Write;
 
-/// Writes the shortest Rust expression of setter calls whose value is `word`, as
+/// Writes `word` as Rust: a new builder, the fewest setter calls, and the packing, such as
 /// `NumberFormatBuilder::new().mantissa_radix(16).build_unchecked()`.
 ///
-/// The expression makes the fields of any word; it makes `word` itself if a builder can, as
-/// [`called`] says.
+/// Any word may be passed; [`called`] says which word the expression returns. An error of `out` is
+/// returned as it is, and then nothing is known of what was written.
 pub fn write_source<W: Write>(word: u128, out: &mut W) -> io::Result<()>
     ensures { OnOk result (Appends (W.contents out.old) (W.contents out.new) (source_text word)) }
 {
@@ -29,7 +29,8 @@ pub fn write_source<W: Write>(word: u128, out: &mut W) -> io::Result<()>
     out.write_all(b".build_unchecked()")
 }
 
-/// The value of the expression that [`write_source`] writes: what its calls make of a new builder.
+/// Returns what the expression of [`write_source`] returns: `word` itself if a builder can pack it,
+/// else a word with the same fields that a builder can.
 pub fn called(word: u128) -> u128
     ensures calls { result ≡ pack (after new_record (all_writes (changing (raw word)))) }
     ensures fields { result ≡ pack (raw word) }
@@ -44,7 +45,7 @@ pub fn called(word: u128) -> u128
 }
 
 // Writes the setter call that an edit stands for.
-fn write_call<W: Write>(edit: Edit, out: &mut W) -> io::Result<()>
+pub(crate) fn write_call<W: Write>(edit: Edit, out: &mut W) -> io::Result<()>
     ensures { OnOk result (Appends (W.contents out.old) (W.contents out.new) (call_text edit)) }
 {
     match edit {
@@ -71,7 +72,7 @@ fn write_option<W: Write>(name: &str, byte: OptionU8, out: &mut W) -> io::Result
 }
 
 // The name of a setter of flags.
-fn setter_name(setter: FlagSetter) -> &'static str
+pub(crate) fn setter_name(setter: FlagSetter) -> &'static str
     ensures { result.now ≡ setter_name setter }
 {
     match setter {
@@ -126,26 +127,32 @@ mod tests {
     #[test]
     fn source_code_names_what_differs_from_a_new_builder(rt: HostRuntime) -> Result<(), Fail> {
         let cases: [(u128, &str); 4] = [
-            (0x00000A00_00000000_00000000_0000000C, ""),
+            (
+                0x00000A00_00000000_00000000_0000000C,
+                "NumberFormatBuilder::new().build_unchecked()",
+            ),
             (
                 0x0A0A0A00_00000000_00000000_0000000C,
-                ".exponent_base(NonZeroU8::new(10)).exponent_radix(NonZeroU8::new(10))",
+                "NumberFormatBuilder::new().exponent_base(NonZeroU8::new(10))\
+                 .exponent_radix(NonZeroU8::new(10)).build_unchecked()",
             ),
             (
                 0x00001000_0000005F_00000249_0000000C,
-                ".integer_internal_digit_separator(true).integer_leading_digit_separator(true)\
-                 .integer_trailing_digit_separator(true).integer_consecutive_digit_separator(true)\
-                 .digit_separator(NonZeroU8::new(95)).mantissa_radix(16)",
+                "NumberFormatBuilder::new().integer_internal_digit_separator(true)\
+                 .integer_leading_digit_separator(true).integer_trailing_digit_separator(true)\
+                 .integer_consecutive_digit_separator(true).digit_separator(NonZeroU8::new(95))\
+                 .mantissa_radix(16).build_unchecked()",
             ),
             (
                 0,
-                ".required_exponent_digits(false).required_mantissa_digits(false).mantissa_radix(0)",
+                "NumberFormatBuilder::new().required_exponent_digits(false)\
+                 .required_mantissa_digits(false).mantissa_radix(0).build_unchecked()",
             ),
         ];
-        for (word, calls) in cases {
+        for (word, expression) in cases {
             let mut text = Vec::new(rt.alloc());
             write_source(word, &mut text)?;
-            assert_eq!(rt; text.as_slice(), "{calls}".as_bytes());
+            assert_eq!(rt; text.as_slice(), expression.as_bytes());
             assert_eq!(rt; called(word), word);
         }
         Ok(())

@@ -32,7 +32,7 @@ fn refusals_name_the_first_byte_that_is_wrong(rt: HostRuntime) {
         (decimal, "1_0", Error::InvalidDigit(1)),
         (decimal, "12a4-", Error::InvalidDigit(2)),
         (decimal, "18446744073709551616", Error::Overflow(19)),
-        (decimal, "184467440737095516160-", Error::Overflow(20)),
+        (decimal, "99999999999999999999-", Error::Overflow(19)),
         (GROUPED, "_1", Error::InvalidDigit(0)),
         (GROUPED, "1_", Error::InvalidDigit(1)),
         (GROUPED, "1__0", Error::InvalidDigit(1)),

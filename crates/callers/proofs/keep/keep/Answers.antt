@@ -1,7 +1,8 @@
 -- The normal form is the word that means the same, and it is lawful if any such word is.
 use Rattle.std.proofs.Common.{refl, sym}
 use Rattle.std.proofs.lemmas.Bool.{false≢true}
-use Rattle.callers.proofs.KeptLemmas.{lawful_of_same}
+use Rattle.lexical_util.specs.Record.{raw}
+use Rattle.callers.proofs.KeptLemmas.{lawful_of_same, same_forms}
 use Rattle.callers.proofs.keep.keep.Goals as goal
 
 pub returns-in-Success-clause-refused : goal.returns-in-Success-clause-refused
@@ -17,3 +18,9 @@ returns-in_default-clause-refused c = (
       (lawful_of_same c.args.word c.normal_form-kept.result other c.normal_form-kept.ensures.clean c.normal_form-kept.ensures.fields same lawful)),
   λ _. refl,
 )
+
+pub returns-in-Success-clause-one : goal.returns-in-Success-clause-one
+returns-in-Success-clause-one c other same = sym (same_forms (raw c.args.word) (raw other) same)
+
+pub returns-in_default-clause-one : goal.returns-in_default-clause-one
+returns-in_default-clause-one c other same = sym (same_forms (raw c.args.word) (raw other) same)

@@ -1,0 +1,56 @@
+#!/usr/bin/env python3
+"""Compares the pages CALLING.md and FORMAT.md with the code that they quote, and ends with 1 if one differs."""
+import pathlib
+import re
+import sys
+
+DOCS = pathlib.Path(__file__).resolve().parent
+CRATES = DOCS.parent / "crates"
+
+
+def lines_of(text):
+    """Returns the lines of a text between newlines, without blank lines and indentation."""
+    return "\n" + "\n".join(line.strip() for line in text.splitlines() if line.strip()) + "\n"
+
+
+def snippets(page):
+    """Returns the pieces of the page's blocks of code; `..` stands for lines that a block leaves out."""
+    for block in re.findall(r"^```(?:rust|antt)\n(.*?)^```", page, re.M | re.S):
+        yield from re.split(r"^ *\.\.$", block, flags=re.M)
+
+
+def flag_text(mask):
+    """Returns the bits of a mask in their order."""
+    return " ".join(str(bit) for bit in range(128) if mask >> bit & 1)
+
+
+def rows(tests):
+    """Returns the rows of the page that the tables of the tests stand for, without their last columns."""
+    for bit, name, default in re.findall(r'\((\d+), "(\w+)", \w+, (true|false)\)', tests):
+        yield f"| {bit} | `{name}` | {default} |"
+    for name, mask in re.findall(r'\("(\w+)", \w+, (0x\w+)\)', tests):
+        yield f"| `{name}` | {flag_text(int(mask, 16))} |"
+    for shift, name, default in re.findall(r'\((\d+), "(\w+)", \w+\(\w+\), (\d+)\)', tests):
+        yield f"| {shift} to {int(shift) + 7} | `{name}` | {default} |"
+    for rule, error, word in re.findall(r"\((\d+), Error::(\w+), (\w+)\)", tests):
+        yield f"| {rule} | .. | `{error}` | `{word}` |"
+
+
+def main():
+    code = [lines_of(path.read_text()) for kind in ("*.rt", "*.antt") for path in CRATES.rglob(kind) if "out" not in path.parts]
+    wrong = [piece for piece in snippets((DOCS / "CALLING.md").read_text()) if not any(lines_of(piece) in text for text in code)]
+    page = (DOCS / "FORMAT.md").read_text()
+    table = re.sub(r"^(\| \d+ \|)[^|]*(\| `Invalid)", r"\1 .. \2", page, flags=re.M).splitlines()
+    tests = " ".join((CRATES / "callers/src/format_page.rt").read_text().split()).replace("( ", "(").replace(", )", ")")
+    found = list(rows(tests))
+    wrong += [row for row in found if sum(line.startswith(row) for line in table) != 1]
+    if len(found) != 31 + 9 + 6 + 16:
+        wrong.append(f"the tests have {len(found)} rows")
+    known = "".join(code)
+    wrong += [word for word in re.findall(r"0x[0-9A-F]{8}(?:_[0-9A-F]{8}){3}", page) if word not in known]
+    for it in wrong:
+        print(f"not in the code:\n{it}")
+    return 1 if wrong else 0
+
+
+sys.exit(main())
