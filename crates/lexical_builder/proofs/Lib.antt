@@ -2,5 +2,5 @@ pub mod OptionByteLemmas
 pub mod WriteLemmas
 pub mod Distance
 pub mod FieldWrites
-pub mod BuilderFlags
-pub mod ExponentBytes
+mod BuilderFlags
+mod ExponentBytes

@@ -11,7 +11,7 @@ pub data Write : Type 0 where
   write_flag : Flag → Bool → Write
   write_byte : Byte → ℕ → Write
 
--- a byte is 0 to 255
+-- the value fits its field: a byte is 0 to 255
 abbrev pub IsLegal : Write → Type 0
 IsLegal (write_flag f value) = ⊤
 IsLegal (write_byte b value) = value < 256

@@ -275,7 +275,7 @@ impl NumberFormatBuilder {
 
 // The upper half of a format word, with the mantissa radix as exponent base if that is 0.
 #[inline(always)]
-#[tactic(auto, using(crate::proofs::ExponentBytes::base_filled))]
+#[tactic(auto, using(crate::proofs::ExponentBytes::filled_base))]
 fn fill_base(high: u64) -> u64
     ensures low { result % 2 ^ 48 ≡ high % 2 ^ 48 }
     ensures base { part result 48 8 ≡ effective (part high 48 8) (part high 40 8) }
@@ -290,7 +290,7 @@ fn fill_base(high: u64) -> u64
 
 // The upper half of a format word, with the mantissa radix as exponent radix if that is 0.
 #[inline(always)]
-#[tactic(auto, using(crate::proofs::ExponentBytes::radix_filled))]
+#[tactic(auto, using(crate::proofs::ExponentBytes::filled_radix))]
 fn fill_radix(high: u64) -> u64
     ensures low { result % 2 ^ 56 ≡ high % 2 ^ 56 }
     ensures radix { part result 56 8 ≡ effective (part high 56 8) (part high 40 8) }

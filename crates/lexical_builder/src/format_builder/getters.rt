@@ -12,8 +12,8 @@ use lexical_flags::format_flags as flags;
 impl NumberFormatBuilder {
     // GETTERS
 
-    /// The digit separator: a byte that a parser skips where a digit separator flag lets it
-    /// stand, to group digits, as the `_` of `1_000`. `None` where there is none.
+    /// Returns the digit separator: a byte that a parser skips, to group digits, at the positions
+    /// that the digit separator flags allow, such as the `_` in `1_000`. `None` if there is none.
     #[inline(always)]
     pub fn get_digit_separator(&self) -> OptionU8
         ensures { result ≡ byte_option self.now.digit_separator }
@@ -21,7 +21,7 @@ impl NumberFormatBuilder {
         NonZeroU8::new(self.bytes[DIGIT_SEPARATOR])
     }
 
-    /// The mantissa radix: the radix of the integer and fraction digits.
+    /// Returns the mantissa radix: the radix of the integer and fraction digits.
     #[inline(always)]
     pub fn get_mantissa_radix(&self) -> u8
         ensures { result ≡ self.now.mantissa_radix }
@@ -29,8 +29,8 @@ impl NumberFormatBuilder {
         self.bytes[MANTISSA_RADIX]
     }
 
-    /// The exponent base: the number whose power an exponent stands for: with 2, `1p3` is 1
-    /// times 2 to the 3rd. `None` where it is left to the mantissa radix.
+    /// Returns the exponent base: with base 2, `1p3` means 1 × 2^3. `None` if it follows the
+    /// mantissa radix.
     #[inline(always)]
     pub fn get_exponent_base(&self) -> OptionU8
         ensures { result ≡ byte_option self.now.exponent_base }
@@ -38,8 +38,8 @@ impl NumberFormatBuilder {
         NonZeroU8::new(self.bytes[EXPONENT_BASE])
     }
 
-    /// The exponent radix: the radix of the digits of an exponent. `None` where it is left to
-    /// the mantissa radix.
+    /// Returns the exponent radix: the radix of the digits of an exponent. `None` if it follows the
+    /// mantissa radix.
     #[inline(always)]
     pub fn get_exponent_radix(&self) -> OptionU8
         ensures { result ≡ byte_option self.now.exponent_radix }
@@ -47,8 +47,8 @@ impl NumberFormatBuilder {
         NonZeroU8::new(self.bytes[EXPONENT_RADIX])
     }
 
-    /// The base prefix: the byte that may stand after a leading zero to tell the radix, as the
-    /// `x` of `0x1F`. `None` where there is none.
+    /// Returns the base prefix: the byte that may follow a leading zero to show the radix, such as
+    /// the `x` in `0x1F`. `None` if there is none.
     #[inline(always)]
     pub fn get_base_prefix(&self) -> OptionU8
         ensures { result ≡ byte_option self.now.base_prefix }
@@ -56,8 +56,8 @@ impl NumberFormatBuilder {
         NonZeroU8::new(self.bytes[BASE_PREFIX])
     }
 
-    /// The base suffix: the byte that may stand after the digits to tell the radix, as the `h`
-    /// of `1Fh`. `None` where there is none.
+    /// Returns the base suffix: the byte that may follow the digits to show the radix, such as the
+    /// `h` in `1Fh`. `None` if there is none.
     #[inline(always)]
     pub fn get_base_suffix(&self) -> OptionU8
         ensures { result ≡ byte_option self.now.base_suffix }
@@ -65,7 +65,8 @@ impl NumberFormatBuilder {
         NonZeroU8::new(self.bytes[BASE_SUFFIX])
     }
 
-    /// The flag `required_integer_digits`. Digits must stand before the decimal point.
+    /// Returns the flag `required_integer_digits`: whether digits are required before the decimal
+    /// point.
     #[inline(always)]
     pub fn get_required_integer_digits(&self) -> bool
         ensures { result ≡ self.now.required_integer_digits }
@@ -73,8 +74,8 @@ impl NumberFormatBuilder {
         self.has_flag(flags::REQUIRED_INTEGER_DIGITS)
     }
 
-    /// The flag `required_fraction_digits`. Digits must stand after a decimal point, where
-    /// there is one.
+    /// Returns the flag `required_fraction_digits`: whether digits are required after a decimal
+    /// point, if there is one.
     #[inline(always)]
     pub fn get_required_fraction_digits(&self) -> bool
         ensures { result ≡ self.now.required_fraction_digits }
@@ -82,8 +83,8 @@ impl NumberFormatBuilder {
         self.has_flag(flags::REQUIRED_FRACTION_DIGITS)
     }
 
-    /// The flag `required_exponent_digits`. Digits must stand after the exponent character,
-    /// where there is one.
+    /// Returns the flag `required_exponent_digits`: whether digits are required after the exponent
+    /// character, if there is one.
     #[inline(always)]
     pub fn get_required_exponent_digits(&self) -> bool
         ensures { result ≡ self.now.required_exponent_digits }
@@ -91,8 +92,8 @@ impl NumberFormatBuilder {
         self.has_flag(flags::REQUIRED_EXPONENT_DIGITS)
     }
 
-    /// The flag `required_mantissa_digits`. At least one digit must stand before or after the
-    /// decimal point.
+    /// Returns the flag `required_mantissa_digits`: whether at least one digit is required before
+    /// or after the decimal point.
     #[inline(always)]
     pub fn get_required_mantissa_digits(&self) -> bool
         ensures { result ≡ self.now.required_mantissa_digits }
@@ -100,7 +101,8 @@ impl NumberFormatBuilder {
         self.has_flag(flags::REQUIRED_MANTISSA_DIGITS)
     }
 
-    /// The flag `no_positive_mantissa_sign`. No `+` may stand before the number.
+    /// Returns the flag `no_positive_mantissa_sign`: whether a `+` before the number is not
+    /// allowed.
     #[inline(always)]
     pub fn get_no_positive_mantissa_sign(&self) -> bool
         ensures { result ≡ self.now.no_positive_mantissa_sign }
@@ -108,7 +110,8 @@ impl NumberFormatBuilder {
         self.has_flag(flags::NO_POSITIVE_MANTISSA_SIGN)
     }
 
-    /// The flag `required_mantissa_sign`. A sign, `+` or `-`, must stand before the number.
+    /// Returns the flag `required_mantissa_sign`: whether a sign, `+` or `-`, is required before
+    /// the number.
     #[inline(always)]
     pub fn get_required_mantissa_sign(&self) -> bool
         ensures { result ≡ self.now.required_mantissa_sign }
@@ -116,7 +119,7 @@ impl NumberFormatBuilder {
         self.has_flag(flags::REQUIRED_MANTISSA_SIGN)
     }
 
-    /// The flag `no_exponent_notation`. No exponent may be written.
+    /// Returns the flag `no_exponent_notation`: whether an exponent is not allowed.
     #[inline(always)]
     pub fn get_no_exponent_notation(&self) -> bool
         ensures { result ≡ self.now.no_exponent_notation }
@@ -124,7 +127,8 @@ impl NumberFormatBuilder {
         self.has_flag(flags::NO_EXPONENT_NOTATION)
     }
 
-    /// The flag `no_positive_exponent_sign`. No `+` may stand before the digits of an exponent.
+    /// Returns the flag `no_positive_exponent_sign`: whether a `+` before the digits of an exponent
+    /// is not allowed.
     #[inline(always)]
     pub fn get_no_positive_exponent_sign(&self) -> bool
         ensures { result ≡ self.now.no_positive_exponent_sign }
@@ -132,8 +136,8 @@ impl NumberFormatBuilder {
         self.has_flag(flags::NO_POSITIVE_EXPONENT_SIGN)
     }
 
-    /// The flag `required_exponent_sign`. A sign, `+` or `-`, must stand before the digits of
-    /// an exponent.
+    /// Returns the flag `required_exponent_sign`: whether a sign, `+` or `-`, is required before
+    /// the digits of an exponent.
     #[inline(always)]
     pub fn get_required_exponent_sign(&self) -> bool
         ensures { result ≡ self.now.required_exponent_sign }
@@ -141,8 +145,8 @@ impl NumberFormatBuilder {
         self.has_flag(flags::REQUIRED_EXPONENT_SIGN)
     }
 
-    /// The flag `no_exponent_without_fraction`. An exponent may stand only after a decimal
-    /// point.
+    /// Returns the flag `no_exponent_without_fraction`: whether an exponent is allowed only in a
+    /// float with a decimal point.
     #[inline(always)]
     pub fn get_no_exponent_without_fraction(&self) -> bool
         ensures { result ≡ self.now.no_exponent_without_fraction }
@@ -150,7 +154,8 @@ impl NumberFormatBuilder {
         self.has_flag(flags::NO_EXPONENT_WITHOUT_FRACTION)
     }
 
-    /// The flag `no_special`. No special value, such as NaN or infinity, may be written.
+    /// Returns the flag `no_special`: whether special values, such as NaN and infinity, are not
+    /// allowed.
     #[inline(always)]
     pub fn get_no_special(&self) -> bool
         ensures { result ≡ self.now.no_special }
@@ -158,7 +163,8 @@ impl NumberFormatBuilder {
         self.has_flag(flags::NO_SPECIAL)
     }
 
-    /// The flag `case_sensitive_special`. The case of letters counts in special values.
+    /// Returns the flag `case_sensitive_special`: whether the case of letters counts in special
+    /// values.
     #[inline(always)]
     pub fn get_case_sensitive_special(&self) -> bool
         ensures { result ≡ self.now.case_sensitive_special }
@@ -166,7 +172,8 @@ impl NumberFormatBuilder {
         self.has_flag(flags::CASE_SENSITIVE_SPECIAL)
     }
 
-    /// The flag `no_integer_leading_zeros`. No zeros may stand before the digits of an integer.
+    /// Returns the flag `no_integer_leading_zeros`: whether zeros before the digits of an integer
+    /// are not allowed.
     #[inline(always)]
     pub fn get_no_integer_leading_zeros(&self) -> bool
         ensures { result ≡ self.now.no_integer_leading_zeros }
@@ -174,8 +181,8 @@ impl NumberFormatBuilder {
         self.has_flag(flags::NO_INTEGER_LEADING_ZEROS)
     }
 
-    /// The flag `no_float_leading_zeros`. No zeros may stand before the integer digits of a
-    /// float.
+    /// Returns the flag `no_float_leading_zeros`: whether zeros before the integer digits of a
+    /// float are not allowed.
     #[inline(always)]
     pub fn get_no_float_leading_zeros(&self) -> bool
         ensures { result ≡ self.now.no_float_leading_zeros }
@@ -183,7 +190,7 @@ impl NumberFormatBuilder {
         self.has_flag(flags::NO_FLOAT_LEADING_ZEROS)
     }
 
-    /// The flag `required_exponent_notation`. An exponent must be written.
+    /// Returns the flag `required_exponent_notation`: whether an exponent is required.
     #[inline(always)]
     pub fn get_required_exponent_notation(&self) -> bool
         ensures { result ≡ self.now.required_exponent_notation }
@@ -191,7 +198,8 @@ impl NumberFormatBuilder {
         self.has_flag(flags::REQUIRED_EXPONENT_NOTATION)
     }
 
-    /// The flag `case_sensitive_exponent`. The case of the exponent character counts.
+    /// Returns the flag `case_sensitive_exponent`: whether the case of the exponent character
+    /// counts.
     #[inline(always)]
     pub fn get_case_sensitive_exponent(&self) -> bool
         ensures { result ≡ self.now.case_sensitive_exponent }
@@ -199,7 +207,7 @@ impl NumberFormatBuilder {
         self.has_flag(flags::CASE_SENSITIVE_EXPONENT)
     }
 
-    /// The flag `case_sensitive_base_prefix`. The case of the base prefix counts.
+    /// Returns the flag `case_sensitive_base_prefix`: whether the case of the base prefix counts.
     #[inline(always)]
     pub fn get_case_sensitive_base_prefix(&self) -> bool
         ensures { result ≡ self.now.case_sensitive_base_prefix }
@@ -207,7 +215,7 @@ impl NumberFormatBuilder {
         self.has_flag(flags::CASE_SENSITIVE_BASE_PREFIX)
     }
 
-    /// The flag `case_sensitive_base_suffix`. The case of the base suffix counts.
+    /// Returns the flag `case_sensitive_base_suffix`: whether the case of the base suffix counts.
     #[inline(always)]
     pub fn get_case_sensitive_base_suffix(&self) -> bool
         ensures { result ≡ self.now.case_sensitive_base_suffix }
@@ -215,8 +223,8 @@ impl NumberFormatBuilder {
         self.has_flag(flags::CASE_SENSITIVE_BASE_SUFFIX)
     }
 
-    /// The flag `integer_internal_digit_separator`. A digit separator may stand between integer
-    /// digits.
+    /// Returns the flag `integer_internal_digit_separator`: whether a digit separator is allowed
+    /// between integer digits.
     #[inline(always)]
     pub fn get_integer_internal_digit_separator(&self) -> bool
         ensures { result ≡ self.now.integer_internal_digit_separator }
@@ -224,8 +232,8 @@ impl NumberFormatBuilder {
         self.has_flag(flags::INTEGER_INTERNAL_DIGIT_SEPARATOR)
     }
 
-    /// The flag `fraction_internal_digit_separator`. A digit separator may stand between
-    /// fraction digits.
+    /// Returns the flag `fraction_internal_digit_separator`: whether a digit separator is allowed
+    /// between fraction digits.
     #[inline(always)]
     pub fn get_fraction_internal_digit_separator(&self) -> bool
         ensures { result ≡ self.now.fraction_internal_digit_separator }
@@ -233,8 +241,8 @@ impl NumberFormatBuilder {
         self.has_flag(flags::FRACTION_INTERNAL_DIGIT_SEPARATOR)
     }
 
-    /// The flag `exponent_internal_digit_separator`. A digit separator may stand between
-    /// exponent digits.
+    /// Returns the flag `exponent_internal_digit_separator`: whether a digit separator is allowed
+    /// between exponent digits.
     #[inline(always)]
     pub fn get_exponent_internal_digit_separator(&self) -> bool
         ensures { result ≡ self.now.exponent_internal_digit_separator }
@@ -242,8 +250,8 @@ impl NumberFormatBuilder {
         self.has_flag(flags::EXPONENT_INTERNAL_DIGIT_SEPARATOR)
     }
 
-    /// The flag `integer_leading_digit_separator`. A digit separator may stand before integer
-    /// digits.
+    /// Returns the flag `integer_leading_digit_separator`: whether a digit separator is allowed
+    /// before integer digits.
     #[inline(always)]
     pub fn get_integer_leading_digit_separator(&self) -> bool
         ensures { result ≡ self.now.integer_leading_digit_separator }
@@ -251,8 +259,8 @@ impl NumberFormatBuilder {
         self.has_flag(flags::INTEGER_LEADING_DIGIT_SEPARATOR)
     }
 
-    /// The flag `fraction_leading_digit_separator`. A digit separator may stand before fraction
-    /// digits.
+    /// Returns the flag `fraction_leading_digit_separator`: whether a digit separator is allowed
+    /// before fraction digits.
     #[inline(always)]
     pub fn get_fraction_leading_digit_separator(&self) -> bool
         ensures { result ≡ self.now.fraction_leading_digit_separator }
@@ -260,8 +268,8 @@ impl NumberFormatBuilder {
         self.has_flag(flags::FRACTION_LEADING_DIGIT_SEPARATOR)
     }
 
-    /// The flag `exponent_leading_digit_separator`. A digit separator may stand before exponent
-    /// digits.
+    /// Returns the flag `exponent_leading_digit_separator`: whether a digit separator is allowed
+    /// before exponent digits.
     #[inline(always)]
     pub fn get_exponent_leading_digit_separator(&self) -> bool
         ensures { result ≡ self.now.exponent_leading_digit_separator }
@@ -269,8 +277,8 @@ impl NumberFormatBuilder {
         self.has_flag(flags::EXPONENT_LEADING_DIGIT_SEPARATOR)
     }
 
-    /// The flag `integer_trailing_digit_separator`. A digit separator may stand after integer
-    /// digits.
+    /// Returns the flag `integer_trailing_digit_separator`: whether a digit separator is allowed
+    /// after integer digits.
     #[inline(always)]
     pub fn get_integer_trailing_digit_separator(&self) -> bool
         ensures { result ≡ self.now.integer_trailing_digit_separator }
@@ -278,8 +286,8 @@ impl NumberFormatBuilder {
         self.has_flag(flags::INTEGER_TRAILING_DIGIT_SEPARATOR)
     }
 
-    /// The flag `fraction_trailing_digit_separator`. A digit separator may stand after fraction
-    /// digits.
+    /// Returns the flag `fraction_trailing_digit_separator`: whether a digit separator is allowed
+    /// after fraction digits.
     #[inline(always)]
     pub fn get_fraction_trailing_digit_separator(&self) -> bool
         ensures { result ≡ self.now.fraction_trailing_digit_separator }
@@ -287,8 +295,8 @@ impl NumberFormatBuilder {
         self.has_flag(flags::FRACTION_TRAILING_DIGIT_SEPARATOR)
     }
 
-    /// The flag `exponent_trailing_digit_separator`. A digit separator may stand after exponent
-    /// digits.
+    /// Returns the flag `exponent_trailing_digit_separator`: whether a digit separator is allowed
+    /// after exponent digits.
     #[inline(always)]
     pub fn get_exponent_trailing_digit_separator(&self) -> bool
         ensures { result ≡ self.now.exponent_trailing_digit_separator }
@@ -296,8 +304,8 @@ impl NumberFormatBuilder {
         self.has_flag(flags::EXPONENT_TRAILING_DIGIT_SEPARATOR)
     }
 
-    /// The flag `integer_consecutive_digit_separator`. Digit separators in a row may stand
-    /// wherever one may stand among integer digits.
+    /// Returns the flag `integer_consecutive_digit_separator`: whether several digit separators in
+    /// a row are allowed at the positions at which one is allowed among integer digits.
     #[inline(always)]
     pub fn get_integer_consecutive_digit_separator(&self) -> bool
         ensures { result ≡ self.now.integer_consecutive_digit_separator }
@@ -305,8 +313,8 @@ impl NumberFormatBuilder {
         self.has_flag(flags::INTEGER_CONSECUTIVE_DIGIT_SEPARATOR)
     }
 
-    /// The flag `fraction_consecutive_digit_separator`. Digit separators in a row may stand
-    /// wherever one may stand among fraction digits.
+    /// Returns the flag `fraction_consecutive_digit_separator`: whether several digit separators in
+    /// a row are allowed at the positions at which one is allowed among fraction digits.
     #[inline(always)]
     pub fn get_fraction_consecutive_digit_separator(&self) -> bool
         ensures { result ≡ self.now.fraction_consecutive_digit_separator }
@@ -314,8 +322,8 @@ impl NumberFormatBuilder {
         self.has_flag(flags::FRACTION_CONSECUTIVE_DIGIT_SEPARATOR)
     }
 
-    /// The flag `exponent_consecutive_digit_separator`. Digit separators in a row may stand
-    /// wherever one may stand among exponent digits.
+    /// Returns the flag `exponent_consecutive_digit_separator`: whether several digit separators in
+    /// a row are allowed at the positions at which one is allowed among exponent digits.
     #[inline(always)]
     pub fn get_exponent_consecutive_digit_separator(&self) -> bool
         ensures { result ≡ self.now.exponent_consecutive_digit_separator }
@@ -323,8 +331,8 @@ impl NumberFormatBuilder {
         self.has_flag(flags::EXPONENT_CONSECUTIVE_DIGIT_SEPARATOR)
     }
 
-    /// The flag `special_digit_separator`. Digit separators may stand anywhere in special
-    /// values.
+    /// Returns the flag `special_digit_separator`: whether digit separators are allowed anywhere in
+    /// special values.
     #[inline(always)]
     pub fn get_special_digit_separator(&self) -> bool
         ensures { result ≡ self.now.special_digit_separator }

@@ -1,11 +1,11 @@
-//! Bytes that are not 0.
+//! Nonzero bytes.
 
 ghost use Rattle.std.specs.Prelude.{◌≡◌, ◌≢◌, ℕ, ◌↔◌, IsNone};
 ghost use Rattle.lexical_builder.specs.OptionByte.{byte_option};
 
 use std::marker::Model;
 
-/// A byte that is not 0, so that 0 is free to stand for an absent one.
+/// A nonzero byte. In a format word 0 means that the byte is absent.
 #[derive(Debug, Clone, Copy, PartialEq, Eq, PartialOrd, Ord)]
 pub struct NonZeroU8 {
     value: u8,
@@ -22,7 +22,7 @@ impl Model for NonZeroU8 {
 }
 
 impl NonZeroU8 {
-    /// The byte, or `None` exactly for 0.
+    /// Returns the byte, or `None` if `value` is 0.
     #[inline(always)]
     pub fn new(value: u8) -> Option<NonZeroU8>
         ensures value { result ≡ byte_option value }
@@ -35,7 +35,7 @@ impl NonZeroU8 {
         }
     }
 
-    /// The byte as a number, 1 to 255.
+    /// Returns the byte, 1 to 255.
     #[inline(always)]
     pub fn get(self) -> u8
         ensures value { result ≡ self }
