@@ -1,6 +1,6 @@
 use super::*;
 
-// Sets each flag of a builder with no fields, and clears it again.
+// Sets each flag of a builder with no field set, and clears it again.
 macro_rules! check_flags {
     ($rt:ident; $($flag:ident $getter:ident $bit:literal;)*) => {$(
         let set = NumberFormatBuilder::rebuild(0).$flag(true);
@@ -13,7 +13,7 @@ macro_rules! check_flags {
 }
 
 #[test]
-fn flags_of_digits_and_signs(rt: HostRuntime) {
+fn sets_and_clears_flags_of_digits_and_signs(rt: HostRuntime) {
     check_flags! { rt;
         required_integer_digits get_required_integer_digits 0;
         required_fraction_digits get_required_fraction_digits 1;
@@ -28,7 +28,7 @@ fn flags_of_digits_and_signs(rt: HostRuntime) {
 }
 
 #[test]
-fn flags_of_notation_and_case(rt: HostRuntime) {
+fn sets_and_clears_flags_of_notation_and_case(rt: HostRuntime) {
     check_flags! { rt;
         no_exponent_without_fraction get_no_exponent_without_fraction 9;
         no_special get_no_special 10;
@@ -43,7 +43,7 @@ fn flags_of_notation_and_case(rt: HostRuntime) {
 }
 
 #[test]
-fn flags_of_separators_between_and_before_digits(rt: HostRuntime) {
+fn sets_and_clears_flags_of_separators_between_and_before_digits(rt: HostRuntime) {
     check_flags! { rt;
         integer_internal_digit_separator get_integer_internal_digit_separator 32;
         fraction_internal_digit_separator get_fraction_internal_digit_separator 33;
@@ -55,7 +55,7 @@ fn flags_of_separators_between_and_before_digits(rt: HostRuntime) {
 }
 
 #[test]
-fn flags_of_separators_after_digits_and_in_a_row(rt: HostRuntime) {
+fn sets_and_clears_flags_of_separators_after_digits_and_in_a_row(rt: HostRuntime) {
     check_flags! { rt;
         integer_trailing_digit_separator get_integer_trailing_digit_separator 38;
         fraction_trailing_digit_separator get_fraction_trailing_digit_separator 39;
@@ -67,7 +67,7 @@ fn flags_of_separators_after_digits_and_in_a_row(rt: HostRuntime) {
     }
 }
 
-// Sets each byte of a builder with no fields but all digit separator flags, and clears it again.
+// Sets each byte of a builder with only the digit separator flags set, and clears it again.
 macro_rules! check_bytes {
     ($rt:ident; $($byte:ident $getter:ident $shift:literal;)*) => {$(
         let flags = 0x1FFF_0000_0000;
@@ -81,7 +81,7 @@ macro_rules! check_bytes {
 }
 
 #[test]
-fn bytes(rt: HostRuntime) {
+fn sets_and_clears_each_byte(rt: HostRuntime) {
     check_bytes! { rt;
         digit_separator get_digit_separator 64;
         base_prefix get_base_prefix 88;
@@ -96,7 +96,7 @@ fn bytes(rt: HostRuntime) {
     assert_eq!(rt; same.build_unchecked(), 0xA5 << 104);
 }
 
-// Sets each group of a builder with no fields, and clears it again.
+// Sets each group of a builder with no field set, and clears it again.
 macro_rules! check_groups {
     ($rt:ident; $($group:ident $mask:literal;)*) => {$(
         let set = NumberFormatBuilder::rebuild(0).$group(true);
@@ -106,7 +106,7 @@ macro_rules! check_groups {
 }
 
 #[test]
-fn groups(rt: HostRuntime) {
+fn group_setters_write_each_member(rt: HostRuntime) {
     check_groups! { rt;
         required_digits 0xF;
         internal_digit_separator 0x7_0000_0000;
@@ -124,21 +124,15 @@ fn new() -> NumberFormatBuilder {
     NumberFormatBuilder::new()
 }
 
-// A new builder with `_` for the digit separator.
+// A new builder with `_` as digit separator.
 fn separated() -> NumberFormatBuilder {
     new().digit_separator(NonZeroU8::new(95))
 }
 
 #[test]
-fn words_of_builders(rt: HostRuntime) {
+fn packs_a_separator_only_with_a_flag_for_it(rt: HostRuntime) {
     assert_eq!(rt; byte_or_zero(separated().get_digit_separator()), 95);
     let cases = [
-        (new(), 0x00000A00_00000000_00000000_0000000C),
-        (
-            NumberFormatBuilder::default(),
-            0x00000A00_00000000_00000000_0000000C,
-        ),
-        (new().radix(16), 0x00001000_00000000_00000000_0000000C),
         (separated(), 0x00000A00_00000000_00000000_0000000C),
         (
             separated().special_digit_separator(true),
@@ -148,6 +142,28 @@ fn words_of_builders(rt: HostRuntime) {
             separated().exponent_digit_separator_flags(true),
             0x00000A00_0000005F_00000924_0000000C,
         ),
+    ];
+    for (builder, want) in cases {
+        assert_eq!(rt; builder.build_unchecked(), want);
+    }
+}
+
+#[test]
+fn packs_the_fields_that_setters_wrote(rt: HostRuntime) {
+    let fives = || -> NumberFormatBuilder {
+        new()
+            .radix(2)
+            .digit_separator(NonZeroU8::new(0x35))
+            .digit_separator_flags(true)
+    };
+    let consecutive = || -> NumberFormatBuilder { new().integer_consecutive_digit_separator(true) };
+    let cases = [
+        (new(), 0x00000A00_00000000_00000000_0000000C),
+        (
+            NumberFormatBuilder::default(),
+            0x00000A00_00000000_00000000_0000000C,
+        ),
+        (new().radix(16), 0x00001000_00000000_00000000_0000000C),
         (
             new().required_digits(true).required_exponent_digits(false),
             0x00000A00_00000000_00000000_0000000B,
@@ -155,6 +171,26 @@ fn words_of_builders(rt: HostRuntime) {
         (
             new().required_exponent_digits(false).required_digits(true),
             0x00000A00_00000000_00000000_0000000F,
+        ),
+        (fives(), 0x00000200_00000035_00001FFF_0000000C),
+        (
+            fives().exponent_base(NonZeroU8::new(10)),
+            0x000A0200_00000035_00001FFF_0000000C,
+        ),
+        (
+            new()
+                .base_prefix(NonZeroU8::new(b'h'))
+                .base_suffix(NonZeroU8::new(b'H')),
+            0x00000A48_68000000_00000000_0000000C,
+        ),
+        (consecutive(), 0x00000A00_00000000_00000200_0000000C),
+        (
+            consecutive().no_special(true).case_sensitive_special(true),
+            0x00000A00_00000000_00000200_00000C0C,
+        ),
+        (
+            new().no_exponent_notation(true).no_special(true),
+            0x00000A00_00000000_00000000_0000044C,
         ),
     ];
     for (builder, want) in cases {
@@ -164,74 +200,44 @@ fn words_of_builders(rt: HostRuntime) {
 }
 
 #[test]
-fn words_of_builders_with_bytes(rt: HostRuntime) {
-    let fives = new()
-        .radix(2)
-        .digit_separator(NonZeroU8::new(0x35))
-        .digit_separator_flags(true);
-    assert_eq!(rt;
-        fives.build_unchecked(),
-        0x00000200_00000035_00001FFF_0000000C
-    );
-    let based = fives.exponent_base(NonZeroU8::new(10));
-    assert_eq!(rt;
-        based.build_unchecked(),
-        0x000A0200_00000035_00001FFF_0000000C
-    );
-    let affixed = new()
-        .base_prefix(NonZeroU8::new(b'h'))
-        .base_suffix(NonZeroU8::new(b'H'));
-    assert_eq!(rt;
-        affixed.build_unchecked(),
-        0x00000A48_68000000_00000000_0000000C
-    );
-    let consecutive = new().integer_consecutive_digit_separator(true);
-    assert_eq!(rt;
-        consecutive.build_unchecked(),
-        0x00000A00_00000000_00000200_0000000C
-    );
-    let special = consecutive.no_special(true).case_sensitive_special(true);
-    assert_eq!(rt;
-        special.build_unchecked(),
-        0x00000A00_00000000_00000200_00000C0C
-    );
-    let plain = new().no_exponent_notation(true).no_special(true);
-    assert_eq!(rt;
-        plain.build_unchecked(),
-        0x00000A00_00000000_00000000_0000044C
-    );
-}
-
-#[test]
-fn words_of_radixes(rt: HostRuntime) {
+fn from_radix_writes_all_three_radixes(rt: HostRuntime) {
     let cases = [
-        (0, 0x00000000_00000000_00000000_0000000C),
-        (32, 0x20202000_00000000_00000000_0000000C),
-        (37, 0x25252500_00000000_00000000_0000000C),
+        (
+            NumberFormatBuilder::from_radix(0),
+            0x00000000_00000000_00000000_0000000C,
+        ),
+        (
+            NumberFormatBuilder::from_radix(32),
+            0x20202000_00000000_00000000_0000000C,
+        ),
+        (
+            NumberFormatBuilder::from_radix(37),
+            0x25252500_00000000_00000000_0000000C,
+        ),
+        (
+            NumberFormatBuilder::binary(),
+            0x02020200_00000000_00000000_0000000C,
+        ),
+        (
+            NumberFormatBuilder::octal(),
+            0x08080800_00000000_00000000_0000000C,
+        ),
+        (
+            NumberFormatBuilder::decimal(),
+            0x0A0A0A00_00000000_00000000_0000000C,
+        ),
+        (
+            NumberFormatBuilder::hexadecimal(),
+            0x10101000_00000000_00000000_0000000C,
+        ),
     ];
-    for (radix, want) in cases {
-        assert_eq!(rt; NumberFormatBuilder::from_radix(radix), want);
+    for (word, want) in cases {
+        assert_eq!(rt; word, want);
     }
-    assert_eq!(rt;
-        NumberFormatBuilder::binary(),
-        0x02020200_00000000_00000000_0000000C
-    );
-    assert_eq!(rt;
-        NumberFormatBuilder::octal(),
-        0x08080800_00000000_00000000_0000000C
-    );
-    assert_eq!(rt;
-        NumberFormatBuilder::decimal(),
-        0x0A0A0A00_00000000_00000000_0000000C
-    );
-    assert_eq!(rt;
-        NumberFormatBuilder::hexadecimal(),
-        0x10101000_00000000_00000000_0000000C
-    );
 }
 
 #[test]
-fn bytes_that_are_not_zero(rt: HostRuntime) {
+fn non_zero_holds_every_byte_except_0(rt: HostRuntime) {
     assert!(rt; NonZeroU8::new(0).is_none());
     for value in 1..=255 {
         assert_eq!(rt; NonZeroU8::new(value).map(|byte| byte.get()), Some(value));
@@ -241,7 +247,7 @@ fn bytes_that_are_not_zero(rt: HostRuntime) {
 }
 
 #[test]
-fn strict_builds(rt: HostRuntime) {
+fn strict_build_returns_a_lawful_word_or_its_error(rt: HostRuntime) {
     let affixed = |suffix: u8| -> NumberFormatBuilder {
         new()
             .base_prefix(NonZeroU8::new(b'h'))
@@ -280,9 +286,9 @@ fn strict_builds(rt: HostRuntime) {
     }
 }
 
-// A separator that is a digit of the new radix.
+// The digit separator `e` is a digit of the new radix.
 #[test]
-fn rebuilt_with_another_radix(rt: HostRuntime) {
+fn rebuilt_exponent_bytes_keep_their_values_under_another_radix(rt: HostRuntime) {
     let format = 0x00000A00_00000065_00001FFF_0000000C;
     assert!(rt; flags::is_valid_digit_separator(format));
     let rebuilt = NumberFormatBuilder::rebuild(format)
