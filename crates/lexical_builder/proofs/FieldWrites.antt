@@ -13,15 +13,15 @@ use Rattle.lexical_builder.proofs.WriteLemmas.{left_by, left_by-cons, flag_of-af
 use Rattle.lexical_builder.proofs.Distance.{distance, flag_differs, byte_differs}
 
 -- the writes of all flags, and of all bytes, of a record
-abbrev flag_writes : Record → List Write
+abbrev pub flag_writes : Record → List Write
 flag_writes r = map (λ f. write_flag f (flag_of r f)) flags
 
-abbrev byte_writes : Record → List Write
+abbrev pub byte_writes : Record → List Write
 byte_writes r = map (λ b. write_byte b (byte_of r b)) bytes
 
 -- the writes of all fields of a record
 abbrev pub field_writes : Record → List Write
-field_writes r = map (λ f. write_flag f (flag_of r f)) flags ++ map (λ b. write_byte b (byte_of r b)) bytes
+field_writes r = flag_writes r ++ byte_writes r
 
 -- to write every field of a record makes it, whatever the record before
 pub after-field_writes : (s r : Record) → after s (field_writes r) ≡ r
@@ -87,13 +87,17 @@ byte_in-same r (write_byte c v) b e = elim (cases_Bool (shift c == shift b)) [
   | inr n ↦ inl (ap (λ u. if u then Some v else None) n)
 ]
 
--- no write of the list changes r
+-- the write does not change the record
+abbrev pub Leaves : Record → Write → Type 0
+Leaves r x = changes r x ≡ false
+
+-- no write of the list changes the record
 abbrev pub NoChange : Record → List Write → Type 0
-NoChange r writes = All (λ x. changes r x ≡ false) writes
+NoChange r writes = All (Leaves r) writes
 
 -- what is kept of a list that changes nothing changes nothing
 pub NoChange-filter : (r : Record) (p : Write → Bool) (writes : List Write) → NoChange r writes → NoChange r (filter p writes)
-NoChange-filter r p writes none = All-filter p (λ x. changes r x ≡ false) writes none
+NoChange-filter r p writes none = All-filter p (Leaves r) writes none
 
 no_change_of_flag : (v : Bool) → not (beq v v) ≡ false
 no_change_of_flag true = refl
@@ -102,17 +106,17 @@ no_change_of_flag false = refl
 -- to write the fields of a record into it changes nothing
 pub NoChange-field_writes : (r : Record) → NoChange r (field_writes r)
 NoChange-field_writes r =
-    All-append (λ x. changes r x ≡ false) (flag_writes r) (byte_writes r)
-    (All-map (λ x. changes r x ≡ false) (λ f. write_flag f (flag_of r f)) flags (λ k d l. no_change_of_flag _))
-    (All-map (λ x. changes r x ≡ false) (λ b. write_byte b (byte_of r b)) bytes (λ k d l. ap not (eq-eqb _ _ refl)))
+    All-append (Leaves r) (flag_writes r) (byte_writes r)
+    (All-map (Leaves r) (λ f. write_flag f (flag_of r f)) flags (λ k d l. no_change_of_flag _))
+    (All-map (Leaves r) (λ b. write_byte b (byte_of r b)) bytes (λ k d l. ap not (eq-eqb _ _ refl)))
 
 -- writes that change nothing leave the value
 left_by-same : {T : Type 0} (h : Write → Option T) (v : T) (r : Record) (writes : List Write)
-    → ((x : Write) → changes r x ≡ false → (h x ≡ None) ⊎ (h x ≡ Some v)) → NoChange r writes → left_by h writes v ≡ v
+    → ((x : Write) → Leaves r x → (h x ≡ None) ⊎ (h x ≡ Some v)) → NoChange r writes → left_by h writes v ≡ v
 left_by-same h v r [] same none = refl
 left_by-same h v r (x ∷ writes) same none =
-    left_by-cons h x writes v ∙ ap (left_by h writes) (stays (h x) (same x (All-head (λ x. changes r x ≡ false) x writes none)))
-    ∙ left_by-same h v r writes same (All-tail (λ x. changes r x ≡ false) x writes none) where
+    left_by-cons h x writes v ∙ ap (left_by h writes) (stays (h x) (same x (All-head (Leaves r) x writes none)))
+    ∙ left_by-same h v r writes same (All-tail (Leaves r) x writes none) where
       stays : (o : Option _) → (o ≡ None) ⊎ (o ≡ Some v) → unwrap_or o v ≡ v
       stays o (inl e) = ap (λ p. unwrap_or p v) e
       stays o (inr e) = ap (λ p. unwrap_or p v) e
@@ -124,7 +128,9 @@ after-NoChange r writes none = record_same _ _
     (λ b. byte_of-after r writes b ∙ left_by-same (λ x. byte_in x b) (byte_of r b) r writes (λ x. byte_in-same r x b) none)
 
 -- one field with the value v in r and u in s: writes towards r that do not change s can be left out if it begins with v or u
-module _ {T : Type 0} (h : Write → Option T) (v u : T) (r s : Record) (on_r : (x : Write) → changes r x ≡ false → (h x ≡ None) ⊎ (h x ≡ Some v)) (on_s : (x : Write) → changes s x ≡ false → (h x ≡ None) ⊎ (h x ≡ Some u)) where
+module _ {T : Type 0} (h : Write → Option T) (v u : T) (r s : Record)
+    (on_r : (x : Write) → Leaves r x → (h x ≡ None) ⊎ (h x ≡ Some v))
+    (on_s : (x : Write) → Leaves s x → (h x ≡ None) ⊎ (h x ≡ Some u)) where
   next : (d : T) (o : Option T) → (o ≡ None) ⊎ (o ≡ Some v) → (d ≡ u) ⊎ (d ≡ v) → (unwrap_or o d ≡ u) ⊎ (unwrap_or o d ≡ v)
   next d o (inl none) e = subst (λ p. (unwrap_or p d ≡ u) ⊎ (unwrap_or p d ≡ v)) (sym none) e
   next d o (inr some) e = inr (ap (λ p. unwrap_or p d) some)
@@ -144,8 +150,8 @@ module _ {T : Type 0} (h : Write → Option T) (v u : T) (r s : Record) (on_r : 
   left_by-filter : (writes : List Write) (d : T) → NoChange r writes → (d ≡ u) ⊎ (d ≡ v) → left_by h (filter (changes s) writes) d ≡ left_by h writes d
   left_by-filter [] d none e = refl
   left_by-filter (x ∷ writes) d none e =
-      filter_step x writes d (on_r x (All-head (λ x. changes r x ≡ false) x writes none))
-      (λ d e. left_by-filter writes d (All-tail (λ x. changes r x ≡ false) x writes none) e) e (changes s x) refl
+      filter_step x writes d (on_r x (All-head (Leaves r) x writes none))
+      (λ d e. left_by-filter writes d (All-tail (Leaves r) x writes none) e) e (changes s x) refl
       ∙ sym (left_by-cons h x writes d)
 
 -- the writes towards r that change nothing in s may be left out

@@ -1,5 +1,5 @@
-use Rattle.std.proofs.Common.{arith, ◌∙◌, ◌≡◌, ap, ◌==◌, if◌then◌else◌, slice_index}
-use Rattle.lexical_flags.specs.Layout.{Flag, part, bit}
+use Rattle.std.proofs.Common.{ℕ, arith, ◌∙◌, ◌≡◌, ap, ◌==◌, if◌then◌else◌, slice_index}
+use Rattle.lexical_flags.specs.Layout.{Flag, Byte, part, bit}
 use Rattle.lexical_flags.specs.Record.{tabulate, flag_of, byte_of}
 use Rattle.lexical_builder.specs.Fields.{builder_bit, index_of}
 use Rattle.lexical_builder.proofs.BuilderFlags.{builder_bit-lt, part-flags_in}
@@ -7,8 +7,9 @@ use Rattle.lexical_builder.proofs.format_builder.NumberFormatBuilder.with_flags.
 
 pub returns : goal.returns
 returns c =
-    let at : (f : Flag) → part c.builder_flags.result (builder_bit f) 1 ≡ part c.args.mask (bit f) 1 =
+    let byte : Byte → ℕ = λ b. slice_index c.self.inside.bytes (index_of b) in
+    let in_mask : (f : Flag) → part c.builder_flags.result (builder_bit f) 1 ≡ part c.args.mask (bit f) 1 =
     λ f. ap (λ n. part n (builder_bit f) 1) c.builder_flags.ensures.value ∙ part-flags_in c.args.mask f in
-    (λ i. tabulate (λ f. c.replace_bits.ensures.each (builder_bit f) (omega (arith, builder_bit-lt f)) i) (λ b. slice_index c.self.inside.bytes (index_of b)))
-    ∙ (λ i. tabulate (λ f. if at f i == 1 then c.args.value else part c.self.inside.flags (builder_bit f) 1 == 1) (λ b. slice_index c.self.inside.bytes (index_of b)))
+    (λ i. tabulate (λ f. c.replace_bits.ensures.each (builder_bit f) (omega (arith, builder_bit-lt f)) i) byte)
+    ∙ (λ i. tabulate (λ f. if in_mask f i == 1 then c.args.value else part c.self.inside.flags (builder_bit f) 1 == 1) byte)
     ∙ ap (λ r. tabulate (λ f. if part c.args.mask (bit f) 1 == 1 then c.args.value else flag_of r f) (byte_of r)) c.self.view_is
