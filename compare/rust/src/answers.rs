@@ -1,0 +1,320 @@
+//! What the exported calls return, in the layout of C, and how two of them differ.
+
+use std::fmt::Debug;
+
+/// What some calls return of one input.
+pub trait Answers: Copy + PartialEq {
+    /// How many calls.
+    const CALLS: u64;
+
+    /// Adds the name, and both sides, of each call whose answers differ.
+    fn differences(&self, other: &Self, name: &str, found: &mut Vec<Difference>);
+}
+
+/// A call whose answers differ.
+pub struct Difference {
+    pub name: String,
+    pub one: String,
+    pub other: String,
+}
+
+macro_rules! single {
+    ($($type:ty)*) => {$(
+        impl Answers for $type {
+            const CALLS: u64 = 1;
+
+            fn differences(&self, other: &Self, name: &str, found: &mut Vec<Difference>) {
+                if self != other {
+                    let (one, other) = (format!("{self:?}"), format!("{other:?}"));
+                    found.push(Difference { name: name.to_string(), one, other });
+                }
+            }
+        }
+    )*};
+}
+
+single!(bool u8 i32 u32 u64 usize Wide);
+
+/// A number of 128 bits in two halves.
+#[repr(C)]
+#[derive(Clone, Copy, PartialEq)]
+pub struct Wide {
+    low: u64,
+    high: u64,
+}
+
+impl From<u128> for Wide {
+    fn from(number: u128) -> Wide {
+        Wide { low: number as u64, high: (number >> 64) as u64 }
+    }
+}
+
+impl Wide {
+    pub fn number(self) -> u128 {
+        (self.high as u128) << 64 | self.low as u128
+    }
+}
+
+impl Debug for Wide {
+    fn fmt(&self, f: &mut std::fmt::Formatter) -> std::fmt::Result {
+        write!(f, "{:#034X}", self.number())
+    }
+}
+
+macro_rules! answers {
+    ($(#[$doc:meta])* $name:ident { $($field:ident: $type:ty,)* }) => {
+        $(#[$doc])*
+        #[repr(C)]
+        #[derive(Clone, Copy, Debug, PartialEq)]
+        pub struct $name {
+            $(pub $field: $type,)*
+        }
+
+        impl Answers for $name {
+            const CALLS: u64 = 0 $(+ <$type as Answers>::CALLS)*;
+
+            fn differences(&self, other: &Self, name: &str, found: &mut Vec<Difference>) {
+                $(
+                    let field = if name.is_empty() {
+                        stringify!($field).to_string()
+                    } else {
+                        format!("{name}.{}", stringify!($field))
+                    };
+                    self.$field.differences(&other.$field, &field, found);
+                )*
+            }
+        }
+    };
+}
+
+answers! {
+    /// The tests of one byte.
+    Byte {
+        is_valid_ascii: bool,
+        is_valid_letter: bool,
+    }
+}
+
+answers! {
+    /// The tests of a slice.
+    Slice {
+        is_valid_ascii_slice: bool,
+        is_valid_letter_slice: bool,
+    }
+}
+
+answers! {
+    /// The calls on a byte and a radix; `None` is the largest `u64`.
+    Digit {
+        char_to_valid_digit_const: u32,
+        char_to_digit_const: u64,
+        char_to_digit: u64,
+        char_is_digit_const: bool,
+        char_is_digit: bool,
+    }
+}
+
+answers! {
+    /// The calls on a digit and a radix.
+    Figure {
+        digit_to_char: u8,
+        digit_to_char_const: u8,
+    }
+}
+
+answers! {
+    /// The calls on one outcome; the first test is in bit 0.
+    Outcome {
+        tests: u64,
+        has_index: bool,
+        index: u64,
+        clone_is_equal: bool,
+    }
+}
+
+answers! {
+    /// How two outcomes compare: -1, 0 or 1, and 2 for none.
+    Order {
+        cmp: i32,
+        partial_cmp: i32,
+        eq: bool,
+        lt: bool,
+    }
+}
+
+answers! {
+    /// The extractors and the rules of a word.
+    Word {
+        digit_separator: u8,
+        base_prefix: u8,
+        base_suffix: u8,
+        mantissa_radix: u32,
+        exponent_base: u32,
+        exponent_radix: u32,
+        is_valid_exponent_flags: bool,
+        is_valid_digit_separator: bool,
+        is_valid_base_prefix: bool,
+        is_valid_base_suffix: bool,
+        is_valid_punctuation: bool,
+        radix_error: u32,
+        format_error_impl: u32,
+        format_error: u32,
+        format_is_valid: bool,
+        view_error: u32,
+        view_is_valid: bool,
+        view_error_radix: u32,
+        view_is_valid_radix: bool,
+    }
+}
+
+answers! {
+    /// The getters of the view of a word.
+    View {
+        required_integer_digits: bool,
+        required_fraction_digits: bool,
+        required_exponent_digits: bool,
+        required_mantissa_digits: bool,
+        no_positive_mantissa_sign: bool,
+        required_mantissa_sign: bool,
+        no_exponent_notation: bool,
+        no_positive_exponent_sign: bool,
+        required_exponent_sign: bool,
+        no_exponent_without_fraction: bool,
+        no_special: bool,
+        case_sensitive_special: bool,
+        no_integer_leading_zeros: bool,
+        no_float_leading_zeros: bool,
+        required_exponent_notation: bool,
+        case_sensitive_exponent: bool,
+        case_sensitive_base_prefix: bool,
+        case_sensitive_base_suffix: bool,
+        integer_internal_digit_separator: bool,
+        fraction_internal_digit_separator: bool,
+        exponent_internal_digit_separator: bool,
+        integer_leading_digit_separator: bool,
+        fraction_leading_digit_separator: bool,
+        exponent_leading_digit_separator: bool,
+        integer_trailing_digit_separator: bool,
+        fraction_trailing_digit_separator: bool,
+        exponent_trailing_digit_separator: bool,
+        integer_consecutive_digit_separator: bool,
+        fraction_consecutive_digit_separator: bool,
+        exponent_consecutive_digit_separator: bool,
+        special_digit_separator: bool,
+        required_digits: bool,
+        internal_digit_separator: bool,
+        leading_digit_separator: bool,
+        trailing_digit_separator: bool,
+        consecutive_digit_separator: bool,
+        digit_separator: u8,
+        base_prefix: u8,
+        base_suffix: u8,
+        has_digit_separator: bool,
+        has_base_prefix: bool,
+        has_base_suffix: bool,
+        mantissa_radix: u32,
+        radix: u32,
+        exponent_base: u32,
+        exponent_radix: u32,
+        radix2: u32,
+        radix4: u32,
+        radix8: u32,
+        flags: Wide,
+        interface_flags: Wide,
+        digit_separator_flags: Wide,
+        exponent_flags: Wide,
+        integer_digit_separator_flags: Wide,
+        fraction_digit_separator_flags: Wide,
+        exponent_digit_separator_flags: Wide,
+    }
+}
+
+answers! {
+    /// The calls that take no word, as words.
+    Standards {
+        binary: Wide,
+        octal: Wide,
+        decimal: Wide,
+        hexadecimal: Wide,
+        builder: Wide,
+        default_view: Wide,
+        default_builder: Wide,
+    }
+}
+
+answers! {
+    /// The getters of a builder; an absent byte is 0.
+    Fields {
+        required_integer_digits: bool,
+        required_fraction_digits: bool,
+        required_exponent_digits: bool,
+        required_mantissa_digits: bool,
+        no_positive_mantissa_sign: bool,
+        required_mantissa_sign: bool,
+        no_exponent_notation: bool,
+        no_positive_exponent_sign: bool,
+        required_exponent_sign: bool,
+        no_exponent_without_fraction: bool,
+        no_special: bool,
+        case_sensitive_special: bool,
+        no_integer_leading_zeros: bool,
+        no_float_leading_zeros: bool,
+        required_exponent_notation: bool,
+        case_sensitive_exponent: bool,
+        case_sensitive_base_prefix: bool,
+        case_sensitive_base_suffix: bool,
+        integer_internal_digit_separator: bool,
+        fraction_internal_digit_separator: bool,
+        exponent_internal_digit_separator: bool,
+        integer_leading_digit_separator: bool,
+        fraction_leading_digit_separator: bool,
+        exponent_leading_digit_separator: bool,
+        integer_trailing_digit_separator: bool,
+        fraction_trailing_digit_separator: bool,
+        exponent_trailing_digit_separator: bool,
+        integer_consecutive_digit_separator: bool,
+        fraction_consecutive_digit_separator: bool,
+        exponent_consecutive_digit_separator: bool,
+        special_digit_separator: bool,
+        mantissa_radix: u8,
+        digit_separator: u8,
+        base_prefix: u8,
+        base_suffix: u8,
+        exponent_base: u8,
+        exponent_radix: u8,
+    }
+}
+
+answers! {
+    /// A builder and what it packs into; of the strict build the word, or 0 and the error.
+    Built {
+        fields: Fields,
+        build_unchecked: Wide,
+        build: Wide,
+        strict_word: Wide,
+        strict_error: u32,
+    }
+}
+
+answers! {
+    /// The words that a list of edits makes.
+    Edited {
+        edit_word: Wide,
+        apply: Wide,
+        apply_all: Wide,
+    }
+}
+
+answers! {
+    /// The calls on a word and a second one that only this library has.
+    Own {
+        normal_form: Wide,
+        same_format: bool,
+        is_built: bool,
+        migrated: Wide,
+        migrate_error: u32,
+        edits: usize,
+        after_edits: Fields,
+        after_all_edits: Fields,
+    }
+}

@@ -1,0 +1,153 @@
+//! What the calls are compared on. All of it follows from one seed.
+
+/// A setter of a builder, by its position: the 31 flags in the order of their bits, the nine groups,
+/// separator, prefix, suffix, mantissa radix by its two names, exponent base, exponent radix. An odd
+/// value sets a flag, and the value 0 empties a byte that may be absent.
+#[derive(Clone, Copy, Debug)]
+pub struct SetterCall {
+    pub setter: u32,
+    pub value: u8,
+}
+
+pub const SETTERS: u32 = 47;
+
+impl SetterCall {
+    /// The call as it is handed to the library.
+    pub fn number(self) -> u32 {
+        self.setter << 8 | self.value as u32
+    }
+}
+
+/// A generator of random numbers, by xorshift.
+pub struct Random(u64);
+
+impl Random {
+    pub fn new(seed: u64) -> Random {
+        Random(seed.wrapping_mul(0x9E37_79B9_7F4A_7C15) | 1)
+    }
+
+    pub fn next(&mut self) -> u64 {
+        self.0 ^= self.0 << 13;
+        self.0 ^= self.0 >> 7;
+        self.0 ^= self.0 << 17;
+        self.0.wrapping_mul(0x2545_F491_4F6C_DD1D)
+    }
+
+    pub fn below(&mut self, limit: u64) -> u64 {
+        (self.next() >> 33) % limit
+    }
+
+    pub fn one_in(&mut self, times: u64) -> bool {
+        self.below(times) == 0
+    }
+
+    pub fn pick<T: Copy>(&mut self, from: &[T]) -> T {
+        from[self.below(from.len() as u64) as usize]
+    }
+
+    pub fn bits(&mut self) -> u128 {
+        (self.next() as u128) << 64 | self.next() as u128
+    }
+
+    /// A byte that a word may hold for separator, prefix or suffix: often none, a letter of either
+    /// case, or a sign of text, and sometimes any byte.
+    pub fn punctuation(&mut self) -> u8 {
+        match self.below(8) {
+            0..3 => 0,
+            3..5 => self.pick(b"xXhHzZkKeEbBdD"),
+            5..7 => self.pick(b"_',.:;|^@`#$ "),
+            _ => self.next() as u8,
+        }
+    }
+
+    /// A radix, mostly from 2 to 36.
+    pub fn radix(&mut self) -> u8 {
+        match self.below(16) {
+            0 => self.next() as u8,
+            1..5 => self.pick(&[2, 10, 16, 36]),
+            _ => 2 + self.below(35) as u8,
+        }
+    }
+
+    /// A word that breaks few rules.
+    fn nearly_lawful(&mut self) -> u128 {
+        const FLAGS: u64 = 0x1FFF_0003_FFFF;
+        let mut flags = self.next() & self.next() & FLAGS;
+        if !self.one_in(4) {
+            // Leave out one flag of each two that exclude each other.
+            flags &= !(1 << 14 | 1 << 5 | 1 << 8 | 1 << 11 | 1 << 44 | 7 << 41);
+        }
+        let empty_or_radix = |random: &mut Random| if random.one_in(2) { 0 } else { random.radix() };
+        let base = empty_or_radix(self);
+        let exponent_radix = empty_or_radix(self);
+        flags as u128
+            | (self.punctuation() as u128) << 64
+            | (self.punctuation() as u128) << 88
+            | (self.punctuation() as u128) << 96
+            | (self.radix() as u128) << 104
+            | (base as u128) << 112
+            | (exponent_radix as u128) << 120
+    }
+
+    /// A word: any bits, few bits, nearly lawful, or that with one bit turned.
+    pub fn word(&mut self) -> u128 {
+        match self.below(8) {
+            0 => self.bits(),
+            1 => self.bits() & self.bits() & self.bits(),
+            2..6 => self.nearly_lawful(),
+            _ => self.nearly_lawful() ^ 1 << self.below(128),
+        }
+    }
+
+    /// A list of 0 to `most` setter calls.
+    pub fn calls(&mut self, most: u64) -> Vec<SetterCall> {
+        let count = self.below(most + 1);
+        (0..count).map(|_| self.call()).collect()
+    }
+
+    fn call(&mut self) -> SetterCall {
+        let setter = self.below(SETTERS as u64) as u32;
+        let value = match setter {
+            0..40 => self.below(2) as u8,
+            40..43 => self.punctuation(),
+            43 | 44 => self.radix(),
+            _ if self.one_in(3) => 0,
+            _ => self.radix(),
+        };
+        SetterCall { setter, value }
+    }
+}
+
+/// Words to start from: nothing, everything, the standard formats, and letters in several roles.
+pub const BASES: [u128; 8] = [
+    0,
+    u128::MAX,
+    0x00000A00_00000000_00000000_0000000C,
+    0x0A0A0A00_00000000_00000000_0000000C,
+    0x10101000_00000000_00000000_0000000C,
+    0x0A021048_7800005F_00000007_0000000C,
+    0x00000A48_68000058_00001FFF_0003000C,
+    0x00000A58_78000027_00000249_0000020C,
+];
+
+/// The words that differ from a base in one bit, or in two.
+pub fn bits_turned(base: u128) -> impl Iterator<Item = u128> {
+    let pairs = (0..128).flat_map(|i| (i..128).map(move |j| (i, j)));
+    pairs.map(move |(i, j)| base ^ (1 << i) ^ if i == j { 0 } else { 1 << j })
+}
+
+/// A word of a few that are known when this is compiled: each single bit, each with the standard
+/// format below it, and then mixed bits.
+pub const fn known_word(position: usize) -> u128 {
+    const STANDARD: u128 = 0x00000A00_00000000_00000000_0000000C;
+    match position {
+        0..128 => STANDARD ^ 1 << position,
+        _ => {
+            let factor = 0x9E37_79B9_7F4A_7C15_F39C_C060_5CED_C835;
+            let bits = (position as u128).wrapping_mul(factor);
+            let bits = (bits ^ bits >> 61).wrapping_mul(factor);
+            // Half of them have radixes in range.
+            if position % 2 == 0 { bits } else { bits >> 24 & !0xFF_FFFF | 0x10_0A_24 << 104 }
+        }
+    }
+}

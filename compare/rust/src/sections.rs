@@ -1,0 +1,269 @@
+//! The comparisons, by what they are over. Each is cut into tasks that can run side by side.
+
+use crate::inputs::{bits_turned, known_word, Random, BASES};
+use crate::tally::Tally;
+use crate::{ours, rules, theirs};
+
+/// A part of a section.
+pub struct Task {
+    pub section: &'static str,
+    pub run: Box<dyn Fn(&mut Tally) + Send + Sync>,
+}
+
+/// All tasks. The larger the scale, the more random inputs.
+pub fn tasks(seed: u64, scale: u64) -> Vec<Task> {
+    let mut tasks = vec![];
+    let mut add = |section, run: Box<dyn Fn(&mut Tally) + Send + Sync>| {
+        tasks.push(Task { section, run });
+    };
+    add("bytes and digits", Box::new(bytes_and_digits));
+    add("slices", Box::new(move |tally| slices(tally, &mut Random::new(seed))));
+    add("outcomes", Box::new(outcomes));
+    add("constants and standard formats", Box::new(constants));
+    add("words known when compiled", Box::new(known_words));
+    for base in BASES {
+        add(
+            "single bits and pairs of bits",
+            Box::new(move |tally| bits_turned(base).for_each(|word| whole_word(tally, word, base))),
+        );
+    }
+    for part in 0..8 {
+        let seed = seed + 100 + part;
+        add("reserved bits", Box::new(move |tally| reserved_bits(tally, &mut Random::new(seed))));
+    }
+    for radix in [2, 10, 11, 16, 24, 36] {
+        add("punctuation bytes", Box::new(move |tally| punctuation(tally, radix)));
+    }
+    for part in 0..8 * scale {
+        let seed = seed + 200 + part;
+        add("random words", Box::new(move |tally| random_words(tally, &mut Random::new(seed))));
+    }
+    for part in 0..8 {
+        let seed = seed + 300 + part;
+        add("masked radixes", Box::new(move |tally| masked(tally, &mut Random::new(seed))));
+    }
+    for part in 0..8 {
+        let seed = seed + 400 + part;
+        add("options", Box::new(move |tally| options(tally, &mut Random::new(seed))));
+    }
+    for part in 0..8 * scale {
+        let seed = seed + 500 + part;
+        add("builders", Box::new(move |tally| builders(tally, &mut Random::new(seed))));
+    }
+    for part in 0..8 * scale {
+        let seed = seed + 600 + part;
+        add("edits", Box::new(move |tally| edits(tally, &mut Random::new(seed))));
+    }
+    tasks
+}
+
+const LARGE_RADIXES: [u32; 6] = [1000, 65_535, 65_536, 1 << 24, 1 << 31, u32::MAX];
+
+fn bytes_and_digits(tally: &mut Tally) {
+    for c in 0..=255 {
+        tally.same(("byte", c), ours::byte(c), theirs::byte(c));
+    }
+    for radix in (0..=300).chain(LARGE_RADIXES) {
+        for c in 0..=255 {
+            tally.same(("byte, radix", c, radix), ours::digit(c, radix), theirs::digit(c, radix));
+        }
+        for digit in 0..36 {
+            let (ours, theirs) = (ours::figure(digit, radix), theirs::figure(digit, radix));
+            tally.same(("digit, radix", digit, radix), ours, theirs);
+        }
+        tally.same(("radix", radix), ours::is_valid_radix(radix), theirs::is_valid_radix(radix));
+    }
+}
+
+fn slices(tally: &mut Tally, random: &mut Random) {
+    const OTHERS: &[u8] = &[0, 8, 0x0E, 0x1F, b' ', b'@', b'[', b'`', b'{', 0x7F, 0x80, 0xFF];
+    let mut compare = |slice: &[u8]| {
+        tally.same(("slice", slice), ours::slice(slice), theirs::slice(slice));
+    };
+    let lens = (0..=200).chain([255, 256, 257, 511, 512, 513, 1023, 1024, 1025, 4095, 4096, 4097]);
+    for len in lens {
+        let letters: Vec<u8> = (0..len).map(|_| random.pick(b"AZaz")).collect();
+        compare(&letters);
+        for position in 0..len {
+            let others = if len <= 200 { OTHERS } else { &OTHERS[9..10] };
+            for other in others {
+                let mut spoiled = letters.clone();
+                spoiled[position] = *other;
+                compare(&spoiled);
+            }
+        }
+        // Slices that begin anywhere.
+        for start in 0..len.min(32) {
+            compare(&letters[start..]);
+        }
+    }
+    for _ in 0..100_000 {
+        let len = random.below(150) as usize;
+        let any: Vec<u8> = (0..len).map(|_| random.next() as u8 & 0x7F | 0x20).collect();
+        compare(&any);
+    }
+}
+
+const INDEXES: [usize; 6] = [0, 1, 7, 9, 10, usize::MAX];
+
+fn outcomes(tally: &mut Tally) {
+    let all = || (0..49).flat_map(|position| INDEXES.map(|index| (position, index)));
+    for (position, index) in all() {
+        let input = ("outcome, index", position, index);
+        tally.same(input, ours::outcome(position, index), theirs::outcome(position, index));
+        let text = theirs::description(position, index);
+        tally.text(("description", input), ours::description(position, index), text);
+        for style in 0..5 {
+            let text = theirs::display(position, index, style);
+            tally.text(("display", input, style), ours::display(position, index, style), text);
+        }
+        for other in all() {
+            let (ours, theirs) =
+                (ours::order((position, index), other), theirs::order((position, index), other));
+            tally.same(("outcomes", (position, index), other), ours, theirs);
+        }
+    }
+}
+
+fn constants(tally: &mut Tally) {
+    for (position, (name, constant)) in theirs::CONSTANTS.iter().enumerate() {
+        tally.same(name, ours::constant(position).into(), crate::answers::Wide::from(*constant));
+    }
+    tally.same("no input", ours::standards(), theirs::standards());
+    for radix in 0..=255 {
+        let word = |word: u128| crate::answers::Wide::from(word);
+        tally.same(radix, word(ours::from_radix(radix)), word(theirs::from_radix(radix)));
+    }
+}
+
+/// The words on which the crate's own view can be asked, sixteen a row.
+macro_rules! known_words {
+    ($($row:literal)*) => {
+        |compare: &mut dyn FnMut(u128, Known)| {
+            $(known_words!(compare, $row, 0 1 2 3 4 5 6 7 8 9 10 11 12 13 14 15);)*
+        }
+    };
+    ($compare:ident, $row:literal, $($column:literal)*) => {$({
+        const WORD: u128 = known_word(16 * $row + $column);
+        let word = theirs::const_word::<WORD>();
+        let view = theirs::const_view::<WORD>();
+        let rebuilt = theirs::const_rebuild::<WORD>();
+        $compare(WORD, Known { word, view, rebuilt });
+    })*};
+}
+
+struct Known {
+    word: crate::answers::Word,
+    view: crate::answers::View,
+    rebuilt: crate::answers::Fields,
+}
+
+fn known_words(tally: &mut Tally) {
+    let all = known_words!(0 1 2 3 4 5 6 7 8 9 10 11 12 13 14 15);
+    all(&mut |word, known| {
+        tally.expect(word, ours::word(word), rules::word(word, known.word), known.word);
+        tally.same(word, ours::view(word), known.view);
+        tally.same(word, ours::rebuild(word), known.rebuilt);
+    });
+}
+
+/// The rules of a word alone.
+fn rules_of(tally: &mut Tally, word: u128) {
+    let theirs = theirs::word(word);
+    tally.expect(("word", word), ours::word(word), rules::word(word, theirs), theirs);
+}
+
+/// All calls on a word, and those on two.
+fn whole_word(tally: &mut Tally, word: u128, other: u128) {
+    rules_of(tally, word);
+    tally.same(("view", word), ours::view(word), theirs::view(word));
+    tally.same(("rebuilt", word), ours::rebuild(word), theirs::rebuild(word));
+    let theirs = theirs::own(word, other);
+    tally.expect(("words", word, other), ours::own(word, other), rules::own(theirs), theirs);
+}
+
+fn reserved_bits(tally: &mut Tally, random: &mut Random) {
+    let reserved = (0..128).filter(|bit| rules::RESERVED >> bit & 1 == 1);
+    let reserved: Vec<u32> = reserved.collect();
+    for _ in 0..50 {
+        let word = random.word() & !rules::RESERVED;
+        for one in &reserved {
+            for other in &reserved {
+                whole_word(tally, word | 1 << one | 1 << other, word);
+            }
+        }
+        for _ in 0..1000 {
+            whole_word(tally, word | random.bits() & rules::RESERVED, word);
+        }
+    }
+}
+
+/// All values of the three bytes in one radix; which cases count changes from one to the next.
+fn punctuation(tally: &mut Tally, radix: u8) {
+    let rest = 0xC | (radix as u128) << 104;
+    for bytes in 0..1u128 << 24 {
+        let (separator, others) = (bytes & 0xFF, bytes >> 8);
+        let case_flags = (bytes ^ bytes >> 7 ^ bytes >> 15) & 3;
+        rules_of(tally, rest | separator << 64 | others << 88 | case_flags << 16);
+    }
+}
+
+fn random_words(tally: &mut Tally, random: &mut Random) {
+    for _ in 0..250_000 {
+        let word = random.word();
+        let other = match random.below(3) {
+            0 => random.word(),
+            1 => theirs::normal_form(word),
+            _ => word ^ 1 << random.below(128),
+        };
+        whole_word(tally, word, other);
+    }
+}
+
+fn masked(tally: &mut Tally, random: &mut Random) {
+    for _ in 0..40 {
+        let word = random.word();
+        for (_, mask) in theirs::CONSTANTS.iter().copied().chain([("", random.bits())]) {
+            for shift in 0..128 {
+                let ours = ours::radix_from_flags(word, mask, shift);
+                let theirs = theirs::radix_from_flags(word, mask, shift);
+                tally.same(("word, mask, shift", word, mask, shift), ours, theirs);
+            }
+        }
+    }
+}
+
+/// All pairs of bytes beside some words: bases, and random ones with letters and cases.
+fn options(tally: &mut Tally, random: &mut Random) {
+    let bases = BASES.iter().map(|base| base ^ (random.below(8) as u128) << 15);
+    let bases: Vec<u128> = bases.collect();
+    for word in bases.into_iter().chain((0..8).map(|_| random.word())) {
+        for exponent in 0..=255 {
+            for point in 0..=255 {
+                let theirs = theirs::options(word, exponent, point);
+                let expected = rules::options(word, exponent, point, theirs);
+                let ours = ours::options(word, exponent, point);
+                tally.expect(("word, options", word, exponent, point), ours, expected, theirs);
+            }
+        }
+    }
+}
+
+fn builders(tally: &mut Tally, random: &mut Random) {
+    for _ in 0..100_000 {
+        let start = if random.one_in(2) { None } else { Some(random.word()) };
+        let calls = random.calls(40);
+        let theirs = theirs::builder(start, &calls);
+        let input = ("start, calls", start, &calls);
+        tally.expect(input, ours::builder(start, &calls), rules::built(theirs), theirs);
+    }
+}
+
+fn edits(tally: &mut Tally, random: &mut Random) {
+    for _ in 0..100_000 {
+        let word = random.word();
+        let calls = random.calls(40);
+        let input = ("word, calls", word, &calls);
+        tally.same(input, ours::edits(word, &calls), theirs::edits(word, &calls));
+    }
+}
