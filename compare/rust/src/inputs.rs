@@ -77,7 +77,8 @@ impl Random {
             // Leave out one flag of each two that exclude each other.
             flags &= !(1 << 14 | 1 << 5 | 1 << 8 | 1 << 11 | 1 << 44 | 7 << 41);
         }
-        let empty_or_radix = |random: &mut Random| if random.one_in(2) { 0 } else { random.radix() };
+        let empty_or_radix =
+            |random: &mut Random| if random.one_in(2) { 0 } else { random.radix() };
         let base = empty_or_radix(self);
         let exponent_radix = empty_or_radix(self);
         flags as u128
@@ -108,7 +109,7 @@ impl Random {
     fn call(&mut self) -> SetterCall {
         let setter = self.below(SETTERS as u64) as u32;
         let value = match setter {
-            0..40 => self.below(2) as u8,
+            0..40 => self.one_in(3) as u8,
             40..43 => self.punctuation(),
             43 | 44 => self.radix(),
             _ if self.one_in(3) => 0,
@@ -147,7 +148,11 @@ pub const fn known_word(position: usize) -> u128 {
             let bits = (position as u128).wrapping_mul(factor);
             let bits = (bits ^ bits >> 61).wrapping_mul(factor);
             // Half of them have radixes in range.
-            if position % 2 == 0 { bits } else { bits >> 24 & !0xFF_FFFF | 0x10_0A_24 << 104 }
+            if position % 2 == 0 {
+                bits
+            } else {
+                bits >> 24 & !0xFF_FFFF | 0x10_0A_24 << 104
+            }
         }
     }
 }

@@ -1,5 +1,190 @@
-//! Writes what the Rust crate returns as lines for the program `recorded`.
+//! Writes what the Rust crate returns, one answer a line, for the program `recorded`; its module
+//! `reading` says what a line is.
+//!
+//! Where the library differs on purpose a line has what the library must return, by the rules, and
+//! then ` crate: ` and what the crate returns.
 
-pub fn lines(_seed: u64) -> Vec<String> {
-    vec![]
+use crate::inputs::{Random, SetterCall, BASES, SETTERS};
+use crate::tables::{with_flags, with_other_outcomes, with_parse_errors};
+use crate::{rules, theirs};
+
+macro_rules! names {
+    ($($position:literal $variant:ident $test:ident,)*) => {
+        [$(stringify!($variant)),*]
+    };
+}
+
+/// The name of the outcome at a position.
+fn name(position: u32) -> &'static str {
+    const PARSE_ERRORS: [&str; 19] = with_parse_errors!(names);
+    const OTHERS: [&str; 30] = with_other_outcomes!(names);
+    match position as usize {
+        position @ 0..19 => PARSE_ERRORS[position],
+        position => OTHERS[position - 19],
+    }
+}
+
+macro_rules! flag_names {
+    ($($flag:ident $constant:ident $getter:ident,)*) => {
+        [$(stringify!($flag)),*]
+    };
+}
+
+/// The name of the setter at a position.
+fn setter_name(position: u32) -> &'static str {
+    const FLAGS: [&str; 31] = with_flags!(flag_names);
+    const OTHERS: [&str; 16] = [
+        "required_digits",
+        "internal_digit_separator",
+        "leading_digit_separator",
+        "trailing_digit_separator",
+        "consecutive_digit_separator",
+        "digit_separator_flags",
+        "integer_digit_separator_flags",
+        "fraction_digit_separator_flags",
+        "exponent_digit_separator_flags",
+        "digit_separator",
+        "base_prefix",
+        "base_suffix",
+        "mantissa_radix",
+        "radix",
+        "exponent_base",
+        "exponent_radix",
+    ];
+    match position as usize {
+        position @ 0..31 => FLAGS[position],
+        position => OTHERS[position - 31],
+    }
+}
+
+/// Setter calls as text, each after a space.
+fn text_of(calls: &[SetterCall]) -> String {
+    let text = |call: &SetterCall| {
+        let name = setter_name(call.setter);
+        match call.setter {
+            0..40 => format!(" {name}={}", call.value % 2 == 1),
+            _ => format!(" {name}={}", call.value),
+        }
+    };
+    calls.iter().map(text).collect()
+}
+
+/// What the crate returns, if that is another answer than the library's.
+fn original<T: PartialEq>(ours: T, theirs: T, text: impl FnOnce(T) -> String) -> String {
+    if ours == theirs {
+        String::new()
+    } else {
+        format!(" crate: {}", text(theirs))
+    }
+}
+
+/// All lines, some 20,000.
+pub fn lines(seed: u64) -> Vec<String> {
+    let random = &mut Random::new(seed);
+    let mut lines = vec![];
+    lines.extend(bytes());
+    lines.extend(digits());
+    lines.extend(outcomes());
+    lines.extend(words(random, 4000).iter().map(|word| fields(*word)));
+    lines.extend(reserved_bits().iter().chain(&words(random, 6000)).map(|word| check(*word)));
+    lines.extend((0..2600).map(|_| options(random)));
+    lines.extend(single_calls().into_iter().map(|call| edit(BASES[3], &[call])));
+    lines.extend((0..2500).map(|_| edit(random.word(), &random.calls(6))));
+    lines.extend((0..2500).map(|_| build(&random.calls(6))));
+    lines
+}
+
+fn bytes() -> impl Iterator<Item = String> {
+    (0..=255).map(|c| {
+        let byte = theirs::byte(c);
+        format!("byte {c} {} {}", byte.is_valid_ascii, byte.is_valid_letter)
+    })
+}
+
+fn digits() -> impl Iterator<Item = String> {
+    const RADIXES: [u32; 8] = [0, 2, 10, 11, 16, 35, 36, 256];
+    let pairs = RADIXES.into_iter().flat_map(|radix| (0..=255).map(move |c| (c, radix)));
+    pairs.map(|(c, radix)| match theirs::digit(c, radix).char_to_digit {
+        u64::MAX => format!("digit {c} {radix} none"),
+        digit => format!("digit {c} {radix} {digit}"),
+    })
+}
+
+fn outcomes() -> impl Iterator<Item = String> {
+    const INDEXES: [usize; 3] = [0, 7, usize::MAX];
+    let pairs = (0..49).flat_map(|position| {
+        INDEXES[..if position < 19 { 3 } else { 1 }].iter().map(move |index| (position, *index))
+    });
+    pairs.map(|(position, index)| {
+        let text = theirs::display(position, index, 0);
+        format!("printed {index} {} {text}", name(position))
+    })
+}
+
+/// Words: bases, those with one bit turned, and random ones.
+fn words(random: &mut Random, count: usize) -> Vec<u128> {
+    let turned = BASES[2..].iter().flat_map(|base| (0..128).map(move |bit| base ^ 1 << bit));
+    let bases = BASES.into_iter().chain(turned);
+    bases.chain(std::iter::repeat_with(|| random.word())).take(count).collect()
+}
+
+/// A lawful word with each single reserved bit.
+fn reserved_bits() -> Vec<u128> {
+    let reserved = (0..128).filter(|bit| rules::RESERVED >> bit & 1 == 1);
+    reserved.map(|bit| BASES[3] | 1 << bit).collect()
+}
+
+fn fields(word: u128) -> String {
+    let view = theirs::view(word);
+    format!(
+        "fields {word:032X} {:032X} {} {} {} {} {} {}",
+        view.flags.number(),
+        view.digit_separator,
+        view.base_prefix,
+        view.base_suffix,
+        view.mantissa_radix,
+        view.exponent_base,
+        view.exponent_radix
+    )
+}
+
+fn check(word: u128) -> String {
+    let theirs = theirs::word(word);
+    let ours = rules::word(word, theirs).format_error;
+    let original = original(ours, theirs.format_error, |error| name(error).to_string());
+    format!("check {word:032X} {}{original}", name(ours))
+}
+
+/// A word and two bytes, which are often those of the word, or their other case.
+fn options(random: &mut Random) -> String {
+    let word = random.word();
+    let mut byte = || match random.below(4) {
+        0 => (word >> random.pick(&[64, 88, 96])) as u8,
+        1 => (word >> random.pick(&[64, 88, 96])) as u8 ^ 0x20,
+        _ => random.pick(b"eEpP^@.,;|xXhH0z"),
+    };
+    let (exponent, point) = (byte(), byte());
+    let theirs = theirs::options(word, exponent, point);
+    let ours = rules::options(word, exponent, point, theirs);
+    let original = original(ours, theirs, |accepted| accepted.to_string());
+    format!("options {word:032X} {exponent} {point} {ours}{original}")
+}
+
+/// Each setter alone, with two values.
+fn single_calls() -> Vec<SetterCall> {
+    let setters = (0..SETTERS).flat_map(|setter| [0, 1].map(|value| SetterCall { setter, value }));
+    setters.collect()
+}
+
+fn edit(word: u128, calls: &[SetterCall]) -> String {
+    let made = theirs::edits(word, calls).edit_word.number();
+    format!("edit {word:032X} {made:032X}{}", text_of(calls))
+}
+
+fn build(calls: &[SetterCall]) -> String {
+    let theirs = theirs::builder(None, calls);
+    let ours = rules::built(theirs).strict_error;
+    let original = original(ours, theirs.strict_error, |error| name(error).to_string());
+    let packed = theirs.build_unchecked.number();
+    format!("build {packed:032X} {}{}{original}", name(ours), text_of(calls))
 }

@@ -28,10 +28,11 @@ impl Role {
     }
 
     fn meets(self, other: Role) -> bool {
-        self.byte != 0 && (self.byte == other.byte
-            || self.byte == other.other_case
-            || self.other_case == other.byte
-            || self.other_case == other.other_case)
+        self.byte != 0
+            && (self.byte == other.byte
+                || self.byte == other.other_case
+                || self.other_case == other.byte
+                || self.other_case == other.other_case)
     }
 }
 

@@ -1,0 +1,43 @@
+-- What is recorded, said of the library's definitions.
+use Rattle.recorded.specs.declared.fact.Fact.{Fact}
+use Rattle.recorded.specs.declared.fact.Fact.TheVariants as facts
+use Rattle.recorded.specs.declared.fact.Fields.{Fields}
+use Rattle.std.specs.Prelude.{ℕ, ◌≡◌, ◌↔◌, IsTrue, List, string_bytes}
+use Rattle.lexical_base.specs.Ascii.{allowed_ascii, letters}
+use Rattle.lexical_base.specs.Digits.{digit_of}
+use Rattle.lexical_base.specs.Outcomes.{printed_text}
+use Rattle.lexical_base.specs.declared.error.Error.{Error}
+use Rattle.lexical_flags.specs.Common.{common}
+use Rattle.lexical_flags.specs.declared.format_flags.TheConstants.{FLAG_MASK}
+use Rattle.lexical_flags.specs.Record.{raw, pack, effective_exponent_base, effective_exponent_radix}
+use Rattle.lexical_flags.specs.Rules.{IsErrorOf}
+use Rattle.lexical_flags.specs.Options.{AreAccepted}
+use Rattle.lexical_builder.specs.Writes.{new_record, after}
+use Rattle.lexical_util.specs.declared.edits.Edit.{Edit}
+use Rattle.lexical_util.specs.Edits.{edited, all_writes}
+
+-- the fields of a word are these
+pub record HasFields (word : ℕ) (fields : Fields) : Type 0 where
+  pub flags : common word FLAG_MASK ≡ fields.flags
+  pub digit_separator : (raw word).digit_separator ≡ fields.digit_separator
+  pub base_prefix : (raw word).base_prefix ≡ fields.base_prefix
+  pub base_suffix : (raw word).base_suffix ≡ fields.base_suffix
+  pub mantissa_radix : (raw word).mantissa_radix ≡ fields.mantissa_radix
+  pub exponent_base : effective_exponent_base (raw word) ≡ fields.exponent_base
+  pub exponent_radix : effective_exponent_radix (raw word) ≡ fields.exponent_radix
+
+-- a new builder packs into the word after these edits, and this is the word's error
+pub record IsBuiltBy (edits : List Edit) (word : ℕ) (error : Error) : Type 0 where
+  pub packed : pack (after new_record (all_writes edits)) ≡ word
+  pub checked : IsErrorOf word error
+
+-- a recorded answer is what the definitions say
+abbrev pub IsKept : Fact → Type 0
+IsKept (facts.Byte byte allowed letter) = (allowed_ascii byte ≡ allowed) × (letters byte ≡ letter)
+IsKept (facts.Digit byte radix digit) = digit_of byte radix ≡ digit
+IsKept (facts.Printed error text) = printed_text error ≡ string_bytes text
+IsKept (facts.Fields word fields) = HasFields word fields
+IsKept (facts.Checked word error) = IsErrorOf word error
+IsKept (facts.Options word exponent point accepted) = IsTrue accepted ↔ AreAccepted word exponent point
+IsKept (facts.Edited word edits made) = edited word (all_writes edits.items) ≡ made
+IsKept (facts.Built edits word error) = IsBuiltBy edits.items word error

@@ -1,0 +1,53 @@
+//! `recorded` replays answers of the Rust crate against the library.
+//!
+//! The file `answers.txt` has one recorded answer a line, written by `compare/run --record`. The
+//! program reads each line and asks the library the same. It prints how many answers the library
+//! returns too, and ends with status 0; or it prints the first line that differs, or that it cannot
+//! read, and ends with status 1. It ends with status 2 if the file or a write fails.
+#![tactic(auto)]
+
+mod fact;
+mod reading;
+
+use fact::Fact;
+use reading::{read_fact, without_original};
+use std::alloc::{AllocError, Global};
+use std::process::ExitCode;
+use std::{fs, io};
+
+fn main(rt: HostRuntime) -> ExitCode {
+    match replay_file(&rt) {
+        Ok(true) => ExitCode::from(0),
+        Ok(false) => ExitCode::from(1),
+        Err(_) => ExitCode::from(2),
+    }
+}
+
+// Replays the file line by line, prints how it went, and returns whether all lines are kept.
+fn replay_file(rt: &HostRuntime) -> io::Result<bool> {
+    let text = fs::read_to_string(rt, "answers.txt")?;
+    let (mut lines, mut on_purpose) = (0u64, 0u64);
+    for line in text.as_str().lines() {
+        if !replay(line, rt.alloc())? {
+            println!(rt; "differs: {line}")?;
+            return Ok(false);
+        }
+        lines = lines.saturating_add(1);
+        on_purpose = on_purpose.saturating_add(without_original(line).is_some() as u64);
+    }
+    println!(rt;
+        "{lines} recorded answers kept, {on_purpose} of them different from the Rust crate's on purpose"
+    )?;
+    Ok(true)
+}
+
+// Whether a line can be read and the library returns what it records.
+fn replay(line: &str, alloc: Global) -> Result<bool, AllocError> {
+    match read_fact(line, alloc)? {
+        Some(fact) => fact.is_kept(alloc),
+        None => Ok(false),
+    }
+}
+
+#[cfg(test)]
+mod tests;

@@ -1,0 +1,301 @@
+//! Reads recorded answers, one a line.
+//!
+//! A line is a kind and its parts, each after a single space:
+//!
+//! | Line | Records |
+//! |---|---|
+//! | `byte C ALLOWED LETTER` | the tests of a byte |
+//! | `digit C RADIX DIGIT` | the digit that a byte is, or `none` |
+//! | `printed INDEX NAME TEXT` | the text of an outcome, by its name in the enum |
+//! | `fields WORD FLAGS S P X R B E` | flags, separator, prefix, suffix and the three radixes of a word |
+//! | `check WORD NAME` | the error of a word |
+//! | `options WORD E P ACCEPTED` | the test of an exponent character and a decimal point |
+//! | `edit WORD MADE SETTER=VALUE ..` | the word that setter calls make of a word |
+//! | `build PACKED NAME SETTER=VALUE ..` | the word that a new builder packs into after them, and its error |
+//!
+//! A word is 32 hexadecimal digits, and any other number decimal. A setter's value is `true` or
+//! `false`, or a byte, 0 for none. Where the library differs from the Rust crate on purpose, the line
+//! has what the library must return, and ends in ` crate: ` and what the crate returns.
+
+use crate::fact::{Fact, Fields};
+use lexical_util::edits::{Edit, FlagSetter};
+use lexical_util::error::Error;
+use lexical_util::format_builder::NonZeroU8;
+use std::alloc::{AllocError, Global};
+
+/// The line before the crate's own answer, if that is another one.
+pub fn without_original(line: &str) -> Option<&str> {
+    let (fact, _) = line.split_once(" crate: ")?;
+    Some(fact)
+}
+
+/// The fact that a line records, `None` if it cannot be read.
+pub fn read_fact(line: &str, alloc: Global) -> Result<Option<Fact>, AllocError> {
+    let line = without_original(line).unwrap_or(line);
+    match line.split_once(' ') {
+        Some(("printed", rest)) => printed(rest, alloc),
+        Some((kind, rest)) => {
+            let parts: Vec<&str> = rest.split(' ').collect(alloc)?;
+            read_parts(kind, parts.as_slice(), alloc)
+        }
+        None => Ok(None),
+    }
+}
+
+fn read_parts(kind: &str, parts: &[&str], alloc: Global) -> Result<Option<Fact>, AllocError> {
+    match kind {
+        "byte" => Ok(byte(parts)),
+        "digit" => Ok(digit(parts)),
+        "fields" => Ok(fields(parts)),
+        "check" => Ok(check(parts)),
+        "options" => Ok(options(parts)),
+        "edit" => edit(parts, alloc),
+        "build" => build(parts, alloc),
+        _ => Ok(None),
+    }
+}
+
+fn byte(parts: &[&str]) -> Option<Fact> {
+    let [byte, allowed, letter] = parts else {
+        return None
+    };
+    Some(Fact::Byte(byte.parse().ok()?, truth(allowed)?, truth(letter)?))
+}
+
+fn digit(parts: &[&str]) -> Option<Fact> {
+    let [byte, radix, digit] = parts else {
+        return None
+    };
+    let digit = match *digit {
+        "none" => None,
+        digit => Some(digit.parse().ok()?),
+    };
+    Some(Fact::Digit(byte.parse().ok()?, radix.parse().ok()?, digit))
+}
+
+fn printed(parts: &str, alloc: Global) -> Result<Option<Fact>, AllocError> {
+    Ok(match parts.split_once(' ') {
+        Some((index, rest)) => match (index.parse(), rest.split_once(' ')) {
+            (Ok(index), Some((name, text))) => match outcome(name, index) {
+                Some(error) => Some(Fact::Printed(error, text.to_string(alloc)?)),
+                None => None,
+            },
+            _ => None,
+        },
+        None => None,
+    })
+}
+
+fn fields(parts: &[&str]) -> Option<Fact> {
+    let [
+        word,
+        flags,
+        separator,
+        prefix,
+        suffix,
+        radix,
+        base,
+        exponent_radix,
+    ] = parts
+    else {
+        return None
+    };
+    let fields = Fields {
+        flags: hexadecimal(flags)?,
+        digit_separator: separator.parse().ok()?,
+        base_prefix: prefix.parse().ok()?,
+        base_suffix: suffix.parse().ok()?,
+        mantissa_radix: radix.parse().ok()?,
+        exponent_base: base.parse().ok()?,
+        exponent_radix: exponent_radix.parse().ok()?,
+    };
+    Some(Fact::Fields(hexadecimal(word)?, fields))
+}
+
+fn check(parts: &[&str]) -> Option<Fact> {
+    let [word, name] = parts else { return None };
+    Some(Fact::Checked(hexadecimal(word)?, outcome(name, 0)?))
+}
+
+fn options(parts: &[&str]) -> Option<Fact> {
+    let [word, exponent, point, accepted] = parts else {
+        return None
+    };
+    Some(Fact::Options(
+        hexadecimal(word)?,
+        exponent.parse().ok()?,
+        point.parse().ok()?,
+        truth(accepted)?,
+    ))
+}
+
+fn edit(parts: &[&str], alloc: Global) -> Result<Option<Fact>, AllocError> {
+    let [word, made, calls @ ..] = parts else {
+        return Ok(None)
+    };
+    Ok(
+        match (hexadecimal(word), hexadecimal(made), edits(calls, alloc)?) {
+            (Some(word), Some(made), Some(edits)) => Some(Fact::Edited(word, edits, made)),
+            _ => None,
+        },
+    )
+}
+
+fn build(parts: &[&str], alloc: Global) -> Result<Option<Fact>, AllocError> {
+    let [packed, name, calls @ ..] = parts else {
+        return Ok(None)
+    };
+    Ok(
+        match (hexadecimal(packed), outcome(name, 0), edits(calls, alloc)?) {
+            (Some(packed), Some(error), Some(edits)) => Some(Fact::Built(edits, packed, error)),
+            _ => None,
+        },
+    )
+}
+
+fn hexadecimal(text: &str) -> Option<u128> {
+    u128::from_str_radix(text, 16).ok()
+}
+
+fn truth(text: &str) -> Option<bool> {
+    text.parse().ok()
+}
+
+// The edits that setter calls are, `None` if one cannot be read.
+fn edits(calls: &[&str], alloc: Global) -> Result<Option<Vec<Edit>>, AllocError> {
+    let mut edits = Vec::from_elem(alloc, Edit::Radix(0), calls.len())?;
+    Ok(match read_edits(calls, edits.as_mut_slice()) {
+        Some(()) => Some(edits),
+        None => None,
+    })
+}
+
+// Reads setter calls into the first places of `edits`, each into its own.
+fn read_edits(calls: &[&str], edits: &mut [Edit]) -> Option<()> {
+    for (place, call) in edits.iter_mut().zip(calls) {
+        *place = setter_call(call)?;
+    }
+    Some(())
+}
+
+fn setter_call(call: &str) -> Option<Edit> {
+    let (name, value) = call.split_once('=')?;
+    if let Some(setter) = flag_setter(name) {
+        return Some(Edit::Flag(setter, truth(value)?));
+    }
+    let byte = value.parse().ok()?;
+    Some(match name {
+        "digit_separator" => Edit::DigitSeparator(NonZeroU8::new(byte)),
+        "base_prefix" => Edit::BasePrefix(NonZeroU8::new(byte)),
+        "base_suffix" => Edit::BaseSuffix(NonZeroU8::new(byte)),
+        "mantissa_radix" => Edit::MantissaRadix(byte),
+        "radix" => Edit::Radix(byte),
+        "exponent_base" => Edit::ExponentBase(NonZeroU8::new(byte)),
+        "exponent_radix" => Edit::ExponentRadix(NonZeroU8::new(byte)),
+        _ => return None,
+    })
+}
+
+fn flag_setter(name: &str) -> Option<FlagSetter> {
+    Some(match name {
+        "required_integer_digits" => FlagSetter::RequiredIntegerDigits,
+        "required_fraction_digits" => FlagSetter::RequiredFractionDigits,
+        "required_exponent_digits" => FlagSetter::RequiredExponentDigits,
+        "required_mantissa_digits" => FlagSetter::RequiredMantissaDigits,
+        "no_positive_mantissa_sign" => FlagSetter::NoPositiveMantissaSign,
+        "required_mantissa_sign" => FlagSetter::RequiredMantissaSign,
+        "no_exponent_notation" => FlagSetter::NoExponentNotation,
+        "no_positive_exponent_sign" => FlagSetter::NoPositiveExponentSign,
+        "required_exponent_sign" => FlagSetter::RequiredExponentSign,
+        "no_exponent_without_fraction" => FlagSetter::NoExponentWithoutFraction,
+        "no_special" => FlagSetter::NoSpecial,
+        "case_sensitive_special" => FlagSetter::CaseSensitiveSpecial,
+        "no_integer_leading_zeros" => FlagSetter::NoIntegerLeadingZeros,
+        "no_float_leading_zeros" => FlagSetter::NoFloatLeadingZeros,
+        "required_exponent_notation" => FlagSetter::RequiredExponentNotation,
+        "case_sensitive_exponent" => FlagSetter::CaseSensitiveExponent,
+        "case_sensitive_base_prefix" => FlagSetter::CaseSensitiveBasePrefix,
+        "case_sensitive_base_suffix" => FlagSetter::CaseSensitiveBaseSuffix,
+        "integer_internal_digit_separator" => FlagSetter::IntegerInternalDigitSeparator,
+        "fraction_internal_digit_separator" => FlagSetter::FractionInternalDigitSeparator,
+        "exponent_internal_digit_separator" => FlagSetter::ExponentInternalDigitSeparator,
+        "integer_leading_digit_separator" => FlagSetter::IntegerLeadingDigitSeparator,
+        "fraction_leading_digit_separator" => FlagSetter::FractionLeadingDigitSeparator,
+        "exponent_leading_digit_separator" => FlagSetter::ExponentLeadingDigitSeparator,
+        "integer_trailing_digit_separator" => FlagSetter::IntegerTrailingDigitSeparator,
+        "fraction_trailing_digit_separator" => FlagSetter::FractionTrailingDigitSeparator,
+        "exponent_trailing_digit_separator" => FlagSetter::ExponentTrailingDigitSeparator,
+        "integer_consecutive_digit_separator" => FlagSetter::IntegerConsecutiveDigitSeparator,
+        "fraction_consecutive_digit_separator" => FlagSetter::FractionConsecutiveDigitSeparator,
+        "exponent_consecutive_digit_separator" => FlagSetter::ExponentConsecutiveDigitSeparator,
+        "special_digit_separator" => FlagSetter::SpecialDigitSeparator,
+        "required_digits" => FlagSetter::RequiredDigits,
+        "internal_digit_separator" => FlagSetter::InternalDigitSeparator,
+        "leading_digit_separator" => FlagSetter::LeadingDigitSeparator,
+        "trailing_digit_separator" => FlagSetter::TrailingDigitSeparator,
+        "consecutive_digit_separator" => FlagSetter::ConsecutiveDigitSeparator,
+        "digit_separator_flags" => FlagSetter::DigitSeparatorFlags,
+        "integer_digit_separator_flags" => FlagSetter::IntegerDigitSeparatorFlags,
+        "fraction_digit_separator_flags" => FlagSetter::FractionDigitSeparatorFlags,
+        "exponent_digit_separator_flags" => FlagSetter::ExponentDigitSeparatorFlags,
+        _ => return None,
+    })
+}
+
+// The outcome of this name, with an index if it holds one.
+fn outcome(name: &str, index: usize) -> Option<Error> {
+    Some(match name {
+        "Overflow" => Error::Overflow(index),
+        "Underflow" => Error::Underflow(index),
+        "InvalidDigit" => Error::InvalidDigit(index),
+        "Empty" => Error::Empty(index),
+        "EmptyMantissa" => Error::EmptyMantissa(index),
+        "EmptyExponent" => Error::EmptyExponent(index),
+        "EmptyInteger" => Error::EmptyInteger(index),
+        "EmptyFraction" => Error::EmptyFraction(index),
+        "InvalidPositiveMantissaSign" => Error::InvalidPositiveMantissaSign(index),
+        "MissingMantissaSign" => Error::MissingMantissaSign(index),
+        "InvalidExponent" => Error::InvalidExponent(index),
+        "InvalidPositiveExponentSign" => Error::InvalidPositiveExponentSign(index),
+        "MissingExponentSign" => Error::MissingExponentSign(index),
+        "ExponentWithoutFraction" => Error::ExponentWithoutFraction(index),
+        "InvalidLeadingZeros" => Error::InvalidLeadingZeros(index),
+        "MissingExponent" => Error::MissingExponent(index),
+        "MissingSign" => Error::MissingSign(index),
+        "InvalidPositiveSign" => Error::InvalidPositiveSign(index),
+        "InvalidNegativeSign" => Error::InvalidNegativeSign(index),
+        "InvalidMantissaRadix" => Error::InvalidMantissaRadix,
+        "InvalidExponentBase" => Error::InvalidExponentBase,
+        "InvalidExponentRadix" => Error::InvalidExponentRadix,
+        "InvalidDigitSeparator" => Error::InvalidDigitSeparator,
+        "InvalidDecimalPoint" => Error::InvalidDecimalPoint,
+        "InvalidExponentSymbol" => Error::InvalidExponentSymbol,
+        "InvalidBasePrefix" => Error::InvalidBasePrefix,
+        "InvalidBaseSuffix" => Error::InvalidBaseSuffix,
+        "InvalidPunctuation" => Error::InvalidPunctuation,
+        "InvalidExponentFlags" => Error::InvalidExponentFlags,
+        "InvalidMantissaSign" => Error::InvalidMantissaSign,
+        "InvalidExponentSign" => Error::InvalidExponentSign,
+        "InvalidSpecial" => Error::InvalidSpecial,
+        "InvalidConsecutiveIntegerDigitSeparator" => Error::InvalidConsecutiveIntegerDigitSeparator,
+        "InvalidConsecutiveFractionDigitSeparator" =>
+            Error::InvalidConsecutiveFractionDigitSeparator,
+        "InvalidConsecutiveExponentDigitSeparator" =>
+            Error::InvalidConsecutiveExponentDigitSeparator,
+        "InvalidFlags" => Error::InvalidFlags,
+        "InvalidNanString" => Error::InvalidNanString,
+        "NanStringTooLong" => Error::NanStringTooLong,
+        "InvalidInfString" => Error::InvalidInfString,
+        "InfStringTooLong" => Error::InfStringTooLong,
+        "InvalidInfinityString" => Error::InvalidInfinityString,
+        "InfinityStringTooLong" => Error::InfinityStringTooLong,
+        "InfinityStringTooShort" => Error::InfinityStringTooShort,
+        "InvalidFloatParseAlgorithm" => Error::InvalidFloatParseAlgorithm,
+        "InvalidRadix" => Error::InvalidRadix,
+        "InvalidFloatPrecision" => Error::InvalidFloatPrecision,
+        "InvalidNegativeExponentBreak" => Error::InvalidNegativeExponentBreak,
+        "InvalidPositiveExponentBreak" => Error::InvalidPositiveExponentBreak,
+        "Success" => Error::Success,
+        _ => return None,
+    })
+}
