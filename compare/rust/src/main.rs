@@ -5,6 +5,7 @@
 mod answers;
 mod inputs;
 mod ours;
+mod random;
 mod record;
 mod rules;
 mod sections;

@@ -4,7 +4,8 @@
 //! Where the library differs on purpose a line has what the library must return, by the rules, and
 //! then ` crate: ` and what the crate returns.
 
-use crate::inputs::{Random, SetterCall, BASES, SETTERS};
+use crate::inputs::{SetterCall, BASES, SETTERS};
+use crate::random::Random;
 use crate::tables::{with_flags, with_other_outcomes, with_parse_errors};
 use crate::{rules, theirs};
 

@@ -1,6 +1,7 @@
 //! The comparisons, by what they are over. Each is cut into tasks that can run side by side.
 
-use crate::inputs::{bits_turned, known_word, Random, BASES};
+use crate::inputs::{bits_turned, known_word, BASES};
+use crate::random::Random;
 use crate::tally::Tally;
 use crate::{ours, rules, theirs};
 

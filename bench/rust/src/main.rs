@@ -1,0 +1,232 @@
+//! Times loops over the library beside the same loops over the Rust crate. Both fold what the calls
+//! return into one number; a row whose numbers differ is not timed.
+//!
+//!     driver [--rounds N] [--only TEXT]
+
+mod data;
+mod measure;
+mod ours;
+#[path = "../../../compare/rust/src/random.rs"]
+mod random;
+mod theirs;
+
+use data::Words;
+use measure::Row;
+use random::Random;
+use std::hint::black_box;
+use std::process::exit;
+
+const KIB: usize = 1024;
+
+struct Data {
+    digits: [(u32, Vec<u8>); 3],
+    any_bytes: Vec<u8>,
+    text: Vec<u8>,
+    letters: Vec<u8>,
+    spoiled: Vec<u8>,
+    numbers: Vec<u64>,
+    lawful: Vec<u64>,
+    broken: Vec<u64>,
+    few: Vec<u64>,
+    any: Vec<u64>,
+}
+
+impl Data {
+    fn new() -> Data {
+        let random = &mut Random::new(20_240_607);
+        Data {
+            digits: [10, 16, 36].map(|radix| (radix, data::digits(random, 64 * KIB, radix))),
+            any_bytes: data::any_bytes(random, 64 * KIB),
+            text: data::text(random, 16 * KIB * KIB),
+            letters: data::letters(random, 16 * KIB * KIB),
+            spoiled: data::spoiled_text(random, 64 * KIB),
+            numbers: data::numbers(random, 4096),
+            lawful: data::cases(random, 4096, Words::Lawful),
+            broken: data::cases(random, 4096, Words::Broken),
+            few: data::cases(random, 1024, Words::Any),
+            any: data::cases(random, 4096, Words::Any),
+        }
+    }
+}
+
+/// A row over bytes, with one call a byte unless `calls` says otherwise.
+fn over_bytes<'a>(
+    name: impl Into<String>,
+    bytes: &'a [u8],
+    calls: usize,
+    ours: impl Fn(&[u8]) -> u64 + 'a,
+    theirs: impl Fn(&[u8]) -> u64 + 'a,
+) -> Row<'a> {
+    let ours = Box::new(move || ours(black_box(bytes)));
+    let theirs = Box::new(move || theirs(black_box(bytes)));
+    Row { name: name.into(), calls, ours, theirs }
+}
+
+type OverNumbers = fn(&[u64]) -> u64;
+
+/// A row over numbers, of which each call takes so many.
+fn over_numbers<'a>(
+    name: &str,
+    (numbers, each): (&'a [u64], usize),
+    ours: OverNumbers,
+    theirs: OverNumbers,
+) -> Row<'a> {
+    let ours = Box::new(move || ours(black_box(numbers)));
+    let theirs = Box::new(move || theirs(black_box(numbers)));
+    Row { name: name.to_string(), calls: numbers.len() / each, ours, theirs }
+}
+
+fn size_name(size: usize) -> String {
+    match size {
+        0..1024 => format!("{size} B"),
+        1024..1_048_576 => format!("{} KiB", size / KIB),
+        _ => format!("{} MiB", size / KIB / KIB),
+    }
+}
+
+fn byte_rows(data: &Data) -> Vec<Row<'_>> {
+    let mut rows = vec![];
+    for (radix, bytes) in &data.digits {
+        let (radix, calls) = (*radix, bytes.len());
+        rows.push(over_bytes(
+            format!("char_to_digit, summed, radix {radix}"),
+            bytes,
+            calls,
+            move |bytes| ours::digit_sum(bytes, radix),
+            move |bytes| theirs::digit_sum(bytes, radix),
+        ));
+        rows.push(over_bytes(
+            format!("char_to_digit, read, radix {radix}"),
+            bytes,
+            calls,
+            move |bytes| ours::digit_read(bytes, radix),
+            move |bytes| theirs::digit_read(bytes, radix),
+        ));
+    }
+    let (decimal, any) = (&data.digits[0].1, &data.any_bytes);
+    rows.push(over_bytes(
+        "char_to_digit, any bytes, radix 36",
+        any,
+        any.len(),
+        |bytes| ours::digit_sum(bytes, 36),
+        |bytes| theirs::digit_sum(bytes, 36),
+    ));
+    rows.push(over_bytes(
+        "char_is_digit, any bytes, radix 16",
+        any,
+        any.len(),
+        |bytes| ours::is_digit(bytes, 16),
+        |bytes| theirs::is_digit(bytes, 16),
+    ));
+    let calls = decimal.len();
+    let name = "char_to_digit_const, read, radix 10";
+    rows.push(over_bytes(name, decimal, calls, ours::decimal_read, theirs::decimal_read));
+    rows.push(over_bytes(
+        "digit_to_char",
+        any,
+        calls,
+        ours::digits_to_char,
+        theirs::digits_to_char,
+    ));
+    rows.push(over_bytes("is_valid_ascii", any, calls, ours::ascii, theirs::ascii));
+    rows.extend(slice_rows(data));
+    rows
+}
+
+fn slice_rows(data: &Data) -> Vec<Row<'_>> {
+    let mut rows = vec![];
+    for size in [16, 64, KIB, 64 * KIB, 16 * KIB * KIB] {
+        // At least 16 KiB, so that a pass takes some time.
+        let whole = size.max(16 * KIB);
+        rows.push(over_bytes(
+            format!("is_valid_ascii_slice, {}", size_name(size)),
+            &data.text[..whole],
+            whole / size,
+            move |bytes| ours::ascii_slices(bytes, size),
+            move |bytes| theirs::ascii_slices(bytes, size),
+        ));
+        rows.push(over_bytes(
+            format!("is_valid_letter_slice, {}", size_name(size)),
+            &data.letters[..whole],
+            whole / size,
+            move |bytes| ours::letter_slices(bytes, size),
+            move |bytes| theirs::letter_slices(bytes, size),
+        ));
+    }
+    let name = "is_valid_ascii_slice, 0 to 63 B, spoiled";
+    let (bytes, calls) = (&data.spoiled, data.spoiled.len() / 64);
+    rows.push(over_bytes(name, bytes, calls, ours::short_slices, theirs::short_slices));
+    rows
+}
+
+fn number_rows(data: &Data) -> Vec<Row<'_>> {
+    let numbers = (&data.numbers[..], 1);
+    let [lawful, broken, few, any] =
+        [&data.lawful, &data.broken, &data.few, &data.any].map(|cases| (&cases[..], 3));
+    let row = over_numbers;
+    vec![
+        row("description", numbers, ours::descriptions, theirs::descriptions),
+        row("Display", numbers, ours::display, theirs::display),
+        row("4 tests and index", numbers, ours::tests, theirs::tests),
+        row("cmp and ==", numbers, ours::order, theirs::order),
+        row("format_error, lawful", lawful, ours::format_error, theirs::format_error),
+        row("format_error, broken", broken, ours::format_error, theirs::format_error),
+        row("radix_error_impl", any, ours::radix_error, theirs::radix_error),
+        row("5 rules by their own calls", lawful, ours::validators, theirs::validators),
+        row("options test, lawful", lawful, ours::options, theirs::options),
+        row("options test, broken", broken, ours::options, theirs::options),
+        row("view, 48 getters", any, ours::view, theirs::view),
+        row("view, 4 getters", lawful, ours::few_getters, theirs::few_getters),
+        row("view, 7 masks", any, ours::masks, theirs::masks),
+        row("new, 5 setters, build", any, ours::new_builders, theirs::new_builders),
+        row("rebuild, 3 setters, build", any, ours::setters, theirs::setters),
+        row("rebuild, 37 getters", any, ours::builder_getters, theirs::builder_getters),
+        row("rebuild, build_strict, lawful", lawful, ours::build_strict, theirs::build_strict),
+        row("from_radix", any, ours::from_radix, theirs::from_radix),
+        row("normal_form", any, ours::normal_form, theirs::normal_form),
+        row("same_format", any, ours::same_format, theirs::same_format),
+        row("edit_word, 3 known edits", any, ours::known_edits, theirs::known_edits),
+        row("edit_word, 3 of any kind, 1024 words", few, ours::any_edits, theirs::any_edits),
+        row("edit_word, 3 of any kind, 4096 words", any, ours::any_edits, theirs::any_edits),
+        // What `migrate` does, in the crate's words.
+        row("migrate, lawful", lawful, ours::migrate, theirs::build_strict),
+    ]
+}
+
+fn main() {
+    let (mut rounds, mut only) = (21, String::new());
+    let mut args = std::env::args().skip(1);
+    while let Some(arg) = args.next() {
+        let value = args.next().unwrap_or_else(|| panic!("{arg} needs a value"));
+        match arg.as_str() {
+            "--rounds" => rounds = value.parse().expect("--rounds needs a number"),
+            "--only" => only = value,
+            _ => panic!("there is no option {arg}"),
+        }
+    }
+    assert!(rounds > 0, "--rounds needs at least 1");
+
+    let data = Data::new();
+    let mut rows = byte_rows(&data);
+    rows.extend(number_rows(&data));
+    rows.retain(|row| row.name.contains(&only));
+    println!("{:<42} {:>10} {:>10} {:>6} {:>14}", "row", "Rattle ns", "Rust ns", "ratio", "spread");
+    let mut differing = 0;
+    for row in &rows {
+        let (ours, theirs) = ((row.ours)(), (row.theirs)());
+        if ours != theirs {
+            differing += 1;
+            println!("{:<42} differs: {ours:016x} and {theirs:016x}", row.name);
+            continue;
+        }
+        let times = row.measure(rounds);
+        println!(
+            "{:<42} {:>10.2} {:>10.2} {:>6.2} {:>6.2} to {:.2}",
+            row.name, times.ours, times.theirs, times.ratio, times.low, times.high
+        );
+    }
+    if differing > 0 {
+        println!("{differing} rows differ and were not timed");
+        exit(1);
+    }
+}

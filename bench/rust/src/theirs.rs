@@ -1,0 +1,515 @@
+//! The same loops over the Rust crate. What it lacks, as a list of edits or the view of a word that is
+//! known only at run time, is written as a Rust programmer would write it over the crate's calls.
+
+use std::cmp::Ordering;
+use std::fmt::Write;
+use std::num::NonZeroU8;
+use upstream::ascii::{is_valid_ascii, is_valid_ascii_slice, is_valid_letter_slice};
+use upstream::checks;
+use upstream::digit::{char_is_digit, char_to_digit, char_to_digit_const, digit_to_char};
+use upstream::error::Error;
+use upstream::format_builder::{NumberFormatBuilder, OptionU8};
+use upstream::format_flags as flags;
+
+/// A sum in which each number has another weight.
+#[derive(Clone, Copy)]
+struct Fold {
+    sum: u64,
+    weight: u64,
+}
+
+impl Fold {
+    fn new() -> Fold {
+        Fold { sum: 0, weight: 0x9E37_79B9_7F4A_7C15 }
+    }
+
+    fn with(self, number: u64) -> Fold {
+        Fold {
+            sum: self.sum.wrapping_add(number.wrapping_mul(self.weight)),
+            weight: self.weight.wrapping_add(2),
+        }
+    }
+
+    fn with_word(self, word: u128) -> Fold {
+        self.with((word as u64).wrapping_mul(3).wrapping_add((word >> 64) as u64))
+    }
+}
+
+/// Folds over the cases: a word, and the bits from which the other arguments are taken.
+fn over(cases: &[u64], mut with: impl FnMut(Fold, u128, u64) -> Fold) -> u64 {
+    let mut fold = Fold::new();
+    for [low, high, bits] in cases.as_chunks::<3>().0 {
+        fold = with(fold, (*high as u128) << 64 | *low as u128, *bits);
+    }
+    fold.sum
+}
+
+// BYTES AND DIGITS
+
+pub fn digit_sum(bytes: &[u8], radix: u32) -> u64 {
+    let mut sum = 0u64;
+    for c in bytes {
+        if let Some(digit) = char_to_digit(*c, radix) {
+            sum = sum.wrapping_add(digit as u64);
+        }
+    }
+    sum
+}
+
+pub fn digit_read(bytes: &[u8], radix: u32) -> u64 {
+    let mut number = 0u64;
+    for c in bytes {
+        if let Some(digit) = char_to_digit(*c, radix) {
+            number = number.wrapping_mul(radix as u64).wrapping_add(digit as u64);
+        }
+    }
+    number
+}
+
+pub fn decimal_read(bytes: &[u8]) -> u64 {
+    let mut number = 0u64;
+    for c in bytes {
+        if let Some(digit) = char_to_digit_const(*c, 10) {
+            number = number.wrapping_mul(10).wrapping_add(digit as u64);
+        }
+    }
+    number
+}
+
+pub fn is_digit(bytes: &[u8], radix: u32) -> u64 {
+    bytes.iter().map(|c| char_is_digit(*c, radix) as u64).sum()
+}
+
+pub fn digits_to_char(bytes: &[u8]) -> u64 {
+    bytes.iter().fold(Fold::new(), |fold, c| fold.with(digit_to_char((*c % 36) as u32) as u64)).sum
+}
+
+pub fn ascii(bytes: &[u8]) -> u64 {
+    bytes.iter().map(|c| is_valid_ascii(*c) as u64).sum()
+}
+
+pub fn ascii_slices(bytes: &[u8], size: usize) -> u64 {
+    bytes.chunks_exact(size).map(|piece| is_valid_ascii_slice(piece) as u64).sum()
+}
+
+pub fn letter_slices(bytes: &[u8], size: usize) -> u64 {
+    bytes.chunks_exact(size).map(|piece| is_valid_letter_slice(piece) as u64).sum()
+}
+
+pub fn short_slices(bytes: &[u8]) -> u64 {
+    let mut fold = Fold::new();
+    for block in bytes.as_chunks::<64>().0 {
+        let size = (block[0] % 64) as usize;
+        fold = fold.with(is_valid_ascii_slice(&block[..size]) as u64);
+    }
+    fold.sum
+}
+
+// OUTCOMES
+
+fn outcome_of(bits: u64) -> Error {
+    let index = (bits >> 8) as usize;
+    match bits % 8 {
+        0 => Error::Overflow(index),
+        1 => Error::InvalidDigit(index),
+        2 => Error::InvalidNegativeSign(index),
+        3 => Error::InvalidMantissaRadix,
+        4 => Error::InvalidPunctuation,
+        5 => Error::InvalidFlags,
+        6 => Error::InvalidFloatPrecision,
+        _ => Error::Success,
+    }
+}
+
+pub fn descriptions(numbers: &[u64]) -> u64 {
+    let len = |bits: &u64| outcome_of(*bits).description().len() as u64;
+    numbers.iter().fold(Fold::new(), |fold, bits| fold.with(len(bits))).sum
+}
+
+pub fn display(numbers: &[u64]) -> u64 {
+    let mut fold = Fold::new();
+    for bits in numbers {
+        let mut page = Page { text: [0; 160], len: 0 };
+        let _ = write!(page, "{}", outcome_of(*bits));
+        fold = fold.with(page.len as u64).with(page.text[40] as u64);
+    }
+    fold.sum
+}
+
+struct Page {
+    text: [u8; 160],
+    len: usize,
+}
+
+impl Write for Page {
+    fn write_str(&mut self, s: &str) -> std::fmt::Result {
+        for byte in s.as_bytes() {
+            if self.len < 160 {
+                self.text[self.len] = *byte;
+                self.len += 1;
+            }
+        }
+        Ok(())
+    }
+}
+
+pub fn order(numbers: &[u64]) -> u64 {
+    let mut fold = Fold::new();
+    let mut last = Error::Success;
+    for bits in numbers {
+        let error = outcome_of(*bits);
+        let sign = match error.cmp(&last) {
+            Ordering::Less => 1,
+            Ordering::Equal => 2,
+            Ordering::Greater => 3,
+        };
+        fold = fold.with(sign).with((error == last) as u64);
+        last = error;
+    }
+    fold.sum
+}
+
+pub fn tests(numbers: &[u64]) -> u64 {
+    let mut fold = Fold::new();
+    for bits in numbers {
+        let error = outcome_of(*bits);
+        let mut tests = error.is_success() as u64;
+        tests = tests << 1 | error.is_overflow() as u64;
+        tests = tests << 1 | error.is_invalid_digit() as u64;
+        tests = tests << 1 | error.is_invalid_flags() as u64;
+        let index = error.index().map_or(1, |index| *index as u64);
+        fold = fold.with(tests).with(index);
+    }
+    fold.sum
+}
+
+// WORDS
+
+fn position(error: Error) -> u64 {
+    match error {
+        Error::InvalidMantissaRadix => 19,
+        Error::InvalidExponentBase => 20,
+        Error::InvalidExponentRadix => 21,
+        Error::InvalidDigitSeparator => 22,
+        Error::InvalidBasePrefix => 25,
+        Error::InvalidBaseSuffix => 26,
+        Error::InvalidPunctuation => 27,
+        Error::InvalidExponentFlags => 28,
+        Error::InvalidMantissaSign => 29,
+        Error::InvalidExponentSign => 30,
+        Error::InvalidSpecial => 31,
+        Error::InvalidConsecutiveIntegerDigitSeparator => 32,
+        Error::InvalidConsecutiveFractionDigitSeparator => 33,
+        Error::InvalidConsecutiveExponentDigitSeparator => 34,
+        Error::Success => 48,
+        _ => 99,
+    }
+}
+
+pub fn format_error(cases: &[u64]) -> u64 {
+    over(cases, |fold, word, _| fold.with(position(checks::format_error(word))))
+}
+
+pub fn radix_error(cases: &[u64]) -> u64 {
+    over(cases, |fold, word, _| fold.with(position(checks::radix_error(word))))
+}
+
+pub fn validators(cases: &[u64]) -> u64 {
+    over(cases, |fold, word, _| {
+        let mut bits = flags::is_valid_exponent_flags(word) as u64;
+        bits = bits << 1 | flags::is_valid_digit_separator(word) as u64;
+        bits = bits << 1 | flags::is_valid_base_prefix(word) as u64;
+        bits = bits << 1 | flags::is_valid_base_suffix(word) as u64;
+        bits = bits << 1 | flags::is_valid_punctuation(word) as u64;
+        fold.with(bits)
+    })
+}
+
+pub fn options(cases: &[u64]) -> u64 {
+    over(cases, |fold, word, bits| {
+        let (exponent, point) = (bits as u8, (bits >> 8) as u8);
+        fold.with(flags::is_valid_options_punctuation(word, exponent, point) as u64)
+    })
+}
+
+pub fn view(cases: &[u64]) -> u64 {
+    over(cases, |fold, word, _| {
+        let radix = flags::mantissa_radix(word);
+        fold.with(truths(word))
+            .with(flags::digit_separator(word) as u64)
+            .with(flags::base_prefix(word) as u64)
+            .with(flags::base_suffix(word) as u64)
+            .with(radix as u64)
+            .with(flags::exponent_base(word) as u64)
+            .with(flags::exponent_radix(word) as u64)
+            .with(radix.wrapping_pow(2) as u64)
+            .with(radix.wrapping_pow(4) as u64)
+            .with(radix.wrapping_pow(8) as u64)
+    })
+}
+
+fn truths(word: u128) -> u64 {
+    let mut bits = 0u64;
+    bits = bits << 1 | (word & flags::REQUIRED_INTEGER_DIGITS != 0) as u64;
+    bits = bits << 1 | (word & flags::REQUIRED_FRACTION_DIGITS != 0) as u64;
+    bits = bits << 1 | (word & flags::REQUIRED_EXPONENT_DIGITS != 0) as u64;
+    bits = bits << 1 | (word & flags::REQUIRED_MANTISSA_DIGITS != 0) as u64;
+    bits = bits << 1 | (word & flags::NO_POSITIVE_MANTISSA_SIGN != 0) as u64;
+    bits = bits << 1 | (word & flags::REQUIRED_MANTISSA_SIGN != 0) as u64;
+    bits = bits << 1 | (word & flags::NO_EXPONENT_NOTATION != 0) as u64;
+    bits = bits << 1 | (word & flags::NO_POSITIVE_EXPONENT_SIGN != 0) as u64;
+    bits = bits << 1 | (word & flags::REQUIRED_EXPONENT_SIGN != 0) as u64;
+    bits = bits << 1 | (word & flags::NO_EXPONENT_WITHOUT_FRACTION != 0) as u64;
+    bits = bits << 1 | (word & flags::NO_SPECIAL != 0) as u64;
+    bits = bits << 1 | (word & flags::CASE_SENSITIVE_SPECIAL != 0) as u64;
+    bits = bits << 1 | (word & flags::NO_INTEGER_LEADING_ZEROS != 0) as u64;
+    bits = bits << 1 | (word & flags::NO_FLOAT_LEADING_ZEROS != 0) as u64;
+    bits = bits << 1 | (word & flags::REQUIRED_EXPONENT_NOTATION != 0) as u64;
+    bits = bits << 1 | (word & flags::CASE_SENSITIVE_EXPONENT != 0) as u64;
+    bits = bits << 1 | (word & flags::CASE_SENSITIVE_BASE_PREFIX != 0) as u64;
+    bits = bits << 1 | (word & flags::CASE_SENSITIVE_BASE_SUFFIX != 0) as u64;
+    bits = bits << 1 | (word & flags::INTEGER_INTERNAL_DIGIT_SEPARATOR != 0) as u64;
+    bits = bits << 1 | (word & flags::FRACTION_INTERNAL_DIGIT_SEPARATOR != 0) as u64;
+    bits = bits << 1 | (word & flags::EXPONENT_INTERNAL_DIGIT_SEPARATOR != 0) as u64;
+    bits = bits << 1 | (word & flags::INTEGER_LEADING_DIGIT_SEPARATOR != 0) as u64;
+    bits = bits << 1 | (word & flags::FRACTION_LEADING_DIGIT_SEPARATOR != 0) as u64;
+    bits = bits << 1 | (word & flags::EXPONENT_LEADING_DIGIT_SEPARATOR != 0) as u64;
+    bits = bits << 1 | (word & flags::INTEGER_TRAILING_DIGIT_SEPARATOR != 0) as u64;
+    bits = bits << 1 | (word & flags::FRACTION_TRAILING_DIGIT_SEPARATOR != 0) as u64;
+    bits = bits << 1 | (word & flags::EXPONENT_TRAILING_DIGIT_SEPARATOR != 0) as u64;
+    bits = bits << 1 | (word & flags::INTEGER_CONSECUTIVE_DIGIT_SEPARATOR != 0) as u64;
+    bits = bits << 1 | (word & flags::FRACTION_CONSECUTIVE_DIGIT_SEPARATOR != 0) as u64;
+    bits = bits << 1 | (word & flags::EXPONENT_CONSECUTIVE_DIGIT_SEPARATOR != 0) as u64;
+    bits = bits << 1 | (word & flags::SPECIAL_DIGIT_SEPARATOR != 0) as u64;
+    bits = bits << 1 | (word & flags::REQUIRED_DIGITS != 0) as u64;
+    bits = bits << 1 | (word & flags::INTERNAL_DIGIT_SEPARATOR != 0) as u64;
+    bits = bits << 1 | (word & flags::LEADING_DIGIT_SEPARATOR != 0) as u64;
+    bits = bits << 1 | (word & flags::TRAILING_DIGIT_SEPARATOR != 0) as u64;
+    bits = bits << 1 | (word & flags::CONSECUTIVE_DIGIT_SEPARATOR != 0) as u64;
+    bits = bits << 1 | (flags::digit_separator(word) != 0) as u64;
+    bits = bits << 1 | (flags::base_prefix(word) != 0) as u64;
+    bits = bits << 1 | (flags::base_suffix(word) != 0) as u64;
+    bits
+}
+
+pub fn few_getters(cases: &[u64]) -> u64 {
+    over(cases, |fold, word, _| {
+        let flag = |mask: u128| word & mask != 0;
+        let radix = if flag(flags::REQUIRED_INTEGER_DIGITS) || flag(flags::SPECIAL_DIGIT_SEPARATOR)
+        {
+            flags::exponent_radix(word)
+        } else {
+            flags::mantissa_radix(word)
+        };
+        fold.with(radix as u64).with(flags::digit_separator(word) as u64)
+    })
+}
+
+pub fn masks(cases: &[u64]) -> u64 {
+    over(cases, |fold, word, _| {
+        fold.with_word(word & flags::FLAG_MASK)
+            .with_word(word & flags::INTERFACE_FLAG_MASK)
+            .with_word(word & flags::DIGIT_SEPARATOR_FLAG_MASK)
+            .with_word(word & flags::EXPONENT_FLAG_MASK)
+            .with_word(word & flags::INTEGER_DIGIT_SEPARATOR_FLAG_MASK)
+            .with_word(word & flags::FRACTION_DIGIT_SEPARATOR_FLAG_MASK)
+            .with_word(word & flags::EXPONENT_DIGIT_SEPARATOR_FLAG_MASK)
+    })
+}
+
+// BUILDERS
+
+pub fn setters(cases: &[u64]) -> u64 {
+    over(cases, |fold, word, bits| {
+        let word = NumberFormatBuilder::rebuild(word)
+            .no_special(bits % 2 == 1)
+            .digit_separator(NonZeroU8::new((bits >> 16) as u8))
+            .mantissa_radix((bits >> 24) as u8)
+            .build_unchecked();
+        fold.with_word(word)
+    })
+}
+
+pub fn new_builders(cases: &[u64]) -> u64 {
+    over(cases, |fold, _, bits| {
+        let word = NumberFormatBuilder::new()
+            .digit_separator(NonZeroU8::new(b'_'))
+            .internal_digit_separator(bits % 2 == 1)
+            .required_digits(bits % 4 < 2)
+            .radix((bits >> 24) as u8)
+            .base_prefix(NonZeroU8::new((bits >> 16) as u8))
+            .build_unchecked();
+        fold.with_word(word)
+    })
+}
+
+pub fn build_strict(cases: &[u64]) -> u64 {
+    over(cases, |fold, word, _| fold.with_word(NumberFormatBuilder::rebuild(word).build_strict()))
+}
+
+pub fn from_radix(cases: &[u64]) -> u64 {
+    over(cases, |fold, _, bits| fold.with_word(NumberFormatBuilder::from_radix(bits as u8)))
+}
+
+pub fn builder_getters(cases: &[u64]) -> u64 {
+    let byte = |byte: OptionU8| byte.map_or(0, |byte| byte.get() as u64);
+    over(cases, |fold, word, _| {
+        let builder = NumberFormatBuilder::rebuild(word);
+        fold.with(builder_truths(&builder))
+            .with(builder.get_mantissa_radix() as u64)
+            .with(byte(builder.get_digit_separator()))
+            .with(byte(builder.get_base_prefix()))
+            .with(byte(builder.get_base_suffix()))
+            .with(byte(builder.get_exponent_base()))
+            .with(byte(builder.get_exponent_radix()))
+    })
+}
+
+fn builder_truths(builder: &NumberFormatBuilder) -> u64 {
+    let mut bits = 0u64;
+    bits = bits << 1 | builder.get_required_integer_digits() as u64;
+    bits = bits << 1 | builder.get_required_fraction_digits() as u64;
+    bits = bits << 1 | builder.get_required_exponent_digits() as u64;
+    bits = bits << 1 | builder.get_required_mantissa_digits() as u64;
+    bits = bits << 1 | builder.get_no_positive_mantissa_sign() as u64;
+    bits = bits << 1 | builder.get_required_mantissa_sign() as u64;
+    bits = bits << 1 | builder.get_no_exponent_notation() as u64;
+    bits = bits << 1 | builder.get_no_positive_exponent_sign() as u64;
+    bits = bits << 1 | builder.get_required_exponent_sign() as u64;
+    bits = bits << 1 | builder.get_no_exponent_without_fraction() as u64;
+    bits = bits << 1 | builder.get_no_special() as u64;
+    bits = bits << 1 | builder.get_case_sensitive_special() as u64;
+    bits = bits << 1 | builder.get_no_integer_leading_zeros() as u64;
+    bits = bits << 1 | builder.get_no_float_leading_zeros() as u64;
+    bits = bits << 1 | builder.get_required_exponent_notation() as u64;
+    bits = bits << 1 | builder.get_case_sensitive_exponent() as u64;
+    bits = bits << 1 | builder.get_case_sensitive_base_prefix() as u64;
+    bits = bits << 1 | builder.get_case_sensitive_base_suffix() as u64;
+    bits = bits << 1 | builder.get_integer_internal_digit_separator() as u64;
+    bits = bits << 1 | builder.get_fraction_internal_digit_separator() as u64;
+    bits = bits << 1 | builder.get_exponent_internal_digit_separator() as u64;
+    bits = bits << 1 | builder.get_integer_leading_digit_separator() as u64;
+    bits = bits << 1 | builder.get_fraction_leading_digit_separator() as u64;
+    bits = bits << 1 | builder.get_exponent_leading_digit_separator() as u64;
+    bits = bits << 1 | builder.get_integer_trailing_digit_separator() as u64;
+    bits = bits << 1 | builder.get_fraction_trailing_digit_separator() as u64;
+    bits = bits << 1 | builder.get_exponent_trailing_digit_separator() as u64;
+    bits = bits << 1 | builder.get_integer_consecutive_digit_separator() as u64;
+    bits = bits << 1 | builder.get_fraction_consecutive_digit_separator() as u64;
+    bits = bits << 1 | builder.get_exponent_consecutive_digit_separator() as u64;
+    bits = bits << 1 | builder.get_special_digit_separator() as u64;
+    bits
+}
+
+// EDITS
+
+/// One of sixteen kinds of edits, with its value.
+#[derive(Clone, Copy)]
+enum Edit {
+    RequiredIntegerDigits(bool),
+    NoSpecial(bool),
+    CaseSensitiveBaseSuffix(bool),
+    ExponentTrailingDigitSeparator(bool),
+    SpecialDigitSeparator(bool),
+    RequiredDigits(bool),
+    LeadingDigitSeparator(bool),
+    DigitSeparatorFlags(bool),
+    FractionDigitSeparatorFlags(bool),
+    DigitSeparator(OptionU8),
+    BasePrefix(OptionU8),
+    BaseSuffix(OptionU8),
+    MantissaRadix(u8),
+    Radix(u8),
+    ExponentBase(OptionU8),
+    ExponentRadix(OptionU8),
+}
+
+fn apply(builder: NumberFormatBuilder, edit: Edit) -> NumberFormatBuilder {
+    match edit {
+        Edit::RequiredIntegerDigits(flag) => builder.required_integer_digits(flag),
+        Edit::NoSpecial(flag) => builder.no_special(flag),
+        Edit::CaseSensitiveBaseSuffix(flag) => builder.case_sensitive_base_suffix(flag),
+        Edit::ExponentTrailingDigitSeparator(flag) => {
+            builder.exponent_trailing_digit_separator(flag)
+        }
+        Edit::SpecialDigitSeparator(flag) => builder.special_digit_separator(flag),
+        Edit::RequiredDigits(flag) => builder.required_digits(flag),
+        Edit::LeadingDigitSeparator(flag) => builder.leading_digit_separator(flag),
+        Edit::DigitSeparatorFlags(flag) => builder.digit_separator_flags(flag),
+        Edit::FractionDigitSeparatorFlags(flag) => builder.fraction_digit_separator_flags(flag),
+        Edit::DigitSeparator(byte) => builder.digit_separator(byte),
+        Edit::BasePrefix(byte) => builder.base_prefix(byte),
+        Edit::BaseSuffix(byte) => builder.base_suffix(byte),
+        Edit::MantissaRadix(radix) => builder.mantissa_radix(radix),
+        Edit::Radix(radix) => builder.radix(radix),
+        Edit::ExponentBase(byte) => builder.exponent_base(byte),
+        Edit::ExponentRadix(byte) => builder.exponent_radix(byte),
+    }
+}
+
+fn edit_word(word: u128, edits: &[Edit]) -> u128 {
+    let mut builder = NumberFormatBuilder::rebuild(word);
+    for edit in edits {
+        builder = apply(builder, *edit);
+    }
+    builder.build_unchecked()
+}
+
+pub fn known_edits(cases: &[u64]) -> u64 {
+    over(cases, |fold, word, bits| {
+        let edits = [
+            Edit::NoSpecial(bits % 2 == 1),
+            Edit::DigitSeparator(NonZeroU8::new((bits >> 16) as u8)),
+            Edit::MantissaRadix((bits >> 24) as u8),
+        ];
+        fold.with_word(edit_word(word, &edits))
+    })
+}
+
+pub fn any_edits(cases: &[u64]) -> u64 {
+    over(cases, |fold, word, bits| {
+        let edits = [edit_of(bits), edit_of(bits >> 16), edit_of(bits >> 32)];
+        fold.with_word(edit_word(word, &edits))
+    })
+}
+
+fn edit_of(bits: u64) -> Edit {
+    let flag = (bits >> 7) % 2 == 1;
+    let value = (bits >> 8) as u8;
+    let byte = NonZeroU8::new(value);
+    match bits % 16 {
+        0 => Edit::RequiredIntegerDigits(flag),
+        1 => Edit::NoSpecial(flag),
+        2 => Edit::CaseSensitiveBaseSuffix(flag),
+        3 => Edit::ExponentTrailingDigitSeparator(flag),
+        4 => Edit::SpecialDigitSeparator(flag),
+        5 => Edit::RequiredDigits(flag),
+        6 => Edit::LeadingDigitSeparator(flag),
+        7 => Edit::DigitSeparatorFlags(flag),
+        8 => Edit::FractionDigitSeparatorFlags(flag),
+        9 => Edit::DigitSeparator(byte),
+        10 => Edit::BasePrefix(byte),
+        11 => Edit::BaseSuffix(byte),
+        12 => Edit::MantissaRadix(value),
+        13 => Edit::Radix(value),
+        14 => Edit::ExponentBase(byte),
+        _ => Edit::ExponentRadix(byte),
+    }
+}
+
+fn normal_form_of(word: u128) -> u128 {
+    NumberFormatBuilder::rebuild(word).build_unchecked()
+}
+
+pub fn normal_form(cases: &[u64]) -> u64 {
+    over(cases, |fold, word, _| fold.with_word(normal_form_of(word)))
+}
+
+pub fn same_format(cases: &[u64]) -> u64 {
+    let mut last = 0;
+    over(cases, |fold, word, _| {
+        let same = normal_form_of(last) == normal_form_of(word);
+        last = word;
+        fold.with(same as u64)
+    })
+}
