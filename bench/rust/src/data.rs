@@ -5,12 +5,12 @@
 
 use crate::random::Random;
 
-const FIGURES: &[u8; 62] = b"0123456789ABCDEFGHIJKLMNOPQRSTUVWXYZabcdefghijklmnopqrstuvwxyz";
+const DIGITS: &[u8; 62] = b"0123456789ABCDEFGHIJKLMNOPQRSTUVWXYZabcdefghijklmnopqrstuvwxyz";
 
 /// Digits of a radix, in both cases; one byte in 32 is none.
 pub fn digits(random: &mut Random, len: usize, radix: u32) -> Vec<u8> {
     let is_digit = |c: &u8| (*c as char).is_digit(radix);
-    let digits: Vec<u8> = FIGURES.iter().copied().filter(is_digit).collect();
+    let digits: Vec<u8> = DIGITS.iter().copied().filter(is_digit).collect();
     let digit = || if random.one_in(32) { b'_' } else { random.pick(&digits) };
     std::iter::repeat_with(digit).take(len).collect()
 }
@@ -27,7 +27,7 @@ pub fn text(random: &mut Random, len: usize) -> Vec<u8> {
 }
 
 pub fn letters(random: &mut Random, len: usize) -> Vec<u8> {
-    (0..len).map(|_| random.pick(&FIGURES[10..])).collect()
+    (0..len).map(|_| random.pick(&DIGITS[10..])).collect()
 }
 
 /// Text in which one byte in 100 is not allowed.

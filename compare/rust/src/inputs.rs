@@ -1,23 +1,75 @@
 //! What the calls are compared on. All of it follows from one seed.
 
 use crate::random::Random;
+use crate::tables::with_flags;
+use std::fmt::{self, Debug, Formatter};
 
 /// A setter of a builder, by its position: the 31 flags in the order of their bits, the nine groups,
 /// separator, prefix, suffix, mantissa radix by its two names, exponent base, exponent radix. An odd
 /// value sets a flag, and the value 0 empties a byte that may be absent.
-#[derive(Clone, Copy, Debug)]
+#[derive(Clone, Copy)]
 pub struct SetterCall {
     pub setter: u32,
     pub value: u8,
 }
 
-pub const SETTERS: u32 = 47;
+const SETTERS: u32 = 47;
+
+macro_rules! flag_names {
+    ($($flag:ident $constant:ident $getter:ident,)*) => {
+        [$(stringify!($flag)),*]
+    };
+}
+
+/// The name of the setter at a position.
+fn setter_name(position: u32) -> &'static str {
+    const FLAGS: [&str; 31] = with_flags!(flag_names);
+    const OTHERS: [&str; 16] = [
+        "required_digits",
+        "internal_digit_separator",
+        "leading_digit_separator",
+        "trailing_digit_separator",
+        "consecutive_digit_separator",
+        "digit_separator_flags",
+        "integer_digit_separator_flags",
+        "fraction_digit_separator_flags",
+        "exponent_digit_separator_flags",
+        "digit_separator",
+        "base_prefix",
+        "base_suffix",
+        "mantissa_radix",
+        "radix",
+        "exponent_base",
+        "exponent_radix",
+    ];
+    match position as usize {
+        position @ 0..31 => FLAGS[position],
+        position => OTHERS[position - 31],
+    }
+}
 
 impl SetterCall {
     /// The call as it is handed to the library.
     pub fn number(self) -> u32 {
         self.setter << 8 | self.value as u32
     }
+}
+
+impl Debug for SetterCall {
+    fn fmt(&self, f: &mut Formatter) -> fmt::Result {
+        let name = setter_name(self.setter);
+        match self.setter {
+            0..40 => write!(f, "{name}={}", self.value % 2 == 1),
+            _ => write!(f, "{name}={}", self.value),
+        }
+    }
+}
+
+/// Each setter alone, with the first so many values.
+pub fn single_calls(values: u16) -> impl Iterator<Item = SetterCall> {
+    (0..SETTERS).flat_map(move |setter| {
+        (0..values).map(move |value| SetterCall { setter, value: value as u8 })
+    })
 }
 
 impl Random {

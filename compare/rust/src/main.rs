@@ -2,11 +2,11 @@
 //!
 //!     driver [--seed N] [--scale N] [--threads N] [--only WORD] [--record FILE]
 
-mod answers;
 mod inputs;
 mod ours;
 mod random;
 mod record;
+mod results;
 mod rules;
 mod sections;
 mod tables;

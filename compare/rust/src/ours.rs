@@ -1,13 +1,13 @@
 //! The library's calls, linked from a static library that is written in Rattle.
 
-use crate::answers::*;
 use crate::inputs::SetterCall;
+use crate::results::*;
 
 extern "C" {
     fn compare_byte(c: u8) -> Byte;
     fn compare_slice(bytes: *const u8, len: usize) -> Slice;
     fn compare_digit(c: u8, radix: u32) -> Digit;
-    fn compare_figure(digit: u32, radix: u32) -> Figure;
+    fn compare_digit_to_char(digit: u32, radix: u32) -> DigitChar;
     fn compare_is_valid_radix(radix: u32) -> bool;
     fn compare_outcome(position: u32, index: usize) -> Outcome;
     fn compare_order(a: u32, a_index: usize, b: u32, b_index: usize) -> Order;
@@ -39,9 +39,9 @@ pub fn digit(c: u8, radix: u32) -> Digit {
     unsafe { compare_digit(c, radix) }
 }
 
-pub fn figure(digit: u32, radix: u32) -> Figure {
+pub fn digit_char(digit: u32, radix: u32) -> DigitChar {
     assert!(digit < 36);
-    unsafe { compare_figure(digit, radix) }
+    unsafe { compare_digit_to_char(digit, radix) }
 }
 
 pub fn is_valid_radix(radix: u32) -> bool {

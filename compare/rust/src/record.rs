@@ -1,12 +1,12 @@
-//! Writes what the Rust crate returns, one answer a line, for the program `recorded`; its module
+//! Writes what the Rust crate returns, one result a line, for the program `recorded`; its module
 //! `reading` says what a line is.
 //!
 //! Where the library differs on purpose a line has what the library must return, by the rules, and
 //! then ` crate: ` and what the crate returns.
 
-use crate::inputs::{SetterCall, BASES, SETTERS};
+use crate::inputs::{single_calls, SetterCall, BASES};
 use crate::random::Random;
-use crate::tables::{with_flags, with_other_outcomes, with_parse_errors};
+use crate::tables::{with_other_outcomes, with_parse_errors};
 use crate::{rules, theirs};
 
 macro_rules! names {
@@ -25,52 +25,12 @@ fn name(position: u32) -> &'static str {
     }
 }
 
-macro_rules! flag_names {
-    ($($flag:ident $constant:ident $getter:ident,)*) => {
-        [$(stringify!($flag)),*]
-    };
-}
-
-/// The name of the setter at a position.
-fn setter_name(position: u32) -> &'static str {
-    const FLAGS: [&str; 31] = with_flags!(flag_names);
-    const OTHERS: [&str; 16] = [
-        "required_digits",
-        "internal_digit_separator",
-        "leading_digit_separator",
-        "trailing_digit_separator",
-        "consecutive_digit_separator",
-        "digit_separator_flags",
-        "integer_digit_separator_flags",
-        "fraction_digit_separator_flags",
-        "exponent_digit_separator_flags",
-        "digit_separator",
-        "base_prefix",
-        "base_suffix",
-        "mantissa_radix",
-        "radix",
-        "exponent_base",
-        "exponent_radix",
-    ];
-    match position as usize {
-        position @ 0..31 => FLAGS[position],
-        position => OTHERS[position - 31],
-    }
-}
-
 /// Setter calls as text, each after a space.
 fn text_of(calls: &[SetterCall]) -> String {
-    let text = |call: &SetterCall| {
-        let name = setter_name(call.setter);
-        match call.setter {
-            0..40 => format!(" {name}={}", call.value % 2 == 1),
-            _ => format!(" {name}={}", call.value),
-        }
-    };
-    calls.iter().map(text).collect()
+    calls.iter().map(|call| format!(" {call:?}")).collect()
 }
 
-/// What the crate returns, if that is another answer than the library's.
+/// What the crate returns, if that is another result than the library's.
 fn original<T: PartialEq>(ours: T, theirs: T, text: impl FnOnce(T) -> String) -> String {
     if ours == theirs {
         String::new()
@@ -89,7 +49,7 @@ pub fn lines(seed: u64) -> Vec<String> {
     lines.extend(words(random, 4000).iter().map(|word| fields(*word)));
     lines.extend(reserved_bits().iter().chain(&words(random, 6000)).map(|word| check(*word)));
     lines.extend((0..2600).map(|_| options(random)));
-    lines.extend(single_calls().into_iter().map(|call| edit(BASES[3], &[call])));
+    lines.extend(single_calls(2).map(|call| edit(BASES[3], &[call])));
     lines.extend((0..2500).map(|_| edit(random.word(), &random.calls(6))));
     lines.extend((0..2500).map(|_| build(&random.calls(6))));
     lines
@@ -169,12 +129,6 @@ fn options(random: &mut Random) -> String {
     let ours = rules::options(word, exponent, point, theirs);
     let original = original(ours, theirs, |accepted| accepted.to_string());
     format!("options {word:032X} {exponent} {point} {ours}{original}")
-}
-
-/// Each setter alone, with two values.
-fn single_calls() -> Vec<SetterCall> {
-    let setters = (0..SETTERS).flat_map(|setter| [0, 1].map(|value| SetterCall { setter, value }));
-    setters.collect()
 }
 
 fn edit(word: u128, calls: &[SetterCall]) -> String {

@@ -1,11 +1,11 @@
 //! The rules in which the library differs from the Rust crate on purpose, stated over the crate's
-//! answers.
+//! results.
 //!
 //! - A prefix or a suffix that is a letter has the role of both its cases, unless its flag says that
 //!   case counts; an exponent character likewise. Digit separator and decimal point are one byte.
 //! - A word with a reserved bit breaks a last rule.
 
-use crate::answers::{Built, Own, Word};
+use crate::results::{Built, Own, Word};
 
 const INVALID_PUNCTUATION: u32 = 27;
 const INVALID_FLAGS: u32 = 35;

@@ -1,7 +1,8 @@
 //! The comparisons, by what they are over. Each is cut into tasks that can run side by side.
 
-use crate::inputs::{bits_turned, known_word, BASES};
+use crate::inputs::{bits_turned, known_word, single_calls, SetterCall, BASES};
 use crate::random::Random;
+use crate::results::{Fields, View, Wide, Word};
 use crate::tally::Tally;
 use crate::{ours, rules, theirs};
 
@@ -69,7 +70,7 @@ fn bytes_and_digits(tally: &mut Tally) {
             tally.same(("byte, radix", c, radix), ours::digit(c, radix), theirs::digit(c, radix));
         }
         for digit in 0..36 {
-            let (ours, theirs) = (ours::figure(digit, radix), theirs::figure(digit, radix));
+            let (ours, theirs) = (ours::digit_char(digit, radix), theirs::digit_char(digit, radix));
             tally.same(("digit, radix", digit, radix), ours, theirs);
         }
         tally.same(("radix", radix), ours::is_valid_radix(radix), theirs::is_valid_radix(radix));
@@ -128,11 +129,11 @@ fn outcomes(tally: &mut Tally) {
 
 fn constants(tally: &mut Tally) {
     for (position, (name, constant)) in theirs::CONSTANTS.iter().enumerate() {
-        tally.same(name, ours::constant(position).into(), crate::answers::Wide::from(*constant));
+        tally.same(name, ours::constant(position).into(), Wide::from(*constant));
     }
     tally.same("no input", ours::standards(), theirs::standards());
     for radix in 0..=255 {
-        let word = |word: u128| crate::answers::Wide::from(word);
+        let word = |word: u128| Wide::from(word);
         tally.same(radix, word(ours::from_radix(radix)), word(theirs::from_radix(radix)));
     }
 }
@@ -154,33 +155,35 @@ macro_rules! known_words {
 }
 
 struct Known {
-    word: crate::answers::Word,
-    view: crate::answers::View,
-    rebuilt: crate::answers::Fields,
+    word: Word,
+    view: View,
+    rebuilt: Fields,
 }
 
 fn known_words(tally: &mut Tally) {
     let all = known_words!(0 1 2 3 4 5 6 7 8 9 10 11 12 13 14 15);
     all(&mut |word, known| {
-        tally.expect(word, ours::word(word), rules::word(word, known.word), known.word);
-        tally.same(word, ours::view(word), known.view);
-        tally.same(word, ours::rebuild(word), known.rebuilt);
+        let input = ("word", Wide::from(word));
+        tally.expect(input, ours::word(word), rules::word(word, known.word), known.word);
+        tally.same(input, ours::view(word), known.view);
+        tally.same(input, ours::rebuild(word), known.rebuilt);
     });
 }
 
 /// The rules of a word alone.
 fn rules_of(tally: &mut Tally, word: u128) {
     let theirs = theirs::word(word);
-    tally.expect(("word", word), ours::word(word), rules::word(word, theirs), theirs);
+    tally.expect(("word", Wide::from(word)), ours::word(word), rules::word(word, theirs), theirs);
 }
 
 /// All calls on a word, and those on two.
 fn whole_word(tally: &mut Tally, word: u128, other: u128) {
     rules_of(tally, word);
-    tally.same(("view", word), ours::view(word), theirs::view(word));
-    tally.same(("rebuilt", word), ours::rebuild(word), theirs::rebuild(word));
+    tally.same(("view", Wide::from(word)), ours::view(word), theirs::view(word));
+    tally.same(("rebuilt", Wide::from(word)), ours::rebuild(word), theirs::rebuild(word));
     let theirs = theirs::own(word, other);
-    tally.expect(("words", word, other), ours::own(word, other), rules::own(theirs), theirs);
+    let input = ("words", Wide::from(word), Wide::from(other));
+    tally.expect(input, ours::own(word, other), rules::own(theirs), theirs);
 }
 
 fn reserved_bits(tally: &mut Tally, random: &mut Random) {
@@ -228,7 +231,11 @@ fn masked(tally: &mut Tally, random: &mut Random) {
             for shift in 0..128 {
                 let ours = ours::radix_from_flags(word, mask, shift);
                 let theirs = theirs::radix_from_flags(word, mask, shift);
-                tally.same(("word, mask, shift", word, mask, shift), ours, theirs);
+                tally.same(
+                    ("word, mask, shift", Wide::from(word), Wide::from(mask), shift),
+                    ours,
+                    theirs,
+                );
             }
         }
     }
@@ -244,27 +251,42 @@ fn options(tally: &mut Tally, random: &mut Random) {
                 let theirs = theirs::options(word, exponent, point);
                 let expected = rules::options(word, exponent, point, theirs);
                 let ours = ours::options(word, exponent, point);
-                tally.expect(("word, options", word, exponent, point), ours, expected, theirs);
+                tally.expect(
+                    ("word, exponent, point", Wide::from(word), exponent, point),
+                    ours,
+                    expected,
+                    theirs,
+                );
             }
         }
     }
 }
 
 fn builders(tally: &mut Tally, random: &mut Random) {
+    let mut compare = |start: Option<u128>, calls: &[SetterCall]| {
+        let theirs = theirs::builder(start, calls);
+        let input = ("start, calls", start.map(Wide::from), calls);
+        tally.expect(input, ours::builder(start, calls), rules::built(theirs), theirs);
+    };
+    for call in single_calls(256) {
+        compare(None, &[call]);
+        compare(Some(random.word()), &[call]);
+    }
     for _ in 0..100_000 {
         let start = if random.one_in(2) { None } else { Some(random.word()) };
-        let calls = random.calls(40);
-        let theirs = theirs::builder(start, &calls);
-        let input = ("start, calls", start, &calls);
-        tally.expect(input, ours::builder(start, &calls), rules::built(theirs), theirs);
+        compare(start, &random.calls(40));
     }
 }
 
 fn edits(tally: &mut Tally, random: &mut Random) {
+    let mut compare = |word: u128, calls: &[SetterCall]| {
+        let input = ("word, calls", Wide::from(word), calls);
+        tally.same(input, ours::edits(word, calls), theirs::edits(word, calls));
+    };
+    for call in single_calls(256) {
+        compare(random.word(), &[call]);
+    }
     for _ in 0..100_000 {
-        let word = random.word();
-        let calls = random.calls(40);
-        let input = ("word, calls", word, &calls);
-        tally.same(input, ours::edits(word, &calls), theirs::edits(word, &calls));
+        compare(random.word(), &random.calls(40));
     }
 }

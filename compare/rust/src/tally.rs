@@ -1,6 +1,6 @@
 //! Counts what was compared, and keeps the first differences.
 
-use crate::answers::Answers;
+use crate::results::Results;
 use std::fmt::Debug;
 use std::ops::AddAssign;
 
@@ -21,12 +21,12 @@ pub struct Tally {
 
 impl Tally {
     /// Compares what the library returns with what the Rust crate returns.
-    pub fn same<A: Answers>(&mut self, input: impl Debug, ours: A, theirs: A) {
+    pub fn same<A: Results>(&mut self, input: impl Debug, ours: A, theirs: A) {
         self.expect(input, ours, theirs, theirs);
     }
 
     /// Compares what the library returns with what is expected, given what the crate returns.
-    pub fn expect<A: Answers>(&mut self, input: impl Debug, ours: A, expected: A, theirs: A) {
+    pub fn expect<A: Results>(&mut self, input: impl Debug, ours: A, expected: A, theirs: A) {
         self.compared += A::CALLS;
         if expected != theirs {
             let mut changed = vec![];
@@ -41,7 +41,7 @@ impl Tally {
                 let call = if difference.name.is_empty() { "the call" } else { &difference.name };
                 format!("  {call} returns {}, expected {}", difference.one, difference.other)
             });
-            self.show(format!("on {input:X?}:\n{}", lines.collect::<Vec<_>>().join("\n")));
+            self.show(format!("on {input:?}:\n{}", lines.collect::<Vec<_>>().join("\n")));
         }
     }
 

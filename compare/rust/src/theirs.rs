@@ -1,8 +1,8 @@
 //! The same calls of the Rust crate. What it has only for a word that is known when it is compiled, or
 //! not at all, is written over the calls that it has.
 
-use crate::answers::*;
 use crate::inputs::SetterCall;
+use crate::results::*;
 use crate::rules;
 use crate::tables::{with_flags, with_other_outcomes, with_parse_errors};
 use std::cmp::Ordering;
@@ -39,8 +39,8 @@ pub fn digit(c: u8, radix: u32) -> Digit {
     }
 }
 
-pub fn figure(digit: u32, radix: u32) -> Figure {
-    Figure {
+pub fn digit_char(digit: u32, radix: u32) -> DigitChar {
+    DigitChar {
         digit_to_char: digit_to_char(digit),
         digit_to_char_const: digit_to_char_const(digit, radix),
     }

@@ -31,7 +31,7 @@ pub record IsBuiltBy (edits : List Edit) (word : ℕ) (error : Error) : Type 0 w
   pub packed : pack (after new_record (all_writes edits)) ≡ word
   pub checked : IsErrorOf word error
 
--- a recorded answer is what the definitions say
+-- a recorded result is what the definitions say
 abbrev pub IsKept : Fact → Type 0
 IsKept (facts.Byte byte allowed letter) = (allowed_ascii byte ≡ allowed) × (letters byte ≡ letter)
 IsKept (facts.Digit byte radix digit) = digit_of byte radix ≡ digit

@@ -1,4 +1,4 @@
-//! Recorded answers, and whether the library returns the same.
+//! Recorded results, and whether the library returns the same.
 
 ghost use Rattle.std.specs.Prelude.{◌≡◌, ◌↔◌, ℕ, Option, List, Bool, IsTrue, IfOk, string_bytes};
 ghost use Rattle.lexical_base.specs.Ascii.{allowed_ascii, letters};
@@ -19,7 +19,7 @@ use lexical_util::format_flags::is_valid_options_punctuation;
 use std::alloc::{AllocError, Global};
 
 /// What is recorded of one call, or of calls that belong together.
-#[derive(Debug, Drop, PartialEq)]
+#[derive(Drop)]
 pub enum Fact {
     /// A byte, whether a format may use it, and whether it is a letter.
     Byte(u8, bool, bool),

@@ -1,7 +1,7 @@
-//! `recorded` replays answers of the Rust crate against the library.
+//! `recorded` replays results of the Rust crate against the library.
 //!
-//! The file `answers.txt` has one recorded answer a line, written by `compare/run --record`. The
-//! program reads each line and asks the library the same. It prints how many answers the library
+//! The file `results.txt` has one recorded result a line, written by `compare/run --record`. The
+//! program reads each line and asks the library the same. It prints how many results the library
 //! returns too, and ends with status 0; or it prints the first line that differs, or that it cannot
 //! read, and ends with status 1. It ends with status 2 if the file or a write fails.
 #![tactic(auto)]
@@ -25,7 +25,7 @@ fn main(rt: HostRuntime) -> ExitCode {
 
 // Replays the file line by line, prints how it went, and returns whether all lines are kept.
 fn replay_file(rt: &HostRuntime) -> io::Result<bool> {
-    let text = fs::read_to_string(rt, "answers.txt")?;
+    let text = fs::read_to_string(rt, "results.txt")?;
     let (mut lines, mut on_purpose) = (0u64, 0u64);
     for line in text.as_str().lines() {
         if !replay(line, rt.alloc())? {
@@ -36,7 +36,7 @@ fn replay_file(rt: &HostRuntime) -> io::Result<bool> {
         on_purpose = on_purpose.saturating_add(without_original(line).is_some() as u64);
     }
     println!(rt;
-        "{lines} recorded answers kept, {on_purpose} of them different from the Rust crate's on purpose"
+        "{lines} recorded results kept, {on_purpose} of them different from the Rust crate's on purpose"
     )?;
     Ok(true)
 }

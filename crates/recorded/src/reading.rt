@@ -1,4 +1,4 @@
-//! Reads recorded answers, one a line.
+//! Reads recorded results, one a line.
 //!
 //! A line is a kind and its parts, each after a single space:
 //!
@@ -23,7 +23,7 @@ use lexical_util::error::Error;
 use lexical_util::format_builder::NonZeroU8;
 use std::alloc::{AllocError, Global};
 
-/// The line before the crate's own answer, if that is another one.
+/// The line before the crate's own result, if that is another one.
 pub fn without_original(line: &str) -> Option<&str> {
     let (fact, _) = line.split_once(" crate: ")?;
     Some(fact)

@@ -47,7 +47,7 @@ fn tells_what_is_kept_from_what_differs(rt: HostRuntime) -> Result<(), Fail> {
     Ok(())
 }
 
-// A line that is no recorded answer is not kept, so that no line is passed over.
+// A line that is no recorded result is not kept, so that no line is passed over.
 #[test]
 fn keeps_no_line_that_it_cannot_read(rt: HostRuntime) -> Result<(), Fail> {
     let cases = [

@@ -75,16 +75,16 @@ pub extern "C" fn compare_digit(c: u8, radix: u32) -> Digit {
 /// What the calls on a digit and a radix return.
 #[repr(C)]
 #[derive(Clone, Copy)]
-pub struct Figure {
+pub struct DigitChar {
     pub digit_to_char: u8,
     pub digit_to_char_const: u8,
 }
 
 #[unsafe(no_mangle)]
-pub extern "C" fn compare_figure(digit: u32, radix: u32) -> Figure
+pub extern "C" fn compare_digit_to_char(digit: u32, radix: u32) -> DigitChar
     requires { digit < 36 }
 {
-    Figure {
+    DigitChar {
         digit_to_char: digit_to_char(digit),
         digit_to_char_const: digit_to_char_const(digit, radix),
     }

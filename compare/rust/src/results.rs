@@ -3,15 +3,15 @@
 use std::fmt::Debug;
 
 /// What some calls return of one input.
-pub trait Answers: Copy + PartialEq {
+pub trait Results: Copy + PartialEq {
     /// How many calls.
     const CALLS: u64;
 
-    /// Adds the name, and both sides, of each call whose answers differ.
+    /// Adds the name, and both sides, of each call whose results differ.
     fn differences(&self, other: &Self, name: &str, found: &mut Vec<Difference>);
 }
 
-/// A call whose answers differ.
+/// A call whose results differ.
 pub struct Difference {
     pub name: String,
     pub one: String,
@@ -20,7 +20,7 @@ pub struct Difference {
 
 macro_rules! single {
     ($($type:ty)*) => {$(
-        impl Answers for $type {
+        impl Results for $type {
             const CALLS: u64 = 1;
 
             fn differences(&self, other: &Self, name: &str, found: &mut Vec<Difference>) {
@@ -61,7 +61,7 @@ impl Debug for Wide {
     }
 }
 
-macro_rules! answers {
+macro_rules! results {
     ($(#[$doc:meta])* $name:ident { $($field:ident: $type:ty,)* }) => {
         $(#[$doc])*
         #[repr(C)]
@@ -70,8 +70,8 @@ macro_rules! answers {
             $(pub $field: $type,)*
         }
 
-        impl Answers for $name {
-            const CALLS: u64 = 0 $(+ <$type as Answers>::CALLS)*;
+        impl Results for $name {
+            const CALLS: u64 = 0 $(+ <$type as Results>::CALLS)*;
 
             fn differences(&self, other: &Self, name: &str, found: &mut Vec<Difference>) {
                 $(
@@ -87,7 +87,7 @@ macro_rules! answers {
     };
 }
 
-answers! {
+results! {
     /// The tests of one byte.
     Byte {
         is_valid_ascii: bool,
@@ -95,7 +95,7 @@ answers! {
     }
 }
 
-answers! {
+results! {
     /// The tests of a slice.
     Slice {
         is_valid_ascii_slice: bool,
@@ -103,7 +103,7 @@ answers! {
     }
 }
 
-answers! {
+results! {
     /// The calls on a byte and a radix; `None` is the largest `u64`.
     Digit {
         char_to_valid_digit_const: u32,
@@ -114,15 +114,15 @@ answers! {
     }
 }
 
-answers! {
+results! {
     /// The calls on a digit and a radix.
-    Figure {
+    DigitChar {
         digit_to_char: u8,
         digit_to_char_const: u8,
     }
 }
 
-answers! {
+results! {
     /// The calls on one outcome; the first test is in bit 0.
     Outcome {
         tests: u64,
@@ -132,7 +132,7 @@ answers! {
     }
 }
 
-answers! {
+results! {
     /// How two outcomes compare: -1, 0 or 1, and 2 for none.
     Order {
         cmp: i32,
@@ -142,7 +142,7 @@ answers! {
     }
 }
 
-answers! {
+results! {
     /// The extractors and the rules of a word.
     Word {
         digit_separator: u8,
@@ -167,7 +167,7 @@ answers! {
     }
 }
 
-answers! {
+results! {
     /// The getters of the view of a word.
     View {
         required_integer_digits: bool,
@@ -229,7 +229,7 @@ answers! {
     }
 }
 
-answers! {
+results! {
     /// The calls that take no word, as words.
     Standards {
         binary: Wide,
@@ -242,7 +242,7 @@ answers! {
     }
 }
 
-answers! {
+results! {
     /// The getters of a builder; an absent byte is 0.
     Fields {
         required_integer_digits: bool,
@@ -285,7 +285,7 @@ answers! {
     }
 }
 
-answers! {
+results! {
     /// A builder and what it packs into; of the strict build the word, or 0 and the error.
     Built {
         fields: Fields,
@@ -296,7 +296,7 @@ answers! {
     }
 }
 
-answers! {
+results! {
     /// The words that a list of edits makes.
     Edited {
         edit_word: Wide,
@@ -305,7 +305,7 @@ answers! {
     }
 }
 
-answers! {
+results! {
     /// The calls on a word and a second one that only this library has.
     Own {
         normal_form: Wide,
