@@ -4,7 +4,7 @@ use Rattle.std.specs.Prelude.{position, unwrap_or}
 use Rattle.std.proofs.lemmas.Bool.{false≢true, agree_below_at}
 use Rattle.std.proofs.lemmas.Bool.Decides.{nat_tests}
 use Rattle.lexical_base.specs.Ascii.{letters}
-use Rattle.lexical_base.specs.Digits.{value, figures, capital}
+use Rattle.lexical_base.specs.Digits.{value, figures, uppercase}
 use Rattle.lexical_flags.specs.Record.{Record, effective_exponent_radix}
 use Rattle.lexical_flags.specs.Roles.{Disjoint, cased, other_case, digits, signs}
 
@@ -73,12 +73,12 @@ cases_apart a true b true differ letter other = (λ _. both_count a b differ, λ
 cases_apart a true b false differ letter other = (λ both. absurd (false≢true both), λ apart. absurd (second_counts_not a b letter other apart))
 cases_apart a false b b_counts differ letter other = (λ both. absurd (false≢true both), λ apart. absurd (first_counts_not a b_counts b letter other apart))
 
-capital-other_case : (byte : ℕ) → capital (other_case byte) ≡ capital byte
-capital-other_case byte = grind (arith, nat_tests)
+uppercase-other_case : (byte : ℕ) → uppercase (other_case byte) ≡ uppercase byte
+uppercase-other_case byte = grind (arith, nat_tests)
 
 value-other_case : (byte : ℕ) → value (other_case byte) ≡ value byte
 unfolding value
-value-other_case byte = ap (λ k. unwrap_or (position (λ figure. figure == k) figures) 255) (capital-other_case byte)
+value-other_case byte = ap (λ k. unwrap_or (position (λ character. character == k) figures) 255) (uppercase-other_case byte)
 
 -- a letter is a digit in both cases or in none
 pub digits-other_case : (r : Record) (byte : ℕ) → IsTrue (digits r (other_case byte)) → IsTrue (digits r byte)
