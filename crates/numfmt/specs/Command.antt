@@ -85,7 +85,7 @@ OptionsCallsFor (word ∷ e ∷ p ∷ []) =
     GivesWhether (AreAccepted (hex word) (numeral 10 e) (numeral 10 p)) answers.Acceptance)))
 OptionsCallsFor _ = Refuses refusals.WrongNumberOfArguments
 
--- the normal form of the word if that is lawful, else the first rule that it breaks
+-- the normal form of the word if that is lawful, else the first rule that the normal form breaks
 unfoldable pub GivesMigrated : ℕ → Response → Type 0
 GivesMigrated word =
     IfElse (Lawful (normal_form_of word))
