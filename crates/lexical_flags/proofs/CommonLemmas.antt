@@ -1,18 +1,14 @@
 -- What two words have in common is their `&`.
-use Rattle.std.proofs.Common.{ℕ, ℤ, ◌≡◌, unsigned_abs, w32, SFits, of_z, to_z, ◌≤◌, ◌<◌, ◌+◌, ◌*◌, ◌/◌, ◌%◌, ◌^◌, ◌==◌, ◌&&◌, min, true, not, if◌then◌else◌, List, [], ◌∷◌, sum_by, bit_and, refl, ap, sym, ◌∙◌, arith}
-use Rattle.std.specs.List.{range_with_len, list_any, fold}
-use Rattle.std.proofs.Math.Nat.{mod-eq_of_lt, mod-lt, pow-le-pow_right, lt_of_le_of_lt, one-mul}
+use Rattle.std.proofs.Common.{ℕ, ℤ, ◌≡◌, unsigned_abs, w32, SFits, of_z, to_z, ◌<◌, ◌*◌, ◌/◌, ◌%◌, ◌^◌, ◌==◌, ◌&&◌, min, if◌then◌else◌, sum_by, bit_and, refl, ap, sym, ◌∙◌, arith}
+use Rattle.std.specs.List.{range_with_len}
+use Rattle.std.proofs.Math.Nat.{mod-eq_of_lt, mod-lt, lt_of_le_of_lt}
 use Rattle.std.proofs.lemmas.Nat.{and_mask, and_le_r, pow_pos}
 use Rattle.std.proofs.lemmas.Int.{to_z-of_z}
 use Rattle.std.proofs.lemmas.Nat.Bits.{bit_at_and}
 use Rattle.std.proofs.lemmas.Bool.Decides.{nat_tests}
-use Rattle.lexical_flags.specs.Layout.{part, Flag, bit}
-use Rattle.lexical_flags.specs.Layout as layout
-use Rattle.lexical_flags.specs.Record.{flag_of, raw}
-use Rattle.lexical_flags.specs.Constants.{mask_of}
+use Rattle.lexical_flags.specs.Layout.{part}
 use Rattle.lexical_flags.specs.Common.{common, common_at}
-use Rattle.lexical_flags.proofs.Masks.{ascends, above, and_all, sum-below}
-use Rattle.lexical_flags.proofs.FlagBits.{mask_test}
+use Rattle.lexical_flags.proofs.Masks.{and_all}
 
 -- two bits are both 1 exactly if the smaller is
 both_bits : (a b unit : ℕ) → a < 2 → b < 2 → (if (a == 1) && (b == 1) then unit else 0) ≡ min a b * unit

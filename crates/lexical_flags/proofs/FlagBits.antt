@@ -1,5 +1,6 @@
 -- The flags of a word under a mask, and the fields of a record joined by `|`.
 use Rattle.std.proofs.Common.{ℕ, ◌≡◌, ◌≢◌, ◌+◌, ◌*◌, ◌^◌, ◌<◌, ◌==◌, Bool, true, false, not, ◌||◌, ◌&&◌, inl, inr, List, [], ◌∷◌, sum_by, bit_and, bit_or, refl, ap, sym, ◌∙◌, arith}
+use mathlib.Core.Bool.{not-not}
 use Rattle.std.specs.List.{fold, list_any}
 use Rattle.std.proofs.Math.Nat.{mod-lt, zero-mul}
 use Rattle.std.proofs.lemmas.List.Sums.{sum_by-cons, sum_by_from}
@@ -20,10 +21,6 @@ moved_bit-zero n p small high = elim (cases_lt n 1) [
   | inl l ↦ let none : n ≡ 0 = omega arith in rw none (rw (zero-mul p) refl)
   | inr l ↦ let one : n ≡ 1 = omega arith in rw one (grind (arith, nat_tests))
 ]
-
-not-not : (a : Bool) → not (not a) ≡ a
-not-not true = refl
-not-not false = refl
 
 -- the test of one flag, as the code writes it
 pub flag_test : (word k : ℕ) → not (bit_and word (2 ^ k) == 0) ≡ (part word k 1 == 1)

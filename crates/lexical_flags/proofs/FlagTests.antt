@@ -91,4 +91,20 @@ exponent_consecutive_alone word =
     ∙ alone (2 ^ 34) _ _ _ _ (pow_pos 34) (bit-lt word 34) (bit-lt word 37) (bit-lt word 40) (bit-lt word 43)
 
 -- the facts that the tests of the rules need
-pub ruleset flag_tests = (no_positive_mantissa_sign_tells, required_mantissa_sign_tells, no_exponent_notation_tells, no_positive_exponent_sign_tells, required_exponent_sign_tells, no_special_tells, case_sensitive_special_tells, required_exponent_notation_tells, case_sensitive_exponent_tells, case_sensitive_base_prefix_tells, case_sensitive_base_suffix_tells, special_digit_separator_tells, integer_consecutive_alone, fraction_consecutive_alone, exponent_consecutive_alone)
+pub ruleset flag_tests = (
+  no_positive_mantissa_sign_tells,
+  required_mantissa_sign_tells,
+  no_exponent_notation_tells,
+  no_positive_exponent_sign_tells,
+  required_exponent_sign_tells,
+  no_special_tells,
+  case_sensitive_special_tells,
+  required_exponent_notation_tells,
+  case_sensitive_exponent_tells,
+  case_sensitive_base_prefix_tells,
+  case_sensitive_base_suffix_tells,
+  special_digit_separator_tells,
+  integer_consecutive_alone,
+  fraction_consecutive_alone,
+  exponent_consecutive_alone,
+)

@@ -1,5 +1,5 @@
 -- Fields one above the other, joined by `|` and picked by `&`.
-use Rattle.std.proofs.Common.{ℕ, ◌≡◌, ◌+◌, ◌-◌, ◌*◌, ◌/◌, ◌%◌, ◌^◌, ◌<◌, ◌≤◌, Bool, true, false, ◌&&◌, leb, List, [], ◌∷◌, sum_by, bit_and, bit_or, refl, ap, sym, ◌∙◌, arith}
+use Rattle.std.proofs.Common.{ℕ, ◌≡◌, ◌+◌, ◌-◌, ◌*◌, ◌/◌, ◌%◌, ◌^◌, ◌<◌, ◌≤◌, Bool, true, ◌&&◌, leb, List, [], ◌∷◌, sum_by, bit_and, bit_or, refl, ap, sym, ◌∙◌, arith}
 use Rattle.std.specs.Int.Bits.{and_zero_r}
 use Rattle.std.specs.List.{fold}
 use Rattle.std.proofs.Math.Nat.{mul-le-mul_left, mod-eq_of_lt, mod-lt, pow-le-pow_right, lt_of_le_of_lt}

@@ -139,8 +139,8 @@ fresh_from (suc n) low taken few =
     elim (taken_or_not low taken) [
       | inl none ↦ (low, omega arith, omega arith, none)
       | inr less ↦
-        let next = fresh_from n (low + 1) (without low taken) (omega arith) in
-        (next.0, omega arith, omega arith, none_of-without next.0 low taken (omega arith) next.3)
+          let next = fresh_from n (low + 1) (without low taken) (omega arith) in
+          (next.0, omega arith, omega arith, none_of-without next.0 low taken (omega arith) next.3)
     ]
 
 -- the bytes ! " # $ % have no part in numbers

@@ -1,5 +1,5 @@
 -- Lists any two of whose elements are related, by the indexes of the two.
-use Rattle.std.proofs.Common.{ℕ, zero, suc, List, [], ◌∷◌, arith}
+use Rattle.std.proofs.Common.{zero, suc, List, [], ◌∷◌, arith}
 use Rattle.std.specs.List.{AllPairs}
 use Rattle.std.proofs.lemmas.List.Elements.{All-from_recursion, recursion_from_All}
 use Rattle.lexical_flags.specs.Pairs.{ArePairwise}

@@ -3,7 +3,6 @@ use Rattle.std.proofs.Common.{◌≡◌, ℕ, ◌≢◌, ◌↔◌, inl, inr, Bo
 use Rattle.std.specs.List.{AllByRecursion}
 use Rattle.std.proofs.lemmas.Bool.{cases_eq}
 use Rattle.std.proofs.lemmas.Bool.Decides.{nat_tests}
-use Rattle.lexical_base.specs.Ascii.{ByteSet}
 use Rattle.lexical_base.specs.declared.error.Error.{Error}
 use Rattle.lexical_base.specs.declared.error.Error.TheVariants.{InvalidFlags, Success}
 use Rattle.lexical_flags.specs.Layout.{IsClean}
@@ -91,8 +90,7 @@ Lawful-exponent_radix word h some = own_radix _ (raw word).mantissa_radix some h
 five_apart : (r : Record) → IsFree r r.digit_separator → IsFree r r.base_prefix → IsFree r r.base_suffix → ArePairwise Disjoint (own_roles r) → ArePairwise Disjoint (five_roles r)
 five_apart r separator prefix suffix own =
     let digits_apart : (counts : Bool) (byte : ℕ) → IsFree r byte → Disjoint (digits r) (cased counts byte) = λ counts byte free. Disjoint-digits-cased r counts byte (IsFree-digit r byte free) in
-    let signs_apart : (counts : Bool) (byte : ℕ) → IsFree r byte → Disjoint signs (cased counts byte) = λ counts byte free. Disjoint-signs-cased counts byte (IsFree-sign r byte free) in
-    (
+    let signs_apart : (counts : Bool) (byte : ℕ) → IsFree r byte → Disjoint signs (cased counts byte) = λ counts byte free. Disjoint-signs-cased counts byte (IsFree-sign r byte free) in (
       (Disjoint-digits-signs r, (digits_apart true _ separator, (digits_apart _ _ prefix, (digits_apart _ _ suffix, tt)))),
       ((signs_apart true _ separator, (signs_apart _ _ prefix, (signs_apart _ _ suffix, tt))), own),
     )

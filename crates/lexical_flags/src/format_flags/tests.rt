@@ -24,8 +24,8 @@ fn an_empty_exponent_byte_is_the_mantissa_radix(rt: HostRuntime) {
         (0x0A0A1000_00000000_00000000_0000000C, 10, 10),
         (0x00001000_00000000_00000000_0000000C, 16, 16),
     ] {
-        assert_eq!(rt; exponent_base(word), base, "{word}");
-        assert_eq!(rt; exponent_radix(word), radix, "{word}");
+        assert_eq!(rt; exponent_base(word), base, "{word:x}");
+        assert_eq!(rt; exponent_radix(word), radix, "{word:x}");
     }
 }
 
@@ -39,7 +39,7 @@ fn reads_a_radix_under_a_mask(rt: HostRuntime) {
         assert_eq!(rt;
             radix_from_flags(DECIMAL, mask, shift),
             want,
-            "{mask} {shift}"
+            "{mask:x} {shift}"
         );
     }
 }
