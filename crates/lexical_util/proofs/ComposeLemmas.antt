@@ -1,4 +1,4 @@
--- Two edits one after the other are one edit exactly if the packing between them does nothing to their answer.
+-- Two edits one after the other are one edit exactly if what is packed and filled between them is undone, or is nothing.
 use Rattle.std.proofs.Common.{◌≡◌, ◌≢◌, ℕ, ◌↔◌, ◌||◌, inl, Bool, true, false, IsTrue, Option, Some, None, unwrap_or, refl, sym, ap, ◌∙◌, subst, List, [], ◌∷◌, ◌++◌, All, arith}
 use Rattle.std.specs.List.{list_any, AllByRecursion}
 use Rattle.std.proofs.lemmas.Bool.{false≢true}
@@ -124,7 +124,7 @@ Composes-always w K L radix always =
       digit_separator = λ left on. inl (any_before R L digit_separator_flags (always.digit_separator left) (subst (λ (S : Record). IsTrue (separator_on S)) (sym (after-append (fill (raw w)) K L)) on));
     }
 
--- where no separator is dropped, editing the normal form is editing the word
+-- if no separator is dropped, editing the normal form is editing the word
 pub edited-normal : (w : ℕ) (L : List Write) → SeparatorIsUsed (raw w) → All IsLegal L → edited (normal_form_of w) L ≡ edited w L
 edited-normal w L used legal =
     let none : fill (raw w) ≡ edited_fields w [] = sym (after_none (fill (raw w))) in

@@ -1,9 +1,9 @@
-pub mod EditLemmas
-pub mod NormalLemmas
-pub mod ViewLemmas
-pub mod ListingLemmas
-pub mod ListingParts
-pub mod PutLemmas
-pub mod ChangeLemmas
-pub mod ImageLemmas
-pub mod ComposeLemmas
+mod EditLemmas
+mod NormalLemmas
+mod ViewLemmas
+mod ListingLemmas
+mod ListingParts
+mod PutLemmas
+mod ChangeLemmas
+mod ImageLemmas
+mod ComposeLemmas

@@ -1,6 +1,7 @@
 -- The edits of all fields of a record make it from a new builder, and so do those of them alone that change one.
-use Rattle.std.proofs.Common.{◌≡◌, suc, Bool, true, false, not, cond, List, [], ◌∷◌, ◌++◌, map, length, filter, refl, sym, ap, ◌∙◌, All, ◌||◌}
+use Rattle.std.proofs.Common.{◌≡◌, suc, Bool, true, false, not, cond, List, [], ◌∷◌, ◌++◌, map, length, filter, refl, sym, ap, ◌∙◌, All}
 use Rattle.std.specs.List.{list_any}
+use Rattle.std.proofs.Math.Bool.{or-false}
 use Rattle.std.proofs.lemmas.List.Concat.{flat_map-append}
 use Rattle.std.proofs.lemmas.List.Elements.{All-append, All-same, All-filter}
 use Rattle.lexical_flags.specs.Layout.{Flag, flags}
@@ -69,10 +70,7 @@ AllSingle-filter p (e ∷ es) h = single_cond (p e) e (filter p es) h.0 (AllSing
   single_cond false e es h k = k
 
 changes_new-is : (e : Edit) (x : Write) → writes_of e ≡ x ∷ [] → changes_new e ≡ changes new_record x
-changes_new-is e x h = ap (list_any (changes new_record)) h ∙ or_false (changes new_record x) where
-  or_false : (t : Bool) → (t || false) ≡ t
-  or_false true = refl
-  or_false false = refl
+changes_new-is e x h = ap (list_any (changes new_record)) h ∙ or-false (changes new_record x)
 
 -- the edits that change a new record write what differs from it
 pub all_writes-changing : (R : Record) → all_writes (changing R) ≡ filter (changes new_record) (field_writes R)

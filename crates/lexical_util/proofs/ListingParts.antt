@@ -1,4 +1,4 @@
--- The two parts of the list of 37 edits, as the code puts them side by side.
+-- `edits_of` as two calls of `put_where`, one for each part of the list.
 use Rattle.std.proofs.Common.{◌≡◌, ℕ, ◌+◌, ◌≤◌, Bool, true, false, not, List, ◌++◌, length, take, filter, refl, sym, ap, ◌∙◌, subst, arith, take_all, All}
 use Rattle.std.proofs.Math.Bool.{beq}
 use Rattle.std.proofs.Math.Seq.{take-append_seam}

@@ -12,7 +12,7 @@ use Rattle.lexical_flags.proofs.Packing.{raw-pack, pack-clean, pack-lt, raw-inje
 use Rattle.lexical_flags.proofs.NormalRules.{Demands-kept, Demands-same}
 use Rattle.lexical_flags.proofs.RuleLemmas.{Holds-from_lawful, Lawful-from_all, IsErrorOf-same}
 use Rattle.lexical_builder.proofs.WriteLemmas.{after_none}
-use Rattle.lexical_util.specs.View.{any_flag, bits_of}
+use Rattle.lexical_util.specs.Groups.{any_flag, bits_of}
 use Rattle.lexical_util.specs.Normal.{normal_form_of, SameFormat, IsNormal}
 
 -- filling and trimming leave the flags
@@ -84,7 +84,7 @@ effective_again own radix = elim (cases_Bool (eqb own 0)) [
   same true = refl
   same false = refl
 
--- where filling changes nothing, there is nothing to fill with
+-- if filling changes nothing, there is nothing to fill with
 pub unfilled : (own radix : ℕ) → effective own radix ≡ own → own ≡ 0 → radix ≡ 0
 unfilled own radix e z = sym (cond-true (eqb own 0) radix own (eq-eqb own 0 z)) ∙ e ∙ z
 
@@ -95,7 +95,7 @@ full own radix h = elim (cases_Bool (eqb own 0)) [
   | inr n ↦ cond-false (eqb own 0) radix own n
 ]
 
--- where trimming changes nothing, the separator is used or absent
+-- if trimming changes nothing, the separator is used or absent
 pub unused : (t : Bool) (n : ℕ) → cond t n 0 ≡ n → IsTrue t ⊎ (n ≡ 0)
 unused true n e = inl refl
 unused false n e = inr (sym e)

@@ -14,7 +14,7 @@ use Rattle.lexical_flags.proofs.Masks.{ascends, and_all}
 use Rattle.lexical_flags.proofs.FlagBits.{flag_test, mask_test}
 use Rattle.lexical_flags.specs.Common.{common}
 use Rattle.lexical_flags.proofs.CommonLemmas.{common-bit_and}
-use Rattle.lexical_util.specs.View.{any_flag, bits_of}
+use Rattle.lexical_util.specs.Groups.{any_flag, bits_of}
 
 -- whether a number is the mask of one flag
 abbrev pub is_flag_mask : ℕ → Bool

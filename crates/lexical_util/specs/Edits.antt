@@ -1,4 +1,4 @@
--- The writes that an edit stands for, and the word that writes make of a word.
+-- The writes that an edit does, and the word that writes make of a word.
 use Rattle.std.specs.Prelude.{ℕ, List, [], ◌∷◌, flat_map}
 use Rattle.lexical_flags.specs.Layout.{Flag}
 use Rattle.lexical_flags.specs.Layout as layout
@@ -68,6 +68,6 @@ writes_of (edits.ExponentRadix radix) = write_byte layout.exponent_radix (option
 abbrev pub all_writes : List Edit → List Write
 all_writes list = flat_map writes_of list
 
--- the word that writes make of a word: its empty exponent bytes are filled, then the writes are done, then the fields packed
+-- the word that writes make of a word: its empty exponent bytes are filled, then the fields are written, then they are packed
 abbrev pub edited : ℕ → List Write → ℕ
 edited word writes = pack (after (fill (raw word)) writes)

@@ -1,6 +1,6 @@
 pub mod Edits
 pub mod Normal
-pub mod View
+pub mod Groups
 pub mod Listing
 pub mod Compose
 pub mod Unfoldable

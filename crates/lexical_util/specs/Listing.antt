@@ -57,7 +57,7 @@ byte_edits r =
     edits.BaseSuffix (byte_option r.base_suffix) ∷ edits.MantissaRadix r.mantissa_radix ∷
     edits.ExponentBase (byte_option r.exponent_base) ∷ edits.ExponentRadix (byte_option r.exponent_radix) ∷ []
 
--- the edits that write all its 37 fields, in the order of their places
+-- the edits that write all its 37 fields, in the order of their bits
 abbrev pub field_edits : Record → List Edit
 field_edits r = flag_edits r ++ byte_edits r
 
@@ -69,7 +69,7 @@ changes_new edit = list_any (changes new_record) (writes_of edit)
 abbrev pub changing : Record → List Edit
 changing r = filter changes_new (field_edits r)
 
--- the other edits of its fields
+-- the edits of its other fields, which change nothing in a new builder
 abbrev pub unchanging : Record → List Edit
 unchanging r = filter (λ edit. not (changes_new edit)) (field_edits r)
 

@@ -10,7 +10,7 @@ ghost use Rattle.lexical_builder.specs.Writes.{Write, IsLegal, write_flags, afte
 ghost use Rattle.lexical_util.specs.Edits.{flags_of, writes_of, all_writes, edited};
 ghost use Rattle.lexical_util.specs.Normal.{normal_form_of, SameFormat, IsNormal};
 ghost use Rattle.lexical_util.specs.Compose.{Composes, AlwaysCompose};
-ghost use Rattle.lexical_util.specs.View.{any_flag, bits_of};
+ghost use Rattle.lexical_util.specs.Groups.{any_flag, bits_of};
 
 use lexical_base::error::Error;
 use lexical_builder::format_builder::{NumberFormatBuilder, OptionU8};

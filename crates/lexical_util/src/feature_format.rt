@@ -138,8 +138,8 @@ impl NumberFormat {
         has_any!(self, DIGIT_SEPARATOR)
     }
 
-    /// The base prefix, 0 where there is none. A parser accepts it after a leading zero, as the `x`
-    /// of `0x1F`. Default: 0.
+    /// Returns the base prefix, 0 if there is none. A parser accepts it after a leading zero, such
+    /// as the `x` in `0x1F`. Default: 0.
     #[inline(always)]
     pub fn base_prefix(&self) -> u8
         ensures { result ≡ (raw self.now).base_prefix }
@@ -155,8 +155,8 @@ impl NumberFormat {
         has_any!(self, BASE_PREFIX)
     }
 
-    /// The base suffix, 0 where there is none. A parser accepts it after the digits, as the `h` of
-    /// `1Fh`. Default: 0.
+    /// Returns the base suffix, 0 if there is none. A parser accepts it after the digits, such as
+    /// the `h` in `1Fh`. Default: 0.
     #[inline(always)]
     pub fn base_suffix(&self) -> u8
         ensures { result ≡ (raw self.now).base_suffix }

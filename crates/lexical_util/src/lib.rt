@@ -1,7 +1,8 @@
 //! Number formats in a `u128`: what their fields are, how they are built, edited and checked.
 //!
-//! This crate offers the modules of the three crates that it stands on, under the names of the Rust
-//! crate's files, so that a user names this crate alone.
+//! This crate re-exports the modules of the three lower crates under the names of the Rust crate's
+//! files, so that code needs this crate alone. Their definitions for contracts are re-exported too, from
+//! `specs`, and their laws from [`laws`].
 #![tactic(auto)]
 
 pub mod edits;

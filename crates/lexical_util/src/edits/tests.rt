@@ -170,11 +170,11 @@ fn normal_forms(rt: HostRuntime) {
     assert!(rt; !same_format(0, 12));
 }
 
+// There are 14, 19 and 16 of them.
 #[test]
 fn each_reserved_bit_is_an_error_that_the_normal_form_lacks(rt: HostRuntime) {
-    let mut reserved = 0;
-    for bit in 0..128u32 {
-        if (18..32).contains(&bit) || (45..64).contains(&bit) || (72..88).contains(&bit) {
+    for (first, end) in [(18u32, 32u32), (45, 64), (72, 88)] {
+        for bit in first..end.min(128) {
             let format = DECIMAL | 1 << bit;
             assert_eq!(rt; format_error(format), Error::InvalidFlags, "bit {bit}");
             assert_eq!(rt; normal_form(format), DECIMAL, "bit {bit}");
@@ -183,10 +183,8 @@ fn each_reserved_bit_is_an_error_that_the_normal_form_lacks(rt: HostRuntime) {
                 Error::Success,
                 "bit {bit}"
             );
-            reserved += 1;
         }
     }
-    assert_eq!(rt; reserved, 49);
 }
 
 // A word with its error, and its normal form with its own.

@@ -6,7 +6,7 @@ ghost use Rattle.lexical_flags.specs.Layout as layout;
 ghost use Rattle.lexical_flags.specs.Record.{raw};
 ghost use Rattle.lexical_flags.specs.Common.{common};
 ghost use Rattle.lexical_flags.specs.declared.format_flags.TheConstants as constants;
-ghost use Rattle.lexical_util.specs.View.{any_flag, bits_of};
+ghost use Rattle.lexical_util.specs.Groups.{any_flag, bits_of};
 
 use super::NumberFormat;
 use lexical_flags::format_flags as flags;

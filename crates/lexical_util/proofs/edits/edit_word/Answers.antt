@@ -1,5 +1,5 @@
 use Rattle.std.proofs.Common.{◌≡◌, ◌++◌, ◌↔◌, sym, ap, subst, ◌∙◌, arith}
-use Rattle.lexical_flags.specs.Record.{fill, trim, pack, HasBytes}
+use Rattle.lexical_flags.specs.Record.{trim, pack, HasBytes}
 use Rattle.lexical_builder.specs.Writes.{after}
 use Rattle.lexical_util.proofs.EditLemmas.{edited-same}
 use Rattle.lexical_flags.proofs.Packing.{raw-injective}

@@ -2,7 +2,7 @@ use Rattle.std.proofs.Common.{◌↔◌, ◌∙◌, sym, ap, subst, arith}
 use Rattle.lexical_flags.specs.Record.{raw, pack, trim}
 use Rattle.lexical_flags.proofs.Packing.{raw-injective}
 use Rattle.lexical_flags.specs.Rules.{Lawful, IsErrorOf}
-use Rattle.lexical_util.specs.View.{any_flag, bits_of}
+use Rattle.lexical_util.specs.Groups.{any_flag, bits_of}
 use Rattle.lexical_util.specs.Normal.{normal_form_of, SameFormat}
 use Rattle.lexical_util.proofs.NormalLemmas.{normal_form-is, normal_again, normal_from_fixed, fixed_from_normal, normal_keeps, lawful_normal, error_normal, groups_normal, flags_normal}
 use Rattle.lexical_util.specs.Edits.{edited}

@@ -8,6 +8,6 @@ use Rattle.lexical_flags.specs.Record.{raw, flag_of, flag_bits}
 unfoldable pub any_flag : ℕ → List Flag → Bool
 any_flag word fs = list_any (flag_of (raw word)) fs
 
--- the word's bits of these flags, each at its place
+-- the sum of the bits of those of these flags that are set
 unfoldable pub bits_of : ℕ → List Flag → ℕ
 bits_of word fs = sum_by (flag_bits (raw word)) fs
