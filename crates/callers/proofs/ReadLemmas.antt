@@ -1,12 +1,11 @@
 -- Reading a number byte by byte.
-use Rattle.std.proofs.Common.{◌≡◌, ◌≢◌, ℕ, suc, ◌+◌, ◌*◌, ◌^◌, ◌<◌, ◌≤◌, ◌↔◌, ◌||◌, ◌&&◌, ◌⊎◌, inl, inr, Bool, true, false, cond, min, nat_lt, IsTrue, IsFalse, IsSome, Some, None, List, [], ◌∷◌, ◌++◌, length, take, drop, get_or, filter, refl, sym, ap, subst, ◌∙◌, arith, length-append, append-nil}
+use Rattle.std.proofs.Common.{◌≡◌, ℕ, suc, ◌+◌, ◌*◌, ◌^◌, ◌<◌, ◌≤◌, ◌||◌, ◌&&◌, inl, inr, Bool, true, false, cond, min, nat_lt, IsTrue, List, [], ◌∷◌, ◌++◌, length, take, drop, filter, refl, sym, ap, subst, ◌∙◌, arith, length-append, append-nil}
 use Rattle.std.proofs.Math.Nat.{pow-zero, pow-suc, mul_assoc, mul-le-mul_left, pow-le-pow_right}
 use Rattle.std.proofs.lemmas.Bool.{false≢true, cases_Bool}
-use Rattle.std.proofs.lemmas.Bool.Decides.{nat_tests}
 use Rattle.std.proofs.lemmas.List.{take_all, take-append-drop}
 use Rattle.std.proofs.lemmas.List.Elements.{filter_more, filter-append}
 use borrow.Author.Count.{below_more}
-use Rattle.lexical_util.specs.Digits.{value, digit_of}
+use Rattle.lexical_util.specs.Digits.{value}
 use Rattle.lexical_util.specs.Ascii.{ByteSet}
 use Rattle.lexical_util.specs.Record.{Record, raw, effective_exponent_radix}
 use Rattle.lexical_util.specs.Pairs.{ArePairwise}
@@ -14,7 +13,7 @@ use Rattle.lexical_util.specs.Roles.{Disjoint, digits_of, digits, signs, separat
 use Rattle.lexical_util.specs.Rules.{Lawful}
 use Rattle.lexical_util.specs.declared.error.Error.{Error}
 use Rattle.lexical_util.specs.declared.error.Error.TheVariants as errors
-use Rattle.callers.specs.Reading.{is_digit, is_read, is_skipped, byte_at, sum_of, number_of, IsNumeral, IsReadTo, IsRefusal}
+use Rattle.callers.specs.Reading.{is_digit, is_read, is_skipped, byte_at, sum_of, number_of, IsNumeral, IsRefusal}
 
 -- one more digit at the right
 sum-push : (radix : ℕ) (digits : List ℕ) (digit : ℕ) → sum_of radix (digits ++ digit ∷ []) ≡ sum_of radix digits * radix + value digit

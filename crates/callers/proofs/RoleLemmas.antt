@@ -1,5 +1,5 @@
 -- A byte that plays one role plays no other.
-use Rattle.std.proofs.Common.{◌≡◌, ℕ, ◌↔◌, Some, None, IsTrue, Option, refl, sym, ap, subst}
+use Rattle.std.proofs.Common.{◌≡◌, ℕ, ◌↔◌, Some, None, IsTrue, ap, subst}
 use Rattle.lexical_util.specs.Record.{Record}
 use Rattle.lexical_util.specs.Roles.{Role, role_set, AtMostOneRole}
 

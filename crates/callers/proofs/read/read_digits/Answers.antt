@@ -1,5 +1,5 @@
 -- Each byte is skipped, pushed or refused.
-use Rattle.std.proofs.Common.{IsTrue, sym, subst, ◌+◌, ◌∙◌, arith}
+use Rattle.std.proofs.Common.{sym, subst, ◌+◌, ◌∙◌, arith}
 use Rattle.std.proofs.lemmas.Bool.Decides.{nat_tests}
 use Rattle.lexical_util.specs.Record.{raw}
 use Rattle.lexical_util.specs.declared.error.Error.TheVariants as errors

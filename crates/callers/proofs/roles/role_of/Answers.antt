@@ -2,7 +2,7 @@
 use Rattle.std.proofs.Common.{IsTrue, sym, ◌∙◌}
 use Rattle.std.proofs.lemmas.Bool.{false≢true}
 use Rattle.lexical_util.specs.Record.{raw}
-use Rattle.lexical_util.specs.Roles.{Role, role_set, AtMostOneRole}
+use Rattle.lexical_util.specs.Roles.{Role, role_set}
 use Rattle.lexical_util.specs.Roles as library
 use Rattle.callers.proofs.RoleLemmas.{one_role, no_role}
 use Rattle.callers.proofs.roles.role_of.Goals as goal
