@@ -3,22 +3,22 @@ use Rattle.recorded.specs.declared.fact.Fact.{Fact}
 use Rattle.recorded.specs.declared.fact.Fact.TheVariants as facts
 use Rattle.recorded.specs.declared.fact.Fields.{Fields}
 use Rattle.std.specs.Prelude.{ℕ, ◌≡◌, ◌↔◌, IsTrue, List, string_bytes}
-use Rattle.lexical_base.specs.Ascii.{allowed_ascii, letters}
-use Rattle.lexical_base.specs.Digits.{digit_of}
-use Rattle.lexical_base.specs.Outcomes.{printed_text}
-use Rattle.lexical_base.specs.declared.error.Error.{Error}
-use Rattle.lexical_flags.specs.Common.{common}
-use Rattle.lexical_flags.specs.declared.format_flags.TheConstants.{FLAG_MASK}
-use Rattle.lexical_flags.specs.Record.{raw, pack, effective_exponent_base, effective_exponent_radix}
-use Rattle.lexical_flags.specs.Rules.{IsErrorOf}
-use Rattle.lexical_flags.specs.Options.{AreAccepted}
-use Rattle.lexical_builder.specs.Writes.{new_record, after}
+use Rattle.lexical_util.specs.Ascii.{allowed_ascii, letters}
+use Rattle.lexical_util.specs.Digits.{digit_of}
+use Rattle.lexical_util.specs.Outcomes.{printed_text}
+use Rattle.lexical_util.specs.declared.error.Error.{Error}
+use Rattle.lexical_util.specs.Layout.{flags}
+use Rattle.lexical_util.specs.Record.{raw, pack, effective_exponent_base, effective_exponent_radix}
+use Rattle.lexical_util.specs.Rules.{IsErrorOf}
+use Rattle.lexical_util.specs.Options.{AreAccepted}
+use Rattle.lexical_util.specs.Writes.{new_record, after}
 use Rattle.lexical_util.specs.declared.edits.Edit.{Edit}
 use Rattle.lexical_util.specs.Edits.{edited, all_writes}
+use Rattle.lexical_util.specs.View.{bits_of}
 
 -- the fields of a word are these
 pub record HasFields (word : ℕ) (fields : Fields) : Type 0 where
-  pub flags : common word FLAG_MASK ≡ fields.flags
+  pub flags : bits_of word flags ≡ fields.flags
   pub digit_separator : (raw word).digit_separator ≡ fields.digit_separator
   pub base_prefix : (raw word).base_prefix ≡ fields.base_prefix
   pub base_suffix : (raw word).base_suffix ≡ fields.base_suffix

@@ -1,11 +1,11 @@
 //! Recorded results, and whether the library returns the same.
 
 ghost use Rattle.std.specs.Prelude.{◌≡◌, ◌↔◌, ℕ, Option, List, Bool, IsTrue, IfOk, string_bytes};
-ghost use Rattle.lexical_base.specs.Ascii.{allowed_ascii, letters};
-ghost use Rattle.lexical_base.specs.Digits.{digit_of};
-ghost use Rattle.lexical_base.specs.Outcomes.{printed_text};
-ghost use Rattle.lexical_flags.specs.Rules.{IsErrorOf};
-ghost use Rattle.lexical_flags.specs.Options.{AreAccepted};
+ghost use Rattle.lexical_util.specs.Ascii.{allowed_ascii, letters};
+ghost use Rattle.lexical_util.specs.Digits.{digit_of};
+ghost use Rattle.lexical_util.specs.Outcomes.{printed_text};
+ghost use Rattle.lexical_util.specs.Rules.{IsErrorOf};
+ghost use Rattle.lexical_util.specs.Options.{AreAccepted};
 ghost use Rattle.lexical_util.specs.Edits.{edited, all_writes};
 ghost use Rattle.recorded.specs.Facts.{IsKept, HasFields, IsBuiltBy};
 
