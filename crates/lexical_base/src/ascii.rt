@@ -60,9 +60,32 @@ fn chunks_in_either(chunks: &[[u8; 32]], first: (u8, u8), second: (u8, u8)) -> b
     blocks_in_either(blocks, first, second) && block_in_either(rest, first, second)
 }
 
-// The same for blocks of eight chunks.
+// The same for blocks of eight chunks. It goes through four quarters of them side by side, since
+// memory serves four streams faster than one.
 #[inline(always)]
 fn blocks_in_either(blocks: &[[[u8; 32]; 8]], first: (u8, u8), second: (u8, u8)) -> bool
+    ensures { result ≡ list_all (list_all (list_all (in_either first second))) blocks.now }
+{
+    let quarter = blocks.len() / 4;
+    let (front, others) = blocks.split_at(quarter);
+    let (middle, others) = others.split_at(quarter);
+    let (later, others) = others.split_at(quarter);
+    let (last, rest) = others.split_at(quarter);
+    for index in 0..quarter {
+        let in_front = block_in_either(&front[index], first, second);
+        let in_middle = block_in_either(&middle[index], first, second);
+        let in_later = block_in_either(&later[index], first, second);
+        let in_last = block_in_either(&last[index], first, second);
+        if !(in_front & in_middle & in_later & in_last) {
+            return false;
+        }
+    }
+    each_block_in_either(rest, first, second)
+}
+
+// The same, one block after the other.
+#[inline(always)]
+fn each_block_in_either(blocks: &[[[u8; 32]; 8]], first: (u8, u8), second: (u8, u8)) -> bool
     ensures { result ≡ list_all (list_all (list_all (in_either first second))) blocks.now }
 {
     blocks
@@ -126,13 +149,14 @@ mod tests {
         assert!(rt; !is_valid_letter_slice(b"aZ0z"));
     }
 
-    // The lengths around one chunk, two chunks, and a block of eight chunks.
+    // The lengths are those around one chunk, two chunks, a block of eight chunks, and four blocks.
     #[test]
     fn slices_of_each_length_fail_at_any_index(rt: HostRuntime) {
-        let mut bytes = [0x41; 600];
-        for len in [
-            0, 1, 31, 32, 33, 63, 64, 65, 97, 255, 256, 257, 300, 512, 600usize,
-        ] {
+        let mut bytes = [0x41; 1300];
+        let lengths: [usize; 16] = [
+            0, 1, 31, 32, 33, 63, 64, 65, 97, 255, 256, 257, 300, 1024, 1057, 1300,
+        ];
+        for len in lengths {
             assert!(rt; is_valid_ascii_slice(&bytes[..len]), "{len} bytes");
             assert!(rt; is_valid_letter_slice(&bytes[..len]), "{len} bytes");
             for index in 0..len {
