@@ -219,7 +219,7 @@ impl NumberFormatBuilder {
         }
     }
 
-    // Packs the fields.
+    // Packs the fields. The separator is joined last, since it has to wait for a test.
     #[inline(always)]
     fn packed(&self) -> u128
         ensures word { result ≡ pack self.now }
@@ -236,12 +236,12 @@ impl NumberFormatBuilder {
         let flags = word_flags(self.flags);
         let separator = used_separator(flags, separator);
         flags
-            | (separator as u128) << flags::DIGIT_SEPARATOR_SHIFT
             | (prefix as u128) << flags::BASE_PREFIX_SHIFT
             | (suffix as u128) << flags::BASE_SUFFIX_SHIFT
             | (radix as u128) << flags::MANTISSA_RADIX_SHIFT
             | (exponent_base as u128) << flags::EXPONENT_BASE_SHIFT
             | (exponent_radix as u128) << flags::EXPONENT_RADIX_SHIFT
+            | (separator as u128) << flags::DIGIT_SEPARATOR_SHIFT
     }
 
     // Whether the flag with this mask is set.
