@@ -82,12 +82,12 @@ fn slices(tally: &mut Tally, random: &mut Random) {
     let mut compare = |slice: &[u8]| {
         tally.same(("slice", slice), ours::slice(slice), theirs::slice(slice));
     };
-    let lens = (0..=200).chain([255, 256, 257, 511, 512, 513, 1023, 1024, 1025, 4095, 4096, 4097]);
+    let lens = (0..=330).chain([511, 512, 513, 1023, 1024, 1025, 4095, 4096, 4097]);
     for len in lens {
         let letters: Vec<u8> = (0..len).map(|_| random.pick(b"AZaz")).collect();
         compare(&letters);
         for position in 0..len {
-            let others = if len <= 200 { OTHERS } else { &OTHERS[9..10] };
+            let others = if len <= 330 { OTHERS } else { &OTHERS[position % OTHERS.len()..][..1] };
             for other in others {
                 let mut spoiled = letters.clone();
                 spoiled[position] = *other;
