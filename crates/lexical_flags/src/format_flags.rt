@@ -1,5 +1,5 @@
 //! The layout of a format word: the bits of each flag and byte, and the functions that read them.
-//! The tests of the rules in `rules` are re-exported here.
+//! The tests of the validity rules, whose file is `format_flags/rules.rt`, are re-exported.
 //!
 //! A format word is a `u128`. Bits 0 to 17 and 32 to 44 are flags; six bytes stand from bit 64 up:
 //! digit separator, base prefix, base suffix, mantissa radix, exponent base and exponent radix. The

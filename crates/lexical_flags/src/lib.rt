@@ -1,4 +1,5 @@
-//! The layout of a number format in a `u128`: its flags, its bytes, and what reads them.
+//! Number formats in a `u128`: the layout of flags and bytes, the functions that read them, and the
+//! rules that a valid format keeps.
 #![tactic(auto)]
 
 pub mod format_flags;
