@@ -1,6 +1,6 @@
 -- Tests of the rules that compute at a literal word, each proved to decide its rule.
 use Rattle.std.proofs.Common.{◌≡◌, ◌≢◌, ◌↔◌, ℕ, inl, inr, Bool, true, false, not, nat_le, ◌||◌, ◌&&◌, ◌==◌, if◌then◌else◌, IsTrue, List, [], ◌∷◌, refl, sym, ap, ◌∙◌, subst, eq-eqb, eqb-true, arith}
-use Rattle.std.proofs.lemmas.Bool.{false≢true, and_parts, and_from, or_right}
+use Rattle.std.proofs.lemmas.Bool.{false≢true, and_parts, and_from, or_left, or_right}
 use Rattle.std.proofs.lemmas.Bool.Decides.{nat_tests}
 use Rattle.lexical_base.specs.Ascii.{allowed_ascii, letters}
 use Rattle.lexical_base.specs.declared.error.Error.{Error}
@@ -17,8 +17,11 @@ use Rattle.lexical_flags.proofs.RuleLemmas.{Lawful-from_success}
 abbrev is_radix : ℕ → Bool
 is_radix radix = nat_le 2 radix && nat_le radix 36
 
+abbrev pub is_punctuation : Record → ℕ → Bool
+is_punctuation r byte = allowed_ascii byte && (not (digits r byte) && not (signs byte))
+
 abbrev is_free : Record → ℕ → Bool
-is_free r byte = (byte == 0) || (allowed_ascii byte && (not (digits r byte) && not (signs byte)))
+is_free r byte = (byte == 0) || is_punctuation r byte
 
 abbrev pub are_apart : Bool → ℕ → Bool → ℕ → Bool
 are_apart a_counts a b_counts b = (a == 0) || (not (a == b) && (not (b == other_case a) || (a_counts && b_counts)))
@@ -60,11 +63,11 @@ keeps rules.reserved_bits_are_zero word = (part word 18 14 == 0) && ((part word 
 keeps rule word = passes rule (raw word)
 
 -- facts of `bool`
-pub not_true : (a : Bool) → not a ≡ true → IsTrue a → ⊥
+not_true : (a : Bool) → not a ≡ true → IsTrue a → ⊥
 not_true true e h = cc
 not_true false e h = cc
 
-pub not_from : (a : Bool) → (IsTrue a → ⊥) → not a ≡ true
+not_from : (a : Bool) → (IsTrue a → ⊥) → not a ≡ true
 not_from true h = absurd (h refl)
 not_from false h = refl
 
@@ -74,21 +77,27 @@ IsRadix-test radix test = grind (arith, nat_tests)
 IsRadix-passes : (radix : ℕ) → IsRadix radix → is_radix radix ≡ true
 IsRadix-passes radix h = let low = h.0 in let high = h.1 in grind (arith, nat_tests)
 
-IsFree-test : (r : Record) (byte : ℕ) → is_free r byte ≡ true → IsFree r byte
+pub IsPunctuation-test : (r : Record) (byte : ℕ) → is_punctuation r byte ≡ true → IsPunctuation r byte
 unfolding IsPunctuation
-IsFree-test r byte test = parts (byte == 0) refl test
-  where
-    parts : (none : Bool) → none ≡ (byte == 0) → (none || (allowed_ascii byte && (not (digits r byte) && not (signs byte)))) ≡ true → IsFree r byte
-    parts true is e = inl (grind (arith, nat_tests))
-    parts false is e =
-        let text = and_parts (allowed_ascii byte) _ e in
-        let roles = and_parts (not (digits r byte)) (not (signs byte)) text.1 in
-        inr (text.0, not_true (digits r byte) roles.0, not_true (signs byte) roles.1)
+IsPunctuation-test r byte test =
+    let text = and_parts (allowed_ascii byte) _ test in
+    let neither = and_parts (not (digits r byte)) (not (signs byte)) text.1 in
+    (text.0, not_true (digits r byte) neither.0, not_true (signs byte) neither.1)
+
+pub IsPunctuation-passes : (r : Record) (byte : ℕ) → IsPunctuation r byte → is_punctuation r byte ≡ true
+unfolding IsPunctuation
+IsPunctuation-passes r byte h =
+    and_from (allowed_ascii byte) _ h.0 (and_from (not (digits r byte)) _ (not_from (digits r byte) h.1) (not_from (signs byte) h.2))
+
+IsFree-test : (r : Record) (byte : ℕ) → is_free r byte ≡ true → IsFree r byte
+IsFree-test r byte test = parts (byte == 0) refl test where
+  parts : (none : Bool) → (byte == 0) ≡ none → (none || is_punctuation r byte) ≡ true → IsFree r byte
+  parts true is e = inl (eqb-true byte 0 is)
+  parts false is e = inr (IsPunctuation-test r byte e)
 
 IsFree-passes : (r : Record) (byte : ℕ) → IsFree r byte → is_free r byte ≡ true
-unfolding IsPunctuation
-IsFree-passes r byte (inl none) = ap (λ t. t || (allowed_ascii byte && (not (digits r byte) && not (signs byte)))) (eq-eqb byte 0 none)
-IsFree-passes r byte (inr free) = or_right (byte == 0) _ (and_from (allowed_ascii byte) _ free.0 (and_from (not (digits r byte)) _ (not_from (digits r byte) free.1) (not_from (signs byte) free.2)))
+IsFree-passes r byte (inl none) = or_left (byte == 0) (is_punctuation r byte) (eq-eqb byte 0 none)
+IsFree-passes r byte (inr free) = or_right (byte == 0) (is_punctuation r byte) (IsPunctuation-passes r byte free)
 
 -- a byte that has another case is a letter
 letter_with_case : (a : ℕ) → a ≢ other_case a → IsTrue (letters a)

@@ -1,29 +1,11 @@
 -- A test of an exponent character and a decimal point that computes at literals, proved to decide whether they are accepted.
-use Rattle.std.proofs.Common.{ℕ, ◌≡◌, Bool, true, false, not, ◌&&◌, sym, ◌∙◌}
+use Rattle.std.proofs.Common.{ℕ, ◌≡◌, Bool, true, false, ◌&&◌, sym, ◌∙◌}
 use Rattle.std.specs.List.{AllByRecursion}
 use Rattle.std.proofs.lemmas.Bool.{false≢true, and_parts, and_from}
-use Rattle.lexical_base.specs.Ascii.{allowed_ascii}
 use Rattle.lexical_flags.specs.Record.{Record, raw}
-use Rattle.lexical_flags.specs.Roles.{Disjoint, cased, digits, signs, own_roles}
-use Rattle.lexical_flags.specs.Rules.{IsPunctuation}
+use Rattle.lexical_flags.specs.Roles.{Disjoint, cased, own_roles}
 use Rattle.lexical_flags.specs.Options.{AreAccepted}
-use Rattle.lexical_flags.proofs.LawfulTest.{are_apart, Disjoint-test, Disjoint-passes, not_true, not_from}
-
--- whether a byte is text that is no digit and no sign
-abbrev is_punctuation : Record → ℕ → Bool
-is_punctuation r byte = allowed_ascii byte && (not (digits r byte) && not (signs byte))
-
-IsPunctuation-test : (r : Record) (byte : ℕ) → is_punctuation r byte ≡ true → IsPunctuation r byte
-unfolding IsPunctuation
-IsPunctuation-test r byte test =
-    let text = and_parts (allowed_ascii byte) _ test in
-    let neither = and_parts (not (digits r byte)) (not (signs byte)) text.1 in
-    (text.0, not_true (digits r byte) neither.0, not_true (signs byte) neither.1)
-
-IsPunctuation-passes : (r : Record) (byte : ℕ) → IsPunctuation r byte → is_punctuation r byte ≡ true
-unfolding IsPunctuation
-IsPunctuation-passes r byte h =
-    and_from (allowed_ascii byte) _ h.0 (and_from (not (digits r byte)) _ (not_from (digits r byte) h.1) (not_from (signs byte) h.2))
+use Rattle.lexical_flags.proofs.LawfulTest.{is_punctuation, IsPunctuation-test, IsPunctuation-passes, are_apart, Disjoint-test, Disjoint-passes}
 
 -- whether a byte clashes with no byte of the format
 abbrev is_new : Record → Bool → ℕ → Bool
