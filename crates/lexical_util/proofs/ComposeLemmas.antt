@@ -71,9 +71,10 @@ module _ (R : Record) (L : List Write) where
   )
 
 -- two edits are one exactly if they compose
-pub edited-again : (w : ℕ) (K L : List Write) → HasBytes (edited_fields w K) → All IsLegal L → (edited (edited w K) L ≡ edited w (K ++ L)) ↔ Composes w K L
-edited-again w K L bytes legal =
+pub edited-again : (w : ℕ) (K L : List Write) → All IsLegal K → All IsLegal L → (edited (edited w K) L ≡ edited w (K ++ L)) ↔ Composes w K L
+edited-again w K L legal_first legal =
     let R : Record = edited_fields w K in
+    let bytes : HasBytes R = HasBytes-after (fill (raw w)) K (HasBytes-fill (raw w) (HasBytes-raw w)) legal_first in
     let twice : edited (edited w K) L ≡ pack (after (back R L) L) = ap (λ S. pack (after (fill S) L)) (raw-pack R bytes) in
     let both : after R L ≡ edited_fields w (K ++ L) = after-append (fill (raw w)) K L in
     let once : edited w (K ++ L) ≡ pack (after R L) = ap pack (sym both) in
@@ -128,7 +129,7 @@ Composes-always w K L radix always =
 pub edited-normal : (w : ℕ) (L : List Write) → SeparatorIsUsed (raw w) → All IsLegal L → edited (normal_form_of w) L ≡ edited w L
 edited-normal w L used legal =
     let none : fill (raw w) ≡ edited_fields w [] = sym (after_none (fill (raw w))) in
-    (edited-again w [] L (subst HasBytes none (HasBytes-fill (raw w) (HasBytes-raw w))) legal).1 (record {
+    (edited-again w [] L (λ k d h. absurd (omega arith)) legal).1 (record {
       exponent_base = λ left. subst (λ (S : Record). S.exponent_base ≡ 0 → S.mantissa_radix ≡ 0) none (filled_once (raw w).exponent_base (raw w).mantissa_radix);
       exponent_radix = λ left. subst (λ (S : Record). S.exponent_radix ≡ 0 → S.mantissa_radix ≡ 0) none (filled_once (raw w).exponent_radix (raw w).mantissa_radix);
       digit_separator = λ left on. subst SeparatorIsUsed none used;

@@ -1,5 +1,5 @@
 use Rattle.std.proofs.Common.{◌≡◌, ◌++◌, ◌↔◌, sym, ap, subst, ◌∙◌, arith}
-use Rattle.lexical_flags.specs.Record.{trim, pack, HasBytes}
+use Rattle.lexical_flags.specs.Record.{trim, pack}
 use Rattle.lexical_builder.specs.Writes.{after}
 use Rattle.lexical_util.proofs.EditLemmas.{edited-same}
 use Rattle.lexical_flags.proofs.Packing.{raw-injective}
@@ -23,7 +23,7 @@ returns-clause-again c more legal =
     let end = c.apply_all.ensures.fields ∙ ap (λ R. after R (all_writes c.args.edits.now)) c.rebuild.ensures in
     let K = all_writes c.args.edits.now in
     subst (λ u. (edited u more ≡ edited c.args.format (K ++ more)) ↔ Composes c.args.format K more) (sym (c.build_unchecked.ensures.word ∙ ap pack end))
-    (edited-again c.args.format K more (subst HasBytes end c.build_unchecked.ensures.bytes) legal)
+    (edited-again c.args.format K more c.apply_all.ensures.legal legal)
 
 pub returns-clause-always : goal.returns-clause-always
 returns-clause-always c radix more legal compose =
