@@ -26,11 +26,11 @@ def flag_text(mask):
 
 def rows(tests):
     """Returns the rows of the page that the tables of the tests stand for, without their last columns."""
-    for bit, name, default in re.findall(r'\((\d+), "(\w+)", \w+, (true|false)\)', tests):
+    for bit, name, default in re.findall(r'\((\d+), b"(\w+)", \w+, (true|false)\)', tests):
         yield f"| {bit} | `{name}` | {default} |"
-    for name, mask in re.findall(r'\("(\w+)", \w+, (0x\w+)\)', tests):
+    for name, mask in re.findall(r'\(b"(\w+)", \w+, (0x\w+)\)', tests):
         yield f"| `{name}` | {flag_text(int(mask, 16))} |"
-    for shift, name, default in re.findall(r'\((\d+), "(\w+)", \w+\(\w+\), (\d+)\)', tests):
+    for shift, name, default in re.findall(r'\((\d+), b"(\w+)", \w+\([\w:()]+\), (\d+)\)', tests):
         yield f"| {shift} to {int(shift) + 7} | `{name}` | {default} |"
     for rule, error, word in re.findall(r"\((\d+), Error::(\w+), (\w+)\)", tests):
         yield f"| {rule} | .. | `{error}` | `{word}` |"

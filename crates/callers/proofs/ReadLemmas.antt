@@ -1,5 +1,6 @@
 -- Reading a number byte by byte.
-use Rattle.std.proofs.Common.{◌≡◌, ℕ, suc, ◌+◌, ◌*◌, ◌^◌, ◌<◌, ◌≤◌, ◌||◌, ◌&&◌, inl, inr, Bool, true, false, cond, min, nat_lt, IsTrue, List, [], ◌∷◌, ◌++◌, length, take, drop, filter, refl, sym, ap, subst, ◌∙◌, arith, length-append, append-nil}
+use Rattle.std.proofs.Common.{◌≡◌, ℕ, suc, ◌+◌, ◌*◌, ◌^◌, ◌<◌, ◌≤◌, ◌||◌, ◌&&◌, inl, inr, Bool, true, false, cond, min}
+use Rattle.std.proofs.Common.{nat_lt, IsTrue, List, [], ◌∷◌, ◌++◌, length, take, drop, filter, refl, sym, ap, subst, ◌∙◌, arith, length-append, append-nil}
 use Rattle.std.proofs.Math.Nat.{pow-zero, pow-suc, mul_assoc, mul-le-mul_left, pow-le-pow_right}
 use Rattle.std.proofs.lemmas.Bool.{false≢true, cases_Bool}
 use Rattle.std.proofs.lemmas.List.{take_all, take-append-drop}
@@ -58,13 +59,19 @@ separator_is_no_digit word byte lawful is_separator =
     ]
 
 module _ (r : Record) (text : List ℕ) (i : ℕ) (inside : i < length text) where
+  -- the digits of one byte more, as a test of the byte says
+  digits-more : (test : Bool) → is_digit r (byte_at text i) ≡ test
+      → number_of r (take (i + 1) text) ≡ sum_of r.mantissa_radix (filter (is_digit r) (take i text) ++ cond test (byte_at text i ∷ []) [])
+  digits-more test is =
+      ap (sum_of r.mantissa_radix) (filter_more (is_digit r) text i 0 inside ∙ ap (λ t. filter (is_digit r) (take i text) ++ cond t (byte_at text i ∷ []) []) is)
+
   -- a byte that is a digit
   pub number-digit : is_digit r (byte_at text i) ≡ true → number_of r (take (i + 1) text) ≡ number_of r (take i text) * r.mantissa_radix + value (byte_at text i)
-  number-digit is = ap (sum_of r.mantissa_radix) (filter_more (is_digit r) text i 0 inside ∙ ap (λ t. filter (is_digit r) (take i text) ++ cond t (byte_at text i ∷ []) []) is) ∙ sum-push r.mantissa_radix (filter (is_digit r) (take i text)) (byte_at text i)
+  number-digit is = digits-more true is ∙ sum-push r.mantissa_radix (filter (is_digit r) (take i text)) (byte_at text i)
 
   -- a byte that is none
   pub number-skipped : is_digit r (byte_at text i) ≡ false → number_of r (take (i + 1) text) ≡ number_of r (take i text)
-  number-skipped is = ap (sum_of r.mantissa_radix) (filter_more (is_digit r) text i 0 inside ∙ ap (λ t. filter (is_digit r) (take i text) ++ cond t (byte_at text i ∷ []) []) is ∙ append-nil (filter (is_digit r) (take i text)))
+  number-skipped is = digits-more false is ∙ ap (sum_of r.mantissa_radix) (append-nil (filter (is_digit r) (take i text)))
 
 -- the first bytes write no larger number than all
 number-grows : (r : Record) (text : List ℕ) (i : ℕ) → 1 ≤ r.mantissa_radix → number_of r (take i text) ≤ number_of r text

@@ -1,5 +1,6 @@
 -- The number that a text writes in the mantissa radix of a format, and which byte is refused if it writes none.
-use Rattle.std.specs.Prelude.{ℕ, zero, suc, ◌≡◌, ◌+◌, ◌*◌, ◌^◌, ◌<◌, ◌≤◌, ◌&&◌, ◌||◌, nat_lt, IsTrue, IsFalse, Bool, List, [], ◌∷◌, length, take, filter, get_or}
+use Rattle.std.specs.Prelude.{ℕ, zero, suc, ◌≡◌, ◌+◌, ◌*◌, ◌^◌, ◌<◌, ◌≤◌, ◌&&◌, ◌||◌, nat_lt}
+use Rattle.std.specs.Prelude.{IsTrue, IsFalse, Bool, List, [], ◌∷◌, length, take, filter, get_or}
 use Rattle.lexical_util.specs.Ascii.{ByteSet}
 use Rattle.lexical_util.specs.Digits.{value}
 use Rattle.lexical_util.specs.Record.{Record}
@@ -54,9 +55,10 @@ pub record IsReadTo (r : Record) (text : List ℕ) (i : ℕ) : Type 0 where
   pub read : (k : ℕ) → k < i → IsTrue (is_read r text k)
   pub fits : number_of r (take i text) < 2 ^ 64
 
--- why a text writes no number: the first byte that is no digit and may not stand there, or the first at which the number is too large
+-- why a text writes no number: the first byte that may not stand there, or the first at which the number is too large
 abbrev pub IsRefusal : Record → List ℕ → Error → Type 0
 IsRefusal r text (errors.InvalidDigit i) = IsReadTo r text i × IsFalse (is_read r text i)
-IsRefusal r text (errors.Overflow i) = IsReadTo r text i × IsTrue (is_read r text i) × (2 ^ 64 ≤ number_of r (take (i + 1) text))
+IsRefusal r text (errors.Overflow i) =
+    IsReadTo r text i × IsTrue (is_read r text i) × (2 ^ 64 ≤ number_of r (take (i + 1) text))
 IsRefusal r text (errors.Empty i) = (i ≡ 0) × (length text ≡ 0)
 IsRefusal r text _ = ⊥

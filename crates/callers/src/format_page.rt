@@ -5,210 +5,244 @@ use lexical_util::edits::Edit::{
     BasePrefix, BaseSuffix, DigitSeparator, ExponentBase, ExponentRadix, Flag, MantissaRadix,
 };
 use lexical_util::edits::FlagSetter::*;
-use lexical_util::edits::edit_word;
+use lexical_util::edits::{Edit, FlagSetter, apply, edit_word};
 use lexical_util::error::Error;
-use lexical_util::format::{NonZeroU8, STANDARD, format_error};
+use lexical_util::format::{
+    NonZeroU8, NumberFormatBuilder, SPECIAL_DIGIT_SEPARATOR, STANDARD, format_error,
+};
 use std::test::Fail;
 
 #[test]
 fn each_flag_has_its_bit_name_and_default(rt: HostRuntime) {
-    let rows = [
-        (0, "required_integer_digits", RequiredIntegerDigits, false),
-        (1, "required_fraction_digits", RequiredFractionDigits, false),
-        (2, "required_exponent_digits", RequiredExponentDigits, true),
-        (3, "required_mantissa_digits", RequiredMantissaDigits, true),
+    let rows: [(u32, &[u8], FlagSetter, bool); 31] = [
+        (0, b"required_integer_digits", RequiredIntegerDigits, false),
+        (
+            1,
+            b"required_fraction_digits",
+            RequiredFractionDigits,
+            false,
+        ),
+        (2, b"required_exponent_digits", RequiredExponentDigits, true),
+        (3, b"required_mantissa_digits", RequiredMantissaDigits, true),
         (
             4,
-            "no_positive_mantissa_sign",
+            b"no_positive_mantissa_sign",
             NoPositiveMantissaSign,
             false,
         ),
-        (5, "required_mantissa_sign", RequiredMantissaSign, false),
-        (6, "no_exponent_notation", NoExponentNotation, false),
+        (5, b"required_mantissa_sign", RequiredMantissaSign, false),
+        (6, b"no_exponent_notation", NoExponentNotation, false),
         (
             7,
-            "no_positive_exponent_sign",
+            b"no_positive_exponent_sign",
             NoPositiveExponentSign,
             false,
         ),
-        (8, "required_exponent_sign", RequiredExponentSign, false),
+        (8, b"required_exponent_sign", RequiredExponentSign, false),
         (
             9,
-            "no_exponent_without_fraction",
+            b"no_exponent_without_fraction",
             NoExponentWithoutFraction,
             false,
         ),
-        (10, "no_special", NoSpecial, false),
-        (11, "case_sensitive_special", CaseSensitiveSpecial, false),
-        (12, "no_integer_leading_zeros", NoIntegerLeadingZeros, false),
-        (13, "no_float_leading_zeros", NoFloatLeadingZeros, false),
+        (10, b"no_special", NoSpecial, false),
+        (11, b"case_sensitive_special", CaseSensitiveSpecial, false),
+        (
+            12,
+            b"no_integer_leading_zeros",
+            NoIntegerLeadingZeros,
+            false,
+        ),
+        (13, b"no_float_leading_zeros", NoFloatLeadingZeros, false),
         (
             14,
-            "required_exponent_notation",
+            b"required_exponent_notation",
             RequiredExponentNotation,
             false,
         ),
-        (15, "case_sensitive_exponent", CaseSensitiveExponent, false),
+        (15, b"case_sensitive_exponent", CaseSensitiveExponent, false),
         (
             16,
-            "case_sensitive_base_prefix",
+            b"case_sensitive_base_prefix",
             CaseSensitiveBasePrefix,
             false,
         ),
         (
             17,
-            "case_sensitive_base_suffix",
+            b"case_sensitive_base_suffix",
             CaseSensitiveBaseSuffix,
             false,
         ),
         (
             32,
-            "integer_internal_digit_separator",
+            b"integer_internal_digit_separator",
             IntegerInternalDigitSeparator,
             false,
         ),
         (
             33,
-            "fraction_internal_digit_separator",
+            b"fraction_internal_digit_separator",
             FractionInternalDigitSeparator,
             false,
         ),
         (
             34,
-            "exponent_internal_digit_separator",
+            b"exponent_internal_digit_separator",
             ExponentInternalDigitSeparator,
             false,
         ),
         (
             35,
-            "integer_leading_digit_separator",
+            b"integer_leading_digit_separator",
             IntegerLeadingDigitSeparator,
             false,
         ),
         (
             36,
-            "fraction_leading_digit_separator",
+            b"fraction_leading_digit_separator",
             FractionLeadingDigitSeparator,
             false,
         ),
         (
             37,
-            "exponent_leading_digit_separator",
+            b"exponent_leading_digit_separator",
             ExponentLeadingDigitSeparator,
             false,
         ),
         (
             38,
-            "integer_trailing_digit_separator",
+            b"integer_trailing_digit_separator",
             IntegerTrailingDigitSeparator,
             false,
         ),
         (
             39,
-            "fraction_trailing_digit_separator",
+            b"fraction_trailing_digit_separator",
             FractionTrailingDigitSeparator,
             false,
         ),
         (
             40,
-            "exponent_trailing_digit_separator",
+            b"exponent_trailing_digit_separator",
             ExponentTrailingDigitSeparator,
             false,
         ),
         (
             41,
-            "integer_consecutive_digit_separator",
+            b"integer_consecutive_digit_separator",
             IntegerConsecutiveDigitSeparator,
             false,
         ),
         (
             42,
-            "fraction_consecutive_digit_separator",
+            b"fraction_consecutive_digit_separator",
             FractionConsecutiveDigitSeparator,
             false,
         ),
         (
             43,
-            "exponent_consecutive_digit_separator",
+            b"exponent_consecutive_digit_separator",
             ExponentConsecutiveDigitSeparator,
             false,
         ),
-        (44, "special_digit_separator", SpecialDigitSeparator, false),
+        (44, b"special_digit_separator", SpecialDigitSeparator, false),
     ];
     for (bit, name, setter, default) in rows {
-        let mask: u128 = 1 << bit;
-        assert_eq!(rt; setter_name(setter), name);
-        assert_eq!(rt; edit_word(0, &[Flag(setter, true)]), mask, "{name}");
-        assert_eq!(rt; STANDARD & mask != 0, default, "{name}");
+        let mask = 1u128.wrapping_shl(bit);
+        assert!(rt; setter_name(setter).as_bytes() == name, "{bit}");
+        assert_eq!(rt; edit_word(0, &[Flag(setter, true)]), mask, "{bit}");
+        assert_eq!(rt; STANDARD & mask != 0, default, "{bit}");
     }
 }
 
 #[test]
 fn each_group_sets_its_flags(rt: HostRuntime) {
-    let rows = [
-        ("required_digits", RequiredDigits, 0xF),
+    let rows: [(&[u8], FlagSetter, u128); 9] = [
+        (b"required_digits", RequiredDigits, 0xF),
         (
-            "internal_digit_separator",
+            b"internal_digit_separator",
             InternalDigitSeparator,
             0x700000000,
         ),
         (
-            "leading_digit_separator",
+            b"leading_digit_separator",
             LeadingDigitSeparator,
             0x3800000000,
         ),
         (
-            "trailing_digit_separator",
+            b"trailing_digit_separator",
             TrailingDigitSeparator,
             0x1C000000000,
         ),
         (
-            "consecutive_digit_separator",
+            b"consecutive_digit_separator",
             ConsecutiveDigitSeparator,
             0xE0000000000,
         ),
-        ("digit_separator_flags", DigitSeparatorFlags, 0x1FFF00000000),
         (
-            "integer_digit_separator_flags",
+            b"digit_separator_flags",
+            DigitSeparatorFlags,
+            0x1FFF00000000,
+        ),
+        (
+            b"integer_digit_separator_flags",
             IntegerDigitSeparatorFlags,
             0x24900000000,
         ),
         (
-            "fraction_digit_separator_flags",
+            b"fraction_digit_separator_flags",
             FractionDigitSeparatorFlags,
             0x49200000000,
         ),
         (
-            "exponent_digit_separator_flags",
+            b"exponent_digit_separator_flags",
             ExponentDigitSeparatorFlags,
             0x92400000000,
         ),
     ];
     for (name, setter, mask) in rows {
-        assert_eq!(rt; setter_name(setter), name);
-        assert_eq!(rt; edit_word(0, &[Flag(setter, true)]), mask, "{name}");
+        assert!(rt; setter_name(setter).as_bytes() == name, "{mask}");
+        assert_eq!(rt; edit_word(0, &[Flag(setter, true)]), mask, "{mask}");
     }
 }
 
 #[test]
 fn each_byte_has_its_bits_name_and_default(rt: HostRuntime) -> Result<(), Fail> {
-    let all = NonZeroU8::new(255);
-    let rows = [
-        (64, "digit_separator", DigitSeparator(all), 0),
-        (88, "base_prefix", BasePrefix(all), 0),
-        (96, "base_suffix", BaseSuffix(all), 0),
-        (104, "mantissa_radix", MantissaRadix(255), 10),
-        (112, "exponent_base", ExponentBase(all), 0),
-        (120, "exponent_radix", ExponentRadix(all), 0),
+    let rows: [(u32, &[u8], Edit, u128); 6] = [
+        (
+            64,
+            b"digit_separator",
+            DigitSeparator(NonZeroU8::new(255)),
+            0,
+        ),
+        (88, b"base_prefix", BasePrefix(NonZeroU8::new(255)), 0),
+        (96, b"base_suffix", BaseSuffix(NonZeroU8::new(255)), 0),
+        (104, b"mantissa_radix", MantissaRadix(255), 10),
+        (112, b"exponent_base", ExponentBase(NonZeroU8::new(255)), 0),
+        (
+            120,
+            b"exponent_radix",
+            ExponentRadix(NonZeroU8::new(255)),
+            0,
+        ),
     ];
     for (shift, name, edit, default) in rows {
         // The separator is dropped without a flag.
-        let word = edit_word(0, &[Flag(SpecialDigitSeparator, true), edit]);
-        assert_eq!(rt; word ^ 1 << 44, 255 << shift, "{name}");
-        assert_eq!(rt; STANDARD >> shift & 255, default, "{name}");
+        let builder = NumberFormatBuilder::rebuild(SPECIAL_DIGIT_SEPARATOR);
+        let word = apply(builder, edit).build_unchecked();
+        assert_eq!(rt;
+            word ^ SPECIAL_DIGIT_SEPARATOR,
+            255u128.wrapping_shl(shift),
+            "{shift}"
+        );
+        assert_eq!(rt; STANDARD.wrapping_shr(shift) & 255, default, "{shift}");
         let mut call = Vec::new(rt.alloc());
         write_call(edit, &mut call)?;
-        assert!(rt; call[1..].starts_with(name.as_bytes()), "{name}");
+        let is_named = match call.as_slice().strip_prefix(b".") {
+            Some(rest) => rest.starts_with(name),
+            None => false,
+        };
+        assert!(rt; is_named, "{shift}");
     }
     Ok(())
 }
@@ -299,8 +333,8 @@ fn each_rule_has_its_error_and_a_word_of_which_no_bit_can_be_left_out(rt: HostRu
     ];
     for (rule, error, word) in rows {
         assert_eq!(rt; format_error(word), error, "{rule}");
-        for bit in 0..128 {
-            let mask: u128 = 1 << bit;
+        for bit in 0..128u32 {
+            let mask = 1u128.wrapping_shl(bit);
             if word & mask != 0 {
                 assert_ne!(rt; format_error(word ^ mask), error, "{rule} {bit}");
             }

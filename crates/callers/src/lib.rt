@@ -1,4 +1,8 @@
-//! Callers of the library, one for each kind of user.
+//! Callers of `lexical_util`, one for each kind of user, each proved from its public contracts.
+//!
+//! [`roles`] tells what a byte stands for in a number: read it first. [`keep`] says which word to keep
+//! for a stored one, [`read`] reads whole numbers, and [`source`] writes a word as Rust code.
+//! docs/CALLING.md explains them.
 #![tactic(auto)]
 
 #[cfg(test)]

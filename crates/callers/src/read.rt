@@ -6,7 +6,8 @@ ghost use Rattle.std.specs.Result.{OkIff};
 ghost use Rattle.lexical_util.specs.Digits.{value};
 ghost use Rattle.lexical_util.specs.Record.{raw};
 ghost use Rattle.lexical_util.specs.Rules.{Lawful, IsErrorOf};
-ghost use Rattle.callers.specs.Reading.{byte_at, byte_before, is_digit, is_neighbour, is_skipped, number_of, IsNumeral, IsRefusal};
+ghost use Rattle.callers.specs.Reading.{byte_at, byte_before, is_digit, is_neighbour, is_skipped};
+ghost use Rattle.callers.specs.Reading.{number_of, IsNumeral, IsRefusal};
 
 use crate::roles::is_separator;
 use lexical_util::digit::char_to_digit;
@@ -49,7 +50,8 @@ pub fn read_digits(format: u128, text: &[u8]) -> Result<u64, Error>
 /// of the first rule which `format` breaks, if there is one.
 pub fn read_checked(format: u128, text: &[u8]) -> Result<u64, Error>
     ensures number { OkIff result (Lawful format × IsNumeral (raw format) text.now) (number_of (raw format) text.now) }
-    ensures refusal { IfErr result (λ error. IsErrorOf format error ⊎ (Lawful format × IsRefusal (raw format) text.now error)) }
+    ensures refusal { IfErr result (λ error.
+        IsErrorOf format error ⊎ (Lawful format × IsRefusal (raw format) text.now error)) }
 {
     match format_error(format) {
         Error::Success => read_digits(format, text),

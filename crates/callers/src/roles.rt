@@ -2,7 +2,7 @@
 
 ghost use Rattle.std.specs.Prelude.{◌≡◌, ◌↔◌, ◌⊎◌, IsTrue, IsOk, IfOk, IfErr};
 ghost use Rattle.lexical_util.specs.Record.{raw};
-ghost use Rattle.lexical_util.specs.Roles.{cased, digits, exponent as exponent_set, point, prefix, separator, signs, suffix};
+ghost use Rattle.lexical_util.specs.Roles.{cased, exponent as exponent_set, prefix, separator, signs, suffix};
 ghost use Rattle.lexical_util.specs.Rules.{Lawful, IsErrorOf};
 ghost use Rattle.lexical_util.specs.Options.{AreAccepted};
 ghost use Rattle.callers.specs.Playing.{IsRoleOf};
