@@ -30,7 +30,7 @@ def rows(tests):
         yield f"| {bit} | `{name}` | {default} |"
     for name, mask in re.findall(r'\(b"(\w+)", \w+, (0x\w+)\)', tests):
         yield f"| `{name}` | {flag_text(int(mask, 16))} |"
-    for shift, name, default in re.findall(r'\((\d+), b"(\w+)", \w+\([\w:()]+\), (\d+)\)', tests):
+    for shift, name, default in re.findall(r'\((\d+), b"(\w+)", \d, (\d+)\)', tests):
         yield f"| {shift} to {int(shift) + 7} | `{name}` | {default} |"
     for rule, error, word in re.findall(r"\((\d+), Error::(\w+), (\w+)\)", tests):
         yield f"| {rule} | .. | `{error}` | `{word}` |"

@@ -1,15 +1,11 @@
 //! The tables of docs/FORMAT.md, row by row. docs/check.py compares them with the page.
 
-use crate::source::{setter_name, write_call};
-use lexical_util::edits::Edit::{
-    BasePrefix, BaseSuffix, DigitSeparator, ExponentBase, ExponentRadix, Flag, MantissaRadix,
-};
+use crate::source::{setter_name, write_source};
+use lexical_util::edits::Edit::{DigitSeparator, Flag, MantissaRadix};
 use lexical_util::edits::FlagSetter::*;
-use lexical_util::edits::{Edit, FlagSetter, apply, edit_word};
+use lexical_util::edits::{FlagSetter, edit_word};
 use lexical_util::error::Error;
-use lexical_util::format::{
-    NonZeroU8, NumberFormatBuilder, SPECIAL_DIGIT_SEPARATOR, STANDARD, format_error,
-};
+use lexical_util::format::{NonZeroU8, STANDARD, format_error};
 use std::test::Fail;
 
 #[test]
@@ -206,44 +202,35 @@ fn each_group_sets_its_flags(rt: HostRuntime) {
     }
 }
 
+// Each byte has its place in the order as its value, and the separator its flag.
+const BYTES: u128 = 0x06050403_02000001_00001000_0000000C;
+
 #[test]
-fn each_byte_has_its_bits_name_and_default(rt: HostRuntime) -> Result<(), Fail> {
-    let rows: [(u32, &[u8], Edit, u128); 6] = [
-        (
-            64,
-            b"digit_separator",
-            DigitSeparator(NonZeroU8::new(255)),
-            0,
-        ),
-        (88, b"base_prefix", BasePrefix(NonZeroU8::new(255)), 0),
-        (96, b"base_suffix", BaseSuffix(NonZeroU8::new(255)), 0),
-        (104, b"mantissa_radix", MantissaRadix(255), 10),
-        (112, b"exponent_base", ExponentBase(NonZeroU8::new(255)), 0),
-        (
-            120,
-            b"exponent_radix",
-            ExponentRadix(NonZeroU8::new(255)),
-            0,
-        ),
+fn each_byte_has_its_bits_and_default(rt: HostRuntime) {
+    let rows: [(u32, &[u8], u128, u128); 6] = [
+        (64, b"digit_separator", 1, 0),
+        (88, b"base_prefix", 2, 0),
+        (96, b"base_suffix", 3, 0),
+        (104, b"mantissa_radix", 4, 10),
+        (112, b"exponent_base", 5, 0),
+        (120, b"exponent_radix", 6, 0),
     ];
-    for (shift, name, edit, default) in rows {
-        // The separator is dropped without a flag.
-        let builder = NumberFormatBuilder::rebuild(SPECIAL_DIGIT_SEPARATOR);
-        let word = apply(builder, edit).build_unchecked();
-        assert_eq!(rt;
-            word ^ SPECIAL_DIGIT_SEPARATOR,
-            255u128.wrapping_shl(shift),
-            "{shift}"
-        );
+    for (shift, _, value, default) in rows {
+        assert_eq!(rt; BYTES.wrapping_shr(shift) & 255, value, "{shift}");
         assert_eq!(rt; STANDARD.wrapping_shr(shift) & 255, default, "{shift}");
-        let mut call = Vec::new(rt.alloc());
-        write_call(edit, &mut call)?;
-        let is_named = match call.as_slice().strip_prefix(b".") {
-            Some(rest) => rest.starts_with(name),
-            None => false,
-        };
-        assert!(rt; is_named, "{shift}");
     }
+}
+
+#[test]
+fn each_byte_has_the_setter_of_its_name(rt: HostRuntime) -> Result<(), Fail> {
+    let mut text = Vec::new(rt.alloc());
+    write_source(BYTES, &mut text)?;
+    let expression = "NumberFormatBuilder::new().special_digit_separator(true)\
+                      .digit_separator(NonZeroU8::new(1)).base_prefix(NonZeroU8::new(2))\
+                      .base_suffix(NonZeroU8::new(3)).mantissa_radix(4)\
+                      .exponent_base(NonZeroU8::new(5)).exponent_radix(NonZeroU8::new(6))\
+                      .build_unchecked()";
+    assert_eq!(rt; text.as_slice(), expression.as_bytes());
     Ok(())
 }
 

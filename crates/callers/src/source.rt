@@ -45,7 +45,7 @@ pub fn called(word: u128) -> u128
 }
 
 // Writes the setter call that an edit stands for.
-pub(crate) fn write_call<W: Write>(edit: Edit, out: &mut W) -> io::Result<()>
+fn write_call<W: Write>(edit: Edit, out: &mut W) -> io::Result<()>
     ensures { OnOk result (Appends (W.contents out.old) (W.contents out.new) (call_text edit)) }
 {
     match edit {
