@@ -1,6 +1,6 @@
 //! The tables of docs/FORMAT.md, row by row. docs/check.py compares them with the page.
 
-use crate::source::{setter_name, write_source};
+use crate::source::write_source;
 use lexical_util::edits::Edit::{DigitSeparator, Flag, MantissaRadix};
 use lexical_util::edits::FlagSetter::*;
 use lexical_util::edits::{FlagSetter, edit_word};
@@ -145,7 +145,7 @@ fn each_flag_has_its_bit_name_and_default(rt: HostRuntime) {
     ];
     for (bit, name, setter, default) in rows {
         let mask = 1u128.wrapping_shl(bit);
-        assert!(rt; setter_name(setter).as_bytes() == name, "{bit}");
+        assert!(rt; setter.name().as_bytes() == name, "{bit}");
         assert_eq!(rt; edit_word(0, &[Flag(setter, true)]), mask, "{bit}");
         assert_eq!(rt; STANDARD & mask != 0, default, "{bit}");
     }
@@ -197,7 +197,7 @@ fn each_group_sets_its_flags(rt: HostRuntime) {
         ),
     ];
     for (name, setter, mask) in rows {
-        assert!(rt; setter_name(setter).as_bytes() == name, "{mask}");
+        assert!(rt; setter.name().as_bytes() == name, "{mask}");
         assert_eq!(rt; edit_word(0, &[Flag(setter, true)]), mask, "{mask}");
     }
 }

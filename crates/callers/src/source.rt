@@ -6,7 +6,7 @@ ghost use Rattle.lexical_util.specs.Record.{raw, pack, IsBuilt};
 ghost use Rattle.lexical_util.specs.Writes.{Write as FieldWrite, IsLegal, new_record, after};
 ghost use Rattle.lexical_util.specs.Edits.{all_writes};
 ghost use Rattle.lexical_util.specs.Listing.{changing};
-ghost use Rattle.callers.specs.Source.{setter_name, truth_text, option_text, call, call_text, source_text};
+ghost use Rattle.callers.specs.Source.{truth_text, option_text, call, call_text, source_text};
 
 use lexical_util::edits::{Edit, FlagSetter, apply_all, edits_of};
 use lexical_util::format::{NumberFormatBuilder, OptionU8};
@@ -49,8 +49,8 @@ fn write_call<W: Write>(edit: Edit, out: &mut W) -> io::Result<()>
     ensures { OnOk result (Appends (W.contents out.old) (W.contents out.new) (call_text edit)) }
 {
     match edit {
-        Edit::Flag(setter, true) => write!(out, ".{}(true)", setter_name(setter)),
-        Edit::Flag(setter, false) => write!(out, ".{}(false)", setter_name(setter)),
+        Edit::Flag(setter, true) => write!(out, ".{}(true)", setter.name()),
+        Edit::Flag(setter, false) => write!(out, ".{}(false)", setter.name()),
         Edit::DigitSeparator(byte) => write_option("digit_separator", byte, out),
         Edit::BasePrefix(byte) => write_option("base_prefix", byte, out),
         Edit::BaseSuffix(byte) => write_option("base_suffix", byte, out),
@@ -68,54 +68,6 @@ fn write_option<W: Write>(name: &str, byte: OptionU8, out: &mut W) -> io::Result
     match byte {
         Some(byte) => write!(out, ".{name}(NonZeroU8::new({}))", byte.get()),
         None => write!(out, ".{name}(None)"),
-    }
-}
-
-// The name of a setter of flags.
-pub(crate) fn setter_name(setter: FlagSetter) -> &'static str
-    ensures { result.now ≡ setter_name setter }
-{
-    match setter {
-        FlagSetter::RequiredIntegerDigits => "required_integer_digits",
-        FlagSetter::RequiredFractionDigits => "required_fraction_digits",
-        FlagSetter::RequiredExponentDigits => "required_exponent_digits",
-        FlagSetter::RequiredMantissaDigits => "required_mantissa_digits",
-        FlagSetter::NoPositiveMantissaSign => "no_positive_mantissa_sign",
-        FlagSetter::RequiredMantissaSign => "required_mantissa_sign",
-        FlagSetter::NoExponentNotation => "no_exponent_notation",
-        FlagSetter::NoPositiveExponentSign => "no_positive_exponent_sign",
-        FlagSetter::RequiredExponentSign => "required_exponent_sign",
-        FlagSetter::NoExponentWithoutFraction => "no_exponent_without_fraction",
-        FlagSetter::NoSpecial => "no_special",
-        FlagSetter::CaseSensitiveSpecial => "case_sensitive_special",
-        FlagSetter::NoIntegerLeadingZeros => "no_integer_leading_zeros",
-        FlagSetter::NoFloatLeadingZeros => "no_float_leading_zeros",
-        FlagSetter::RequiredExponentNotation => "required_exponent_notation",
-        FlagSetter::CaseSensitiveExponent => "case_sensitive_exponent",
-        FlagSetter::CaseSensitiveBasePrefix => "case_sensitive_base_prefix",
-        FlagSetter::CaseSensitiveBaseSuffix => "case_sensitive_base_suffix",
-        FlagSetter::IntegerInternalDigitSeparator => "integer_internal_digit_separator",
-        FlagSetter::FractionInternalDigitSeparator => "fraction_internal_digit_separator",
-        FlagSetter::ExponentInternalDigitSeparator => "exponent_internal_digit_separator",
-        FlagSetter::IntegerLeadingDigitSeparator => "integer_leading_digit_separator",
-        FlagSetter::FractionLeadingDigitSeparator => "fraction_leading_digit_separator",
-        FlagSetter::ExponentLeadingDigitSeparator => "exponent_leading_digit_separator",
-        FlagSetter::IntegerTrailingDigitSeparator => "integer_trailing_digit_separator",
-        FlagSetter::FractionTrailingDigitSeparator => "fraction_trailing_digit_separator",
-        FlagSetter::ExponentTrailingDigitSeparator => "exponent_trailing_digit_separator",
-        FlagSetter::IntegerConsecutiveDigitSeparator => "integer_consecutive_digit_separator",
-        FlagSetter::FractionConsecutiveDigitSeparator => "fraction_consecutive_digit_separator",
-        FlagSetter::ExponentConsecutiveDigitSeparator => "exponent_consecutive_digit_separator",
-        FlagSetter::SpecialDigitSeparator => "special_digit_separator",
-        FlagSetter::RequiredDigits => "required_digits",
-        FlagSetter::InternalDigitSeparator => "internal_digit_separator",
-        FlagSetter::LeadingDigitSeparator => "leading_digit_separator",
-        FlagSetter::TrailingDigitSeparator => "trailing_digit_separator",
-        FlagSetter::ConsecutiveDigitSeparator => "consecutive_digit_separator",
-        FlagSetter::DigitSeparatorFlags => "digit_separator_flags",
-        FlagSetter::IntegerDigitSeparatorFlags => "integer_digit_separator_flags",
-        FlagSetter::FractionDigitSeparatorFlags => "fraction_digit_separator_flags",
-        FlagSetter::ExponentDigitSeparatorFlags => "exponent_digit_separator_flags",
     }
 }
 

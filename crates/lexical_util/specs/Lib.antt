@@ -1,4 +1,5 @@
 pub mod Edits
+pub mod SetterNames
 pub mod Normal
 pub mod Groups
 pub mod Listing

@@ -1,6 +1,6 @@
 //! Edits of a format word: lists of setter calls, and the normal form of a word.
 
-ghost use Rattle.std.specs.Prelude.{◌≡◌, ◌≢◌, ℕ, IfErr, ◌<◌, ◌^◌, ◌↔◌, ◌++◌, IsTrue, List, All};
+ghost use Rattle.std.specs.Prelude.{◌≡◌, ◌≢◌, ℕ, IfErr, ◌<◌, ◌^◌, ◌↔◌, ◌++◌, IsTrue, Some, List, All};
 ghost use Rattle.std.specs.Result.{OkIff};
 ghost use Rattle.lexical_base.specs.declared.error.Error.{Error};
 ghost use Rattle.lexical_flags.specs.Layout.{Flag, IsClean};
@@ -11,47 +11,61 @@ ghost use Rattle.lexical_util.specs.Edits.{flags_of, writes_of, all_writes, edit
 ghost use Rattle.lexical_util.specs.Normal.{normal_form_of, SameFormat, IsNormal};
 ghost use Rattle.lexical_util.specs.Compose.{Composes, AlwaysCompose};
 ghost use Rattle.lexical_util.specs.Groups.{any_flag, bits_of};
+ghost use Rattle.lexical_util.specs.SetterNames.{setter_name};
 
 use lexical_base::error::Error;
 use lexical_builder::format_builder::{NumberFormatBuilder, OptionU8};
 
-// Calls `$rows!` with `$args` and a row for each flag: its variant of `FlagSetter`, and the name
-// that its setter and its getter have.
-macro_rules! with_flags {
+// Calls `$rows!` with `$args`, a row for each flag, and a row for each group of flags. A row has the
+// variant of `FlagSetter`, and the name that the setter and, for a flag, the getter have.
+macro_rules! with_setters {
     ($rows:ident $args:tt) => {
         $rows! {
             $args
-            RequiredIntegerDigits required_integer_digits;
-            RequiredFractionDigits required_fraction_digits;
-            RequiredExponentDigits required_exponent_digits;
-            RequiredMantissaDigits required_mantissa_digits;
-            NoPositiveMantissaSign no_positive_mantissa_sign;
-            RequiredMantissaSign required_mantissa_sign;
-            NoExponentNotation no_exponent_notation;
-            NoPositiveExponentSign no_positive_exponent_sign;
-            RequiredExponentSign required_exponent_sign;
-            NoExponentWithoutFraction no_exponent_without_fraction;
-            NoSpecial no_special;
-            CaseSensitiveSpecial case_sensitive_special;
-            NoIntegerLeadingZeros no_integer_leading_zeros;
-            NoFloatLeadingZeros no_float_leading_zeros;
-            RequiredExponentNotation required_exponent_notation;
-            CaseSensitiveExponent case_sensitive_exponent;
-            CaseSensitiveBasePrefix case_sensitive_base_prefix;
-            CaseSensitiveBaseSuffix case_sensitive_base_suffix;
-            IntegerInternalDigitSeparator integer_internal_digit_separator;
-            FractionInternalDigitSeparator fraction_internal_digit_separator;
-            ExponentInternalDigitSeparator exponent_internal_digit_separator;
-            IntegerLeadingDigitSeparator integer_leading_digit_separator;
-            FractionLeadingDigitSeparator fraction_leading_digit_separator;
-            ExponentLeadingDigitSeparator exponent_leading_digit_separator;
-            IntegerTrailingDigitSeparator integer_trailing_digit_separator;
-            FractionTrailingDigitSeparator fraction_trailing_digit_separator;
-            ExponentTrailingDigitSeparator exponent_trailing_digit_separator;
-            IntegerConsecutiveDigitSeparator integer_consecutive_digit_separator;
-            FractionConsecutiveDigitSeparator fraction_consecutive_digit_separator;
-            ExponentConsecutiveDigitSeparator exponent_consecutive_digit_separator;
-            SpecialDigitSeparator special_digit_separator;
+            {
+                RequiredIntegerDigits required_integer_digits;
+                RequiredFractionDigits required_fraction_digits;
+                RequiredExponentDigits required_exponent_digits;
+                RequiredMantissaDigits required_mantissa_digits;
+                NoPositiveMantissaSign no_positive_mantissa_sign;
+                RequiredMantissaSign required_mantissa_sign;
+                NoExponentNotation no_exponent_notation;
+                NoPositiveExponentSign no_positive_exponent_sign;
+                RequiredExponentSign required_exponent_sign;
+                NoExponentWithoutFraction no_exponent_without_fraction;
+                NoSpecial no_special;
+                CaseSensitiveSpecial case_sensitive_special;
+                NoIntegerLeadingZeros no_integer_leading_zeros;
+                NoFloatLeadingZeros no_float_leading_zeros;
+                RequiredExponentNotation required_exponent_notation;
+                CaseSensitiveExponent case_sensitive_exponent;
+                CaseSensitiveBasePrefix case_sensitive_base_prefix;
+                CaseSensitiveBaseSuffix case_sensitive_base_suffix;
+                IntegerInternalDigitSeparator integer_internal_digit_separator;
+                FractionInternalDigitSeparator fraction_internal_digit_separator;
+                ExponentInternalDigitSeparator exponent_internal_digit_separator;
+                IntegerLeadingDigitSeparator integer_leading_digit_separator;
+                FractionLeadingDigitSeparator fraction_leading_digit_separator;
+                ExponentLeadingDigitSeparator exponent_leading_digit_separator;
+                IntegerTrailingDigitSeparator integer_trailing_digit_separator;
+                FractionTrailingDigitSeparator fraction_trailing_digit_separator;
+                ExponentTrailingDigitSeparator exponent_trailing_digit_separator;
+                IntegerConsecutiveDigitSeparator integer_consecutive_digit_separator;
+                FractionConsecutiveDigitSeparator fraction_consecutive_digit_separator;
+                ExponentConsecutiveDigitSeparator exponent_consecutive_digit_separator;
+                SpecialDigitSeparator special_digit_separator;
+            }
+            {
+                RequiredDigits required_digits;
+                InternalDigitSeparator internal_digit_separator;
+                LeadingDigitSeparator leading_digit_separator;
+                TrailingDigitSeparator trailing_digit_separator;
+                ConsecutiveDigitSeparator consecutive_digit_separator;
+                DigitSeparatorFlags digit_separator_flags;
+                IntegerDigitSeparatorFlags integer_digit_separator_flags;
+                FractionDigitSeparatorFlags fraction_digit_separator_flags;
+                ExponentDigitSeparatorFlags exponent_digit_separator_flags;
+            }
         }
     };
 }
@@ -127,6 +141,39 @@ pub enum Edit {
     ExponentRadix(OptionU8),
 }
 
+impl FlagSetter {
+    /// Returns the name of the setter: the variant in snake case.
+    pub fn name(self) -> &'static str
+        ensures { result.now ≡ setter_name self }
+    {
+        macro_rules! name_of {
+            (($setter:ident) { $($Flag:ident $flag:ident;)* } { $($Group:ident $group:ident;)* }) => {
+                match $setter {
+                    $(FlagSetter::$Flag => stringify!($flag),)*
+                    $(FlagSetter::$Group => stringify!($group),)*
+                }
+            };
+        }
+        with_setters!(name_of(self))
+    }
+
+    /// Returns the setter of this name, or `None` if no setter of flags has it.
+    pub fn from_name(name: &str) -> Option<FlagSetter>
+        ensures { (setter : FlagSetter) → (result ≡ Some setter) ↔ (setter_name setter ≡ name.now) }
+    {
+        macro_rules! setter_of {
+            (($name:ident) { $($Flag:ident $flag:ident;)* } { $($Group:ident $group:ident;)* }) => {
+                match $name {
+                    $(stringify!($flag) => Some(FlagSetter::$Flag),)*
+                    $(stringify!($group) => Some(FlagSetter::$Group),)*
+                    _ => None,
+                }
+            };
+        }
+        with_setters!(setter_of(name))
+    }
+}
+
 /// Applies one edit: calls the setter that it names.
 #[inline(always)]
 pub fn apply(builder: NumberFormatBuilder, edit: Edit) -> NumberFormatBuilder
@@ -151,22 +198,15 @@ fn apply_flag(builder: NumberFormatBuilder, setter: FlagSetter, flag: bool) -> N
     ensures { result ≡ after builder (write_flags (flags_of setter) flag) }
 {
     macro_rules! call_setter {
-        (($builder:ident, $setter:ident, $value:ident) $($Variant:ident $name:ident;)*) => {
+        (($builder:ident, $setter:ident, $value:ident)
+            { $($Flag:ident $flag:ident;)* } { $($Group:ident $group:ident;)* }) => {
             match $setter {
-                $(FlagSetter::$Variant => $builder.$name($value),)*
-                FlagSetter::RequiredDigits => $builder.required_digits($value),
-                FlagSetter::InternalDigitSeparator => $builder.internal_digit_separator($value),
-                FlagSetter::LeadingDigitSeparator => $builder.leading_digit_separator($value),
-                FlagSetter::TrailingDigitSeparator => $builder.trailing_digit_separator($value),
-                FlagSetter::ConsecutiveDigitSeparator => $builder.consecutive_digit_separator($value),
-                FlagSetter::DigitSeparatorFlags => $builder.digit_separator_flags($value),
-                FlagSetter::IntegerDigitSeparatorFlags => $builder.integer_digit_separator_flags($value),
-                FlagSetter::FractionDigitSeparatorFlags => $builder.fraction_digit_separator_flags($value),
-                FlagSetter::ExponentDigitSeparatorFlags => $builder.exponent_digit_separator_flags($value),
+                $(FlagSetter::$Flag => $builder.$flag($value),)*
+                $(FlagSetter::$Group => $builder.$group($value),)*
             }
         };
     }
-    with_flags!(call_setter(builder, setter, flag))
+    with_setters!(call_setter(builder, setter, flag))
 }
 
 /// Applies `edits` in order.

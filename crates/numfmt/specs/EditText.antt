@@ -2,54 +2,10 @@
 use Rattle.std.specs.Prelude.{ℕ, ◌≡◌, ◌≤◌, ◌⊎◌, if◌then◌else◌, ◌==◌, Bool, true, false, Option, None, List, codes, bytes_eq}
 use Rattle.std.specs.List.{AllZip, before_first, after_first}
 use Rattle.lexical_util.specs.OptionByte.{byte_option}
-use Rattle.lexical_util.specs.declared.edits.FlagSetter.{FlagSetter}
-use Rattle.lexical_util.specs.declared.edits.FlagSetter.TheVariants as setters
+use Rattle.lexical_util.specs.SetterNames.{setter_name}
 use Rattle.lexical_util.specs.declared.edits.Edit.{Edit}
 use Rattle.lexical_util.specs.declared.edits.Edit.TheVariants as edits
 use Rattle.numfmt.specs.Numeral.{numeral, IsNumeral}
-
--- the name of the setter of a flag or a group
-abbrev pub setter_name : FlagSetter → List ℕ
-setter_name setters.RequiredIntegerDigits = codes "required_integer_digits"
-setter_name setters.RequiredFractionDigits = codes "required_fraction_digits"
-setter_name setters.RequiredExponentDigits = codes "required_exponent_digits"
-setter_name setters.RequiredMantissaDigits = codes "required_mantissa_digits"
-setter_name setters.NoPositiveMantissaSign = codes "no_positive_mantissa_sign"
-setter_name setters.RequiredMantissaSign = codes "required_mantissa_sign"
-setter_name setters.NoExponentNotation = codes "no_exponent_notation"
-setter_name setters.NoPositiveExponentSign = codes "no_positive_exponent_sign"
-setter_name setters.RequiredExponentSign = codes "required_exponent_sign"
-setter_name setters.NoExponentWithoutFraction = codes "no_exponent_without_fraction"
-setter_name setters.NoSpecial = codes "no_special"
-setter_name setters.CaseSensitiveSpecial = codes "case_sensitive_special"
-setter_name setters.NoIntegerLeadingZeros = codes "no_integer_leading_zeros"
-setter_name setters.NoFloatLeadingZeros = codes "no_float_leading_zeros"
-setter_name setters.RequiredExponentNotation = codes "required_exponent_notation"
-setter_name setters.CaseSensitiveExponent = codes "case_sensitive_exponent"
-setter_name setters.CaseSensitiveBasePrefix = codes "case_sensitive_base_prefix"
-setter_name setters.CaseSensitiveBaseSuffix = codes "case_sensitive_base_suffix"
-setter_name setters.IntegerInternalDigitSeparator = codes "integer_internal_digit_separator"
-setter_name setters.FractionInternalDigitSeparator = codes "fraction_internal_digit_separator"
-setter_name setters.ExponentInternalDigitSeparator = codes "exponent_internal_digit_separator"
-setter_name setters.IntegerLeadingDigitSeparator = codes "integer_leading_digit_separator"
-setter_name setters.FractionLeadingDigitSeparator = codes "fraction_leading_digit_separator"
-setter_name setters.ExponentLeadingDigitSeparator = codes "exponent_leading_digit_separator"
-setter_name setters.IntegerTrailingDigitSeparator = codes "integer_trailing_digit_separator"
-setter_name setters.FractionTrailingDigitSeparator = codes "fraction_trailing_digit_separator"
-setter_name setters.ExponentTrailingDigitSeparator = codes "exponent_trailing_digit_separator"
-setter_name setters.IntegerConsecutiveDigitSeparator = codes "integer_consecutive_digit_separator"
-setter_name setters.FractionConsecutiveDigitSeparator = codes "fraction_consecutive_digit_separator"
-setter_name setters.ExponentConsecutiveDigitSeparator = codes "exponent_consecutive_digit_separator"
-setter_name setters.SpecialDigitSeparator = codes "special_digit_separator"
-setter_name setters.RequiredDigits = codes "required_digits"
-setter_name setters.InternalDigitSeparator = codes "internal_digit_separator"
-setter_name setters.LeadingDigitSeparator = codes "leading_digit_separator"
-setter_name setters.TrailingDigitSeparator = codes "trailing_digit_separator"
-setter_name setters.ConsecutiveDigitSeparator = codes "consecutive_digit_separator"
-setter_name setters.DigitSeparatorFlags = codes "digit_separator_flags"
-setter_name setters.IntegerDigitSeparatorFlags = codes "integer_digit_separator_flags"
-setter_name setters.FractionDigitSeparatorFlags = codes "fraction_digit_separator_flags"
-setter_name setters.ExponentDigitSeparatorFlags = codes "exponent_digit_separator_flags"
 
 -- a text that writes a byte: 1 to 3 decimal digits, a number of at most 255
 pub record IsByteText (text : List ℕ) : Type 0 where

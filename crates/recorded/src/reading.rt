@@ -180,7 +180,7 @@ fn read_edits(calls: &[&str], edits: &mut [Edit]) -> Option<()> {
 
 fn setter_call(call: &str) -> Option<Edit> {
     let (name, value) = call.split_once('=')?;
-    if let Some(setter) = flag_setter(name) {
+    if let Some(setter) = FlagSetter::from_name(name) {
         return Some(Edit::Flag(setter, truth(value)?));
     }
     let byte = value.parse().ok()?;
@@ -192,52 +192,6 @@ fn setter_call(call: &str) -> Option<Edit> {
         "radix" => Edit::Radix(byte),
         "exponent_base" => Edit::ExponentBase(NonZeroU8::new(byte)),
         "exponent_radix" => Edit::ExponentRadix(NonZeroU8::new(byte)),
-        _ => return None,
-    })
-}
-
-fn flag_setter(name: &str) -> Option<FlagSetter> {
-    Some(match name {
-        "required_integer_digits" => FlagSetter::RequiredIntegerDigits,
-        "required_fraction_digits" => FlagSetter::RequiredFractionDigits,
-        "required_exponent_digits" => FlagSetter::RequiredExponentDigits,
-        "required_mantissa_digits" => FlagSetter::RequiredMantissaDigits,
-        "no_positive_mantissa_sign" => FlagSetter::NoPositiveMantissaSign,
-        "required_mantissa_sign" => FlagSetter::RequiredMantissaSign,
-        "no_exponent_notation" => FlagSetter::NoExponentNotation,
-        "no_positive_exponent_sign" => FlagSetter::NoPositiveExponentSign,
-        "required_exponent_sign" => FlagSetter::RequiredExponentSign,
-        "no_exponent_without_fraction" => FlagSetter::NoExponentWithoutFraction,
-        "no_special" => FlagSetter::NoSpecial,
-        "case_sensitive_special" => FlagSetter::CaseSensitiveSpecial,
-        "no_integer_leading_zeros" => FlagSetter::NoIntegerLeadingZeros,
-        "no_float_leading_zeros" => FlagSetter::NoFloatLeadingZeros,
-        "required_exponent_notation" => FlagSetter::RequiredExponentNotation,
-        "case_sensitive_exponent" => FlagSetter::CaseSensitiveExponent,
-        "case_sensitive_base_prefix" => FlagSetter::CaseSensitiveBasePrefix,
-        "case_sensitive_base_suffix" => FlagSetter::CaseSensitiveBaseSuffix,
-        "integer_internal_digit_separator" => FlagSetter::IntegerInternalDigitSeparator,
-        "fraction_internal_digit_separator" => FlagSetter::FractionInternalDigitSeparator,
-        "exponent_internal_digit_separator" => FlagSetter::ExponentInternalDigitSeparator,
-        "integer_leading_digit_separator" => FlagSetter::IntegerLeadingDigitSeparator,
-        "fraction_leading_digit_separator" => FlagSetter::FractionLeadingDigitSeparator,
-        "exponent_leading_digit_separator" => FlagSetter::ExponentLeadingDigitSeparator,
-        "integer_trailing_digit_separator" => FlagSetter::IntegerTrailingDigitSeparator,
-        "fraction_trailing_digit_separator" => FlagSetter::FractionTrailingDigitSeparator,
-        "exponent_trailing_digit_separator" => FlagSetter::ExponentTrailingDigitSeparator,
-        "integer_consecutive_digit_separator" => FlagSetter::IntegerConsecutiveDigitSeparator,
-        "fraction_consecutive_digit_separator" => FlagSetter::FractionConsecutiveDigitSeparator,
-        "exponent_consecutive_digit_separator" => FlagSetter::ExponentConsecutiveDigitSeparator,
-        "special_digit_separator" => FlagSetter::SpecialDigitSeparator,
-        "required_digits" => FlagSetter::RequiredDigits,
-        "internal_digit_separator" => FlagSetter::InternalDigitSeparator,
-        "leading_digit_separator" => FlagSetter::LeadingDigitSeparator,
-        "trailing_digit_separator" => FlagSetter::TrailingDigitSeparator,
-        "consecutive_digit_separator" => FlagSetter::ConsecutiveDigitSeparator,
-        "digit_separator_flags" => FlagSetter::DigitSeparatorFlags,
-        "integer_digit_separator_flags" => FlagSetter::IntegerDigitSeparatorFlags,
-        "fraction_digit_separator_flags" => FlagSetter::FractionDigitSeparatorFlags,
-        "exponent_digit_separator_flags" => FlagSetter::ExponentDigitSeparatorFlags,
         _ => return None,
     })
 }

@@ -79,9 +79,10 @@ fn field_edits_of(format: u128) -> [Edit; 37]
     ensures { result ≡ field_edits (raw format) }
 {
     macro_rules! edits_of_fields {
-        (($view:ident, $base:ident, $radix:ident) $($Variant:ident $name:ident;)*) => {
+        (($view:ident, $base:ident, $radix:ident)
+            { $($Flag:ident $flag:ident;)* } $groups:tt) => {
             [
-                $(Edit::Flag(FlagSetter::$Variant, $view.$name()),)*
+                $(Edit::Flag(FlagSetter::$Flag, $view.$flag()),)*
                 Edit::DigitSeparator(NonZeroU8::new($view.digit_separator())),
                 Edit::BasePrefix(NonZeroU8::new($view.base_prefix())),
                 Edit::BaseSuffix(NonZeroU8::new($view.base_suffix())),
@@ -94,7 +95,7 @@ fn field_edits_of(format: u128) -> [Edit; 37]
     let view = NumberFormat::new(format);
     let base = ((format & flags::EXPONENT_BASE) >> flags::EXPONENT_BASE_SHIFT) as u8;
     let radix = ((format & flags::EXPONENT_RADIX) >> flags::EXPONENT_RADIX_SHIFT) as u8;
-    with_flags!(edits_of_fields(view, base, radix))
+    with_setters!(edits_of_fields(view, base, radix))
 }
 
 // Whether an edit changes a new builder.
