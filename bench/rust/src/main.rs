@@ -4,6 +4,7 @@
 //!     driver [--rounds N] [--only TEXT]
 
 mod data;
+mod edits;
 mod measure;
 mod ours;
 #[path = "../../../compare/rust/src/random.rs"]

@@ -1,6 +1,7 @@
 //! The same loops over the Rust crate. What it lacks, as a list of edits or the view of a word that is
 //! known only at run time, is written as a Rust programmer would write it over the crate's calls.
 
+use crate::edits::{edit_word, Edit, FlagSetter};
 use std::cmp::Ordering;
 use std::fmt::Write;
 use std::num::NonZeroU8;
@@ -403,62 +404,10 @@ fn builder_truths(builder: &NumberFormatBuilder) -> u64 {
 
 // EDITS
 
-/// One of sixteen kinds of edits, with its value.
-#[derive(Clone, Copy)]
-enum Edit {
-    RequiredIntegerDigits(bool),
-    NoSpecial(bool),
-    CaseSensitiveBaseSuffix(bool),
-    ExponentTrailingDigitSeparator(bool),
-    SpecialDigitSeparator(bool),
-    RequiredDigits(bool),
-    LeadingDigitSeparator(bool),
-    DigitSeparatorFlags(bool),
-    FractionDigitSeparatorFlags(bool),
-    DigitSeparator(OptionU8),
-    BasePrefix(OptionU8),
-    BaseSuffix(OptionU8),
-    MantissaRadix(u8),
-    Radix(u8),
-    ExponentBase(OptionU8),
-    ExponentRadix(OptionU8),
-}
-
-fn apply(builder: NumberFormatBuilder, edit: Edit) -> NumberFormatBuilder {
-    match edit {
-        Edit::RequiredIntegerDigits(flag) => builder.required_integer_digits(flag),
-        Edit::NoSpecial(flag) => builder.no_special(flag),
-        Edit::CaseSensitiveBaseSuffix(flag) => builder.case_sensitive_base_suffix(flag),
-        Edit::ExponentTrailingDigitSeparator(flag) => {
-            builder.exponent_trailing_digit_separator(flag)
-        }
-        Edit::SpecialDigitSeparator(flag) => builder.special_digit_separator(flag),
-        Edit::RequiredDigits(flag) => builder.required_digits(flag),
-        Edit::LeadingDigitSeparator(flag) => builder.leading_digit_separator(flag),
-        Edit::DigitSeparatorFlags(flag) => builder.digit_separator_flags(flag),
-        Edit::FractionDigitSeparatorFlags(flag) => builder.fraction_digit_separator_flags(flag),
-        Edit::DigitSeparator(byte) => builder.digit_separator(byte),
-        Edit::BasePrefix(byte) => builder.base_prefix(byte),
-        Edit::BaseSuffix(byte) => builder.base_suffix(byte),
-        Edit::MantissaRadix(radix) => builder.mantissa_radix(radix),
-        Edit::Radix(radix) => builder.radix(radix),
-        Edit::ExponentBase(byte) => builder.exponent_base(byte),
-        Edit::ExponentRadix(byte) => builder.exponent_radix(byte),
-    }
-}
-
-fn edit_word(word: u128, edits: &[Edit]) -> u128 {
-    let mut builder = NumberFormatBuilder::rebuild(word);
-    for edit in edits {
-        builder = apply(builder, *edit);
-    }
-    builder.build_unchecked()
-}
-
 pub fn known_edits(cases: &[u64]) -> u64 {
     over(cases, |fold, word, bits| {
         let edits = [
-            Edit::NoSpecial(bits % 2 == 1),
+            Edit::Flag(FlagSetter::NoSpecial, bits % 2 == 1),
             Edit::DigitSeparator(NonZeroU8::new((bits >> 16) as u8)),
             Edit::MantissaRadix((bits >> 24) as u8),
         ];
@@ -478,15 +427,15 @@ fn edit_of(bits: u64) -> Edit {
     let value = (bits >> 8) as u8;
     let byte = NonZeroU8::new(value);
     match bits % 16 {
-        0 => Edit::RequiredIntegerDigits(flag),
-        1 => Edit::NoSpecial(flag),
-        2 => Edit::CaseSensitiveBaseSuffix(flag),
-        3 => Edit::ExponentTrailingDigitSeparator(flag),
-        4 => Edit::SpecialDigitSeparator(flag),
-        5 => Edit::RequiredDigits(flag),
-        6 => Edit::LeadingDigitSeparator(flag),
-        7 => Edit::DigitSeparatorFlags(flag),
-        8 => Edit::FractionDigitSeparatorFlags(flag),
+        0 => Edit::Flag(FlagSetter::RequiredIntegerDigits, flag),
+        1 => Edit::Flag(FlagSetter::NoSpecial, flag),
+        2 => Edit::Flag(FlagSetter::CaseSensitiveBaseSuffix, flag),
+        3 => Edit::Flag(FlagSetter::ExponentTrailingDigitSeparator, flag),
+        4 => Edit::Flag(FlagSetter::SpecialDigitSeparator, flag),
+        5 => Edit::Flag(FlagSetter::RequiredDigits, flag),
+        6 => Edit::Flag(FlagSetter::LeadingDigitSeparator, flag),
+        7 => Edit::Flag(FlagSetter::DigitSeparatorFlags, flag),
+        8 => Edit::Flag(FlagSetter::FractionDigitSeparatorFlags, flag),
         9 => Edit::DigitSeparator(byte),
         10 => Edit::BasePrefix(byte),
         11 => Edit::BaseSuffix(byte),
