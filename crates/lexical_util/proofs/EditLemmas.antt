@@ -23,7 +23,8 @@ pub applied_none : (R : Record) (edits : List Edit) → HasApplied R edits 0 R
 applied_none R edits = record { fields = sym (after_none R); legal = λ k d h. absurd (omega arith) }
 
 -- one edit more
-pub applied_more : {R : Record} {edits : List Edit} {i : ℕ} {b next : Record} {e : Edit} → HasApplied R edits i b → i < length edits → e ≡ get_or edits i e → next ≡ after b (writes_of e) → All IsLegal (writes_of e) → HasApplied R edits (i + 1) next
+pub applied_more : {R : Record} {edits : List Edit} {i : ℕ} {b next : Record} {e : Edit}
+    → HasApplied R edits i b → i < length edits → e ≡ get_or edits i e → next ≡ after b (writes_of e) → All IsLegal (writes_of e) → HasApplied R edits (i + 1) next
 applied_more {R} {edits} {i} {b} {next} {e} h inside is applied legal =
     let more : all_writes (take (i + 1) edits) ≡ all_writes (take i edits) ++ writes_of e = all_writes-more edits i e inside ∙ ap (λ x. all_writes (take i edits) ++ writes_of x) (sym is) in
     record {

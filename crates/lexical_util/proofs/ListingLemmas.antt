@@ -78,7 +78,8 @@ all_writes-changing R = all_writes-filter changes_new (changes new_record) chang
 
 -- the other edits write what agrees with a new record
 pub all_writes-unchanging : (R : Record) → all_writes (unchanging R) ≡ filter (λ x. not (changes new_record x)) (field_writes R)
-all_writes-unchanging R = all_writes-filter (λ e. not (changes_new e)) (λ x. not (changes new_record x)) (λ e x h. ap not (changes_new-is e x h)) (field_edits R) (AllSingle-field_edits R) ∙ ap (filter (λ x. not (changes new_record x))) (all_writes-field_edits R)
+all_writes-unchanging R = all_writes-filter (λ e. not (changes_new e)) (λ x. not (changes new_record x)) (λ e x h. ap not (changes_new-is e x h)) (field_edits R) (AllSingle-field_edits R)
+    ∙ ap (filter (λ x. not (changes new_record x))) (all_writes-field_edits R)
 
 -- the first part alone makes the record, and so do both
 pub after-changing : (R : Record) → after new_record (all_writes (changing R)) ≡ R

@@ -1,5 +1,6 @@
 -- What a mask reads of a word, for a mask that is written as a number.
-use Rattle.std.proofs.Common.{ℕ, ◌≡◌, ◌*◌, ◌/◌, ◌%◌, ◌^◌, ◌<◌, ◌==◌, ◌≢◌, ◌⊎◌, nat_lt, IsTrue, inl, inr, Bool, true, false, not, zero, suc, if◌then◌else◌, List, [], ◌∷◌, sum_by, bit_and, refl, ap, sym, ◌∙◌, arith}
+use Rattle.std.proofs.Common.{ℕ, ◌≡◌, ◌*◌, ◌/◌, ◌%◌, ◌^◌, ◌<◌, ◌==◌, ◌≢◌, ◌⊎◌, nat_lt, IsTrue, inl, inr, Bool, true, false, not, zero, suc, if◌then◌else◌}
+use Rattle.std.proofs.Common.{List, [], ◌∷◌, sum_by, bit_and, refl, ap, sym, ◌∙◌, arith}
 use Rattle.std.specs.List.{list_any}
 use Rattle.std.proofs.Math.Nat.{mod-lt, zero-mul}
 use Rattle.std.proofs.lemmas.Bool.{cases_eq, ne_eqb}
