@@ -9,8 +9,9 @@ CRATES = DOCS.parent / "crates"
 
 
 def lines_of(text):
-    """Returns the lines of a text between newlines, without blank lines and indentation."""
-    return "\n" + "\n".join(line.strip() for line in text.splitlines() if line.strip()) + "\n"
+    """Returns the lines of a text between newlines, without indentation, blank lines and comments."""
+    lines = (line.strip() for line in text.splitlines())
+    return "\n" + "\n".join(line for line in lines if line and not line.startswith(("//", "-- "))) + "\n"
 
 
 def snippets(page):
