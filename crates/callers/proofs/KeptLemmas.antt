@@ -6,7 +6,8 @@ use Rattle.lexical_util.specs.Ascii.{ByteSet}
 use Rattle.lexical_util.specs.Layout.{IsClean, digit_separator_flags}
 use Rattle.lexical_util.specs.Record.{Record, raw, fill, trim, effective, separator_on, tabulate, byte_of, word_of, pack}
 use Rattle.lexical_util.specs.Pairs.{ArePairwise}
-use Rattle.lexical_util.specs.Roles.{Disjoint, cased, only, digits, digits_of, signs, prefix, suffix, five_roles}
+use Rattle.lexical_util.specs.Digits.{digits_of}
+use Rattle.lexical_util.specs.Roles.{Disjoint, cased, only, digits, signs, prefix, suffix, five_roles}
 use Rattle.lexical_util.specs.Rules.{Lawful, Holds, Demands, IsRadix, IsTextOrNone, flag_rules}
 use Rattle.lexical_util.specs.Writes.{after}
 use Rattle.lexical_util.specs.Normal.{SameFormat}

@@ -6,11 +6,11 @@ use Rattle.std.proofs.lemmas.Bool.{false≢true, cases_Bool}
 use Rattle.std.proofs.lemmas.List.{take_all, take-append-drop}
 use Rattle.std.proofs.lemmas.List.Elements.{filter_more, filter-append}
 use borrow.Author.Count.{below_more}
-use Rattle.lexical_util.specs.Digits.{value}
+use Rattle.lexical_util.specs.Digits.{value, digits_of}
 use Rattle.lexical_util.specs.Ascii.{ByteSet}
 use Rattle.lexical_util.specs.Record.{Record, raw, effective_exponent_radix}
 use Rattle.lexical_util.specs.Pairs.{ArePairwise}
-use Rattle.lexical_util.specs.Roles.{Disjoint, digits_of, digits, signs, separator, prefix, suffix}
+use Rattle.lexical_util.specs.Roles.{Disjoint, digits, signs, separator, prefix, suffix}
 use Rattle.lexical_util.specs.Rules.{Lawful}
 use Rattle.lexical_util.specs.declared.error.Error.{Error}
 use Rattle.lexical_util.specs.declared.error.Error.TheVariants as errors

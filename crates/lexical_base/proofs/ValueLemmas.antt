@@ -2,7 +2,7 @@
 use Rattle.std.proofs.Common.{◌≡◌, ℕ, ◌+◌, ◌-◌, ◌%◌, ◌<◌, ◌≤◌, ◌⊎◌, ◌↔◌, max, Bool, true, false, not, ◌||◌, nat_lt, if◌then◌else◌, IsTrue, IsSome, None, Some, slice_get, slice_index_or, refl, arith}
 use Rattle.std.proofs.lemmas.Option.{slice_get-get_or}
 use Rattle.std.proofs.lemmas.Bool.Decides.{nat_tests}
-use Rattle.lexical_base.specs.Digits.{value, figures, digit_of, digits_of, is_lowercase}
+use Rattle.lexical_base.specs.Digits.{value, digit_characters, digit_of, digits_of, is_lowercase}
 use Rattle.lexical_base.proofs.Finite.{passes_at, same_at}
 
 -- the value of a byte, by cases
@@ -52,36 +52,36 @@ small_digit byte radix fits small =
 pub ruleset values = (value_is, nat_tests)
 
 -- the digit character at an index
-pub figure-get : (digit : ℕ) → digit < 36 → slice_get figures digit ≡ Some (slice_index_or figures digit 0)
-figure-get digit below = slice_get-get_or figures digit 0 below
+pub digit_character-get : (digit : ℕ) → digit < 36 → slice_get digit_characters digit ≡ Some (slice_index_or digit_characters digit 0)
+digit_character-get digit below = slice_get-get_or digit_characters digit 0 below
 
 -- the character of a digit, by cases
-abbrev figure_by_range : ℕ → ℕ
-figure_by_range digit = if nat_lt digit 10 then 48 + digit else 55 + digit
+abbrev character_by_range : ℕ → ℕ
+character_by_range digit = if nat_lt digit 10 then 48 + digit else 55 + digit
 
 -- the digit characters from index 10 on are the uppercase letters
-pub figure_is_letter : (digit byte : ℕ) → 10 ≤ digit → digit < 36 → byte ≡ 55 + digit → slice_get figures digit ≡ Some byte
-figure_is_letter digit byte large below is =
-    let letter : slice_index_or figures digit 0 ≡ figure_by_range digit = same_at (λ d. slice_index_or figures d 0) figure_by_range 36 digit refl below in
-    let same : figure_by_range digit ≡ byte = grind (arith, nat_tests) in
-    rw (figure-get digit below, letter, same) refl
+pub character_is_letter : (digit byte : ℕ) → 10 ≤ digit → digit < 36 → byte ≡ 55 + digit → slice_get digit_characters digit ≡ Some byte
+character_is_letter digit byte large below is =
+    let letter : slice_index_or digit_characters digit 0 ≡ character_by_range digit = same_at (λ d. slice_index_or digit_characters d 0) character_by_range 36 digit refl below in
+    let same : character_by_range digit ≡ byte = grind (arith, nat_tests) in
+    rw (digit_character-get digit below, letter, same) refl
 
 -- the value of the digit character at an index is the index
-pub value-figure : (digit : ℕ) → digit < 36 → value (slice_index_or figures digit 0) ≡ digit
+pub value-digit_character : (digit : ℕ) → digit < 36 → value (slice_index_or digit_characters digit 0) ≡ digit
 unfolding value
-value-figure digit below = same_at (λ d. value (slice_index_or figures d 0)) (λ d. d) 36 digit refl below
+value-digit_character digit below = same_at (λ d. value (slice_index_or digit_characters d 0)) (λ d. d) 36 digit refl below
 
 -- every larger radix reads a digit character as its index
-pub digit_of-figure : (digit : ℕ) → digit < 36 → (radix : ℕ) → digit < radix → digit_of (slice_index_or figures digit 0) radix ≡ Some digit
-digit_of-figure digit below radix in_radix =
-    let is : value (slice_index_or figures digit 0) ≡ digit = value-figure digit below in
+pub digit_of-digit_character : (digit : ℕ) → digit < 36 → (radix : ℕ) → digit < radix → digit_of (slice_index_or digit_characters digit 0) radix ≡ Some digit
+digit_of-digit_character digit below radix in_radix =
+    let is : value (slice_index_or digit_characters digit 0) ≡ digit = value-digit_character digit below in
     rw is (grind (arith, nat_tests))
 
 -- no digit character is a lowercase letter
-pub figure-uppercase : (digit : ℕ) → digit < 36 → is_lowercase (slice_index_or figures digit 0) ≡ false
-figure-uppercase digit below =
-    let passes : not (is_lowercase (slice_index_or figures digit 0)) ≡ true = passes_at (λ d. not (is_lowercase (slice_index_or figures d 0))) 36 digit refl below in
-    not_true (is_lowercase (slice_index_or figures digit 0)) passes
+pub digit_character-uppercase : (digit : ℕ) → digit < 36 → is_lowercase (slice_index_or digit_characters digit 0) ≡ false
+digit_character-uppercase digit below =
+    let passes : not (is_lowercase (slice_index_or digit_characters digit 0)) ≡ true = passes_at (λ d. not (is_lowercase (slice_index_or digit_characters d 0))) 36 digit refl below in
+    not_true (is_lowercase (slice_index_or digit_characters digit 0)) passes
   where
     not_true : (b : Bool) → not b ≡ true → b ≡ false
     not_true true h = cc

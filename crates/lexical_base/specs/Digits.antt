@@ -3,8 +3,8 @@ use Rattle.std.specs.Prelude.{ℕ, ◌-◌, List, Option, Some, None, codes, pos
 use Rattle.lexical_base.specs.Ascii.{ByteSet, between}
 
 -- the 36 digit characters, each at the index of its value
-abbrev pub figures : List ℕ
-figures = codes "0123456789ABCDEFGHIJKLMNOPQRSTUVWXYZ"
+abbrev pub digit_characters : List ℕ
+digit_characters = codes "0123456789ABCDEFGHIJKLMNOPQRSTUVWXYZ"
 
 -- the lowercase letters a to z
 abbrev pub is_lowercase : ByteSet
@@ -16,7 +16,7 @@ uppercase byte = if is_lowercase byte then byte - 32 else byte
 
 -- the value of a byte: the index of its uppercase letter, or of itself, among the digit characters, and 255 for any other byte
 unfoldable pub value : ℕ → ℕ
-value byte = unwrap_or (position (λ character. character == uppercase byte) figures) 255
+value byte = unwrap_or (position (λ character. character == uppercase byte) digit_characters) 255
 
 -- the digit that a byte is in a radix: its value if that is below the radix
 abbrev pub digit_of : ℕ → ℕ → Option ℕ

@@ -7,7 +7,7 @@
 //! The `_const` functions are for a radix known at compile time: up to radix 10 they need no table.
 
 ghost use Rattle.std.specs.Prelude.{◌≡◌, ◌↔◌, ℕ, ◌+◌, ◌%◌, ◌<◌, ◌≤◌, ◌||◌, false, IsTrue, IsSome, IfSome, Some, nat_le, nat_lt, slice_get, if◌then◌else◌};
-ghost use Rattle.lexical_base.specs.Digits.{value, digit_of, figures, is_lowercase};
+ghost use Rattle.lexical_base.specs.Digits.{value, digit_of, digit_characters, is_lowercase};
 
 // The digit characters, each at the index of its value.
 const DIGIT_CHARACTERS: [u8; 36] = *b"0123456789ABCDEFGHIJKLMNOPQRSTUVWXYZ";
@@ -90,7 +90,7 @@ pub fn digit_to_char_const(digit: u32, radix: u32) -> u8
     requires { digit < 36 }
     ensures byte { result ≡ (if (nat_le radix 10) || (nat_lt digit 10) then 48 + digit else 55 + digit) }
     // below the radix it is the byte that `digit_to_char` returns
-    ensures figure { digit < radix → slice_get figures digit ≡ Some result }
+    ensures character { digit < radix → slice_get digit_characters digit ≡ Some result }
     ensures back { digit < radix → value result ≡ digit }
     ensures uppercase { digit < radix → is_lowercase result ≡ false }
     ensures read_back { digit < radix → (larger : ℕ) → digit < larger → digit_of result larger ≡ Some digit }
@@ -128,7 +128,7 @@ pub fn char_is_digit(c: u8, radix: u32) -> bool
 #[inline(always)]
 pub fn digit_to_char(digit: u32) -> u8
     requires { digit < 36 }
-    ensures figure { slice_get figures digit ≡ Some result }
+    ensures character { slice_get digit_characters digit ≡ Some result }
     ensures back { value result ≡ digit }
     ensures uppercase { is_lowercase result ≡ false }
     ensures read_back { (radix : ℕ) → digit < radix → digit_of result radix ≡ Some digit }

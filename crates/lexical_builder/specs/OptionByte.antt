@@ -2,10 +2,10 @@
 use Rattle.std.specs.Prelude.{ℕ, ◌==◌, if◌then◌else◌, Option, Some, None}
 
 -- the byte, or 0 if it is absent
-abbrev pub option_byte : Option ℕ → ℕ
-option_byte None = 0
-option_byte (Some byte) = byte
+abbrev pub byte_of_option : Option ℕ → ℕ
+byte_of_option None = 0
+byte_of_option (Some byte) = byte
 
 -- the byte as an option, absent if it is 0
-abbrev pub byte_option : ℕ → Option ℕ
-byte_option byte = if byte == 0 then None else Some byte
+abbrev pub option_of_byte : ℕ → Option ℕ
+option_of_byte byte = if byte == 0 then None else Some byte

@@ -6,7 +6,7 @@ ghost use Rattle.lexical_flags.specs.Layout as layout;
 ghost use Rattle.lexical_flags.specs.Layout.{IsClean, bit, part};
 ghost use Rattle.lexical_flags.specs.Record.{Record, HasBytes, raw, fill, trim, pack, flag_of, byte_of, tabulate, effective, separator_on};
 ghost use Rattle.lexical_flags.specs.Rules.{IsErrorOf, Lawful};
-ghost use Rattle.lexical_builder.specs.OptionByte.{option_byte};
+ghost use Rattle.lexical_builder.specs.OptionByte.{byte_of_option};
 ghost use Rattle.lexical_builder.specs.Fields.{builder_bit, flags_in, index_of, flag_with};
 ghost use Rattle.lexical_builder.specs.Writes.{new_record, radix_record};
 
@@ -101,6 +101,7 @@ impl NumberFormatBuilder {
     }
 
     /// Returns the format of binary numbers: `from_radix(2)`.
+    #[inline(always)]
     #[tactic(auto, using(lexical_flags::proofs::LawfulTest::lawful_tested), unfolding(lexical_flags::specs::Record::word_of))]
     pub fn binary() -> u128
         ensures word { result ≡ 0x02020200_00000000_00000000_0000000C }
@@ -110,6 +111,7 @@ impl NumberFormatBuilder {
     }
 
     /// Returns the format of octal numbers: `from_radix(8)`.
+    #[inline(always)]
     #[tactic(auto, using(lexical_flags::proofs::LawfulTest::lawful_tested), unfolding(lexical_flags::specs::Record::word_of))]
     pub fn octal() -> u128
         ensures word { result ≡ 0x08080800_00000000_00000000_0000000C }
@@ -119,6 +121,7 @@ impl NumberFormatBuilder {
     }
 
     /// Returns the format of decimal numbers: `from_radix(10)`.
+    #[inline(always)]
     #[tactic(auto, using(lexical_flags::proofs::LawfulTest::lawful_tested), unfolding(lexical_flags::specs::Record::word_of))]
     pub fn decimal() -> u128
         ensures word { result ≡ 0x0A0A0A00_00000000_00000000_0000000C }
@@ -128,6 +131,7 @@ impl NumberFormatBuilder {
     }
 
     /// Returns the format of hexadecimal numbers: `from_radix(16)`.
+    #[inline(always)]
     #[tactic(auto, using(lexical_flags::proofs::LawfulTest::lawful_tested), unfolding(lexical_flags::specs::Record::word_of))]
     pub fn hexadecimal() -> u128
         ensures word { result ≡ 0x10101000_00000000_00000000_0000000C }
@@ -138,7 +142,8 @@ impl NumberFormatBuilder {
 
     /// Returns the format of a new builder with `radix` as mantissa radix, exponent base and
     /// exponent radix. The radix is not checked; the word is lawful only for 2 to 36.
-    #[tactic(auto, using(crate::proofs::OptionByteLemmas::option_byte_back), unfolding(crate::specs::Writes::after))]
+    #[inline(always)]
+    #[tactic(auto, using(crate::proofs::OptionByteLemmas::byte_of_option_back), unfolding(crate::specs::Writes::after))]
     pub fn from_radix(radix: u8) -> u128
         ensures { result ≡ pack (radix_record radix) }
     {
@@ -355,7 +360,7 @@ fn used_separator(flags: u128, separator: u8) -> u8
 // The byte, or 0 if it is absent.
 #[inline(always)]
 fn byte_or_zero(byte: OptionU8) -> u8
-    ensures { result ≡ option_byte byte }
+    ensures { result ≡ byte_of_option byte }
 {
     match byte {
         Some(byte) => byte.get(),

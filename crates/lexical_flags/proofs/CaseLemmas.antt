@@ -4,7 +4,7 @@ use Rattle.std.specs.Prelude.{position, unwrap_or}
 use Rattle.std.proofs.lemmas.Bool.{false≢true, agree_below_at}
 use Rattle.std.proofs.lemmas.Bool.Decides.{nat_tests}
 use Rattle.lexical_base.specs.Ascii.{letters}
-use Rattle.lexical_base.specs.Digits.{value, figures, uppercase}
+use Rattle.lexical_base.specs.Digits.{value, digit_characters, uppercase}
 use Rattle.lexical_flags.specs.Record.{Record, effective_exponent_radix}
 use Rattle.lexical_flags.specs.Roles.{Disjoint, cased, other_case, digits, signs}
 
@@ -78,7 +78,7 @@ uppercase-other_case byte = grind (arith, nat_tests)
 
 value-other_case : (byte : ℕ) → value (other_case byte) ≡ value byte
 unfolding value
-value-other_case byte = ap (λ k. unwrap_or (position (λ character. character == k) figures) 255) (uppercase-other_case byte)
+value-other_case byte = ap (λ k. unwrap_or (position (λ character. character == k) digit_characters) 255) (uppercase-other_case byte)
 
 -- a letter is a digit in both cases or in none
 pub digits-other_case : (r : Record) (byte : ℕ) → IsTrue (digits r (other_case byte)) → IsTrue (digits r byte)

@@ -9,7 +9,7 @@ use Rattle.lexical_flags.specs.Layout.{part, IsClean}
 use Rattle.lexical_flags.specs.Record.{Record, raw, effective_exponent_base, effective_exponent_radix}
 use Rattle.lexical_flags.specs.Roles.{Disjoint, cased, other_case, digits, signs}
 use Rattle.lexical_flags.specs.Rules as rules
-use Rattle.lexical_flags.specs.Rules.{Rule, IsRadix, IsFree, IsPunctuation, NotBoth, HasPlace, Demands, Holds, IsFirstBroken, IsErrorOf, Lawful, error_of, rules_in_order}
+use Rattle.lexical_flags.specs.Rules.{Rule, IsRadix, IsFree, IsPunctuation, NotBoth, AllowsOne, Demands, Holds, IsFirstError, IsErrorOf, Lawful, error_of, rules_in_order}
 use Rattle.lexical_flags.proofs.CaseLemmas.{cased-cases, differ_apart, cases_apart}
 use Rattle.lexical_flags.proofs.RuleLemmas.{Lawful-from_success}
 
@@ -26,8 +26,8 @@ is_free r byte = (byte == 0) || is_punctuation r byte
 abbrev pub are_apart : Bool → ℕ → Bool → ℕ → Bool
 are_apart a_counts a b_counts b = (a == 0) || (not (a == b) && (not (b == other_case a) || (a_counts && b_counts)))
 
-abbrev has_place : Bool → Bool → Bool → Bool → Bool
-has_place consecutive internal leading trailing = not consecutive || (internal || leading || trailing)
+abbrev allows_one : Bool → Bool → Bool → Bool → Bool
+allows_one consecutive internal leading trailing = not consecutive || (internal || leading || trailing)
 
 -- whether a record meets what a rule demands
 abbrev passes : Rule → Record → Bool
@@ -46,14 +46,14 @@ passes rules.mantissa_sign_flags_agree r = not (r.no_positive_mantissa_sign && r
 passes rules.exponent_sign_flags_agree r = not (r.no_positive_exponent_sign && r.required_exponent_sign)
 passes rules.special_case_flags_agree r = not (r.no_special && r.case_sensitive_special)
 passes rules.special_separator_flags_agree r = not (r.no_special && r.special_digit_separator)
-passes rules.integer_consecutive_has_place r =
-    has_place r.integer_consecutive_digit_separator r.integer_internal_digit_separator
+passes rules.integer_consecutive_is_allowed r =
+    allows_one r.integer_consecutive_digit_separator r.integer_internal_digit_separator
     r.integer_leading_digit_separator r.integer_trailing_digit_separator
-passes rules.fraction_consecutive_has_place r =
-    has_place r.fraction_consecutive_digit_separator r.fraction_internal_digit_separator
+passes rules.fraction_consecutive_is_allowed r =
+    allows_one r.fraction_consecutive_digit_separator r.fraction_internal_digit_separator
     r.fraction_leading_digit_separator r.fraction_trailing_digit_separator
-passes rules.exponent_consecutive_has_place r =
-    has_place r.exponent_consecutive_digit_separator r.exponent_internal_digit_separator
+passes rules.exponent_consecutive_is_allowed r =
+    allows_one r.exponent_consecutive_digit_separator r.exponent_internal_digit_separator
     r.exponent_leading_digit_separator r.exponent_trailing_digit_separator
 passes rules.reserved_bits_are_zero r = true
 
@@ -142,13 +142,13 @@ NotBoth-test true true e = cc
 NotBoth-test true false e = refl
 NotBoth-test false b e = refl
 
-HasPlace-test : (c i l t : Bool) → has_place c i l t ≡ true → HasPlace c i l t
-HasPlace-test true i l t e on = e
-HasPlace-test false i l t e on = cc
+AllowsOne-test : (c i l t : Bool) → allows_one c i l t ≡ true → AllowsOne c i l t
+AllowsOne-test true i l t e on = e
+AllowsOne-test false i l t e on = cc
 
-HasPlace-passes : (c i l t : Bool) → HasPlace c i l t → has_place c i l t ≡ true
-HasPlace-passes true i l t h = h refl
-HasPlace-passes false i l t h = refl
+AllowsOne-passes : (c i l t : Bool) → AllowsOne c i l t → allows_one c i l t ≡ true
+AllowsOne-passes true i l t h = h refl
+AllowsOne-passes false i l t h = refl
 
 -- a record that passes a rule's test meets the rule
 Demands-test : (rule : Rule) (r : Record) → passes rule r ≡ true → Demands rule r
@@ -169,14 +169,14 @@ Demands-test rules.mantissa_sign_flags_agree r e = NotBoth-test r.no_positive_ma
 Demands-test rules.exponent_sign_flags_agree r e = NotBoth-test r.no_positive_exponent_sign r.required_exponent_sign e
 Demands-test rules.special_case_flags_agree r e = NotBoth-test r.no_special r.case_sensitive_special e
 Demands-test rules.special_separator_flags_agree r e = NotBoth-test r.no_special r.special_digit_separator e
-Demands-test rules.integer_consecutive_has_place r e =
-    HasPlace-test r.integer_consecutive_digit_separator r.integer_internal_digit_separator
+Demands-test rules.integer_consecutive_is_allowed r e =
+    AllowsOne-test r.integer_consecutive_digit_separator r.integer_internal_digit_separator
     r.integer_leading_digit_separator r.integer_trailing_digit_separator e
-Demands-test rules.fraction_consecutive_has_place r e =
-    HasPlace-test r.fraction_consecutive_digit_separator r.fraction_internal_digit_separator
+Demands-test rules.fraction_consecutive_is_allowed r e =
+    AllowsOne-test r.fraction_consecutive_digit_separator r.fraction_internal_digit_separator
     r.fraction_leading_digit_separator r.fraction_trailing_digit_separator e
-Demands-test rules.exponent_consecutive_has_place r e =
-    HasPlace-test r.exponent_consecutive_digit_separator r.exponent_internal_digit_separator
+Demands-test rules.exponent_consecutive_is_allowed r e =
+    AllowsOne-test r.exponent_consecutive_digit_separator r.exponent_internal_digit_separator
     r.exponent_leading_digit_separator r.exponent_trailing_digit_separator e
 Demands-test rules.reserved_bits_are_zero r e = tt
 
@@ -193,9 +193,9 @@ Demands-passes rules.punctuation_differs r ((separator_prefix, (separator_suffix
     let suffix : Bool = r.case_sensitive_base_suffix in
     and_from (are_apart true r.digit_separator prefix r.base_prefix) _ (Disjoint-passes true _ prefix _ separator_prefix)
     (and_from (are_apart true r.digit_separator suffix r.base_suffix) _ (Disjoint-passes true _ suffix _ separator_suffix) (Disjoint-passes prefix _ suffix _ prefix_suffix))
-Demands-passes rules.integer_consecutive_has_place r h = HasPlace-passes r.integer_consecutive_digit_separator r.integer_internal_digit_separator r.integer_leading_digit_separator r.integer_trailing_digit_separator h
-Demands-passes rules.fraction_consecutive_has_place r h = HasPlace-passes r.fraction_consecutive_digit_separator r.fraction_internal_digit_separator r.fraction_leading_digit_separator r.fraction_trailing_digit_separator h
-Demands-passes rules.exponent_consecutive_has_place r h = HasPlace-passes r.exponent_consecutive_digit_separator r.exponent_internal_digit_separator r.exponent_leading_digit_separator r.exponent_trailing_digit_separator h
+Demands-passes rules.integer_consecutive_is_allowed r h = AllowsOne-passes r.integer_consecutive_digit_separator r.integer_internal_digit_separator r.integer_leading_digit_separator r.integer_trailing_digit_separator h
+Demands-passes rules.fraction_consecutive_is_allowed r h = AllowsOne-passes r.fraction_consecutive_digit_separator r.fraction_internal_digit_separator r.fraction_leading_digit_separator r.fraction_trailing_digit_separator h
+Demands-passes rules.exponent_consecutive_is_allowed r h = AllowsOne-passes r.exponent_consecutive_digit_separator r.exponent_internal_digit_separator r.exponent_leading_digit_separator r.exponent_trailing_digit_separator h
 Demands-passes rules.reserved_bits_are_zero r h = refl
 Demands-passes _ r h = ap not h
 
@@ -222,17 +222,17 @@ abbrev pub first_error : List Rule → ℕ → Error
 first_error [] word = Success
 first_error (rule ∷ rules) word = if keeps rule word then first_error rules word else error_of rule
 
-found : (rules : List Rule) (word : ℕ) → IsFirstBroken rules word (first_error rules word)
+found : (rules : List Rule) (word : ℕ) → IsFirstError rules word (first_error rules word)
 found [] word = refl
 found (rule ∷ rules) word = by (found rules word) (keeps rule word) refl where
-  by : IsFirstBroken rules word (first_error rules word) → (t : Bool) → keeps rule word ≡ t → IsFirstBroken (rule ∷ rules) word (if t then first_error rules word else error_of rule)
+  by : IsFirstError rules word (first_error rules word) → (t : Bool) → keeps rule word ≡ t → IsFirstError (rule ∷ rules) word (if t then first_error rules word else error_of rule)
   by rest true e = inr ((Holds-test rule word).0 e, rest)
   by rest false e = inl (λ h. false≢true (sym e ∙ (Holds-test rule word).1 h), refl)
 
 -- the error of a word is the one that the tests find; at a literal the premise is `refl`
 pub error_tested : (word : ℕ) (error : Error) → first_error rules_in_order word ≡ error → IsErrorOf word error
 unfolding IsErrorOf
-error_tested word error e = subst (IsFirstBroken rules_in_order word) e (found rules_in_order word)
+error_tested word error e = subst (IsFirstError rules_in_order word) e (found rules_in_order word)
 
 -- a word that passes every test is lawful
 pub lawful_tested : (word : ℕ) → first_error rules_in_order word ≡ Success → Lawful word

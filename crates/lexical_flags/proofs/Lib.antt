@@ -16,4 +16,3 @@ mod OptionLemmas
 mod OptionTest
 mod ReservedBits
 mod FlagTests
-mod DigitLemmas

@@ -4,7 +4,8 @@ use Rattle.std.proofs.lemmas.Bool.{cases_Bool, cond-false, false≢true}
 use Rattle.std.proofs.lemmas.Bool.Decides.{nat_tests}
 use Rattle.lexical_base.specs.Ascii.{ByteSet, allowed_ascii}
 use Rattle.lexical_flags.specs.Record.{Record, fill, trim, effective, separator_on, SeparatorIsUsed}
-use Rattle.lexical_flags.specs.Roles.{Disjoint, cased, only, digits_of, signs, prefix, suffix}
+use Rattle.lexical_flags.specs.Roles.{Disjoint, cased, only, signs, prefix, suffix}
+use Rattle.lexical_base.specs.Digits.{digits_of}
 use Rattle.lexical_flags.specs.Rules as rules
 use Rattle.lexical_flags.specs.Rules.{Rule, IsRadix, IsFree, IsPunctuation, Demands}
 use Rattle.lexical_flags.proofs.Packing.{trim-same}

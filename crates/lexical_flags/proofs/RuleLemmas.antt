@@ -11,7 +11,7 @@ use Rattle.lexical_flags.specs.Pairs.{ArePairwise}
 use Rattle.lexical_flags.specs.Roles as roles
 use Rattle.lexical_flags.specs.Roles.{Disjoint, Role, cased, digits, signs, role_set, own_roles, five_roles}
 use Rattle.lexical_flags.specs.Rules as rules
-use Rattle.lexical_flags.specs.Rules.{Rule, IsRadix, IsFree, IsTextOrNone, IsPunctuation, Holds, IsFirstBroken, IsErrorOf, Lawful, error_of, flag_rules, rules_in_order}
+use Rattle.lexical_flags.specs.Rules.{Rule, IsRadix, IsFree, IsTextOrNone, IsPunctuation, Holds, IsFirstError, IsErrorOf, Lawful, error_of, flag_rules, rules_in_order}
 use Rattle.lexical_flags.proofs.OneRole.{before, among, Disjoint-at}
 use Rattle.lexical_flags.proofs.RoleLemmas.{Disjoint-digits-cased, Disjoint-signs-cased, Disjoint-digits-signs, not_in}
 
@@ -125,39 +125,39 @@ error_of-success rules.mantissa_radix_in_range e = cc
 error_of-success _ e = cc
 
 -- if no rule of a list is broken, each is kept
-all_from_success : (word : ℕ) (rules : List Rule) → IsFirstBroken rules word Success → AllByRecursion (λ rule. Holds rule word) rules
+all_from_success : (word : ℕ) (rules : List Rule) → IsFirstError rules word Success → AllByRecursion (λ rule. Holds rule word) rules
 all_from_success word [] h = tt
 all_from_success word (rule ∷ rules) (inl broken) = absurd (error_of-success rule (sym broken.1))
 all_from_success word (rule ∷ rules) (inr kept) = (kept.0, all_from_success word rules kept.1)
 
 -- if every rule is kept, none is broken
-success_from_all : (word : ℕ) (error : Error) → ((rule : Rule) → Holds rule word) → (rules : List Rule) → IsFirstBroken rules word error → error ≡ Success
+success_from_all : (word : ℕ) (error : Error) → ((rule : Rule) → Holds rule word) → (rules : List Rule) → IsFirstError rules word error → error ≡ Success
 success_from_all word error all [] h = h
 success_from_all word error all (rule ∷ rules) (inl broken) = absurd (broken.0 (all rule))
 success_from_all word error all (rule ∷ rules) (inr kept) = success_from_all word error all rules kept.1
 
 -- there is one error
-pub IsFirstBroken-unique : (word : ℕ) (a b : Error) (rules : List Rule) → IsFirstBroken rules word a → IsFirstBroken rules word b → a ≡ b
-IsFirstBroken-unique word a b [] h k = h ∙ sym k
-IsFirstBroken-unique word a b (rule ∷ rules) (inl h) (inl k) = h.1 ∙ sym k.1
-IsFirstBroken-unique word a b (rule ∷ rules) (inl h) (inr k) = absurd (h.0 k.0)
-IsFirstBroken-unique word a b (rule ∷ rules) (inr h) (inl k) = absurd (k.0 h.0)
-IsFirstBroken-unique word a b (rule ∷ rules) (inr h) (inr k) = IsFirstBroken-unique word a b rules h.1 k.1
+pub IsFirstError-unique : (word : ℕ) (a b : Error) (rules : List Rule) → IsFirstError rules word a → IsFirstError rules word b → a ≡ b
+IsFirstError-unique word a b [] h k = h ∙ sym k
+IsFirstError-unique word a b (rule ∷ rules) (inl h) (inl k) = h.1 ∙ sym k.1
+IsFirstError-unique word a b (rule ∷ rules) (inl h) (inr k) = absurd (h.0 k.0)
+IsFirstError-unique word a b (rule ∷ rules) (inr h) (inl k) = absurd (k.0 h.0)
+IsFirstError-unique word a b (rule ∷ rules) (inr h) (inr k) = IsFirstError-unique word a b rules h.1 k.1
 
 pub IsErrorOf-unique : (word : ℕ) (a b : Error) → IsErrorOf word a → IsErrorOf word b → a ≡ b
 unfolding IsErrorOf
-IsErrorOf-unique word a b = IsFirstBroken-unique word a b rules_in_order
+IsErrorOf-unique word a b = IsFirstError-unique word a b rules_in_order
 
 -- words that keep the same rules have the same error
-IsFirstBroken-same : (v w : ℕ) → ((rule : Rule) → Holds rule v ↔ Holds rule w) → (rules : List Rule) (error : Error) → IsFirstBroken rules v error → IsFirstBroken rules w error
-IsFirstBroken-same v w same [] error h = h
-IsFirstBroken-same v w same (rule ∷ rules) error (inl broken) = inl (λ kept. broken.0 ((same rule).1 kept), broken.1)
-IsFirstBroken-same v w same (rule ∷ rules) error (inr kept) = inr ((same rule).0 kept.0, IsFirstBroken-same v w same rules error kept.1)
+IsFirstError-same : (v w : ℕ) → ((rule : Rule) → Holds rule v ↔ Holds rule w) → (rules : List Rule) (error : Error) → IsFirstError rules v error → IsFirstError rules w error
+IsFirstError-same v w same [] error h = h
+IsFirstError-same v w same (rule ∷ rules) error (inl broken) = inl (λ kept. broken.0 ((same rule).1 kept), broken.1)
+IsFirstError-same v w same (rule ∷ rules) error (inr kept) = inr ((same rule).0 kept.0, IsFirstError-same v w same rules error kept.1)
 
 pub IsErrorOf-same : (v w : ℕ) → ((rule : Rule) → Holds rule v ↔ Holds rule w) → (error : Error) → IsErrorOf v error ↔ IsErrorOf w error
 unfolding IsErrorOf
 IsErrorOf-same v w same error =
-    (IsFirstBroken-same v w same rules_in_order error, IsFirstBroken-same w v (λ rule. ((same rule).1, (same rule).0)) rules_in_order error)
+    (IsFirstError-same v w same rules_in_order error, IsFirstError-same w v (λ rule. ((same rule).1, (same rule).0)) rules_in_order error)
 
 -- a clean word keeps the rule whose error is InvalidFlags
 reserved-error : (rule : Rule) (word : ℕ) → error_of rule ≡ InvalidFlags → IsClean word → Holds rule word
@@ -166,7 +166,7 @@ reserved-error rules.reserved_bits_are_zero word e clean = clean
 reserved-error rules.mantissa_radix_in_range word e clean = cc
 reserved-error _ word e clean = cc
 
-clean-first : (word : ℕ) (rules : List Rule) → IsClean word → IsFirstBroken rules word InvalidFlags → ⊥
+clean-first : (word : ℕ) (rules : List Rule) → IsClean word → IsFirstError rules word InvalidFlags → ⊥
 clean-first word [] clean h = cc
 clean-first word (rule ∷ rules) clean (inl broken) = broken.0 (reserved-error rule word (sym broken.1) clean)
 clean-first word (rule ∷ rules) clean (inr kept) = clean-first word rules clean kept.1

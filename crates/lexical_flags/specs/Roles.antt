@@ -1,7 +1,7 @@
 -- The roles that bytes play in the numbers of a format, each as the set of the bytes that play it.
 use Rattle.std.specs.Prelude.{ℕ, ◌≡◌, ◌+◌, ◌-◌, Bool, true, IsTrue, if◌then◌else◌, min, nat_lt, ◌==◌, ◌&&◌, ◌||◌, not, List, [], ◌∷◌, map}
 use Rattle.lexical_base.specs.Ascii.{ByteSet, between}
-use Rattle.lexical_base.specs.Digits.{value}
+use Rattle.lexical_base.specs.Digits.{digits_of}
 use Rattle.lexical_flags.specs.Record.{Record, effective_exponent_radix}
 
 -- no byte is in both sets
@@ -19,10 +19,6 @@ cased case_counts own byte = not (own == 0) && ((byte == own) || (not case_count
 -- this byte alone
 abbrev pub only : ℕ → ByteSet
 only own = cased true own
-
--- the digits of a radix; above 36 they are the 36 digit characters, letters in both cases
-abbrev pub digits_of : ℕ → ByteSet
-digits_of radix byte = nat_lt (value byte) (min radix 36)
 
 -- the digits of the mantissa and those of the exponent
 abbrev pub digits : Record → ByteSet

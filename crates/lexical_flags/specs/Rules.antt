@@ -30,8 +30,8 @@ abbrev pub NotBoth : Bool → Bool → Type 0
 NotBoth a b = IsFalse (a && b)
 
 -- consecutive separators are allowed only if one is allowed between, before or after digits
-abbrev pub HasPlace : Bool → Bool → Bool → Bool → Type 0
-HasPlace consecutive internal leading trailing = IsTrue consecutive → IsTrue (internal || leading || trailing)
+abbrev pub AllowsOne : Bool → Bool → Bool → Bool → Type 0
+AllowsOne consecutive internal leading trailing = IsTrue consecutive → IsTrue (internal || leading || trailing)
 
 -- the rules
 pub data Rule : Type 0 where
@@ -47,9 +47,9 @@ pub data Rule : Type 0 where
   exponent_sign_flags_agree : Rule
   special_case_flags_agree : Rule
   special_separator_flags_agree : Rule
-  integer_consecutive_has_place : Rule
-  fraction_consecutive_has_place : Rule
-  exponent_consecutive_has_place : Rule
+  integer_consecutive_is_allowed : Rule
+  fraction_consecutive_is_allowed : Rule
+  exponent_consecutive_is_allowed : Rule
   reserved_bits_are_zero : Rule
 
 -- what a rule demands of the fields of a word; the rule of reserved bits demands nothing of them
@@ -66,14 +66,14 @@ Demands mantissa_sign_flags_agree r = NotBoth r.no_positive_mantissa_sign r.requ
 Demands exponent_sign_flags_agree r = NotBoth r.no_positive_exponent_sign r.required_exponent_sign
 Demands special_case_flags_agree r = NotBoth r.no_special r.case_sensitive_special
 Demands special_separator_flags_agree r = NotBoth r.no_special r.special_digit_separator
-Demands integer_consecutive_has_place r =
-    HasPlace r.integer_consecutive_digit_separator r.integer_internal_digit_separator
+Demands integer_consecutive_is_allowed r =
+    AllowsOne r.integer_consecutive_digit_separator r.integer_internal_digit_separator
     r.integer_leading_digit_separator r.integer_trailing_digit_separator
-Demands fraction_consecutive_has_place r =
-    HasPlace r.fraction_consecutive_digit_separator r.fraction_internal_digit_separator
+Demands fraction_consecutive_is_allowed r =
+    AllowsOne r.fraction_consecutive_digit_separator r.fraction_internal_digit_separator
     r.fraction_leading_digit_separator r.fraction_trailing_digit_separator
-Demands exponent_consecutive_has_place r =
-    HasPlace r.exponent_consecutive_digit_separator r.exponent_internal_digit_separator
+Demands exponent_consecutive_is_allowed r =
+    AllowsOne r.exponent_consecutive_digit_separator r.exponent_internal_digit_separator
     r.exponent_leading_digit_separator r.exponent_trailing_digit_separator
 Demands reserved_bits_are_zero r = ⊤
 
@@ -96,9 +96,9 @@ error_of mantissa_sign_flags_agree = errors.InvalidMantissaSign
 error_of exponent_sign_flags_agree = errors.InvalidExponentSign
 error_of special_case_flags_agree = errors.InvalidSpecial
 error_of special_separator_flags_agree = errors.InvalidSpecial
-error_of integer_consecutive_has_place = errors.InvalidConsecutiveIntegerDigitSeparator
-error_of fraction_consecutive_has_place = errors.InvalidConsecutiveFractionDigitSeparator
-error_of exponent_consecutive_has_place = errors.InvalidConsecutiveExponentDigitSeparator
+error_of integer_consecutive_is_allowed = errors.InvalidConsecutiveIntegerDigitSeparator
+error_of fraction_consecutive_is_allowed = errors.InvalidConsecutiveFractionDigitSeparator
+error_of exponent_consecutive_is_allowed = errors.InvalidConsecutiveExponentDigitSeparator
 error_of reserved_bits_are_zero = errors.InvalidFlags
 
 -- the rules of radixes, in their order
@@ -114,7 +114,7 @@ abbrev pub flag_rules : List Rule
 flag_rules =
     exponent_flags_agree ∷ mantissa_sign_flags_agree ∷ exponent_sign_flags_agree ∷
     special_case_flags_agree ∷ special_separator_flags_agree ∷
-    integer_consecutive_has_place ∷ fraction_consecutive_has_place ∷ exponent_consecutive_has_place ∷ []
+    integer_consecutive_is_allowed ∷ fraction_consecutive_is_allowed ∷ exponent_consecutive_is_allowed ∷ []
 
 -- that of reserved bits
 abbrev pub reserved_rules : List Rule
@@ -125,14 +125,14 @@ abbrev pub rules_in_order : List Rule
 rules_in_order = radix_rules ++ punctuation_rules ++ flag_rules ++ reserved_rules
 
 -- the error of the first of these rules that a word breaks, and Success if it breaks none
-abbrev pub IsFirstBroken : List Rule → ℕ → Error → Type 0
-IsFirstBroken [] word error = error ≡ errors.Success
-IsFirstBroken (rule ∷ rules) word error =
-    ((Holds rule word → ⊥) × (error ≡ error_of rule)) ⊎ (Holds rule word × IsFirstBroken rules word error)
+abbrev pub IsFirstError : List Rule → ℕ → Error → Type 0
+IsFirstError [] word error = error ≡ errors.Success
+IsFirstError (rule ∷ rules) word error =
+    ((Holds rule word → ⊥) × (error ≡ error_of rule)) ⊎ (Holds rule word × IsFirstError rules word error)
 
 -- the same for all rules; one word, so that a search does not take it apart
 unfoldable pub IsErrorOf : ℕ → Error → Type 0
-IsErrorOf word error = IsFirstBroken rules_in_order word error
+IsErrorOf word error = IsFirstError rules_in_order word error
 
 -- what makes a word lawful: its radixes are in range, its flags agree, its bytes are text, no byte plays two roles, and the reserved bits are 0
 pub record LawfulParts (word : ℕ) : Type 0 where

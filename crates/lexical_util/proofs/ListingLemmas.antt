@@ -8,7 +8,7 @@ use Rattle.lexical_flags.specs.Layout.{Flag, flags}
 use Rattle.lexical_flags.specs.Layout as layout
 use Rattle.lexical_flags.specs.Record.{Record, flag_of, HasBytes}
 use Rattle.lexical_builder.specs.Writes.{Write, write_flag, IsLegal, new_record, after, changes}
-use Rattle.lexical_builder.proofs.OptionByteLemmas.{option_byte_back}
+use Rattle.lexical_builder.proofs.OptionByteLemmas.{byte_of_option_back}
 use Rattle.lexical_builder.proofs.WriteLemmas.{after-append}
 use Rattle.lexical_builder.proofs.Distance.{distance}
 use Rattle.lexical_builder.proofs.FieldWrites.{field_writes, after-field_writes, legal-field_writes, after-filter, after-NoChange, NoChange-filter, NoChange-field_writes, length-changes}
@@ -40,7 +40,7 @@ AllSingle-field_edits R = AllSingle-append (flag_edits R) (byte_edits R) (on_fla
 
 -- the edits of the fields write the fields
 pub all_writes-field_edits : (R : Record) → all_writes (field_edits R) ≡ field_writes R
-all_writes-field_edits R = flat_map-append writes_of (flag_edits R) (byte_edits R) ∙ simp option_byte_back
+all_writes-field_edits R = flat_map-append writes_of (flag_edits R) (byte_edits R) ∙ simp byte_of_option_back
 
 -- a test of edits that is a test of their writes
 filter_cond : (t : Bool) (e : Edit) (x : Write) (es : List Edit) (L : List Write) → writes_of e ≡ x ∷ [] → all_writes es ≡ L → all_writes (cond t (e ∷ es) es) ≡ cond t (x ∷ L) L

@@ -3,7 +3,7 @@ use Rattle.std.specs.Prelude.{ℕ, List, [], ◌∷◌, flat_map}
 use Rattle.lexical_flags.specs.Layout.{Flag}
 use Rattle.lexical_flags.specs.Layout as layout
 use Rattle.lexical_flags.specs.Record.{raw, fill, pack}
-use Rattle.lexical_builder.specs.OptionByte.{option_byte}
+use Rattle.lexical_builder.specs.OptionByte.{byte_of_option}
 use Rattle.lexical_builder.specs.Writes.{Write, write_byte, write_flags, after}
 use Rattle.lexical_util.specs.declared.edits.FlagSetter.{FlagSetter}
 use Rattle.lexical_util.specs.declared.edits.FlagSetter.TheVariants as setters
@@ -56,13 +56,13 @@ flags_of setters.ExponentDigitSeparatorFlags = layout.exponent_digit_separator_f
 -- the writes of a setter call
 abbrev pub writes_of : Edit → List Write
 writes_of (edits.Flag setter value) = write_flags (flags_of setter) value
-writes_of (edits.DigitSeparator byte) = write_byte layout.digit_separator (option_byte byte) ∷ []
-writes_of (edits.BasePrefix byte) = write_byte layout.base_prefix (option_byte byte) ∷ []
-writes_of (edits.BaseSuffix byte) = write_byte layout.base_suffix (option_byte byte) ∷ []
+writes_of (edits.DigitSeparator byte) = write_byte layout.digit_separator (byte_of_option byte) ∷ []
+writes_of (edits.BasePrefix byte) = write_byte layout.base_prefix (byte_of_option byte) ∷ []
+writes_of (edits.BaseSuffix byte) = write_byte layout.base_suffix (byte_of_option byte) ∷ []
 writes_of (edits.MantissaRadix radix) = write_byte layout.mantissa_radix radix ∷ []
 writes_of (edits.Radix radix) = write_byte layout.mantissa_radix radix ∷ []
-writes_of (edits.ExponentBase base) = write_byte layout.exponent_base (option_byte base) ∷ []
-writes_of (edits.ExponentRadix radix) = write_byte layout.exponent_radix (option_byte radix) ∷ []
+writes_of (edits.ExponentBase base) = write_byte layout.exponent_base (byte_of_option base) ∷ []
+writes_of (edits.ExponentRadix radix) = write_byte layout.exponent_radix (byte_of_option radix) ∷ []
 
 -- the writes of all edits, in their order
 abbrev pub all_writes : List Edit → List Write

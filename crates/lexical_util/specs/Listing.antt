@@ -4,7 +4,7 @@ use Rattle.std.specs.List.{list_any}
 use Rattle.lexical_flags.specs.Layout.{Flag, flags}
 use Rattle.lexical_flags.specs.Layout as layout
 use Rattle.lexical_flags.specs.Record.{Record, flag_of, pack}
-use Rattle.lexical_builder.specs.OptionByte.{byte_option}
+use Rattle.lexical_builder.specs.OptionByte.{option_of_byte}
 use Rattle.lexical_builder.specs.Writes.{Write, IsLegal, new_record, after, changes}
 use Rattle.lexical_util.specs.Edits.{writes_of}
 use Rattle.lexical_util.specs.declared.edits.FlagSetter.{FlagSetter}
@@ -53,9 +53,9 @@ flag_edits r = map (λ f. edits.Flag (setter_of f) (flag_of r f)) flags
 -- the edits that write its bytes
 abbrev pub byte_edits : Record → List Edit
 byte_edits r =
-    edits.DigitSeparator (byte_option r.digit_separator) ∷ edits.BasePrefix (byte_option r.base_prefix) ∷
-    edits.BaseSuffix (byte_option r.base_suffix) ∷ edits.MantissaRadix r.mantissa_radix ∷
-    edits.ExponentBase (byte_option r.exponent_base) ∷ edits.ExponentRadix (byte_option r.exponent_radix) ∷ []
+    edits.DigitSeparator (option_of_byte r.digit_separator) ∷ edits.BasePrefix (option_of_byte r.base_prefix) ∷
+    edits.BaseSuffix (option_of_byte r.base_suffix) ∷ edits.MantissaRadix r.mantissa_radix ∷
+    edits.ExponentBase (option_of_byte r.exponent_base) ∷ edits.ExponentRadix (option_of_byte r.exponent_radix) ∷ []
 
 -- the edits that write all its 37 fields, in the order of their bits
 abbrev pub field_edits : Record → List Edit

@@ -4,7 +4,7 @@
 ghost use Rattle.std.specs.Prelude.{◌≡◌, ◌≢◌, ℕ, ◌↔◌, ◌%◌, ◌^◌, IsTrue};
 ghost use Rattle.lexical_flags.specs.Record.{raw, fill, effective_exponent_base, effective_exponent_radix};
 ghost use Rattle.lexical_flags.specs.Roles.{digits};
-ghost use Rattle.lexical_flags.specs.Rules.{IsRadix, Lawful, IsErrorOf, IsFirstBroken, radix_rules};
+ghost use Rattle.lexical_flags.specs.Rules.{IsRadix, Lawful, IsErrorOf, IsFirstError, radix_rules};
 ghost use Rattle.lexical_builder.specs.Writes.{new_record};
 
 use crate::format::STANDARD;
@@ -103,7 +103,7 @@ impl NumberFormat {
     /// 36; an exponent byte of 0 counts as the mantissa radix.
     #[inline(always)]
     pub fn is_valid_radix(&self) -> bool
-        ensures { IsTrue result ↔ IsFirstBroken radix_rules self.now Error.Success }
+        ensures { IsTrue result ↔ IsFirstError radix_rules self.now Error.Success }
     {
         self.error_radix().is_success()
     }
@@ -112,8 +112,8 @@ impl NumberFormat {
     /// not 2 to 36, or `Success` if there is none.
     #[inline(always)]
     pub fn error_radix(&self) -> Error
-        ensures first { IsFirstBroken radix_rules self.now result }
-        ensures only { (other : Error) → IsFirstBroken radix_rules self.now other → other ≡ result }
+        ensures first { IsFirstError radix_rules self.now result }
+        ensures only { (other : Error) → IsFirstError radix_rules self.now other → other ≡ result }
     {
         radix_error_impl(self.format)
     }

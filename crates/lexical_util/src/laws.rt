@@ -12,6 +12,7 @@ ghost use Rattle.lexical_util.specs.declared.edits.Edit.{Edit};
 ghost use Rattle.lexical_util.specs.declared.edits.Edit.TheVariants as edits;
 ghost use Rattle.lexical_util.specs.declared.edits.FlagSetter.TheVariants as setters;
 
+pub use lexical_base::laws as base;
 pub use lexical_flags::laws as flags;
 
 /// What lists of writes and of edits do one after another.

@@ -3,7 +3,7 @@ use Rattle.std.proofs.Common.{◌≡◌, ℕ, ◌<◌, ◌==◌, ◌||◌, Bool,
 use Rattle.std.specs.List.{list_any, list_all}
 use Rattle.std.proofs.lemmas.Bool.Decides.{nat_tests}
 use Rattle.std.proofs.lemmas.Bool.{agree_below_at, and_parts, cases_eq}
-use Rattle.lexical_util.specs.Digits.{value, figures}
+use Rattle.lexical_util.specs.Digits.{value, digit_characters}
 use Rattle.numfmt.specs.Numeral.{is_digit}
 use Rattle.numfmt.specs.WordText.{uppercase_digits, is_uppercase_digit}
 
@@ -47,9 +47,9 @@ pub is_uppercase-digit : (digit : ℕ) → digit < 16 → is_uppercase_digit (sl
 is_uppercase-digit digit small = agree_below_at (λ d. is_uppercase_digit (slice_index_or uppercase_digits d 0)) (λ _. true) 16 digit refl small
 
 -- it is the one that the library has
-pub uppercase_digit-from_library : (digit byte : ℕ) → digit < 16 → slice_get figures digit ≡ Some byte → byte ≡ slice_index_or uppercase_digits digit 0
+pub uppercase_digit-from_library : (digit byte : ℕ) → digit < 16 → slice_get digit_characters digit ≡ Some byte → byte ≡ slice_index_or uppercase_digits digit 0
 uppercase_digit-from_library digit byte small is =
-    let same : (unwrap_or (slice_get figures digit) 0 == slice_index_or uppercase_digits digit 0) ≡ true =
-    agree_below_at (λ d. unwrap_or (slice_get figures d) 0 == slice_index_or uppercase_digits d 0) (λ _. true) 16 digit refl small in
+    let same : (unwrap_or (slice_get digit_characters digit) 0 == slice_index_or uppercase_digits digit 0) ≡ true =
+    agree_below_at (λ d. unwrap_or (slice_get digit_characters d) 0 == slice_index_or uppercase_digits d 0) (λ _. true) 16 digit refl small in
     let here : (byte == slice_index_or uppercase_digits digit 0) ≡ true = rw is at same in
     grind (arith, nat_tests)

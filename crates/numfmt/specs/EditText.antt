@@ -1,7 +1,7 @@
 -- The texts of edits: names of setters, `bool`s and bytes.
 use Rattle.std.specs.Prelude.{ℕ, ◌≡◌, ◌≤◌, ◌⊎◌, if◌then◌else◌, ◌==◌, Bool, true, false, Option, None, List, codes, bytes_eq}
 use Rattle.std.specs.List.{AllZip, before_first, after_first}
-use Rattle.lexical_util.specs.OptionByte.{byte_option}
+use Rattle.lexical_util.specs.OptionByte.{option_of_byte}
 use Rattle.lexical_util.specs.SetterNames.{setter_name}
 use Rattle.lexical_util.specs.declared.edits.Edit.{Edit}
 use Rattle.lexical_util.specs.declared.edits.Edit.TheVariants as edits
@@ -23,7 +23,7 @@ IsOptionalByteText text = (text ≡ codes "none") ⊎ IsByteText text
 
 -- the byte that it writes; `none` and 0 mean that it is absent
 abbrev pub optional_byte : List ℕ → Option ℕ
-optional_byte text = if bytes_eq text (codes "none") then None else byte_option (numeral 10 text)
+optional_byte text = if bytes_eq text (codes "none") then None else option_of_byte (numeral 10 text)
 
 -- the name of an edit
 abbrev pub edit_name : Edit → List ℕ

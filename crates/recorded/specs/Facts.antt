@@ -14,7 +14,7 @@ use Rattle.lexical_util.specs.Options.{AreAccepted}
 use Rattle.lexical_util.specs.Writes.{new_record, after}
 use Rattle.lexical_util.specs.declared.edits.Edit.{Edit}
 use Rattle.lexical_util.specs.Edits.{edited, all_writes}
-use Rattle.lexical_util.specs.View.{bits_of}
+use Rattle.lexical_util.specs.Groups.{bits_of}
 
 -- the fields of a word are these
 pub record HasFields (word : ℕ) (fields : Fields) : Type 0 where

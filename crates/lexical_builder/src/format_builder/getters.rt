@@ -1,7 +1,7 @@
 //! The getters of a builder.
 
 ghost use Rattle.std.specs.Prelude.{◌≡◌};
-ghost use Rattle.lexical_builder.specs.OptionByte.{byte_option};
+ghost use Rattle.lexical_builder.specs.OptionByte.{option_of_byte};
 
 use super::{
     BASE_PREFIX, BASE_SUFFIX, DIGIT_SEPARATOR, EXPONENT_BASE, EXPONENT_RADIX, MANTISSA_RADIX,
@@ -16,7 +16,7 @@ impl NumberFormatBuilder {
     /// that the digit separator flags allow, such as the `_` in `1_000`. `None` if there is none.
     #[inline(always)]
     pub fn get_digit_separator(&self) -> OptionU8
-        ensures { result ≡ byte_option self.now.digit_separator }
+        ensures { result ≡ option_of_byte self.now.digit_separator }
     {
         NonZeroU8::new(self.bytes[DIGIT_SEPARATOR])
     }
@@ -33,7 +33,7 @@ impl NumberFormatBuilder {
     /// mantissa radix.
     #[inline(always)]
     pub fn get_exponent_base(&self) -> OptionU8
-        ensures { result ≡ byte_option self.now.exponent_base }
+        ensures { result ≡ option_of_byte self.now.exponent_base }
     {
         NonZeroU8::new(self.bytes[EXPONENT_BASE])
     }
@@ -42,7 +42,7 @@ impl NumberFormatBuilder {
     /// mantissa radix.
     #[inline(always)]
     pub fn get_exponent_radix(&self) -> OptionU8
-        ensures { result ≡ byte_option self.now.exponent_radix }
+        ensures { result ≡ option_of_byte self.now.exponent_radix }
     {
         NonZeroU8::new(self.bytes[EXPONENT_RADIX])
     }
@@ -51,7 +51,7 @@ impl NumberFormatBuilder {
     /// the `x` in `0x1F`. `None` if there is none.
     #[inline(always)]
     pub fn get_base_prefix(&self) -> OptionU8
-        ensures { result ≡ byte_option self.now.base_prefix }
+        ensures { result ≡ option_of_byte self.now.base_prefix }
     {
         NonZeroU8::new(self.bytes[BASE_PREFIX])
     }
@@ -60,7 +60,7 @@ impl NumberFormatBuilder {
     /// `h` in `1Fh`. `None` if there is none.
     #[inline(always)]
     pub fn get_base_suffix(&self) -> OptionU8
-        ensures { result ≡ byte_option self.now.base_suffix }
+        ensures { result ≡ option_of_byte self.now.base_suffix }
     {
         NonZeroU8::new(self.bytes[BASE_SUFFIX])
     }

@@ -1,7 +1,7 @@
 //! Nonzero bytes.
 
 ghost use Rattle.std.specs.Prelude.{◌≡◌, ◌≢◌, ℕ, ◌↔◌, IsNone};
-ghost use Rattle.lexical_builder.specs.OptionByte.{byte_option};
+ghost use Rattle.lexical_builder.specs.OptionByte.{option_of_byte};
 
 use std::marker::Model;
 
@@ -25,7 +25,7 @@ impl NonZeroU8 {
     /// Returns the byte, or `None` if `value` is 0.
     #[inline(always)]
     pub fn new(value: u8) -> Option<NonZeroU8>
-        ensures value { result ≡ byte_option value }
+        ensures value { result ≡ option_of_byte value }
         ensures none { IsNone result ↔ (value ≡ 0) }
     {
         if value == 0 {

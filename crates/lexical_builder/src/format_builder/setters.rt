@@ -3,7 +3,7 @@
 
 ghost use Rattle.std.specs.Prelude.{◌≡◌, [], ◌∷◌};
 ghost use Rattle.lexical_flags.specs.Layout as layout;
-ghost use Rattle.lexical_builder.specs.OptionByte.{option_byte};
+ghost use Rattle.lexical_builder.specs.OptionByte.{byte_of_option};
 ghost use Rattle.lexical_builder.specs.Writes.{after, write_flag, write_flags, write_byte};
 
 use super::{
@@ -21,7 +21,7 @@ impl NumberFormatBuilder {
     /// radix. It is packed only if a digit separator flag is set. Default: `None`, no separator.
     #[inline(always)]
     pub fn digit_separator(self, character: OptionU8) -> Self
-        ensures { result ≡ after self (write_byte layout.digit_separator (option_byte character) ∷ []) }
+        ensures { result ≡ after self (write_byte layout.digit_separator (byte_of_option character) ∷ []) }
     {
         self.with_byte(DIGIT_SEPARATOR, byte_or_zero(character))
     }
@@ -47,7 +47,7 @@ impl NumberFormatBuilder {
     /// Default: `None`, that is, the mantissa radix.
     #[inline(always)]
     pub fn exponent_base(self, base: OptionU8) -> Self
-        ensures { result ≡ after self (write_byte layout.exponent_base (option_byte base) ∷ []) }
+        ensures { result ≡ after self (write_byte layout.exponent_base (byte_of_option base) ∷ []) }
     {
         self.with_byte(EXPONENT_BASE, byte_or_zero(base))
     }
@@ -56,7 +56,7 @@ impl NumberFormatBuilder {
     /// to 36. Default: `None`, that is, the mantissa radix.
     #[inline(always)]
     pub fn exponent_radix(self, radix: OptionU8) -> Self
-        ensures { result ≡ after self (write_byte layout.exponent_radix (option_byte radix) ∷ []) }
+        ensures { result ≡ after self (write_byte layout.exponent_radix (byte_of_option radix) ∷ []) }
     {
         self.with_byte(EXPONENT_RADIX, byte_or_zero(radix))
     }
@@ -66,7 +66,7 @@ impl NumberFormatBuilder {
     /// no digit of the mantissa or exponent radix. Default: `None`, no prefix.
     #[inline(always)]
     pub fn base_prefix(self, base_prefix: OptionU8) -> Self
-        ensures { result ≡ after self (write_byte layout.base_prefix (option_byte base_prefix) ∷ []) }
+        ensures { result ≡ after self (write_byte layout.base_prefix (byte_of_option base_prefix) ∷ []) }
     {
         self.with_byte(BASE_PREFIX, byte_or_zero(base_prefix))
     }
@@ -76,7 +76,7 @@ impl NumberFormatBuilder {
     /// digit of the mantissa or exponent radix. Default: `None`, no suffix.
     #[inline(always)]
     pub fn base_suffix(self, base_suffix: OptionU8) -> Self
-        ensures { result ≡ after self (write_byte layout.base_suffix (option_byte base_suffix) ∷ []) }
+        ensures { result ≡ after self (write_byte layout.base_suffix (byte_of_option base_suffix) ∷ []) }
     {
         self.with_byte(BASE_SUFFIX, byte_or_zero(base_suffix))
     }

@@ -9,13 +9,14 @@ ghost use Rattle.lexical_base.specs.Ascii.{letters};
 ghost use Rattle.lexical_flags.specs.Record.{raw};
 ghost use Rattle.lexical_flags.specs.Roles.{Disjoint, cased, other_case, digits, own_roles};
 ghost use Rattle.lexical_flags.specs.Options.{AreAccepted, HaveOneRole, LeavesRoom};
-ghost use Rattle.lexical_flags.specs.Rules.{IsRadix, IsFree, IsPunctuation, Holds, IsFirstBroken, IsErrorOf, Lawful};
+ghost use Rattle.lexical_flags.specs.Rules.{IsRadix, IsFree, IsPunctuation, Holds, IsFirstError, IsErrorOf, Lawful};
 ghost use Rattle.lexical_flags.specs.Rules as rules;
 
 use crate::format_flags::*;
 use lexical_base::ascii::{is_valid_ascii, is_valid_letter};
 use lexical_base::digit::char_is_digit;
 use lexical_base::error::Error;
+use lexical_base::laws::digit_facts;
 
 // BYTES
 
@@ -25,10 +26,10 @@ use lexical_base::error::Error;
 /// If the exponent radix of the format is 0, the mantissa radix stands for it. The exponent base
 /// has no digits. Any word and any byte may be passed. The Rust crate has no such function.
 #[inline(always)]
-#[tactic(auto, using(crate::proofs::DigitLemmas::digits_larger))]
 pub fn is_digit(format: u128, byte: u8) -> bool
     ensures { IsTrue result ↔ IsTrue (digits (raw format) byte) }
 {
+    digit_facts();
     char_is_digit(byte, mantissa_radix(format).max(exponent_radix(format)))
 }
 
@@ -278,7 +279,7 @@ fn is_valid_special_separator_flags(format: u128) -> bool
 // Not INTEGER_CONSECUTIVE_DIGIT_SEPARATOR alone among the four separator flags of the integer.
 #[inline(always)]
 fn is_valid_integer_consecutive_flags(format: u128) -> bool
-    ensures { IsTrue result ↔ Holds rules.integer_consecutive_has_place format }
+    ensures { IsTrue result ↔ Holds rules.integer_consecutive_is_allowed format }
 {
     format & INTEGER_DIGIT_SEPARATOR_FLAG_MASK != INTEGER_CONSECUTIVE_DIGIT_SEPARATOR
 }
@@ -286,7 +287,7 @@ fn is_valid_integer_consecutive_flags(format: u128) -> bool
 // The same for the fraction.
 #[inline(always)]
 fn is_valid_fraction_consecutive_flags(format: u128) -> bool
-    ensures { IsTrue result ↔ Holds rules.fraction_consecutive_has_place format }
+    ensures { IsTrue result ↔ Holds rules.fraction_consecutive_is_allowed format }
 {
     format & FRACTION_DIGIT_SEPARATOR_FLAG_MASK != FRACTION_CONSECUTIVE_DIGIT_SEPARATOR
 }
@@ -294,7 +295,7 @@ fn is_valid_fraction_consecutive_flags(format: u128) -> bool
 // The same for the exponent.
 #[inline(always)]
 fn is_valid_exponent_consecutive_flags(format: u128) -> bool
-    ensures { IsTrue result ↔ Holds rules.exponent_consecutive_has_place format }
+    ensures { IsTrue result ↔ Holds rules.exponent_consecutive_is_allowed format }
 {
     format & EXPONENT_DIGIT_SEPARATOR_FLAG_MASK != EXPONENT_CONSECUTIVE_DIGIT_SEPARATOR
 }
@@ -313,7 +314,7 @@ fn is_clean(format: u128) -> bool
 #[inline(always)]
 #[tactic(auto)]
 fn first_broken_radix(format: u128) -> Error
-    ensures { IsFirstBroken rules.radix_rules format result }
+    ensures { IsFirstError rules.radix_rules format result }
 {
     if !is_valid_mantissa_radix(format) {
         Error::InvalidMantissaRadix
@@ -330,7 +331,7 @@ fn first_broken_radix(format: u128) -> Error
 #[inline(always)]
 #[tactic(auto)]
 fn first_broken_punctuation(format: u128) -> Error
-    ensures { IsFirstBroken rules.punctuation_rules format result }
+    ensures { IsFirstError rules.punctuation_rules format result }
 {
     if !is_valid_digit_separator(format) {
         Error::InvalidDigitSeparator
@@ -349,7 +350,7 @@ fn first_broken_punctuation(format: u128) -> Error
 #[inline(always)]
 #[tactic(auto)]
 fn first_broken_flags(format: u128) -> Error
-    ensures { IsFirstBroken rules.flag_rules format result }
+    ensures { IsFirstError rules.flag_rules format result }
 {
     if !is_valid_exponent_flags(format) {
         Error::InvalidExponentFlags
@@ -374,7 +375,7 @@ fn first_broken_flags(format: u128) -> Error
 #[inline(always)]
 #[tactic(auto)]
 fn first_broken_reserved(format: u128) -> Error
-    ensures { IsFirstBroken rules.reserved_rules format result }
+    ensures { IsFirstError rules.reserved_rules format result }
 {
     if is_clean(format) {
         Error::Success
@@ -405,8 +406,8 @@ fn first_broken(format: u128) -> Error
 ///
 /// If the exponent base or the exponent radix is 0, the mantissa radix stands for it.
 pub fn radix_error_impl(format: u128) -> Error
-    ensures first { IsFirstBroken rules.radix_rules format result }
-    ensures only { (other : Error) → IsFirstBroken rules.radix_rules format other → other ≡ result }
+    ensures first { IsFirstError rules.radix_rules format result }
+    ensures only { (other : Error) → IsFirstError rules.radix_rules format other → other ≡ result }
 {
     first_broken_radix(format)
 }

@@ -10,7 +10,7 @@ loop-count-init c = HasWritten-none c.args.word
 
 pub loop-count-preserved : goal.loop-count-preserved
 loop-count-preserved c =
-    HasWritten-next _ _ _ _ _ c.loop-count.invariant c.loop-count-test.true (uppercase_digit-from_library _ _ (omega arith) c.digit_to_char.ensures.figure)
+    HasWritten-next _ _ _ _ _ c.loop-count.invariant c.loop-count-test.true (uppercase_digit-from_library _ _ (omega arith) c.digit_to_char.ensures.character)
 
 pub returns-clause-text : goal.returns-clause-text
 returns-clause-text c =
