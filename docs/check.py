@@ -1,5 +1,5 @@
 #!/usr/bin/env python3
-"""Compares the pages CALLING.md and FORMAT.md with the code that they quote, and ends with 1 if one differs."""
+"""Compares README.md, CALLING.md and FORMAT.md with the code that they quote, and ends with 1 if one differs."""
 import pathlib
 import re
 import sys
@@ -39,7 +39,9 @@ def rows(tests):
 
 def main():
     code = [lines_of(path.read_text()) for kind in ("*.rt", "*.antt") for path in CRATES.rglob(kind) if "out" not in path.parts]
-    wrong = [piece for piece in snippets((DOCS / "CALLING.md").read_text()) if not any(lines_of(piece) in text for text in code)]
+    pages = [(DOCS.parent / "README.md").read_text(), (DOCS / "CALLING.md").read_text()]
+    pieces = [piece for page in pages for piece in snippets(page)]
+    wrong = [piece for piece in pieces if not any(lines_of(piece) in text for text in code)]
     page = (DOCS / "FORMAT.md").read_text()
     table = re.sub(r"^(\| \d+ \|)[^|]*(\| `Invalid)", r"\1 .. \2", page, flags=re.M).splitlines()
     tests = " ".join((CRATES / "callers/src/format_page.rt").read_text().split()).replace("( ", "(").replace(", )", ")")

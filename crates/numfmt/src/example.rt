@@ -21,15 +21,9 @@ fn builds_reads_edits_and_checks(rt: HostRuntime) -> Result<(), Fail> {
     assert_eq!(rt; view.radix(), 10);
 
     // Edit the word: the fields that no edit names stay as they are.
-    let hexadecimal = edit_word(
-        format,
-        &[
-            Edit::Radix(16),
-            Edit::ExponentBase(NonZeroU8::new(2)),
-            Edit::BasePrefix(NonZeroU8::new(b'x')),
-        ],
-    );
-    assert_eq!(rt; hexadecimal, 0x0A021000_7800005F_00000007_0000000C);
+    let edits = [Edit::Radix(16), Edit::BasePrefix(NonZeroU8::new(b'x'))];
+    let hexadecimal = edit_word(format, &edits);
+    assert_eq!(rt; hexadecimal, 0x0A0A1000_7800005F_00000007_0000000C);
     assert!(rt; !same_format(format, hexadecimal));
 
     // Check it.
