@@ -27,7 +27,8 @@ fn builds_reads_edits_and_checks(rt: HostRuntime) -> Result<(), Fail> {
     assert!(rt; !same_format(format, hexadecimal));
 
     // Check it.
-    assert_eq!(rt; format_error(hexadecimal), Error::Success);
+    let outcome = format_error(hexadecimal);
+    assert_eq!(rt; outcome, Error::Success);
     let clash = edit_word(hexadecimal, &[Edit::DigitSeparator(NonZeroU8::new(b'a'))]);
     assert_eq!(rt; format_error(clash), Error::InvalidDigitSeparator);
     Ok(())
