@@ -16,9 +16,6 @@ ghost use Rattle.lexical_base.specs.OutcomeOrder.{compare_outcomes, same_outcome
 use std::cmp::Ordering;
 use std::fmt;
 
-#[cfg(test)]
-mod tests;
-
 // The rank of the first error of formats, which follows the parse errors.
 const FIRST_FORMAT_ERROR: u8 = 19;
 

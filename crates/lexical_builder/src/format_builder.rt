@@ -367,6 +367,3 @@ fn byte_or_zero(byte: OptionU8) -> u8
         None => 0,
     }
 }
-
-#[cfg(test)]
-mod tests;

@@ -291,6 +291,3 @@ pub fn radix_from_flags(format: u128, mask: u128, shift: i32) -> u32
         own
     }
 }
-
-#[cfg(test)]
-mod tests;

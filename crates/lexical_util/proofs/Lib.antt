@@ -7,3 +7,4 @@ mod PutLemmas
 mod ChangeLemmas
 mod ImageLemmas
 mod ComposeLemmas
+mod SetterNameLemmas

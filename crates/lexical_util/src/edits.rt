@@ -141,6 +141,16 @@ pub enum Edit {
     ExponentRadix(OptionU8),
 }
 
+// The variants as an array: the flags and then the groups.
+macro_rules! variants {
+    (() { $($Flag:ident $flag:ident;)* } { $($Group:ident $group:ident;)* }) => {
+        [$(FlagSetter::$Flag,)* $(FlagSetter::$Group,)*]
+    };
+}
+
+// All setters.
+const SETTERS: [FlagSetter; 40] = with_setters!(variants());
+
 impl FlagSetter {
     /// Returns the name of the setter: the variant in snake case.
     pub fn name(self) -> &'static str
@@ -161,16 +171,12 @@ impl FlagSetter {
     pub fn from_name(name: &str) -> Option<FlagSetter>
         ensures { (setter : FlagSetter) → (result ≡ Some setter) ↔ (setter_name setter ≡ name.now) }
     {
-        macro_rules! setter_of {
-            (($name:ident) { $($Flag:ident $flag:ident;)* } { $($Group:ident $group:ident;)* }) => {
-                match $name {
-                    $(stringify!($flag) => Some(FlagSetter::$Flag),)*
-                    $(stringify!($group) => Some(FlagSetter::$Group),)*
-                    _ => None,
-                }
-            };
+        for setter in &SETTERS {
+            if setter.name() == name {
+                return Some(*setter);
+            }
         }
-        with_setters!(setter_of(name))
+        None
     }
 }
 
@@ -322,6 +328,3 @@ pub fn same_format(a: u128, b: u128) -> bool
 {
     normal_form(a) == normal_form(b)
 }
-
-#[cfg(test)]
-mod tests;

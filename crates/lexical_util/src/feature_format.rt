@@ -272,6 +272,3 @@ impl NumberFormat {
         NumberFormatBuilder::rebuild(self.format)
     }
 }
-
-#[cfg(test)]
-mod tests;

@@ -443,6 +443,3 @@ pub fn format_error_impl(format: u128) -> Error
 {
     first_broken(format)
 }
-
-#[cfg(test)]
-mod tests;

@@ -1,0 +1,375 @@
+use lexical_util::edits::*;
+use lexical_util::error::Error;
+use lexical_util::format::{
+    NonZeroU8, NumberFormatBuilder, STANDARD, format_error, is_valid_digit_separator,
+    is_valid_options_punctuation,
+};
+use std::test::Fail;
+
+const DECIMAL: u128 = 0x0A0A0A00_00000000_00000000_0000000C;
+
+// A format with `_` for its digit separator, and no flag that allows it anywhere.
+const UNUSED_SEPARATOR: u128 = 0x0A0A0A00_0000005F_00000000_0000000C;
+
+const ALL_ONES: u128 = 0xFFFFFFFF_FFFFFFFF_FFFFFFFF_FFFFFFFF;
+
+// A separator may stand between integer digits.
+const BETWEEN: Edit = Edit::Flag(FlagSetter::IntegerInternalDigitSeparator, true);
+
+const NO_SPECIAL: Edit = Edit::Flag(FlagSetter::NoSpecial, true);
+
+fn underscore() -> Edit {
+    Edit::DigitSeparator(NonZeroU8::new(95))
+}
+
+#[test]
+fn edits_a_word_once_with_all_edits(rt: HostRuntime) {
+    let cases: [(u128, &[Edit], u128); 9] = [
+        (STANDARD, &[], DECIMAL),
+        (
+            STANDARD,
+            &[Edit::Radix(16)],
+            0x0A0A1000_00000000_00000000_0000000C,
+        ),
+        (
+            DECIMAL,
+            &[Edit::ExponentBase(None)],
+            0x0A000A00_00000000_00000000_0000000C,
+        ),
+        (
+            UNUSED_SEPARATOR,
+            &[BETWEEN],
+            0x0A0A0A00_0000005F_00000001_0000000C,
+        ),
+        (
+            normal_form(UNUSED_SEPARATOR),
+            &[BETWEEN],
+            0x0A0A0A00_00000000_00000001_0000000C,
+        ),
+        (
+            DECIMAL,
+            &[
+                Edit::Flag(FlagSetter::RequiredDigits, false),
+                Edit::Flag(FlagSetter::RequiredExponentDigits, true),
+            ],
+            0x0A0A0A00_00000000_00000000_00000004,
+        ),
+        (
+            DECIMAL,
+            &[
+                underscore(),
+                Edit::Flag(FlagSetter::DigitSeparatorFlags, true),
+                Edit::Flag(FlagSetter::DigitSeparatorFlags, false),
+            ],
+            DECIMAL,
+        ),
+        (
+            0x00000000_00000000_00000000_0000000C,
+            &[Edit::MantissaRadix(8)],
+            0x00000800_00000000_00000000_0000000C,
+        ),
+        (
+            0x00000000_00000000_00000000_0000000C,
+            &[
+                Edit::Radix(16),
+                underscore(),
+                Edit::Flag(FlagSetter::IntegerDigitSeparatorFlags, true),
+            ],
+            0x00001000_0000005F_00000249_0000000C,
+        ),
+    ];
+    for (format, edits, want) in cases {
+        assert_eq!(rt; edit_word(format, edits), want, "{edits:?} of {format:x}");
+    }
+}
+
+// The word after both edits in one call, and after one call each: the first pair composes, and each
+// other pair fails to in its own way.
+#[test]
+fn edits_compose_unless_a_byte_is_filled_or_dropped_between(rt: HostRuntime) {
+    let cases = [
+        (
+            BETWEEN,
+            underscore(),
+            0x0A0A0A00_0000005F_00000001_0000000C,
+            0x0A0A0A00_0000005F_00000001_0000000C,
+        ),
+        (
+            Edit::ExponentBase(None),
+            NO_SPECIAL,
+            0x0A000A00_00000000_00000000_0000040C,
+            0x0A0A0A00_00000000_00000000_0000040C,
+        ),
+        (
+            Edit::ExponentRadix(None),
+            NO_SPECIAL,
+            0x000A0A00_00000000_00000000_0000040C,
+            0x0A0A0A00_00000000_00000000_0000040C,
+        ),
+        (
+            underscore(),
+            BETWEEN,
+            0x0A0A0A00_0000005F_00000001_0000000C,
+            0x0A0A0A00_00000000_00000001_0000000C,
+        ),
+    ];
+    for (first, second, once, twice) in cases {
+        let between = edit_word(DECIMAL, &[first]);
+        assert_eq!(rt;
+            edit_word(DECIMAL, &[first, second]),
+            once,
+            "{first:?} {second:?}"
+        );
+        assert_eq!(rt;
+            edit_word(between, &[second]),
+            twice,
+            "{first:?} {second:?}"
+        );
+    }
+}
+
+#[test]
+fn of_ten_thousand_radixes_the_last_counts(rt: HostRuntime) {
+    let mut edits = [Edit::MantissaRadix(0); 10_000];
+    for (index, edit) in edits.iter_mut().enumerate() {
+        *edit = Edit::MantissaRadix((index % 256) as u8);
+    }
+    assert_eq!(rt;
+        edit_word(STANDARD, &edits),
+        0x0A0A0F00_00000000_00000000_0000000C
+    );
+}
+
+#[test]
+fn of_ten_thousand_groups_the_last_counts(rt: HostRuntime) {
+    let mut edits = [Edit::Flag(FlagSetter::DigitSeparatorFlags, false); 10_000];
+    for (index, edit) in edits.iter_mut().enumerate() {
+        *edit = Edit::Flag(FlagSetter::DigitSeparatorFlags, index % 2 == 1);
+    }
+    assert_eq!(rt;
+        edit_word(STANDARD, &edits),
+        0x0A0A0A00_00000000_00001FFF_0000000C
+    );
+    assert_eq!(rt; edit_word(STANDARD, &edits[..9_999]), DECIMAL);
+}
+
+#[test]
+fn normal_forms(rt: HostRuntime) {
+    let cases = [
+        (STANDARD, DECIMAL),
+        (DECIMAL, DECIMAL),
+        (UNUSED_SEPARATOR, DECIMAL),
+        (0x00000A00_00000000_00000000_8000000C, DECIMAL),
+        (0, 0),
+        (ALL_ONES, 0xFFFFFFFF_FF0000FF_00001FFF_0003FFFF),
+    ];
+    for (format, want) in cases {
+        assert_eq!(rt; normal_form(format), want, "of {format:x}");
+        assert!(rt; same_format(format, want), "{format:x}");
+    }
+    assert!(rt; !same_format(0, 12));
+}
+
+// There are 14, 19 and 16 of them.
+#[test]
+fn each_reserved_bit_is_an_error_that_the_normal_form_lacks(rt: HostRuntime) {
+    for (first, end) in [(18u32, 32u32), (45, 64), (72, 88)] {
+        for bit in first..end.min(128) {
+            let format = DECIMAL | 1 << bit;
+            assert_eq!(rt; format_error(format), Error::InvalidFlags, "bit {bit}");
+            assert_eq!(rt; normal_form(format), DECIMAL, "bit {bit}");
+            assert_eq!(rt;
+                format_error(normal_form(format)),
+                Error::Success,
+                "bit {bit}"
+            );
+        }
+    }
+}
+
+// A word with its error, and its normal form with its own.
+#[test]
+fn errors_of_words_and_of_their_normal_forms(rt: HostRuntime) {
+    use Error::*;
+    let cases = [
+        (
+            (0x0A0A0000_00000000_00000000_0000000C, InvalidMantissaRadix),
+            (0x0A0A0000_00000000_00000000_0000000C, InvalidMantissaRadix),
+        ),
+        (
+            (0x0A0A0100_00000000_00000000_0000000C, InvalidMantissaRadix),
+            (0x0A0A0100_00000000_00000000_0000000C, InvalidMantissaRadix),
+        ),
+        (
+            (0x0AFF0A00_00000000_00000000_0000000C, InvalidExponentBase),
+            (0x0AFF0A00_00000000_00000000_0000000C, InvalidExponentBase),
+        ),
+        (
+            (0x00000A00_00000000_00001FFF_0000000C, Success),
+            (0x0A0A0A00_00000000_00001FFF_0000000C, Success),
+        ),
+        (
+            (0x00000A00_78000078_00000000_0000000C, InvalidPunctuation),
+            (0x0A0A0A00_78000000_00000000_0000000C, Success),
+        ),
+        (
+            (0x24242424_24000024_00000000_0000000C, InvalidPunctuation),
+            (0x24242424_24000000_00000000_0000000C, InvalidPunctuation),
+        ),
+        (
+            (0x0A0A0A00_00000035_00000000_0000000C, InvalidDigitSeparator),
+            (DECIMAL, Success),
+        ),
+    ];
+    for ((format, error), (normal, normal_error)) in cases {
+        assert_eq!(rt; format_error(format), error, "{format:x}");
+        assert_eq!(rt; normal_form(format), normal, "of {format:x}");
+        assert_eq!(rt; format_error(normal), normal_error, "{normal:x}");
+    }
+}
+
+#[test]
+fn a_separator_may_be_valid_in_a_word_that_is_not(rt: HostRuntime) {
+    let format = 0xFFFFFF00_0000007E_00000001_0000000C;
+    assert!(rt; is_valid_digit_separator(format));
+    assert_eq!(rt; format_error(format), Error::InvalidMantissaRadix);
+    assert!(rt; !is_valid_digit_separator(0xFFFFFF00_000000FF_00000001_0000000C));
+}
+
+#[test]
+fn migrate_returns_the_normal_form_or_its_error(rt: HostRuntime) {
+    let cases = [
+        (STANDARD, Ok(DECIMAL)),
+        (UNUSED_SEPARATOR, Ok(DECIMAL)),
+        (0x0A0A0A00_00000035_00000000_0000000C, Ok(DECIMAL)),
+        (0x00000A00_00000000_00000000_8000000C, Ok(DECIMAL)),
+        (
+            0x00000A00_78000058_00000000_0000000C,
+            Ok(0x0A0A0A00_78000000_00000000_0000000C),
+        ),
+        (
+            0x00000A48_68000000_00000000_0000000C,
+            Err(Error::InvalidPunctuation),
+        ),
+        (0, Err(Error::InvalidMantissaRadix)),
+        (ALL_ONES, Err(Error::InvalidMantissaRadix)),
+        (
+            0x00000A00_00000000_00000200_8000000C,
+            Err(Error::InvalidConsecutiveIntegerDigitSeparator),
+        ),
+        (
+            0x00000A00_00000035_00000000_0000404C,
+            Err(Error::InvalidExponentFlags),
+        ),
+    ];
+    for (format, want) in cases {
+        assert_eq!(rt; migrate(format), want, "of {format:x}");
+    }
+}
+
+// The words of docs/MIGRATING.md that are not above.
+#[test]
+fn what_migrate_does_not_mend_an_edit_does(rt: HostRuntime) {
+    let contradiction = 0x00000A00_00000035_00000000_0000404C;
+    assert_eq!(rt; format_error(contradiction), Error::InvalidDigitSeparator);
+    let mended = edit_word(
+        contradiction,
+        &[Edit::Flag(FlagSetter::RequiredExponentNotation, false)],
+    );
+    assert_eq!(rt; mended, 0x0A0A0A00_00000000_00000000_0000004C);
+    assert_eq!(rt; format_error(mended), Error::Success);
+}
+
+#[test]
+fn letters_in_two_cases_are_told_apart_by_the_flags_of_case(rt: HostRuntime) {
+    let prefix_and_suffix = 0x00000A48_68000000_00000000_0000000C;
+    let apart = edit_word(
+        prefix_and_suffix,
+        &[
+            Edit::Flag(FlagSetter::CaseSensitiveBasePrefix, true),
+            Edit::Flag(FlagSetter::CaseSensitiveBaseSuffix, true),
+        ],
+    );
+    assert_eq!(rt; apart, 0x0A0A0A48_68000000_00000000_0003000C);
+    assert_eq!(rt; format_error(apart), Error::Success);
+
+    let used_separator = 0x00000A00_78000058_00000001_0000000C;
+    assert_eq!(rt; migrate(used_separator), Err(Error::InvalidPunctuation));
+    let apart = edit_word(
+        used_separator,
+        &[Edit::Flag(FlagSetter::CaseSensitiveBasePrefix, true)],
+    );
+    assert_eq!(rt; apart, 0x0A0A0A00_78000058_00000001_0001000C);
+    assert_eq!(rt; format_error(apart), Error::Success);
+
+    let prefix = 0x00000A00_45000000_00000000_0000000C;
+    assert_eq!(rt; format_error(prefix), Error::Success);
+    assert_eq!(rt; migrate(prefix), Ok(0x0A0A0A00_45000000_00000000_0000000C));
+    assert!(rt; !is_valid_options_punctuation(prefix, b'e', b'.'));
+    assert!(rt; is_valid_options_punctuation(prefix, b'^', b'.'));
+    let apart = edit_word(
+        prefix,
+        &[
+            Edit::Flag(FlagSetter::CaseSensitiveExponent, true),
+            Edit::Flag(FlagSetter::CaseSensitiveBasePrefix, true),
+        ],
+    );
+    assert_eq!(rt; apart, 0x0A0A0A00_45000000_00000000_0001800C);
+    assert!(rt; is_valid_options_punctuation(apart, b'e', b'.'));
+}
+
+#[test]
+fn is_built_tells_which_words_are_packed(rt: HostRuntime) {
+    let cases = [
+        (STANDARD, true),
+        (DECIMAL, true),
+        (0, true),
+        (UNUSED_SEPARATOR, false),
+        (0x00000A00_00000000_00000000_8000000C, false),
+        (ALL_ONES, false),
+    ];
+    for (format, want) in cases {
+        assert_eq!(rt; is_built(format), want, "{format:x}");
+    }
+}
+
+// The word that the edits make of a new builder, and how many of them are needed.
+#[test]
+fn edits_of_lists_the_needed_edits_first(rt: HostRuntime) -> Result<(), Fail> {
+    let cases = [
+        (STANDARD, STANDARD, 0),
+        (DECIMAL, DECIMAL, 2),
+        (0, 0, 3),
+        (0x00000A00_00000000_00000000_8000000C, STANDARD, 0),
+        (ALL_ONES, 0xFFFFFFFF_FF0000FF_00001FFF_0003FFFF, 35),
+    ];
+    for (format, want, count) in cases {
+        let (edits, number) = edits_of(format);
+        let first = edits.get(..number).ok_or("fewer edits than their number")?;
+        let all = apply_all(NumberFormatBuilder::new(), &edits);
+        let needed = apply_all(NumberFormatBuilder::new(), first);
+        assert_eq!(rt; number, count, "of {format:x}");
+        assert_eq!(rt; all.build_unchecked(), want, "all edits of {format:x}");
+        assert_eq!(rt; needed.build_unchecked(), want, "first edits of {format:x}");
+    }
+    let (edits, _) = edits_of(0);
+    assert_eq!(rt;
+        edits[0],
+        Edit::Flag(FlagSetter::RequiredExponentDigits, false)
+    );
+    let builder = apply(NumberFormatBuilder::new(), Edit::MantissaRadix(2));
+    assert_eq!(rt;
+        builder.build_unchecked(),
+        0x00000200_00000000_00000000_0000000C
+    );
+    Ok(())
+}
+
+#[test]
+fn clone_returns_an_equal_value(rt: HostRuntime) -> Result<(), Fail> {
+    assert_eq!(rt; FlagSetter::NoSpecial.clone()?, FlagSetter::NoSpecial);
+    assert_eq!(rt; Edit::Radix(16).clone()?, Edit::Radix(16));
+    let byte = NonZeroU8::new(95).ok_or("95 is refused")?;
+    assert_eq!(rt; byte.clone()?, byte);
+    Ok(())
+}

@@ -1,0 +1,175 @@
+use lexical_util::error::Error;
+use lexical_util::feature_format::NumberFormat;
+use lexical_util::format::{STANDARD, format_error, format_is_valid};
+use std::test::Fail;
+
+const ALL_ONES: u128 = 0xFFFFFFFF_FFFFFFFF_FFFFFFFF_FFFFFFFF;
+
+// Each member alone is seen, and all but the members are not.
+macro_rules! check_groups {
+    ($rt:ident; $($group:ident $mask:literal $($bit:literal)*;)*) => {$(
+        $(assert!($rt; NumberFormat::new(1 << $bit).$group());)*
+        assert!($rt; !NumberFormat::new(ALL_ONES ^ $mask).$group());
+    )*};
+}
+
+#[test]
+fn group_getters_see_each_member(rt: HostRuntime) {
+    check_groups! { rt;
+        required_digits 0xF 0 1 2 3;
+        internal_digit_separator 0x7_0000_0000 32 33 34;
+        leading_digit_separator 0x38_0000_0000 35 36 37;
+        trailing_digit_separator 0x1C0_0000_0000 38 39 40;
+        consecutive_digit_separator 0xE00_0000_0000 41 42 43;
+    }
+}
+
+#[test]
+fn one_required_digit_is_enough(rt: HostRuntime) {
+    assert!(rt; NumberFormat::new(0x0A0A0A00_00000000_00000000_00000004).required_digits());
+}
+
+#[test]
+fn flag_groups_mask_out_everything_else(rt: HostRuntime) {
+    let view = NumberFormat::new(ALL_ONES);
+    assert_eq!(rt; view.flags(), 0x1FFF_0003_FFFF);
+    assert_eq!(rt; view.interface_flags(), 0xFFF_0000_63CF);
+    assert_eq!(rt; view.digit_separator_flags(), 0x1FFF_0000_0000);
+    assert_eq!(rt; view.exponent_flags(), 0x924_0000_43C4);
+    assert_eq!(rt; view.integer_digit_separator_flags(), 0x249_0000_0000);
+    assert_eq!(rt; view.fraction_digit_separator_flags(), 0x492_0000_0000);
+    assert_eq!(rt; view.exponent_digit_separator_flags(), 0x924_0000_0000);
+}
+
+#[test]
+fn reads_each_byte(rt: HostRuntime) {
+    let view = NumberFormat::new(0x06050403_02000001_00000000_0000000C);
+    assert_eq!(rt; view.digit_separator(), 1);
+    assert_eq!(rt; view.base_prefix(), 2);
+    assert_eq!(rt; view.base_suffix(), 3);
+    assert_eq!(rt; view.mantissa_radix(), 4);
+    assert_eq!(rt; view.radix(), 4);
+    assert_eq!(rt; view.exponent_base(), 5);
+    assert_eq!(rt; view.exponent_radix(), 6);
+    assert!(rt; view.has_digit_separator() && view.has_base_prefix() && view.has_base_suffix());
+    let decimal = NumberFormat::new(0x0A0A0A00_00000000_00000000_0000000C);
+    assert_eq!(rt; decimal.radix(), 10);
+    assert_eq!(rt; decimal.mantissa_radix(), 10);
+    assert_eq!(rt; decimal.exponent_base(), 10);
+    assert_eq!(rt; decimal.exponent_radix(), 10);
+    let bare = NumberFormat::default();
+    assert_eq!(rt; bare.exponent_base(), 10);
+    assert_eq!(rt; bare.exponent_radix(), 10);
+    assert!(rt; !bare.has_digit_separator() && !bare.has_base_prefix() && !bare.has_base_suffix());
+}
+
+#[test]
+fn a_flag_of_separators_in_a_row_is_no_other_flag(rt: HostRuntime) {
+    let view = NumberFormat::new(0x00000A00_00000000_00000200_0000000C);
+    assert!(rt; view.consecutive_digit_separator());
+    assert!(rt; !view.internal_digit_separator());
+    assert!(rt; !view.has_digit_separator());
+}
+
+#[test]
+fn digits_are_those_of_both_radixes(rt: HostRuntime) {
+    let decimal = NumberFormat::new(0x00000A00_00000000_00000000_0000000C);
+    assert!(rt; decimal.is_digit(b'9') && !decimal.is_digit(b'A') && !decimal.is_digit(b'.'));
+    let hexadecimal_exponent = NumberFormat::new(0x10000A00_00000000_00000000_0000000C);
+    assert!(rt; hexadecimal_exponent.is_digit(b'f') && hexadecimal_exponent.is_digit(b'F'));
+    assert!(rt; !hexadecimal_exponent.is_digit(b'g'));
+}
+
+#[test]
+fn powers_of_the_radix(rt: HostRuntime) {
+    let cases = [
+        (15, 225, 50625, 2562890625),
+        (16, 256, 65536, 0),
+        (36, 1296, 1679616, 3611361280),
+        (255, 65025, 4228250625, 3357276161),
+    ];
+    for (radix, second, fourth, eighth) in cases {
+        let view = NumberFormat::new(radix << 104);
+        assert_eq!(rt; view.radix2(), second, "radix {radix}");
+        assert_eq!(rt; view.radix4(), fourth, "radix {radix}");
+        assert_eq!(rt; view.radix8(), eighth, "radix {radix}");
+    }
+}
+
+#[test]
+fn error_is_that_of_the_first_broken_rule(rt: HostRuntime) {
+    let cases = [
+        (0x0A0A0A00_00000000_00000000_0000000C, Error::Success),
+        (0x00000A00_00000000_00000000_0000000C, Error::Success),
+        (0, Error::InvalidMantissaRadix),
+        (ALL_ONES, Error::InvalidMantissaRadix),
+        (0x0A0A0A00_0000005F_00000000_0000000C, Error::Success),
+        (
+            0x0A0A0A00_00000035_00000000_0000000C,
+            Error::InvalidDigitSeparator,
+        ),
+        (0x00000A00_00000000_00000000_8000000C, Error::InvalidFlags),
+        (
+            0x0A010A00_00000000_00000000_0000000C,
+            Error::InvalidExponentBase,
+        ),
+        (
+            0x00000A48_68000000_00000000_0000000C,
+            Error::InvalidPunctuation,
+        ),
+        (
+            0x00000A48_68000000_00000000_0001000C,
+            Error::InvalidPunctuation,
+        ),
+        (
+            0x00000A48_68000000_00000000_0002000C,
+            Error::InvalidPunctuation,
+        ),
+        (0x00000A48_68000000_00000000_0003000C, Error::Success),
+        (
+            0x00000A00_78000058_00000000_0000000C,
+            Error::InvalidPunctuation,
+        ),
+        (0x00000A00_78000058_00000000_0001000C, Error::Success),
+    ];
+    for (format, want) in cases {
+        let view = NumberFormat::new(format);
+        assert_eq!(rt; view.error(), want, "{format:x}");
+        assert_eq!(rt; format_error(format), want, "{format:x}");
+        assert_eq!(rt; view.is_valid(), want.is_success(), "{format:x}");
+        assert_eq!(rt; format_is_valid(format), want.is_success(), "{format:x}");
+    }
+}
+
+#[test]
+fn error_radix_looks_at_radixes_alone(rt: HostRuntime) {
+    let cases = [
+        (0x0A0A0A00_00000035_00000000_0000000C, Error::Success),
+        (0, Error::InvalidMantissaRadix),
+        (
+            0x0A010A00_00000000_00000000_0000000C,
+            Error::InvalidExponentBase,
+        ),
+        (
+            0x250A0A00_00000000_00000000_0000000C,
+            Error::InvalidExponentRadix,
+        ),
+    ];
+    for (format, want) in cases {
+        let view = NumberFormat::new(format);
+        assert_eq!(rt; view.error_radix(), want, "{format:x}");
+        assert_eq!(rt; view.is_valid_radix(), want.is_success(), "{format:x}");
+    }
+}
+
+#[test]
+fn builders_pack_the_standard_and_the_decimal_format(rt: HostRuntime) -> Result<(), Fail> {
+    let decimal = 0x0A0A0A00_00000000_00000000_0000000C;
+    assert_eq!(rt;
+        NumberFormat::default().rebuild().build_unchecked(),
+        decimal
+    );
+    assert_eq!(rt; NumberFormat::builder().build_unchecked(), STANDARD);
+    assert_eq!(rt; NumberFormat::new(12).clone()?.flags(), 12);
+    Ok(())
+}

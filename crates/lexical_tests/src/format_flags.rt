@@ -1,0 +1,45 @@
+use lexical_util::format_flags::*;
+
+const STANDARD: u128 = 0x00000A00_00000000_00000000_0000000C;
+
+const DECIMAL: u128 = 0x0A0A0A00_00000000_00000000_0000000C;
+
+#[test]
+fn reads_each_byte(rt: HostRuntime) {
+    let word = 0x06050403_02000001_00000000_0000000C;
+    assert_eq!(rt; digit_separator(word), 1);
+    assert_eq!(rt; base_prefix(word), 2);
+    assert_eq!(rt; base_suffix(word), 3);
+    assert_eq!(rt; mantissa_radix(word), 4);
+    assert_eq!(rt; exponent_base(word), 5);
+    assert_eq!(rt; exponent_radix(word), 6);
+}
+
+#[test]
+fn an_empty_exponent_byte_is_the_mantissa_radix(rt: HostRuntime) {
+    for (word, base, radix) in [
+        (DECIMAL, 10, 10),
+        (STANDARD, 10, 10),
+        (0x0A000A00_00000000_00000000_0000000C, 10, 10),
+        (0x0A0A1000_00000000_00000000_0000000C, 10, 10),
+        (0x00001000_00000000_00000000_0000000C, 16, 16),
+    ] {
+        assert_eq!(rt; exponent_base(word), base, "{word:x}");
+        assert_eq!(rt; exponent_radix(word), radix, "{word:x}");
+    }
+}
+
+#[test]
+fn reads_a_radix_under_a_mask(rt: HostRuntime) {
+    for (mask, shift, want) in [
+        (EXPONENT_BASE, 112, 10),
+        (EXPONENT_BASE, 0, 10),
+        (FLAG_MASK, 0, 12),
+    ] {
+        assert_eq!(rt;
+            radix_from_flags(DECIMAL, mask, shift),
+            want,
+            "{mask:x} {shift}"
+        );
+    }
+}
