@@ -44,7 +44,7 @@ def main():
     wrong = [piece for piece in pieces if not any(lines_of(piece) in text for text in code)]
     page = (DOCS / "FORMAT.md").read_text()
     table = re.sub(r"^(\| \d+ \|)[^|]*(\| `Invalid)", r"\1 .. \2", page, flags=re.M).splitlines()
-    tests = " ".join((CRATES / "callers/src/format_page.rt").read_text().split()).replace("( ", "(").replace(", )", ")")
+    tests = " ".join((CRATES / "lexical_tests/src/format_page.rt").read_text().split()).replace("( ", "(").replace(", )", ")")
     found = list(rows(tests))
     wrong += [row for row in found if sum(line.startswith(row) for line in table) != 1]
     if len(found) != 31 + 9 + 6 + 16:

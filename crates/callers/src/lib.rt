@@ -5,8 +5,6 @@
 //! docs/CALLING.md explains them.
 #![tactic(auto)]
 
-#[cfg(test)]
-mod format_page;
 pub mod keep;
 pub mod read;
 pub mod roles;

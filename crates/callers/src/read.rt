@@ -117,6 +117,3 @@ fn byte_before(text: &[u8], index: usize) -> u8
         byte_at(text, index - 1)
     }
 }
-
-#[cfg(test)]
-mod tests;

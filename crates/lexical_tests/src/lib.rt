@@ -1,7 +1,7 @@
-//! The tests of the four libraries, through the public calls of `lexical_util`: values that come from
+//! The tests of the four libraries and of `callers`, by public calls alone: values that come from
 //! outside, printed texts, and each public call once.
 //!
-//! They stand in a crate of their own so that no library is proved a second time with its tests.
+//! They are a crate of their own so that no library is proved a second time with its tests.
 #![tactic(auto)]
 
 #[cfg(test)]
@@ -18,5 +18,13 @@ mod feature_format;
 mod format_builder;
 #[cfg(test)]
 mod format_flags;
+#[cfg(test)]
+mod format_page;
+#[cfg(test)]
+mod keep;
+#[cfg(test)]
+mod read;
+#[cfg(test)]
+mod roles;
 #[cfg(test)]
 mod rules;

@@ -1,4 +1,5 @@
-use super::*;
+use callers::read::read_checked;
+use lexical_util::error::Error;
 
 // Radix 16, `_` between integer digits.
 const GROUPED: u128 = 0x10101000_0000005F_00000001_0000000C;
