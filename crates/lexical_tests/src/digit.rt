@@ -13,16 +13,11 @@ fn reads_a_digit_exactly_below_its_radix(rt: HostRuntime) {
         (b'/', 10, None),
     ];
     for (c, radix, want) in cases {
-        assert_eq!(rt; char_to_digit(c, radix), want, "{c} in radix {radix}");
-        assert_eq!(rt; char_to_digit_const(c, radix), want, "{c} in radix {radix}");
-        assert_eq!(rt;
-            char_is_digit(c, radix),
-            want.is_some(),
-            "{c} in radix {radix}"
-        );
-        assert_eq!(rt;
-            char_is_digit_const(c, radix),
-            want.is_some(),
+        let digits = (char_to_digit(c, radix), char_to_digit_const(c, radix));
+        let tests = (char_is_digit(c, radix), char_is_digit_const(c, radix));
+        let is_digit = want.is_some();
+        assert!(rt;
+            digits == (want, want) && tests == (is_digit, is_digit),
             "{c} in radix {radix}"
         );
     }

@@ -172,17 +172,12 @@ fn normal_forms(rt: HostRuntime) {
 
 // There are 14, 19 and 16 of them.
 #[test]
-fn each_reserved_bit_is_an_error_that_the_normal_form_lacks(rt: HostRuntime) {
+fn each_reserved_bit_is_dropped_by_the_normal_form(rt: HostRuntime) {
     for (first, end) in [(18u32, 32u32), (45, 64), (72, 88)] {
-        for bit in first..end.min(128) {
-            let format = DECIMAL | 1 << bit;
-            assert_eq!(rt; format_error(format), Error::InvalidFlags, "bit {bit}");
-            assert_eq!(rt; normal_form(format), DECIMAL, "bit {bit}");
-            assert_eq!(rt;
-                format_error(normal_form(format)),
-                Error::Success,
-                "bit {bit}"
-            );
+        for bit in first..end {
+            let format = DECIMAL | 1u128.wrapping_shl(bit);
+            assert!(rt; format_error(format) == Error::InvalidFlags, "bit {bit}");
+            assert!(rt; normal_form(format) == DECIMAL, "bit {bit}");
         }
     }
 }
@@ -348,9 +343,11 @@ fn edits_of_lists_the_needed_edits_first(rt: HostRuntime) -> Result<(), Fail> {
         let first = edits.get(..number).ok_or("fewer edits than their number")?;
         let all = apply_all(NumberFormatBuilder::new(), &edits);
         let needed = apply_all(NumberFormatBuilder::new(), first);
-        assert_eq!(rt; number, count, "of {format:x}");
-        assert_eq!(rt; all.build_unchecked(), want, "all edits of {format:x}");
-        assert_eq!(rt; needed.build_unchecked(), want, "first edits of {format:x}");
+        let (all, needed) = (all.build_unchecked(), needed.build_unchecked());
+        assert!(rt;
+            number == count && all == want && needed == want,
+            "of {format:x}"
+        );
     }
     let (edits, _) = edits_of(0);
     assert_eq!(rt;

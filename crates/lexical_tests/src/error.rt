@@ -159,16 +159,20 @@ fn prints_the_text_of_each_outcome(rt: HostRuntime) -> Result<(), Fail> {
         for (error, description) in &parse_errors(index) {
             let text = format!(in alloc; "{error}")?;
             let want = format!(in alloc; "lexical parse error: {description} at index {index}")?;
-            assert_eq!(rt; text, want);
-            assert_eq!(rt; error.description(), *description);
-            assert_eq!(rt; error.index(), Some(&index));
+            assert!(rt;
+                text == want && error.description() == *description,
+                "{error}"
+            );
+            assert!(rt; error.index() == Some(&index), "{error}");
         }
     }
     for (error, printed) in &other_outcomes() {
         let text = format!(in alloc; "{error}")?;
-        assert_eq!(rt; text.as_str(), *printed);
+        assert!(rt;
+            text.as_str() == *printed && error.index().is_none(),
+            "{error}"
+        );
         assert!(rt; printed.ends_with(error.description()), "{error}");
-        assert_eq!(rt; error.index(), None);
     }
     Ok(())
 }
@@ -259,9 +263,12 @@ fn orders_by_rank_and_then_by_index(rt: HostRuntime) -> Result<(), Fail> {
     ];
     for (i, low) in ascending.iter().enumerate() {
         for (j, high) in ascending.iter().enumerate() {
-            assert_eq!(rt; low.cmp(high), i.cmp(&j));
-            assert_eq!(rt; low.partial_cmp(high), Some(i.cmp(&j)));
-            assert_eq!(rt; low == high, i == j);
+            let order = i.cmp(&j);
+            assert!(rt;
+                low.cmp(high) == order && low.partial_cmp(high) == Some(order),
+                "{i} {j}"
+            );
+            assert!(rt; (low == high) == (i == j), "{i} {j}");
         }
     }
     assert_eq!(rt; Error::Success.clone()?, Error::Success);

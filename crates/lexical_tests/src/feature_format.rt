@@ -32,34 +32,45 @@ fn one_required_digit_is_enough(rt: HostRuntime) {
 #[test]
 fn flag_groups_mask_out_everything_else(rt: HostRuntime) {
     let view = NumberFormat::new(ALL_ONES);
-    assert_eq!(rt; view.flags(), 0x1FFF_0003_FFFF);
-    assert_eq!(rt; view.interface_flags(), 0xFFF_0000_63CF);
-    assert_eq!(rt; view.digit_separator_flags(), 0x1FFF_0000_0000);
-    assert_eq!(rt; view.exponent_flags(), 0x924_0000_43C4);
-    assert_eq!(rt; view.integer_digit_separator_flags(), 0x249_0000_0000);
-    assert_eq!(rt; view.fraction_digit_separator_flags(), 0x492_0000_0000);
-    assert_eq!(rt; view.exponent_digit_separator_flags(), 0x924_0000_0000);
+    let groups = [
+        view.flags(),
+        view.interface_flags(),
+        view.digit_separator_flags(),
+        view.exponent_flags(),
+        view.integer_digit_separator_flags(),
+        view.fraction_digit_separator_flags(),
+        view.exponent_digit_separator_flags(),
+    ];
+    let masks: [u128; 7] = [
+        0x1FFF_0003_FFFF,
+        0xFFF_0000_63CF,
+        0x1FFF_0000_0000,
+        0x924_0000_43C4,
+        0x249_0000_0000,
+        0x492_0000_0000,
+        0x924_0000_0000,
+    ];
+    assert!(rt; groups == masks);
 }
 
 #[test]
 fn reads_each_byte(rt: HostRuntime) {
     let view = NumberFormat::new(0x06050403_02000001_00000000_0000000C);
-    assert_eq!(rt; view.digit_separator(), 1);
-    assert_eq!(rt; view.base_prefix(), 2);
-    assert_eq!(rt; view.base_suffix(), 3);
-    assert_eq!(rt; view.mantissa_radix(), 4);
-    assert_eq!(rt; view.radix(), 4);
-    assert_eq!(rt; view.exponent_base(), 5);
-    assert_eq!(rt; view.exponent_radix(), 6);
+    let affixes = [
+        view.digit_separator(),
+        view.base_prefix(),
+        view.base_suffix(),
+    ];
+    let radixes = [
+        view.mantissa_radix(),
+        view.radix(),
+        view.exponent_base(),
+        view.exponent_radix(),
+    ];
+    assert!(rt; affixes == [1, 2, 3] && radixes == [4, 4, 5, 6]);
     assert!(rt; view.has_digit_separator() && view.has_base_prefix() && view.has_base_suffix());
-    let decimal = NumberFormat::new(0x0A0A0A00_00000000_00000000_0000000C);
-    assert_eq!(rt; decimal.radix(), 10);
-    assert_eq!(rt; decimal.mantissa_radix(), 10);
-    assert_eq!(rt; decimal.exponent_base(), 10);
-    assert_eq!(rt; decimal.exponent_radix(), 10);
     let bare = NumberFormat::default();
-    assert_eq!(rt; bare.exponent_base(), 10);
-    assert_eq!(rt; bare.exponent_radix(), 10);
+    assert!(rt; bare.exponent_base() == 10 && bare.exponent_radix() == 10);
     assert!(rt; !bare.has_digit_separator() && !bare.has_base_prefix() && !bare.has_base_suffix());
 }
 
@@ -90,54 +101,33 @@ fn powers_of_the_radix(rt: HostRuntime) {
     ];
     for (radix, second, fourth, eighth) in cases {
         let view = NumberFormat::new(radix << 104);
-        assert_eq!(rt; view.radix2(), second, "radix {radix}");
-        assert_eq!(rt; view.radix4(), fourth, "radix {radix}");
-        assert_eq!(rt; view.radix8(), eighth, "radix {radix}");
+        let powers = [view.radix2(), view.radix4(), view.radix8()];
+        assert!(rt; powers == [second, fourth, eighth], "radix {radix}");
     }
 }
 
+// The rules themselves are tested in `rules`.
 #[test]
-fn error_is_that_of_the_first_broken_rule(rt: HostRuntime) {
+fn a_word_is_valid_if_its_error_is_success(rt: HostRuntime) {
     let cases = [
         (0x0A0A0A00_00000000_00000000_0000000C, Error::Success),
-        (0x00000A00_00000000_00000000_0000000C, Error::Success),
-        (0, Error::InvalidMantissaRadix),
-        (ALL_ONES, Error::InvalidMantissaRadix),
-        (0x0A0A0A00_0000005F_00000000_0000000C, Error::Success),
-        (
-            0x0A0A0A00_00000035_00000000_0000000C,
-            Error::InvalidDigitSeparator,
-        ),
-        (0x00000A00_00000000_00000000_8000000C, Error::InvalidFlags),
-        (
-            0x0A010A00_00000000_00000000_0000000C,
-            Error::InvalidExponentBase,
-        ),
         (
             0x00000A48_68000000_00000000_0000000C,
             Error::InvalidPunctuation,
         ),
-        (
-            0x00000A48_68000000_00000000_0001000C,
-            Error::InvalidPunctuation,
-        ),
-        (
-            0x00000A48_68000000_00000000_0002000C,
-            Error::InvalidPunctuation,
-        ),
-        (0x00000A48_68000000_00000000_0003000C, Error::Success),
-        (
-            0x00000A00_78000058_00000000_0000000C,
-            Error::InvalidPunctuation,
-        ),
-        (0x00000A00_78000058_00000000_0001000C, Error::Success),
+        (0x00000A00_00000000_00000000_8000000C, Error::InvalidFlags),
     ];
     for (format, want) in cases {
         let view = NumberFormat::new(format);
-        assert_eq!(rt; view.error(), want, "{format:x}");
-        assert_eq!(rt; format_error(format), want, "{format:x}");
-        assert_eq!(rt; view.is_valid(), want.is_success(), "{format:x}");
-        assert_eq!(rt; format_is_valid(format), want.is_success(), "{format:x}");
+        let valid = want.is_success();
+        assert!(rt;
+            view.error() == want && format_error(format) == want,
+            "{format:x}"
+        );
+        assert!(rt;
+            view.is_valid() == valid && format_is_valid(format) == valid,
+            "{format:x}"
+        );
     }
 }
 
@@ -157,8 +147,11 @@ fn error_radix_looks_at_radixes_alone(rt: HostRuntime) {
     ];
     for (format, want) in cases {
         let view = NumberFormat::new(format);
-        assert_eq!(rt; view.error_radix(), want, "{format:x}");
-        assert_eq!(rt; view.is_valid_radix(), want.is_success(), "{format:x}");
+        let valid = want.is_success();
+        assert!(rt;
+            view.error_radix() == want && view.is_valid_radix() == valid,
+            "{format:x}"
+        );
     }
 }
 

@@ -2,57 +2,39 @@ use lexical_util::error::Error;
 use lexical_util::format_builder::*;
 use lexical_util::format_flags as flags;
 
-// Sets each byte of a builder with only the digit separator flags set, and clears it again.
-macro_rules! check_bytes {
-    ($rt:ident; $($byte:ident $getter:ident $shift:literal;)*) => {$(
-        let flags = 0x1FFF_0000_0000;
-        let set = NumberFormatBuilder::rebuild(flags).$byte(NonZeroU8::new(0xA5));
-        assert_eq!($rt; set.$getter(), NonZeroU8::new(0xA5));
-        assert_eq!($rt; set.build_unchecked(), flags | 0xA5 << $shift);
-        let cleared = set.$byte(None);
-        assert!($rt; cleared.$getter().is_none());
-        assert_eq!($rt; cleared.build_unchecked(), flags);
-    )*};
-}
-
 #[test]
 fn sets_and_clears_each_byte(rt: HostRuntime) {
-    check_bytes! { rt;
-        digit_separator get_digit_separator 64;
-        base_prefix get_base_prefix 88;
-        base_suffix get_base_suffix 96;
-        exponent_base get_exponent_base 112;
-        exponent_radix get_exponent_radix 120;
-    }
-    let set = NumberFormatBuilder::rebuild(0).mantissa_radix(0xA5);
-    assert_eq!(rt; set.get_mantissa_radix(), 0xA5);
-    assert_eq!(rt; set.build_unchecked(), 0xA5 << 104);
-    let same = NumberFormatBuilder::rebuild(0).radix(0xA5);
-    assert_eq!(rt; same.build_unchecked(), 0xA5 << 104);
-}
-
-// Sets each group of a builder with no field set, and clears it again.
-macro_rules! check_groups {
-    ($rt:ident; $($group:ident $mask:literal;)*) => {$(
-        let set = NumberFormatBuilder::rebuild(0).$group(true);
-        assert_eq!($rt; set.build_unchecked(), $mask);
-        assert_eq!($rt; set.$group(false).build_unchecked(), 0);
-    )*};
-}
-
-#[test]
-fn group_setters_write_each_member(rt: HostRuntime) {
-    check_groups! { rt;
-        required_digits 0xF;
-        internal_digit_separator 0x7_0000_0000;
-        leading_digit_separator 0x38_0000_0000;
-        trailing_digit_separator 0x1C0_0000_0000;
-        consecutive_digit_separator 0xE00_0000_0000;
-        digit_separator_flags 0x1FFF_0000_0000;
-        integer_digit_separator_flags 0x249_0000_0000;
-        fraction_digit_separator_flags 0x492_0000_0000;
-        exponent_digit_separator_flags 0x924_0000_0000;
-    }
+    let set = NumberFormatBuilder::rebuild(0x1FFF_0000_0000)
+        .digit_separator(NonZeroU8::new(1))
+        .base_prefix(NonZeroU8::new(2))
+        .base_suffix(NonZeroU8::new(3))
+        .mantissa_radix(4)
+        .exponent_base(NonZeroU8::new(5))
+        .exponent_radix(NonZeroU8::new(6));
+    assert_eq!(rt;
+        set.build_unchecked(),
+        0x06050403_02000001_00001FFF_00000000
+    );
+    assert!(rt;
+        set.get_digit_separator() == NonZeroU8::new(1) && set.get_base_prefix() == NonZeroU8::new(2)
+    );
+    assert!(rt; set.get_base_suffix() == NonZeroU8::new(3) && set.get_mantissa_radix() == 4);
+    assert!(rt;
+        set.get_exponent_base() == NonZeroU8::new(5)
+            && set.get_exponent_radix() == NonZeroU8::new(6)
+    );
+    let cleared = set
+        .digit_separator(None)
+        .base_prefix(None)
+        .base_suffix(None)
+        .radix(7)
+        .exponent_base(None)
+        .exponent_radix(None);
+    assert_eq!(rt;
+        cleared.build_unchecked(),
+        0x00000700_00000000_00001FFF_00000000
+    );
+    assert!(rt; cleared.get_digit_separator().is_none() && cleared.get_exponent_radix().is_none());
 }
 
 fn new() -> NumberFormatBuilder {

@@ -102,10 +102,10 @@ fn flags_that_contradict_each_other_are_an_error(rt: HostRuntime) {
 #[test]
 fn each_reserved_bit_is_an_error(rt: HostRuntime) {
     for (first, end) in [(18u32, 32u32), (45, 64), (72, 88)] {
-        for bit in first..end.min(128) {
-            let word = DECIMAL | 1 << bit;
-            assert_eq!(rt; format_error_impl(word), Error::InvalidFlags, "bit {bit}");
-            assert_eq!(rt; radix_error_impl(word), Error::Success, "bit {bit}");
+        for bit in first..end {
+            let word = DECIMAL | 1u128.wrapping_shl(bit);
+            assert!(rt; format_error_impl(word) == Error::InvalidFlags, "bit {bit}");
+            assert!(rt; radix_error_impl(word) == Error::Success, "bit {bit}");
         }
     }
 }
