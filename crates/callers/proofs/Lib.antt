@@ -1,4 +1,3 @@
-pub mod KeptLemmas
 pub mod ReadLemmas
 pub mod RoleLemmas
 pub mod SourceLemmas

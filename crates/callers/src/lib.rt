@@ -1,10 +1,11 @@
 //! Callers of `lexical_util`, one for each kind of user, each proved from its public contracts.
 //!
-//! [`roles`] tells what a byte stands for in a number: read it first. [`keep`] says which word to keep
-//! for a stored one, [`read`] reads whole numbers, and [`source`] writes a word as Rust code.
-//! docs/CALLING.md explains them.
+//! [`formats`] has formats that are constants, proved lawful: read it first. [`roles`] tells what a byte
+//! stands for in a number, [`keep`] says which word to keep for a stored one, [`read`] reads whole
+//! numbers, and [`source`] writes a word as Rust code. docs/CALLING.md explains them.
 #![tactic(auto)]
 
+pub mod formats;
 pub mod keep;
 pub mod read;
 pub mod roles;

@@ -1,11 +1,11 @@
 //! Builds number formats field by field.
 
-ghost use Rattle.std.specs.Prelude.{◌≡◌, ◌≢◌, ◌↔◌, ◌<◌, ◌%◌, ◌^◌, ◌==◌, ℕ, IfErr, sum_by, if◌then◌else◌};
+ghost use Rattle.std.specs.Prelude.{◌≡◌, ◌≢◌, ◌↔◌, ◌<◌, ◌%◌, ◌^◌, ◌==◌, ℕ, IfErr, IfOk, sum_by, if◌then◌else◌};
 ghost use Rattle.std.specs.Result.{OkIff};
 ghost use Rattle.lexical_flags.specs.Layout as layout;
 ghost use Rattle.lexical_flags.specs.Layout.{IsClean, bit, part};
 ghost use Rattle.lexical_flags.specs.Record.{Record, HasBytes, raw, fill, trim, pack, flag_of, byte_of, tabulate, effective, separator_on};
-ghost use Rattle.lexical_flags.specs.Rules.{IsErrorOf, Lawful};
+ghost use Rattle.lexical_flags.specs.Rules.{IsErrorOf, IsRadix, Lawful};
 ghost use Rattle.lexical_builder.specs.OptionByte.{byte_of_option};
 ghost use Rattle.lexical_builder.specs.Fields.{builder_bit, flags_in, index_of, flag_with};
 ghost use Rattle.lexical_builder.specs.Writes.{new_record, radix_record};
@@ -13,6 +13,7 @@ ghost use Rattle.lexical_builder.specs.Writes.{new_record, radix_record};
 use lexical_base::error::Error;
 use lexical_flags::format_flags as flags;
 use lexical_flags::format_flags::format_error_impl;
+use lexical_flags::laws::literal_facts;
 use std::marker::Model;
 
 mod getters;
@@ -81,6 +82,7 @@ impl Default for NumberFormatBuilder {
     }
 }
 
+#[tactic(auto, unfolding(lexical_flags::specs::Computed::on_literals))]
 impl NumberFormatBuilder {
     // CONSTRUCTORS
 
@@ -88,12 +90,12 @@ impl NumberFormatBuilder {
     /// suffix, exponent base or exponent radix, `required_exponent_digits` and
     /// `required_mantissa_digits` true, and every other flag false.
     #[inline(always)]
-    #[tactic(auto, using(lexical_flags::proofs::LawfulTest::lawful_tested), unfolding(lexical_flags::specs::Record::word_of))]
     pub fn new() -> Self
         ensures fields { result ≡ new_record }
         ensures packed { pack result ≡ 0x00000A00_00000000_00000000_0000000C }
         ensures lawful { Lawful (pack result) }
     {
+        literal_facts();
         NumberFormatBuilder {
             flags: 0xC,
             bytes: [0, 0, 0, 10, 0, 0],
@@ -102,7 +104,6 @@ impl NumberFormatBuilder {
 
     /// Returns the format of binary numbers: `from_radix(2)`.
     #[inline(always)]
-    #[tactic(auto, using(lexical_flags::proofs::LawfulTest::lawful_tested), unfolding(lexical_flags::specs::Record::word_of))]
     pub fn binary() -> u128
         ensures word { result ≡ 0x02020200_00000000_00000000_0000000C }
         ensures lawful { Lawful result }
@@ -112,7 +113,6 @@ impl NumberFormatBuilder {
 
     /// Returns the format of octal numbers: `from_radix(8)`.
     #[inline(always)]
-    #[tactic(auto, using(lexical_flags::proofs::LawfulTest::lawful_tested), unfolding(lexical_flags::specs::Record::word_of))]
     pub fn octal() -> u128
         ensures word { result ≡ 0x08080800_00000000_00000000_0000000C }
         ensures lawful { Lawful result }
@@ -122,7 +122,6 @@ impl NumberFormatBuilder {
 
     /// Returns the format of decimal numbers: `from_radix(10)`.
     #[inline(always)]
-    #[tactic(auto, using(lexical_flags::proofs::LawfulTest::lawful_tested), unfolding(lexical_flags::specs::Record::word_of))]
     pub fn decimal() -> u128
         ensures word { result ≡ 0x0A0A0A00_00000000_00000000_0000000C }
         ensures lawful { Lawful result }
@@ -132,7 +131,6 @@ impl NumberFormatBuilder {
 
     /// Returns the format of hexadecimal numbers: `from_radix(16)`.
     #[inline(always)]
-    #[tactic(auto, using(lexical_flags::proofs::LawfulTest::lawful_tested), unfolding(lexical_flags::specs::Record::word_of))]
     pub fn hexadecimal() -> u128
         ensures word { result ≡ 0x10101000_00000000_00000000_0000000C }
         ensures lawful { Lawful result }
@@ -145,15 +143,19 @@ impl NumberFormatBuilder {
     #[inline(always)]
     #[tactic(auto, using(crate::proofs::OptionByteLemmas::byte_of_option_back), unfolding(crate::specs::Writes::after))]
     pub fn from_radix(radix: u8) -> u128
-        ensures { result ≡ pack (radix_record radix) }
+        ensures word { result ≡ pack (radix_record radix) }
+        ensures lawful { Lawful result ↔ IsRadix radix }
     {
+        literal_facts();
         Self::new()
             .mantissa_radix(radix)
             .exponent_base(NonZeroU8::new(radix))
             .exponent_radix(NonZeroU8::new(radix))
             .build_unchecked()
     }
+}
 
+impl NumberFormatBuilder {
     // BUILDERS
 
     /// Packs the fields into a format word, lawful or not. Every field is written unchanged,
@@ -178,9 +180,9 @@ impl NumberFormatBuilder {
     ///
     /// The Rust crate panics with the description of the error instead.
     #[inline(always)]
-    #[tactic(auto, using(lexical_flags::proofs::RuleLemmas::not_flags))]
     pub fn build_strict(&self) -> Result<u128, Error>
         ensures lawful { OkIff result (Lawful (pack self.now)) (pack self.now) }
+        ensures fields { IfOk result (λ word. raw word ≡ trim self.now) }
         ensures error { IfErr result (IsErrorOf (pack self.now)) }
         ensures not_success { result ≢ Err Error.Success }
 

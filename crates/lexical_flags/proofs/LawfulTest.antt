@@ -1,4 +1,4 @@
--- Tests of the rules that compute at a literal word, each proved to decide its rule.
+-- The tests of the rules that compute, each proved to decide its rule.
 use Rattle.std.proofs.Common.{◌≡◌, ◌≢◌, ◌↔◌, ℕ, inl, inr, Bool, true, false, not, nat_le, ◌||◌, ◌&&◌, ◌==◌, if◌then◌else◌, IsTrue, List, [], ◌∷◌, refl, sym, ap, ◌∙◌, subst, eq-eqb, eqb-true, arith}
 use Rattle.std.proofs.lemmas.Bool.{false≢true, and_parts, and_from, or_left, or_right}
 use Rattle.std.proofs.lemmas.Bool.Decides.{nat_tests}
@@ -10,57 +10,9 @@ use Rattle.lexical_flags.specs.Record.{Record, raw, effective_exponent_base, eff
 use Rattle.lexical_flags.specs.Roles.{Disjoint, cased, other_case, digits, signs}
 use Rattle.lexical_flags.specs.Rules as rules
 use Rattle.lexical_flags.specs.Rules.{Rule, IsRadix, IsFree, IsPunctuation, NotBoth, AllowsOne, Demands, Holds, IsFirstError, IsErrorOf, Lawful, error_of, rules_in_order}
+use Rattle.lexical_flags.specs.Computed.{is_radix, is_punctuation, is_free, are_apart, allows_one, passes, keeps, first_error, error_at}
 use Rattle.lexical_flags.proofs.CaseLemmas.{cased-cases, differ_apart, cases_apart}
-use Rattle.lexical_flags.proofs.RuleLemmas.{Lawful-from_success}
-
--- the tests of what the rules demand
-abbrev is_radix : ℕ → Bool
-is_radix radix = nat_le 2 radix && nat_le radix 36
-
-abbrev pub is_punctuation : Record → ℕ → Bool
-is_punctuation r byte = allowed_ascii byte && (not (digits r byte) && not (signs byte))
-
-abbrev is_free : Record → ℕ → Bool
-is_free r byte = (byte == 0) || is_punctuation r byte
-
-abbrev pub are_apart : Bool → ℕ → Bool → ℕ → Bool
-are_apart a_counts a b_counts b = (a == 0) || (not (a == b) && (not (b == other_case a) || (a_counts && b_counts)))
-
-abbrev allows_one : Bool → Bool → Bool → Bool → Bool
-allows_one consecutive internal leading trailing = not consecutive || (internal || leading || trailing)
-
--- whether a record meets what a rule demands
-abbrev passes : Rule → Record → Bool
-passes rules.mantissa_radix_in_range r = is_radix r.mantissa_radix
-passes rules.exponent_base_in_range r = is_radix (effective_exponent_base r)
-passes rules.exponent_radix_in_range r = is_radix (effective_exponent_radix r)
-passes rules.digit_separator_is_free r = is_free r r.digit_separator
-passes rules.base_prefix_is_free r = is_free r r.base_prefix
-passes rules.base_suffix_is_free r = is_free r r.base_suffix
-passes rules.punctuation_differs r =
-    are_apart true r.digit_separator r.case_sensitive_base_prefix r.base_prefix &&
-    (are_apart true r.digit_separator r.case_sensitive_base_suffix r.base_suffix &&
-    are_apart r.case_sensitive_base_prefix r.base_prefix r.case_sensitive_base_suffix r.base_suffix)
-passes rules.exponent_flags_agree r = not (r.no_exponent_notation && r.required_exponent_notation)
-passes rules.mantissa_sign_flags_agree r = not (r.no_positive_mantissa_sign && r.required_mantissa_sign)
-passes rules.exponent_sign_flags_agree r = not (r.no_positive_exponent_sign && r.required_exponent_sign)
-passes rules.special_case_flags_agree r = not (r.no_special && r.case_sensitive_special)
-passes rules.special_separator_flags_agree r = not (r.no_special && r.special_digit_separator)
-passes rules.integer_consecutive_is_allowed r =
-    allows_one r.integer_consecutive_digit_separator r.integer_internal_digit_separator
-    r.integer_leading_digit_separator r.integer_trailing_digit_separator
-passes rules.fraction_consecutive_is_allowed r =
-    allows_one r.fraction_consecutive_digit_separator r.fraction_internal_digit_separator
-    r.fraction_leading_digit_separator r.fraction_trailing_digit_separator
-passes rules.exponent_consecutive_is_allowed r =
-    allows_one r.exponent_consecutive_digit_separator r.exponent_internal_digit_separator
-    r.exponent_leading_digit_separator r.exponent_trailing_digit_separator
-passes rules.reserved_bits_are_zero r = true
-
--- whether a word keeps a rule
-abbrev keeps : Rule → ℕ → Bool
-keeps rules.reserved_bits_are_zero word = (part word 18 14 == 0) && ((part word 45 19 == 0) && (part word 72 16 == 0))
-keeps rule word = passes rule (raw word)
+use Rattle.lexical_flags.proofs.RuleLemmas.{Success-lawful}
 
 -- facts of `bool`
 not_true : (a : Bool) → not a ≡ true → IsTrue a → ⊥
@@ -217,11 +169,6 @@ Holds-test rules.reserved_bits_are_zero word = (IsClean-test word, IsClean-passe
 Holds-test rules.mantissa_radix_in_range word = (Demands-test rules.mantissa_radix_in_range (raw word), Demands-passes rules.mantissa_radix_in_range (raw word))
 Holds-test rule word = (Demands-test rule (raw word), Demands-passes rule (raw word))
 
--- the error of the first rule whose test a word does not pass
-abbrev pub first_error : List Rule → ℕ → Error
-first_error [] word = Success
-first_error (rule ∷ rules) word = if keeps rule word then first_error rules word else error_of rule
-
 found : (rules : List Rule) (word : ℕ) → IsFirstError rules word (first_error rules word)
 found [] word = refl
 found (rule ∷ rules) word = by (found rules word) (keeps rule word) refl where
@@ -229,11 +176,19 @@ found (rule ∷ rules) word = by (found rules word) (keeps rule word) refl where
   by rest true e = inr ((Holds-test rule word).0 e, rest)
   by rest false e = inl (λ h. false≢true (sym e ∙ (Holds-test rule word).1 h), refl)
 
--- the error of a word is the one that the tests find; at a literal the premise is `refl`
-pub error_tested : (word : ℕ) (error : Error) → first_error rules_in_order word ≡ error → IsErrorOf word error
+-- the computed error of a word is its error
+pub error_computed : (word : ℕ) → IsErrorOf word (error_at word)
 unfolding IsErrorOf
-error_tested word error e = subst (IsFirstError rules_in_order word) e (found rules_in_order word)
+error_computed word = found rules_in_order word
 
--- a word that passes every test is lawful
-pub lawful_tested : (word : ℕ) → first_error rules_in_order word ≡ Success → Lawful word
-lawful_tested word e = Lawful-from_success word (error_tested word Success e)
+-- and so is one that is equal to it; at a literal the premise is `refl`
+pub error_tested : (word : ℕ) (error : Error) → error_at word ≡ error → IsErrorOf word error
+error_tested word error e = subst (IsErrorOf word) e (error_computed word)
+
+-- a word is lawful exactly if its computed error is Success
+pub lawful_computed : (word : ℕ) → (error_at word ≡ Success) ↔ Lawful word
+lawful_computed word = Success-lawful word (error_at word) (error_computed word)
+
+-- in one direction, for the search
+pub lawful_tested : (word : ℕ) → error_at word ≡ Success → Lawful word
+lawful_tested word = (lawful_computed word).0

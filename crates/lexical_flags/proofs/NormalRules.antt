@@ -1,14 +1,17 @@
--- What filling and trimming do to the rules: filled fields meet the same ones, and trimmed fields still meet those that they met.
+-- What filling and trimming do to the rules: filled fields meet the same ones, trimmed fields still meet those that they met, and so does a clean word with such fields.
 use Rattle.std.proofs.Common.{◌≡◌, ℕ, ◌⊎◌, ◌↔◌, inl, inr, ◌||◌, IsTrue, refl, sym, ap, subst, arith}
 use Rattle.std.proofs.lemmas.Bool.{cases_Bool, cond-false, false≢true}
 use Rattle.std.proofs.lemmas.Bool.Decides.{nat_tests}
 use Rattle.lexical_base.specs.Ascii.{ByteSet, allowed_ascii}
-use Rattle.lexical_flags.specs.Record.{Record, fill, trim, effective, separator_on, SeparatorIsUsed}
+use Rattle.lexical_base.specs.declared.error.Error.{Error}
+use Rattle.lexical_flags.specs.Layout.{IsClean}
+use Rattle.lexical_flags.specs.Record.{Record, raw, fill, trim, effective, separator_on, SeparatorIsUsed}
 use Rattle.lexical_flags.specs.Roles.{Disjoint, cased, only, signs, prefix, suffix}
 use Rattle.lexical_base.specs.Digits.{digits_of}
 use Rattle.lexical_flags.specs.Rules as rules
-use Rattle.lexical_flags.specs.Rules.{Rule, IsRadix, IsFree, IsPunctuation, Demands}
+use Rattle.lexical_flags.specs.Rules.{Rule, IsRadix, IsFree, IsPunctuation, Demands, Holds, IsErrorOf, Lawful}
 use Rattle.lexical_flags.proofs.Packing.{trim-same}
+use Rattle.lexical_flags.proofs.RuleLemmas.{Holds-from_lawful, Lawful-from_all, IsErrorOf-same}
 
 -- what is filled is not filled again
 pub fill_once : (own radix : ℕ) → effective (effective own radix) radix ≡ effective own radix
@@ -59,3 +62,25 @@ Demands-same rule r used = (
   Demands-kept rule r,
   λ h. subst (λ X. X) (Demands-fill rule r) (subst (Demands rule) (trim-same (fill r) used) h),
 )
+
+-- a clean word with the filled and trimmed fields of another
+module _ (word normal : ℕ) (clean : IsClean normal) (fields : raw normal ≡ trim (fill (raw word))) where
+  -- keeps the rules that this one keeps
+  Holds-kept : (rule : Rule) → Holds rule word → Holds rule normal
+  unfolding Holds
+  Holds-kept rules.reserved_bits_are_zero h = clean
+  Holds-kept rule h = subst (Demands rule) (sym fields) (Demands-kept rule (raw word) h)
+
+  -- so it is lawful if this one is
+  pub Lawful-kept : Lawful word → Lawful normal
+  Lawful-kept h = Lawful-from_all normal (λ rule. Holds-kept rule (Holds-from_lawful rule word h))
+
+  -- if nothing was dropped, it keeps no other
+  Holds-back : IsClean word → SeparatorIsUsed (raw word) → (rule : Rule) → Holds rule normal → Holds rule word
+  unfolding Holds
+  Holds-back whole used rules.reserved_bits_are_zero h = whole
+  Holds-back whole used rule h = (Demands-same rule (raw word) used).1 (subst (Demands rule) fields h)
+
+  -- so it has the same error
+  pub IsErrorOf-kept : IsClean word → SeparatorIsUsed (raw word) → (error : Error) → IsErrorOf word error ↔ IsErrorOf normal error
+  IsErrorOf-kept whole used = IsErrorOf-same word normal (λ rule. (Holds-kept rule, Holds-back whole used rule))

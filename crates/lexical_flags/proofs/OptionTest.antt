@@ -1,17 +1,12 @@
--- A test of an exponent character and a decimal point that computes at literals, proved to decide whether they are accepted.
-use Rattle.std.proofs.Common.{ℕ, ◌≡◌, Bool, true, false, ◌&&◌, sym, ◌∙◌}
+-- The test of an exponent character and a decimal point that computes, proved to decide whether they are accepted.
+use Rattle.std.proofs.Common.{ℕ, ◌≡◌, ◌↔◌, IsTrue, Bool, true, false, ◌&&◌, sym, ◌∙◌}
 use Rattle.std.specs.List.{AllByRecursion}
 use Rattle.std.proofs.lemmas.Bool.{false≢true, and_parts, and_from}
 use Rattle.lexical_flags.specs.Record.{Record, raw}
 use Rattle.lexical_flags.specs.Roles.{Disjoint, cased, own_roles}
 use Rattle.lexical_flags.specs.Options.{AreAccepted}
-use Rattle.lexical_flags.proofs.LawfulTest.{is_punctuation, IsPunctuation-test, IsPunctuation-passes, are_apart, Disjoint-test, Disjoint-passes}
-
--- whether a byte clashes with no byte of the format
-abbrev is_new : Record → Bool → ℕ → Bool
-is_new r counts byte =
-    are_apart counts byte true r.digit_separator &&
-    (are_apart counts byte r.case_sensitive_base_prefix r.base_prefix && are_apart counts byte r.case_sensitive_base_suffix r.base_suffix)
+use Rattle.lexical_flags.specs.Computed.{is_punctuation, are_apart, is_new, accepts}
+use Rattle.lexical_flags.proofs.LawfulTest.{IsPunctuation-test, IsPunctuation-passes, Disjoint-test, Disjoint-passes}
 
 is_new-test : (r : Record) (counts : Bool) (byte : ℕ) → is_new r counts byte ≡ true → AllByRecursion (Disjoint (cased counts byte)) (own_roles r)
 is_new-test r counts byte test =
@@ -24,13 +19,7 @@ is_new-passes r counts byte (separator, (prefix, (suffix, _))) =
     and_from (are_apart counts byte true r.digit_separator) _ (Disjoint-passes counts byte true _ separator)
     (and_from (are_apart counts byte r.case_sensitive_base_prefix r.base_prefix) _ (Disjoint-passes counts byte _ _ prefix) (Disjoint-passes counts byte _ _ suffix))
 
--- whether a format accepts both
-abbrev pub accepts : Record → ℕ → ℕ → Bool
-accepts r e p =
-    (is_punctuation r e && is_punctuation r p) &&
-    (are_apart r.case_sensitive_exponent e true p && (is_new r r.case_sensitive_exponent e && is_new r true p))
-
--- a pair that passes is accepted; at literals the premise is `refl`
+-- a pair that passes is accepted
 pub accepted_tested : (word e p : ℕ) → accepts (raw word) e p ≡ true → AreAccepted word e p
 accepted_tested word e p test =
     let r : Record = raw word in
@@ -55,6 +44,10 @@ accepted-passes word e p h =
     (and_from (are_apart r.case_sensitive_exponent e true p) _ (Disjoint-passes r.case_sensitive_exponent e true p h.apart)
     (and_from (is_new r r.case_sensitive_exponent e) _ (is_new-passes r r.case_sensitive_exponent e h.exponent_is_new) (is_new-passes r true p h.point_is_new)))
 
--- so one that does not is refused
+-- whether a pair is accepted is what the test computes
+pub accepted_computed : (word e p : ℕ) → IsTrue (accepts (raw word) e p) ↔ AreAccepted word e p
+accepted_computed word e p = (accepted_tested word e p, accepted-passes word e p)
+
+-- so a pair that does not pass is refused
 pub refused_tested : (word e p : ℕ) → accepts (raw word) e p ≡ false → AreAccepted word e p → ⊥
 refused_tested word e p test h = false≢true (sym test ∙ accepted-passes word e p h)

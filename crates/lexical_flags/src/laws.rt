@@ -1,15 +1,17 @@
 //! Laws of the layout, of packing, of the rules and of the roles, stated as the clauses of functions
 //! with empty bodies; and examples of the definitions, proved by computation.
 
-ghost use Rattle.std.specs.Prelude.{◌≡◌, ℕ, ◌*◌, ◌/◌, ◌^◌, ◌<◌, ◌↔◌, [], ◌∷◌, map, pos, bit_or, true, false};
+ghost use Rattle.std.specs.Prelude.{◌≡◌, ℕ, ◌*◌, ◌/◌, ◌^◌, ◌<◌, ◌↔◌, [], ◌∷◌, map, pos, bit_or, Bool, true, false, IsTrue};
+ghost use Rattle.lexical_base.specs.declared.error.Error.{Error};
 ghost use Rattle.lexical_base.specs.declared.error.Error.TheVariants as errors;
 ghost use Rattle.lexical_flags.specs.Layout as layout;
 ghost use Rattle.lexical_flags.specs.Layout.{Flag, Byte, bit, shift, IsClean};
 ghost use Rattle.lexical_flags.specs.Record.{Record, raw, fill, trim, pack, HasBytes, IsBuilt, SeparatorIsUsed, effective_exponent_base, effective_exponent_radix, separator_on};
 ghost use Rattle.lexical_flags.specs.Pairs.{ArePairwise};
-ghost use Rattle.lexical_flags.specs.Roles.{Disjoint, seven_roles, AtMostOneRole, digits};
-ghost use Rattle.lexical_flags.specs.Rules.{Rule, Demands, Lawful, IsErrorOf};
+ghost use Rattle.lexical_flags.specs.Roles.{Disjoint, cased, seven_roles, AtMostOneRole, digits};
+ghost use Rattle.lexical_flags.specs.Rules.{Rule, Demands, IsPunctuation, Lawful, IsErrorOf};
 ghost use Rattle.lexical_flags.specs.Options.{AreAccepted};
+ghost use Rattle.lexical_flags.specs.Computed.{error_at, accepts, is_punctuation, are_apart};
 ghost use Rattle.lexical_flags.specs.Constants.{flag_constant, byte_mask, byte_shift, mask_of, doublings, AreApart};
 
 use crate::format_flags::*;
@@ -57,6 +59,7 @@ pub fn layout_facts()
 {}
 
 /// The laws of `pack`: what a packed word holds, and which words are packed.
+#[inline(always)]
 pub fn packing_facts()
     // Packing and reading back gives the trimmed record.
     ensures fields { (r : Record) → HasBytes r → raw (pack r) ≡ trim r }
@@ -68,10 +71,14 @@ pub fn packing_facts()
 
     // Packing the fields of a word gives the word exactly if some record is packed into it.
     ensures built { (w : ℕ) → w < 2 ^ 128 → (pack (raw w) ≡ w) ↔ IsBuilt w }
+
+    // No two words without reserved bits have the same fields.
+    ensures only { (v w : ℕ) → v < 2 ^ 128 → w < 2 ^ 128 → IsClean v → IsClean w → raw v ≡ raw w → v ≡ w }
 {}
 
 /// What the rules demand of a normal form: of fields whose exponent bytes are filled in, and whose
-/// digit separator is dropped if no flag allows one.
+/// digit separator is dropped if no flag allows one; and that a word has one error.
+#[inline(always)]
 pub fn rule_facts()
     // A rule that the fields keep is kept by the normal form.
     ensures kept { (rule : Rule) → (r : Record) → Demands rule r → Demands rule (trim (fill r)) }
@@ -79,6 +86,18 @@ pub fn rule_facts()
     // If no separator is dropped, the normal form keeps no other.
     ensures same { (rule : Rule) → (r : Record) → SeparatorIsUsed r
         → Demands rule r ↔ Demands rule (trim (fill r)) }
+
+    // So a word without reserved bits that has these fields is lawful if the word is; and if no
+    // reserved bit and no separator is dropped, it has the same error.
+    ensures kept_lawful { (word normal : ℕ) → IsClean normal → raw normal ≡ trim (fill (raw word))
+        → Lawful word → Lawful normal }
+    ensures same_error { (word normal : ℕ) → IsClean normal → raw normal ≡ trim (fill (raw word))
+        → IsClean word → SeparatorIsUsed (raw word)
+        → (error : Error) → IsErrorOf word error ↔ IsErrorOf normal error }
+
+    // A word has at most one error.
+    ensures one_error { (word : ℕ) → (error other : Error) → IsErrorOf word error → IsErrorOf word other
+        → error ≡ other }
 {}
 
 /// Which bytes play which roles.
@@ -90,6 +109,20 @@ pub fn role_facts()
     // In a lawful format with accepted options a byte plays at most one role.
     ensures lawful { (word exponent_byte point_byte : ℕ) → Lawful word → AreAccepted word exponent_byte point_byte
         → AtMostOneRole (raw word) exponent_byte point_byte }
+{}
+
+/// The error of a word, and whether it accepts options, by computation: for words that are literals.
+#[inline(always)]
+pub fn literal_facts()
+    ensures error { (word : ℕ) → IsErrorOf word (error_at word) }
+    ensures lawful { (word : ℕ) → (error_at word ≡ errors.Success) ↔ Lawful word }
+    ensures accepted { (word exponent_byte point_byte : ℕ)
+        → IsTrue (accepts (raw word) exponent_byte point_byte) ↔ AreAccepted word exponent_byte point_byte }
+
+    // The parts of which options that are accepted consist, for the search.
+    ensures punctuation { (r : Record) → (byte : ℕ) → IsTrue (is_punctuation r byte) ↔ IsPunctuation r byte }
+    ensures apart { (a_counts : Bool) → (a : ℕ) → (b_counts : Bool) → (b : ℕ)
+        → IsTrue (are_apart a_counts a b_counts b) ↔ Disjoint (cased a_counts a) (cased b_counts b) }
 {}
 
 /// Examples of the fields of words.

@@ -1,11 +1,13 @@
 -- The writes of a list of edits, one edit after another.
-use Rattle.std.proofs.Common.{◌≡◌, ℕ, ◌+◌, ◌<◌, ◌≤◌, List, [], ◌∷◌, ◌++◌, length, get_or, take, sym, ap, ◌∙◌, append-nil, take_all, All, arith}
+use Rattle.std.proofs.Common.{◌≡◌, ℕ, ◌+◌, ◌<◌, ◌≤◌, ◌^◌, List, [], ◌∷◌, ◌++◌, length, get_or, take, sym, ap, ◌∙◌, append-nil, take_all, All, arith}
 use Rattle.std.proofs.lemmas.List.{take_more}
 use Rattle.std.proofs.lemmas.List.Concat.{flat_map-append}
 use Rattle.std.proofs.lemmas.List.Elements.{All-append, All-same}
-use Rattle.lexical_flags.specs.Record.{Record, raw, fill, pack}
+use Rattle.lexical_flags.specs.Layout.{IsClean}
+use Rattle.lexical_flags.specs.Record.{Record, raw, fill, trim, pack, HasBytes}
+use Rattle.lexical_flags.proofs.Packing.{raw-pack, pack-clean, pack-lt, raw-injective, HasBytes-raw, HasBytes-fill}
 use Rattle.lexical_builder.specs.Writes.{Write, IsLegal, after, SameWrites}
-use Rattle.lexical_builder.proofs.WriteLemmas.{after_none, after-append, after-same}
+use Rattle.lexical_builder.proofs.WriteLemmas.{after_none, after-append, after-same, HasBytes-after}
 use Rattle.lexical_util.specs.Edits.{all_writes, writes_of, edited}
 use Rattle.lexical_util.specs.declared.edits.Edit.{Edit}
 
@@ -37,6 +39,24 @@ pub applied_all : {R : Record} {edits : List Edit} {i : ℕ} {b : Record} → Ha
 applied_all {R} {edits} {i} {b} h end =
     let all : take i edits ≡ edits = take_all i edits end in
     (h.fields ∙ ap (λ es. after R (all_writes es)) all, All-same IsLegal _ _ (ap all_writes (sym all)) h.legal)
+
+-- the fields of an edited word
+module _ (w : ℕ) (L : List Write) (legal : All IsLegal L) where
+  bytes : HasBytes (after (fill (raw w)) L)
+  bytes = HasBytes-after (fill (raw w)) L (HasBytes-fill (raw w) (HasBytes-raw w)) legal
+
+  pub edited-fields : raw (edited w L) ≡ trim (after (fill (raw w)) L)
+  edited-fields = raw-pack _ bytes
+
+  pub edited-clean : IsClean (edited w L)
+  edited-clean = pack-clean _ bytes
+
+  pub edited-fits : edited w L < 2 ^ 128
+  edited-fits = pack-lt _ bytes
+
+  -- no other word has them
+  pub edited-only : (u : ℕ) → u < 2 ^ 128 → IsClean u → raw u ≡ trim (after (fill (raw w)) L) → u ≡ edited w L
+  edited-only u fits clean same = raw-injective u (edited w L) fits edited-fits clean edited-clean (same ∙ sym edited-fields)
 
 -- only the last write of each field counts
 pub edited-same : (w : ℕ) (K L : List Write) → SameWrites K L → edited w K ≡ edited w L

@@ -5,8 +5,8 @@ use Rattle.lexical_flags.specs.Record.{Record, raw, trim, pack, separator_on, Ha
 use Rattle.lexical_flags.proofs.Packing.{raw-pack, pack-clean, pack-raw, HasBytes-raw}
 use Rattle.lexical_builder.specs.Writes.{Write, IsLegal, new_record, after}
 use Rattle.lexical_builder.proofs.WriteLemmas.{HasBytes-after, HasBytes-new}
-use Rattle.lexical_builder.proofs.Distance.{distance, distance-after, distance-trim}
-use Rattle.lexical_builder.proofs.FieldWrites.{field_writes, after-field_writes, legal-field_writes}
+use Rattle.lexical_util.proofs.Distance.{distance, distance-after, distance-trim}
+use Rattle.lexical_util.proofs.FieldWrites.{field_writes, after-field_writes, legal-field_writes}
 use Rattle.lexical_util.specs.Listing.{IsBuiltByWrites}
 
 -- no fewer writes make the word

@@ -8,3 +8,5 @@ mod ChangeLemmas
 mod ImageLemmas
 mod ComposeLemmas
 mod SetterNameLemmas
+mod Distance
+mod FieldWrites

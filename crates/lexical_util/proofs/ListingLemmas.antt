@@ -10,8 +10,8 @@ use Rattle.lexical_flags.specs.Record.{Record, flag_of, HasBytes}
 use Rattle.lexical_builder.specs.Writes.{Write, write_flag, IsLegal, new_record, after, changes}
 use Rattle.lexical_builder.proofs.OptionByteLemmas.{byte_of_option_back}
 use Rattle.lexical_builder.proofs.WriteLemmas.{after-append}
-use Rattle.lexical_builder.proofs.Distance.{distance}
-use Rattle.lexical_builder.proofs.FieldWrites.{field_writes, after-field_writes, legal-field_writes, after-filter, after-NoChange, NoChange-filter, NoChange-field_writes, length-changes}
+use Rattle.lexical_util.proofs.Distance.{distance}
+use Rattle.lexical_util.proofs.FieldWrites.{field_writes, after-field_writes, legal-field_writes, after-filter, after-NoChange, NoChange-filter, NoChange-field_writes, length-changes}
 use Rattle.lexical_util.specs.Edits.{writes_of, all_writes}
 use Rattle.lexical_util.specs.Listing.{flag_edits, byte_edits, field_edits, setter_of, changes_new, changing, unchanging}
 use Rattle.lexical_util.specs.declared.edits.Edit.{Edit}

@@ -4,13 +4,9 @@ use Rattle.std.specs.List.{list_any}
 use Rattle.std.proofs.lemmas.Bool.{cases_Bool, cond-true, cond-false, false≢true}
 use Rattle.lexical_flags.specs.Layout.{Flag, Byte, bit, digit_separator_flags, IsClean}
 use Rattle.lexical_flags.specs.Layout as layout
-use Rattle.lexical_base.specs.declared.error.Error.{Error}
 use Rattle.lexical_flags.specs.Record.{Record, flag_of, byte_of, raw, trim, fill, pack, word_of, effective, separator_on, SeparatorIsUsed}
-use Rattle.lexical_flags.specs.Rules.{Rule, Demands, Holds, Lawful, IsErrorOf, reserved_bits_are_zero}
 use Rattle.lexical_flags.proofs.RecordLemmas.{record_same}
 use Rattle.lexical_flags.proofs.Packing.{raw-pack, pack-clean, pack-lt, raw-injective, HasBytes-raw, HasBytes-fill}
-use Rattle.lexical_flags.proofs.NormalRules.{Demands-kept, Demands-same}
-use Rattle.lexical_flags.proofs.RuleLemmas.{Holds-from_lawful, Lawful-from_all, IsErrorOf-same}
 use Rattle.lexical_builder.proofs.WriteLemmas.{after_none}
 use Rattle.lexical_util.specs.Groups.{any_flag, bits_of}
 use Rattle.lexical_util.specs.Normal.{normal_form_of, SameFormat, IsNormal}
@@ -119,14 +115,18 @@ SameFormat-normal R = record {
 }
 
 module _ (w : ℕ) where
-  raw_normal : raw (normal_form_of w) ≡ trim (fill (raw w))
+  pub raw_normal : raw (normal_form_of w) ≡ trim (fill (raw w))
   raw_normal = ap raw (normal_form-is w) ∙ raw-pack (fill (raw w)) (HasBytes-fill (raw w) (HasBytes-raw w))
 
   pub clean_normal : IsClean (normal_form_of w)
   clean_normal = subst IsClean (sym (normal_form-is w)) (pack-clean (fill (raw w)) (HasBytes-fill (raw w) (HasBytes-raw w)))
 
-  normal_fits : normal_form_of w < 2 ^ 128
+  pub normal_fits : normal_form_of w < 2 ^ 128
   normal_fits = subst (λ n. n < 2 ^ 128) (sym (normal_form-is w)) (pack-lt (fill (raw w)) (HasBytes-fill (raw w) (HasBytes-raw w)))
+
+  -- no other word has these fields
+  pub normal_only : (u : ℕ) → u < 2 ^ 128 → IsClean u → raw u ≡ trim (fill (raw w)) → u ≡ normal_form_of w
+  normal_only u fits clean same = raw-injective u (normal_form_of w) fits normal_fits clean clean_normal (same ∙ sym raw_normal)
 
   pub normal_keeps : SameFormat (raw w) (raw (normal_form_of w))
   normal_keeps = subst (λ (S : Record). SameFormat (raw w) S) (sym raw_normal) (SameFormat-normal (raw w))
@@ -154,22 +154,6 @@ module _ (w : ℕ) where
     on_byte layout.exponent_base = full (raw w).exponent_base (raw w).mantissa_radix n.exponent_base
     on_byte layout.exponent_radix = full (raw w).exponent_radix (raw w).mantissa_radix n.exponent_radix
     on_byte _ = refl
-
-  Holds-normal : (rule : Rule) → Holds rule w → Holds rule (normal_form_of w)
-  unfolding Holds
-  Holds-normal reserved_bits_are_zero h = clean_normal
-  Holds-normal rule h = subst (Demands rule) (sym raw_normal) (Demands-kept rule (raw w) h)
-
-  Holds-from_normal : IsClean w → SeparatorIsUsed (raw w) → (rule : Rule) → Holds rule (normal_form_of w) → Holds rule w
-  unfolding Holds
-  Holds-from_normal clean used reserved_bits_are_zero h = clean
-  Holds-from_normal clean used rule h = (Demands-same rule (raw w) used).1 (subst (Demands rule) raw_normal h)
-
-  pub lawful_normal : Lawful w → Lawful (normal_form_of w)
-  lawful_normal h = Lawful-from_all (normal_form_of w) (λ rule. Holds-normal rule (Holds-from_lawful rule w h))
-
-  pub error_normal : IsClean w → SeparatorIsUsed (raw w) → (e : Error) → IsErrorOf w e ↔ IsErrorOf (normal_form_of w) e
-  error_normal clean used = IsErrorOf-same w (normal_form_of w) (λ rule. (Holds-normal rule, Holds-from_normal clean used rule))
 
   pub groups_normal : (fs : List Flag) → any_flag w fs ≡ any_flag (normal_form_of w) fs
   unfolding any_flag

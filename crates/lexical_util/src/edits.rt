@@ -1,6 +1,6 @@
 //! Edits of a format word: lists of setter calls, and the normal form of a word.
 
-ghost use Rattle.std.specs.Prelude.{◌≡◌, ◌≢◌, ℕ, IfErr, ◌<◌, ◌^◌, ◌↔◌, ◌++◌, IsTrue, Some, List, All};
+ghost use Rattle.std.specs.Prelude.{◌≡◌, ◌≢◌, ℕ, IfErr, IfOk, ◌<◌, ◌^◌, ◌↔◌, ◌++◌, IsTrue, Some, List, All};
 ghost use Rattle.std.specs.Result.{OkIff};
 ghost use Rattle.lexical_base.specs.declared.error.Error.{Error};
 ghost use Rattle.lexical_flags.specs.Layout.{Flag, IsClean};
@@ -13,6 +13,7 @@ ghost use Rattle.lexical_util.specs.Compose.{Composes, AlwaysCompose};
 ghost use Rattle.lexical_util.specs.Groups.{any_flag, bits_of};
 ghost use Rattle.lexical_util.specs.SetterNames.{setter_name};
 
+use crate::laws::{edit_facts, normal_form_facts};
 use lexical_base::error::Error;
 use lexical_builder::format_builder::{NumberFormatBuilder, OptionU8};
 
@@ -264,6 +265,7 @@ pub fn edit_word(format: u128, edits: &[Edit]) -> u128
         → edited result more ≡ edited format (all_writes edits.now ++ more) }
     ensures legal { All IsLegal (all_writes edits.now) }
 {
+    edit_facts();
     apply_all(NumberFormatBuilder::rebuild(format), edits).build_unchecked()
 }
 
@@ -302,6 +304,7 @@ pub fn normal_form(format: u128) -> u128
         → edited result writes ≡ edited format writes }
     ensures normal { IsNormal result }
 {
+    normal_form_facts();
     NumberFormatBuilder::rebuild(format).build_unchecked()
 }
 
@@ -311,13 +314,16 @@ pub fn normal_form(format: u128) -> u128
 /// Reserved bits, empty exponent bytes, and a digit separator that no flag allows are mended, so none
 /// of these is an error; everything else that is wrong is. The error is never `Success` or
 /// `InvalidFlags`.
-#[tactic(auto, using(lexical_builder::proofs::WriteLemmas::after_none))]
 pub fn migrate(format: u128) -> Result<u128, Error>
     ensures lawful { OkIff result (Lawful (normal_form_of format)) (normal_form_of format) }
+    ensures fields { IfOk result (λ word. raw word ≡ trim (fill (raw format))) }
+    ensures normal { IfOk result IsNormal }
+    ensures same { IfOk result (λ word. SameFormat (raw format) (raw word)) }
     ensures error { IfErr result (IsErrorOf (normal_form_of format)) }
     ensures not_success { result ≢ Err Error.Success }
     ensures not_flags { result ≢ Err Error.InvalidFlags }
 {
+    normal_form_facts();
     NumberFormatBuilder::rebuild(format).build_strict()
 }
 

@@ -12,6 +12,7 @@ use lexical_base::error::Error;
 use lexical_builder::format_builder::NumberFormatBuilder;
 use lexical_flags::format_flags as flags;
 use lexical_flags::format_flags::{format_error_impl, radix_error_impl};
+use lexical_flags::laws::literal_facts;
 use std::marker::Model;
 
 // Whether the word of a view has any bit of a mask.
@@ -53,7 +54,7 @@ impl Default for NumberFormat {
 
     /// Returns the view of the standard format, which is what a new builder packs.
     #[inline(always)]
-    #[tactic(auto, using(lexical_flags::proofs::LawfulTest::lawful_tested), unfolding(lexical_flags::specs::Record::word_of, lexical_builder::specs::Writes::after))]
+    #[tactic(auto, unfolding(crate::specs::Unfoldable::on_literals))]
     fn default() -> Self
         ensures standard { result ≡ STANDARD }
         ensures packed { result ≡ pack new_record }
@@ -62,6 +63,7 @@ impl Default for NumberFormat {
         // Its normal form is the format of decimal numbers.
         ensures normal { normal_form_of result ≡ 0x0A0A0A00_00000000_00000000_0000000C }
     {
+        literal_facts();
         NumberFormat { format: STANDARD }
     }
 }

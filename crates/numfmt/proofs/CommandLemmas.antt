@@ -1,7 +1,7 @@
 -- The only response that a demand allows, and lists of a known length.
 use Rattle.std.proofs.Common.{◌≡◌, ◌≢◌, ◌↔◌, ◌≤◌, ◌-◌, ℕ, Bool, true, false, IsTrue, Ok, Err, List, [], ◌∷◌, length, get_or, map, take, drop, take_all, inl, inr, refl, sym, ap, ◌∙◌, arith}
 use Rattle.lexical_util.specs.declared.error.Error.{Error}
-use Rattle.lexical_util.specs.Rules.{Rule, IsFirstError, IsErrorOf, rules_in_order}
+use Rattle.lexical_util.specs.Rules.{IsErrorOf}
 use Rattle.lexical_util.specs.declared.edits.Edit.{Edit}
 use Rattle.lexical_util.specs.Edits.{edited, all_writes}
 use Rattle.numfmt.specs.declared.response.Answer.{Answer}
@@ -43,18 +43,10 @@ IsOnly-edited word texts read made exact is other = (
   λ e. (read, (exact read).1 refl, e ∙ ap word_response is),
 )
 
-IsFirstError-unique : (word : ℕ) (a b : Error) (rules : List Rule) → IsFirstError rules word a → IsFirstError rules word b → a ≡ b
-IsFirstError-unique word a b [] h k = h ∙ sym k
-IsFirstError-unique word a b (rule ∷ rules) (inl h) (inl k) = h.1 ∙ sym k.1
-IsFirstError-unique word a b (rule ∷ rules) (inl h) (inr k) = absurd (h.0 k.0)
-IsFirstError-unique word a b (rule ∷ rules) (inr h) (inl k) = absurd (k.0 h.0)
-IsFirstError-unique word a b (rule ∷ rules) (inr h) (inr k) = IsFirstError-unique word a b rules h.1 k.1
-
 -- the first rule that a word breaks is the only one that is given
-pub IsOnly-error : (word : ℕ) (error : Error) → IsErrorOf word error → IsOnly (GivesErrorOf word) (Ok (answers.Outcome error))
-unfolding IsErrorOf
-IsOnly-error word error is other =
-    (λ h. h.2 ∙ ap outcome_response (IsFirstError-unique word h.0 error rules_in_order h.1 is), λ e. (error, is, e))
+pub IsOnly-error : (word : ℕ) (error : Error) → IsErrorOf word error → ((other : Error) → IsErrorOf word other → other ≡ error)
+    → IsOnly (GivesErrorOf word) (Ok (answers.Outcome error))
+IsOnly-error word error is only other = (λ h. h.2 ∙ ap outcome_response (only h.0 h.1), λ e. (error, is, e))
 
 -- a refusal is the only response
 IsOnly-refused : (refusal : Refusal) → IsOnly (Refuses refusal) (Err refusal)

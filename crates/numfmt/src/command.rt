@@ -14,6 +14,7 @@ use crate::word::read_word;
 use lexical_util::edits::{Edit, edit_word, migrate, same_format};
 use lexical_util::format::{STANDARD, format_error};
 use lexical_util::format_flags::is_valid_options_punctuation;
+use lexical_util::laws;
 
 // The maximum number of edits in one command.
 const MAX_EDITS: usize = 64;
@@ -133,6 +134,7 @@ fn migrate_word(args: &[String]) -> Result<Answer, Refusal>
 fn migrated(format: u128) -> Answer
     ensures { IsOnly (GivesMigrated format) (Ok result) }
 {
+    laws::flags::rule_facts();
     match migrate(format) {
         Ok(normal_form) => Answer::Word(normal_form),
         Err(error) => Answer::Outcome(error),

@@ -3,9 +3,10 @@
 //! A word that breaks no rule is *lawful*; the view of a word calls it valid.
 #![tactic(auto, using(crate::proofs::FlagTests::flag_tests), unfolding(crate::specs::Rules::Holds, crate::specs::Rules::IsPunctuation))]
 
-ghost use Rattle.std.specs.Prelude.{◌≡◌, ◌↔◌, IsTrue};
+ghost use Rattle.std.specs.Prelude.{◌≡◌, ◌≢◌, ◌↔◌, IsTrue};
 ghost use Rattle.std.specs.List.{AllByRecursion};
 ghost use Rattle.lexical_base.specs.Ascii.{letters};
+ghost use Rattle.lexical_flags.specs.Layout.{IsClean};
 ghost use Rattle.lexical_flags.specs.Record.{raw};
 ghost use Rattle.lexical_flags.specs.Roles.{Disjoint, cased, other_case, digits, own_roles};
 ghost use Rattle.lexical_flags.specs.Options.{AreAccepted, HaveOneRole, LeavesRoom};
@@ -440,6 +441,9 @@ pub fn format_error_impl(format: u128) -> Error
     ensures first { IsErrorOf format result }
     ensures lawful { (result ≡ Error.Success) ↔ Lawful format }
     ensures only { (other : Error) → IsErrorOf format other → other ≡ result }
+
+    // The error of reserved bits needs one that is set.
+    ensures clean { IsClean format → result ≢ Error.InvalidFlags }
 {
     first_broken(format)
 }

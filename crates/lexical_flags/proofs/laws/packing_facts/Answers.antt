@@ -1,4 +1,4 @@
-use Rattle.lexical_flags.proofs.Packing.{raw-pack, pack-clean, pack-lt, pack-injective, pack-raw}
+use Rattle.lexical_flags.proofs.Packing.{raw-pack, pack-clean, pack-lt, pack-injective, pack-raw, raw-injective}
 use Rattle.lexical_flags.proofs.laws.packing_facts.Goals as goal
 
 pub returns : goal.returns
@@ -8,4 +8,5 @@ returns c = record {
   fits = pack-lt;
   alike = pack-injective;
   built = pack-raw;
+  only = raw-injective;
 }

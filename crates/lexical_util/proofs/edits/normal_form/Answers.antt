@@ -1,48 +1,41 @@
-use Rattle.std.proofs.Common.{◌↔◌, ◌∙◌, sym, ap, subst, arith}
-use Rattle.lexical_flags.specs.Record.{raw, pack, trim}
-use Rattle.lexical_flags.proofs.Packing.{raw-injective}
-use Rattle.lexical_flags.specs.Rules.{Lawful, IsErrorOf}
-use Rattle.lexical_util.specs.Groups.{any_flag, bits_of}
-use Rattle.lexical_util.specs.Normal.{normal_form_of, SameFormat}
-use Rattle.lexical_util.proofs.NormalLemmas.{normal_form-is, normal_again, normal_from_fixed, fixed_from_normal, normal_keeps, lawful_normal, error_normal, groups_normal, flags_normal}
-use Rattle.lexical_util.specs.Edits.{edited}
-use Rattle.lexical_util.proofs.ComposeLemmas.{edited-normal}
+-- The result is the normal form, and each clause what the laws say of that.
+use Rattle.std.proofs.Common.{◌∙◌, sym, ap, arith}
+use Rattle.lexical_flags.specs.Record.{pack}
+use Rattle.lexical_util.proofs.NormalLemmas.{normal_form-is}
 use Rattle.lexical_util.proofs.edits.normal_form.Goals as goal
 
 pub returns-clause-word : goal.returns-clause-word
 returns-clause-word c = c.build_unchecked.ensures.word ∙ ap pack c.rebuild.ensures ∙ sym (normal_form-is c.args.format)
 
+pub returns-clause-fields : goal.returns-clause-fields
+returns-clause-fields c = rw (returns-clause-word c) (c.normal_form_facts.ensures.fields c.args.format)
+
 pub returns-clause-only : goal.returns-clause-only
-returns-clause-only c other fits clean same =
-    raw-injective other c.build_unchecked.result fits (omega arith) clean c.build_unchecked.ensures.clean
-    (same ∙ sym (c.build_unchecked.ensures.fields ∙ ap trim c.rebuild.ensures))
+returns-clause-only c = rw (returns-clause-word c) (c.normal_form_facts.ensures.only c.args.format)
 
 pub returns-clause-again : goal.returns-clause-again
-returns-clause-again c = ap normal_form_of (returns-clause-word c) ∙ normal_again c.args.format ∙ sym (returns-clause-word c)
+returns-clause-again c = rw (returns-clause-word c) (c.normal_form_facts.ensures.again c.args.format)
 
 pub returns-clause-unchanged : goal.returns-clause-unchanged
-returns-clause-unchanged c = (
-  λ e. normal_from_fixed c.args.format (sym (returns-clause-word c) ∙ e),
-  λ n. returns-clause-word c ∙ fixed_from_normal c.args.format (omega arith) n,
-)
+returns-clause-unchanged c = rw (returns-clause-word c) (c.normal_form_facts.ensures.unchanged c.args.format (omega arith))
 
 pub returns-clause-same : goal.returns-clause-same
-returns-clause-same c = subst (λ u. SameFormat (raw c.args.format) (raw u)) (sym (returns-clause-word c)) (normal_keeps c.args.format)
+returns-clause-same c = rw (returns-clause-word c) (c.normal_form_facts.ensures.same c.args.format)
 
 pub returns-clause-groups : goal.returns-clause-groups
-returns-clause-groups c fs = groups_normal c.args.format fs ∙ ap (λ u. any_flag u fs) (sym (returns-clause-word c))
+returns-clause-groups c = rw (returns-clause-word c) (c.normal_form_facts.ensures.groups c.args.format)
 
 pub returns-clause-flags : goal.returns-clause-flags
-returns-clause-flags c fs = flags_normal c.args.format fs ∙ ap (λ u. bits_of u fs) (sym (returns-clause-word c))
+returns-clause-flags c = rw (returns-clause-word c) (c.normal_form_facts.ensures.flags c.args.format)
 
 pub returns-clause-lawful : goal.returns-clause-lawful
-returns-clause-lawful c h = subst Lawful (sym (returns-clause-word c)) (lawful_normal c.args.format h)
+returns-clause-lawful c = rw (returns-clause-word c) (c.normal_form_facts.ensures.lawful c.args.format)
 
 pub returns-clause-error : goal.returns-clause-error
-returns-clause-error c clean used e = subst (λ u. IsErrorOf c.args.format e ↔ IsErrorOf u e) (sym (returns-clause-word c)) (error_normal c.args.format clean used e)
+returns-clause-error c = rw (returns-clause-word c) (c.normal_form_facts.ensures.error c.args.format)
 
 pub returns-clause-edits : goal.returns-clause-edits
-returns-clause-edits c used L legal = ap (λ u. edited u L) (returns-clause-word c) ∙ edited-normal c.args.format L used legal
+returns-clause-edits c = rw (returns-clause-word c) (c.normal_form_facts.ensures.edits c.args.format)
 
 pub returns-clause-normal : goal.returns-clause-normal
-returns-clause-normal c = normal_from_fixed c.build_unchecked.result (returns-clause-again c)
+returns-clause-normal c = rw (returns-clause-word c) (c.normal_form_facts.ensures.normal c.args.format)

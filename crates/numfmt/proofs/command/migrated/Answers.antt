@@ -1,5 +1,6 @@
 -- The normal form, or the first rule that it breaks.
 use Rattle.std.proofs.Common.{Ok, sym, subst}
+use Rattle.lexical_util.specs.Normal.{normal_form_of}
 use Rattle.numfmt.specs.declared.response.Answer.TheVariants as answers
 use Rattle.numfmt.specs.Command.{GivesMigrated, IsOnly}
 use Rattle.numfmt.proofs.CommandLemmas.{IsOnly-met, IsOnly-unmet, IsOnly-given, IsOnly-error}
@@ -13,4 +14,5 @@ returns-in-Ok c =
 
 pub returns-in-Err : goal.returns-in-Err
 unfolding GivesMigrated
-returns-in-Err c = IsOnly-unmet _ c.in-Err.ensures.lawful (IsOnly-error _ _ c.in-Err.ensures.error)
+returns-in-Err c = IsOnly-unmet _ c.in-Err.ensures.lawful (IsOnly-error _ _ c.in-Err.ensures.error
+    (λ other is. c.rule_facts.ensures.one_error (normal_form_of c.args.format) other _ is c.in-Err.ensures.error))

@@ -1,4 +1,4 @@
-use Rattle.lexical_flags.proofs.RuleLemmas.{Success-lawful, IsErrorOf-unique}
+use Rattle.lexical_flags.proofs.RuleLemmas.{Success-lawful, IsErrorOf-unique, not_flags}
 use Rattle.lexical_flags.proofs.format_flags.rules.format_error_impl.Goals as goal
 
 pub returns-clause-lawful : goal.returns-clause-lawful
@@ -6,3 +6,6 @@ returns-clause-lawful c = Success-lawful c.args.format c.first_broken.result c.f
 
 pub returns-clause-only : goal.returns-clause-only
 returns-clause-only c = λ other is. IsErrorOf-unique c.args.format other c.first_broken.result is c.first_broken.ensures
+
+pub returns-clause-clean : goal.returns-clause-clean
+returns-clause-clean c clean = not_flags c.args.format c.first_broken.result clean c.first_broken.ensures

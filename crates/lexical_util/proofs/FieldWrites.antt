@@ -10,7 +10,7 @@ use Rattle.lexical_flags.specs.Record.{Record, flag_of, byte_of, HasBytes}
 use Rattle.lexical_flags.proofs.RecordLemmas.{record_same}
 use Rattle.lexical_builder.specs.Writes.{Write, write_flag, write_byte, IsLegal, flag_in, byte_in, after, changes}
 use Rattle.lexical_builder.proofs.WriteLemmas.{left_by, left_by-cons, flag_of-after, byte_of-after}
-use Rattle.lexical_builder.proofs.Distance.{distance, flag_differs, byte_differs}
+use Rattle.lexical_util.proofs.Distance.{distance, flag_differs, byte_differs}
 
 -- the writes of all flags, and of all bytes, of a record
 abbrev pub flag_writes : Record → List Write

@@ -1,0 +1,135 @@
+//! Formats of one's own: constants that are proved lawful when they are compiled.
+//!
+//! Each format has a constant and a law, a function with an empty body. A caller that calls the law may
+//! pass the constant where a lawful format is required, and nothing is tested when it runs.
+
+ghost use Rattle.std.specs.Prelude.{◌≡◌, IfErr, true, false};
+ghost use Rattle.std.specs.Result.{OkIff};
+ghost use Rattle.lexical_util.specs.Record.{raw};
+ghost use Rattle.lexical_util.specs.Rules.{Lawful};
+ghost use Rattle.lexical_util.specs.Options.{AreAccepted};
+ghost use Rattle.callers.specs.Reading.{number_of, IsNumeral, IsRefusal};
+
+use crate::read::read_digits;
+use lexical_util::error::Error;
+use lexical_util::laws;
+
+/// Decimal numbers with `_` between digits, such as `1_000.000_1e1_0`.
+pub const DECIMAL: u128 = 0x0A0A0A00_0000005F_00000007_0000000C;
+
+/// Integers as Rust's source writes them, without a sign: `_` between digits and after them, also
+/// several in a row, such as `1_000` and `1__0_`.
+pub const RUST_INTEGER: u128 = 0x0A0A0A00_0000005F_00000241_00000459;
+
+/// Hexadecimal floats: the prefix `x`, digits of radix 16, and always an exponent of 2 in decimal
+/// digits, such as `0x1.8p-3`.
+pub const HEXADECIMAL_FLOAT: u128 = 0x0A021000_78000000_00000000_0000400C;
+
+/// Octal numbers with the suffix `o` or `O`, such as `17o`.
+pub const OCTAL: u128 = 0x0808086F_00000000_00000000_0000000C;
+
+/// The decimal point of each of them.
+pub const POINT: u8 = b'.';
+
+/// The exponent character of decimal and octal numbers.
+pub const EXPONENT: u8 = b'e';
+
+/// The exponent character of hexadecimal floats, in which `e` is a digit.
+pub const HEXADECIMAL_EXPONENT: u8 = b'p';
+
+/// What is known of [`DECIMAL`].
+#[tactic(auto, unfolding(lexical_util::specs::Unfoldable::on_literals))]
+pub fn decimal_facts()
+    ensures separator { (raw DECIMAL).digit_separator ≡ 0x5F }
+    ensures radix { (raw DECIMAL).mantissa_radix ≡ 10 }
+    ensures between_digits { (raw DECIMAL).integer_internal_digit_separator ≡ true }
+    ensures after_digits { (raw DECIMAL).integer_trailing_digit_separator ≡ false }
+    ensures lawful { Lawful DECIMAL }
+    ensures options { AreAccepted DECIMAL EXPONENT POINT }
+{
+    laws::flags::literal_facts();
+}
+
+/// What is known of [`RUST_INTEGER`].
+#[tactic(auto, unfolding(lexical_util::specs::Unfoldable::on_literals))]
+pub fn rust_integer_facts()
+    ensures separator { (raw RUST_INTEGER).digit_separator ≡ 0x5F }
+    ensures radix { (raw RUST_INTEGER).mantissa_radix ≡ 10 }
+    ensures after_digits { (raw RUST_INTEGER).integer_trailing_digit_separator ≡ true }
+    ensures in_a_row { (raw RUST_INTEGER).integer_consecutive_digit_separator ≡ true }
+    ensures no_exponent { (raw RUST_INTEGER).no_exponent_notation ≡ true }
+    ensures lawful { Lawful RUST_INTEGER }
+    ensures options { AreAccepted RUST_INTEGER EXPONENT POINT }
+{
+    laws::flags::literal_facts();
+}
+
+/// What is known of [`HEXADECIMAL_FLOAT`].
+#[tactic(auto, unfolding(lexical_util::specs::Unfoldable::on_literals))]
+pub fn hexadecimal_float_facts()
+    ensures prefix { (raw HEXADECIMAL_FLOAT).base_prefix ≡ 0x78 }
+    ensures radix { (raw HEXADECIMAL_FLOAT).mantissa_radix ≡ 16 }
+    ensures base { (raw HEXADECIMAL_FLOAT).exponent_base ≡ 2 }
+    ensures exponent_radix { (raw HEXADECIMAL_FLOAT).exponent_radix ≡ 10 }
+    ensures exponent { (raw HEXADECIMAL_FLOAT).required_exponent_notation ≡ true }
+    ensures no_separator { (raw HEXADECIMAL_FLOAT).digit_separator ≡ 0 }
+    ensures lawful { Lawful HEXADECIMAL_FLOAT }
+    ensures options { AreAccepted HEXADECIMAL_FLOAT HEXADECIMAL_EXPONENT POINT }
+{
+    laws::flags::literal_facts();
+}
+
+/// What is known of [`OCTAL`].
+#[tactic(auto, unfolding(lexical_util::specs::Unfoldable::on_literals))]
+pub fn octal_facts()
+    ensures suffix { (raw OCTAL).base_suffix ≡ 0x6F }
+    ensures radix { (raw OCTAL).mantissa_radix ≡ 8 }
+    ensures both_cases { (raw OCTAL).case_sensitive_base_suffix ≡ false }
+    ensures no_separator { (raw OCTAL).digit_separator ≡ 0 }
+    ensures lawful { Lawful OCTAL }
+    ensures options { AreAccepted OCTAL EXPONENT POINT }
+{
+    laws::flags::literal_facts();
+}
+
+/// Reads a decimal number of 64 bits with `_` between digits, such as `1_000`. The error names the
+/// index of the first byte that may not stand there, as [`read_digits`] does.
+pub fn read_decimal(text: &[u8]) -> Result<u64, Error>
+    ensures number { OkIff result (IsNumeral (raw DECIMAL) text.now) (number_of (raw DECIMAL) text.now) }
+    ensures refusal { IfErr result (IsRefusal (raw DECIMAL) text.now) }
+{
+    decimal_facts();
+    read_digits(DECIMAL, text)
+}
+
+#[cfg(test)]
+mod tests {
+    use super::*;
+    use lexical_util::format::{NonZeroU8, NumberFormatBuilder};
+
+    #[test]
+    fn each_constant_is_what_its_setter_calls_build(rt: HostRuntime) {
+        let separated = NumberFormatBuilder::new()
+            .radix(10)
+            .exponent_base(NonZeroU8::new(10))
+            .exponent_radix(NonZeroU8::new(10))
+            .digit_separator(NonZeroU8::new(b'_'))
+            .internal_digit_separator(true);
+        assert_eq!(rt; separated.build_strict(), Ok(DECIMAL));
+        let hexadecimal = NumberFormatBuilder::new()
+            .radix(16)
+            .base_prefix(NonZeroU8::new(b'x'))
+            .exponent_base(NonZeroU8::new(2))
+            .exponent_radix(NonZeroU8::new(10))
+            .required_exponent_notation(true);
+        assert_eq!(rt; hexadecimal.build_strict(), Ok(HEXADECIMAL_FLOAT));
+    }
+
+    #[test]
+    fn underscores_stand_between_digits_alone(rt: HostRuntime) {
+        assert_eq!(rt; read_decimal(b"1_000_000"), Ok(1_000_000));
+        assert_eq!(rt; read_decimal(b"1_000_"), Err(Error::InvalidDigit(5)));
+        assert_eq!(rt; read_decimal(b"_1"), Err(Error::InvalidDigit(0)));
+        assert_eq!(rt; read_decimal(b"1__0"), Err(Error::InvalidDigit(1)));
+    }
+}

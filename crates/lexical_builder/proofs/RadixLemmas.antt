@@ -1,0 +1,34 @@
+-- The format of one radix passes the tests of the rules exactly if numbers can be written in that radix: each of the 256 bytes is tried.
+use Rattle.std.proofs.Common.{ℕ, ◌≡◌, ◌↔◌, ◌<◌, Bool, true, false, refl, sym, ap, ◌∙◌, arith}
+use Rattle.std.proofs.lemmas.Bool.{false≢true, agree_below_at}
+use Rattle.std.proofs.lemmas.Bool.Decides.{nat_tests}
+use Rattle.lexical_base.specs.declared.error.Error.{Error}
+use Rattle.lexical_base.specs.declared.error.Error.TheVariants.{Success}
+use Rattle.lexical_flags.specs.Computed.{is_radix, error_at, on_literals}
+use Rattle.lexical_flags.specs.Record.{pack}
+use Rattle.lexical_flags.specs.Rules.{IsRadix}
+use Rattle.lexical_builder.specs.Writes.{radix_record}
+
+abbrev is_success : Error → Bool
+is_success Success = true
+is_success _ = false
+
+success_from : (error : Error) → is_success error ≡ true → error ≡ Success
+success_from Success e = refl
+success_from _ e = absurd (false≢true e)
+
+tried : (radix : ℕ) → radix < 256 → is_success (error_at (pack (radix_record radix))) ≡ is_radix radix
+unfolding on_literals
+tried radix fits = agree_below_at (λ n. is_success (error_at (pack (radix_record n)))) is_radix 256 radix refl fits
+
+is_radix-from : (radix : ℕ) → IsRadix radix → is_radix radix ≡ true
+is_radix-from radix h = let low = h.0 in let high = h.1 in grind (arith, nat_tests)
+
+IsRadix-from : (radix : ℕ) → is_radix radix ≡ true → IsRadix radix
+IsRadix-from radix test = grind (arith, nat_tests)
+
+pub radix-success : (radix : ℕ) → radix < 256 → (error_at (pack (radix_record radix)) ≡ Success) ↔ IsRadix radix
+radix-success radix fits = (
+  λ e. IsRadix-from radix (sym (tried radix fits) ∙ ap is_success e),
+  λ h. success_from _ (tried radix fits ∙ is_radix-from radix h),
+)
