@@ -48,6 +48,11 @@ fn setter_name(position: u32) -> &'static str {
     }
 }
 
+/// The position of the setter with a name.
+pub fn setter_named(name: &str) -> Option<u32> {
+    (0..SETTERS).find(|position| setter_name(*position) == name)
+}
+
 impl SetterCall {
     /// The call as it is handed to the library.
     pub fn number(self) -> u32 {

@@ -9,6 +9,7 @@ mod record;
 mod results;
 mod rules;
 mod sections;
+mod source;
 mod tables;
 mod tally;
 mod theirs;
@@ -96,6 +97,7 @@ fn main() {
 
     let start = Instant::now();
     let mut tasks = sections::tasks(settings.seed, settings.scale);
+    tasks.push(source::task(settings.seed));
     tasks.retain(|task| task.section.contains(&settings.only));
     let sections = run(&tasks, settings.threads);
 

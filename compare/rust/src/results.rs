@@ -318,3 +318,13 @@ results! {
         after_all_edits: Fields,
     }
 }
+
+results! {
+    /// A run of `numfmt source`: its exit status, how many calls it printed, and the fields that they give
+    /// a new builder.
+    Source {
+        status: i32,
+        calls: usize,
+        fields: Fields,
+    }
+}

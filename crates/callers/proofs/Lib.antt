@@ -1,3 +1,2 @@
 pub mod ReadLemmas
 pub mod RoleLemmas
-pub mod SourceLemmas

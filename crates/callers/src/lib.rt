@@ -2,11 +2,11 @@
 //!
 //! [`formats`] has formats that are constants, proved lawful: read it first. [`roles`] tells what a byte
 //! stands for in a number, [`keep`] says which word to keep for a stored one, [`read`] reads whole
-//! numbers, and [`source`] writes a word as Rust code. docs/CALLING.md explains them.
+//! numbers, and [`calls`] makes a word by setter calls. docs/CALLING.md explains them.
 #![tactic(auto)]
 
+pub mod calls;
 pub mod formats;
 pub mod keep;
 pub mod read;
 pub mod roles;
-pub mod source;

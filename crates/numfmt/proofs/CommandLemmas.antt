@@ -49,7 +49,7 @@ pub IsOnly-error : (word : ℕ) (error : Error) → IsErrorOf word error → ((o
 IsOnly-error word error is only other = (λ h. h.2 ∙ ap outcome_response (only h.0 h.1), λ e. (error, is, e))
 
 -- a refusal is the only response
-IsOnly-refused : (refusal : Refusal) → IsOnly (Refuses refusal) (Err refusal)
+pub IsOnly-refused : (refusal : Refusal) → IsOnly (Refuses refusal) (Err refusal)
 IsOnly-refused refusal other = (λ e. e, λ e. e)
 
 -- `same` takes two arguments

@@ -2,4 +2,5 @@ mod NumeralLemmas
 mod DigitLemmas
 mod TextLemmas
 mod EditsLemmas
+mod SourceLemmas
 mod CommandLemmas

@@ -1,6 +1,7 @@
 -- The response that each list of arguments calls for.
 use Rattle.std.specs.Prelude.{ℕ, ◌≡◌, ◌≤◌, ◌↔◌, Bool, true, false, List, [], ◌∷◌, length, codes, Ok, Err}
 use Rattle.lexical_util.specs.declared.error.Error.{Error}
+use Rattle.lexical_util.specs.Record.{IsBuilt}
 use Rattle.lexical_util.specs.Rules.{IsErrorOf, Lawful}
 use Rattle.lexical_util.specs.Options.{AreAccepted}
 use Rattle.lexical_util.specs.declared.edits.Edit.{Edit}
@@ -99,6 +100,17 @@ MigrateCallsFor (word ∷ []) =
     GivesMigrated (hex word))
 MigrateCallsFor _ = Refuses refusals.WrongNumberOfArguments
 
+-- the builder expression of the word, and whether it makes the word itself
+unfoldable pub GivesSource : ℕ → Response → Type 0
+GivesSource word = GivesWhether (IsBuilt word) (answers.Source word)
+
+-- `source WORD`: the builder expression of the word
+abbrev pub SourceCallsFor : List (List ℕ) → Response → Type 0
+SourceCallsFor (word ∷ []) =
+    Needs (IsWordText word) refusals.BadWord (
+    GivesSource (hex word))
+SourceCallsFor _ = Refuses refusals.WrongNumberOfArguments
+
 -- the program's arguments without its name: a command and its arguments, or none
 abbrev pub CallsFor : List (List ℕ) → Response → Type 0
 CallsFor [] = Gives (answers.Fields STANDARD)
@@ -109,7 +121,8 @@ CallsFor (command ∷ args) =
     IfElse (command ≡ codes "same") (SameCallsFor args) (
     IfElse (command ≡ codes "options") (OptionsCallsFor args) (
     IfElse (command ≡ codes "migrate") (MigrateCallsFor args) (
-    Refuses refusals.UnknownCommand))))))
+    IfElse (command ≡ codes "source") (SourceCallsFor args) (
+    Refuses refusals.UnknownCommand)))))))
 
 -- this response meets the demand, and no other does
 abbrev pub IsOnly : (Response → Type 0) → Response → Type 0

@@ -9,6 +9,7 @@ use Rattle.numfmt.specs.declared.response.Answer.TheVariants as answers
 use Rattle.numfmt.specs.declared.response.Refusal.{Refusal}
 use Rattle.numfmt.specs.declared.response.Refusal.TheVariants as refusals
 use Rattle.numfmt.specs.WordText.{printed}
+use Rattle.numfmt.specs.Source.{source_text}
 
 -- an answer, or the reason why the arguments are refused
 abbrev pub Response : Type 0
@@ -47,6 +48,7 @@ answer_text (answers.Sameness false) = line (codes "different")
 answer_text (answers.Outcome error) = line (printed_text error)
 answer_text (answers.Acceptance true) = line (codes "accepted")
 answer_text (answers.Acceptance false) = line (codes "refused")
+answer_text (answers.Source word is_built) = line (source_text word)
 
 -- the reason as a refusal states it
 abbrev pub reason_text : Refusal → List ℕ
@@ -72,4 +74,6 @@ status_of (Ok (answers.Outcome Success)) = 0
 status_of (Ok (answers.Outcome _)) = 1
 status_of (Ok (answers.Acceptance true)) = 0
 status_of (Ok (answers.Acceptance false)) = 1
+status_of (Ok (answers.Source word true)) = 0
+status_of (Ok (answers.Source word false)) = 1
 status_of (Err refusal) = 2

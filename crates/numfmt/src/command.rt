@@ -6,12 +6,13 @@ ghost use Rattle.numfmt.specs.Numeral.{numeral};
 ghost use Rattle.numfmt.specs.WordText.{IsWordText, hex};
 ghost use Rattle.numfmt.specs.EditText.{IsByteText};
 ghost use Rattle.numfmt.specs.Command.{CallsFor, ShowCallsFor, EditCallsFor, CheckCallsFor, SameCallsFor};
-ghost use Rattle.numfmt.specs.Command.{OptionsCallsFor, MigrateCallsFor, GivesMigrated, IsOnly};
+ghost use Rattle.numfmt.specs.Command.{OptionsCallsFor, MigrateCallsFor, GivesMigrated, SourceCallsFor};
+ghost use Rattle.numfmt.specs.Command.{GivesSource, IsOnly};
 
 use crate::edit::{read_byte, read_edits};
 use crate::response::{Answer, Refusal};
 use crate::word::read_word;
-use lexical_util::edits::{Edit, edit_word, migrate, same_format};
+use lexical_util::edits::{Edit, edit_word, is_built, migrate, same_format};
 use lexical_util::format::{STANDARD, format_error};
 use lexical_util::format_flags::is_valid_options_punctuation;
 use lexical_util::laws;
@@ -34,6 +35,7 @@ pub fn response_to(args: &[String]) -> Result<Answer, Refusal>
             "same" => same(args),
             "options" => options(args),
             "migrate" => migrate_word(args),
+            "source" => source(args),
             _ => Err(Refusal::UnknownCommand),
         },
     }
@@ -139,6 +141,23 @@ fn migrated(format: u128) -> Answer
         Ok(normal_form) => Answer::Word(normal_form),
         Err(error) => Answer::Outcome(error),
     }
+}
+
+// `source WORD`
+fn source(args: &[String]) -> Result<Answer, Refusal>
+    ensures { IsOnly (SourceCallsFor (map string_bytes args.now)) result }
+{
+    match args {
+        [word] => Ok(source_of(parse_word(word)?)),
+        _ => Err(Refusal::WrongNumberOfArguments),
+    }
+}
+
+// The builder expression of a word, and whether it makes the word itself.
+fn source_of(format: u128) -> Answer
+    ensures { IsOnly (GivesSource format) (Ok result) }
+{
+    Answer::Source(format, is_built(format))
 }
 
 // Parses an argument as a format word, or refuses it.

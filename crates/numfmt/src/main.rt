@@ -1,4 +1,4 @@
-//! `numfmt` shows, edits, compares, checks and migrates number formats.
+//! `numfmt` shows, edits, compares, checks and migrates number formats, and writes them as Rust code.
 //!
 //! A number format is a format word, a `u128`. A WORD is written as `0x` and 1 to 32 hexadecimal
 //! digits.
@@ -12,6 +12,7 @@
 //! | `same A B` | whether two words mean the same format: `same` or `different` |
 //! | `options WORD E P` | whether the exponent byte E and the point byte P fit the word: `accepted` or `refused` |
 //! | `migrate WORD` | the normal form of an old word, or what is wrong with it |
+//! | `source WORD` | the builder expression with the fewest setter calls that makes the fields of the word |
 //!
 //! The exit status is 0 on success; 1 if the answer is no; 2 if the arguments are refused, and then
 //! one line says why; 3 if a write fails or the arguments cannot be read, and then nothing more is
@@ -25,6 +26,7 @@ mod example;
 mod numeral;
 mod program;
 mod response;
+mod source;
 mod word;
 
 use program::run;

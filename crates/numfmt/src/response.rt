@@ -3,8 +3,10 @@
 ghost use Rattle.std.specs.Prelude.{◌≡◌, ◌++◌, OnOk, codes, decimal};
 ghost use Rattle.std.specs.Io.KnownBytes.{Appends};
 ghost use Rattle.numfmt.specs.WordText.{printed};
+ghost use Rattle.numfmt.specs.Source.{source_text};
 ghost use Rattle.numfmt.specs.Response.{answer_text, field, fields, line, reason_text, status_of, text_of};
 
+use crate::source::write_source;
 use crate::word::word_text;
 use lexical_util::error::Error;
 use lexical_util::format_flags as flags;
@@ -24,6 +26,8 @@ pub enum Answer {
     Outcome(Error),
     /// Whether an exponent byte and a point byte fit a format word.
     Acceptance(bool),
+    /// The builder expression of a format word, and whether it makes the word itself.
+    Source(u128, bool),
 }
 
 /// Why arguments are refused.
@@ -48,7 +52,7 @@ pub fn exit_status(response: Result<Answer, Refusal>) -> u8
     ensures { result ≡ status_of response }
 {
     match response {
-        Ok(Answer::Sameness(false) | Answer::Acceptance(false)) => 1,
+        Ok(Answer::Sameness(false) | Answer::Acceptance(false) | Answer::Source(_, false)) => 1,
         Ok(Answer::Outcome(error)) if error != Error::Success => 1,
         Ok(_) => 0,
         Err(_) => 2,
@@ -94,6 +98,7 @@ impl Answer {
             Answer::Outcome(error) => writeln!(out, "{error}"),
             Answer::Acceptance(true) => out.write_all(b"accepted\n"),
             Answer::Acceptance(false) => out.write_all(b"refused\n"),
+            Answer::Source(format, _) => print_source(format, out),
         }
     }
 }
@@ -125,5 +130,12 @@ fn print_word<W: Write>(format: u128, out: &mut W) -> io::Result<()>
     ensures { OnOk result (Appends (W.contents out.old) (W.contents out.new) (line (printed format))) }
 {
     out.write_all(&word_text(format))?;
+    out.write_all(b"\n")
+}
+
+fn print_source<W: Write>(format: u128, out: &mut W) -> io::Result<()>
+    ensures { OnOk result (Appends (W.contents out.old) (W.contents out.new) (line (source_text format))) }
+{
+    write_source(format, out)?;
     out.write_all(b"\n")
 }

@@ -5,6 +5,7 @@ use std::io;
 use std::process::Abort;
 use std::test::Fail;
 
+mod sources;
 mod writers;
 
 const STANDARD_FIELDS: &str = "flags 0x0000000000000000000000000000000C
@@ -117,10 +118,12 @@ fn prints_each_answer_with_its_status(rt: HostRuntime) -> Result<(), Fail> {
 
 // Command lines, and what is printed after `numfmt: `.
 #[rattlefmt::skip]
-const REFUSALS: [(&str, &str); 43] = [
+const REFUSALS: [(&str, &str); 48] = [
     ("", "unknown command"),
     ("shows 0x", "unknown command"),
     ("SHOW 0xC", "unknown command"),
+    ("help", "unknown command"),
+    ("--help", "unknown command"),
     ("show", "wrong number of arguments"),
     ("show 0x 0x", "wrong number of arguments"),
     ("edit", "wrong number of arguments"),
@@ -132,6 +135,8 @@ const REFUSALS: [(&str, &str); 43] = [
     ("options 0x 101 46 46", "wrong number of arguments"),
     ("migrate", "wrong number of arguments"),
     ("migrate 0x 0x", "wrong number of arguments"),
+    ("source", "wrong number of arguments"),
+    ("source 0x 0x", "wrong number of arguments"),
     ("show 0x", "bad word"),
     ("show 0x000000000000000000000000000000000", "bad word"),
     ("show 0X1", "bad word"),
@@ -145,6 +150,7 @@ const REFUSALS: [(&str, &str); 43] = [
     ("options 0x 256 1", "bad word"),
     ("migrate 0x", "bad word"),
     ("migrate 1", "bad word"),
+    ("source 0x", "bad word"),
     ("edit 0xC radix=256", "bad edit"),
     ("edit 0xC radix", "bad edit"),
     ("edit 0xC colour=1", "bad edit"),

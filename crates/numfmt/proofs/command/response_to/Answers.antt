@@ -1,20 +1,23 @@
 -- No command has a name that is none of the names.
-use Rattle.std.proofs.Common.{◌≡◌, ◌≢◌, ◌≤◌, ◌∙◌, List, ℕ, [], ◌∷◌, Err, length, get_or, map, codes, ap, arith}
+use Rattle.std.proofs.Common.{◌≡◌, ◌≢◌, ◌∙◌, List, ℕ, ◌∷◌, Err, codes, string_bytes, sym, subst, arith}
 use Rattle.numfmt.specs.Command.{CallsFor, IsOnly}
 use Rattle.numfmt.specs.declared.response.Refusal.TheVariants.{UnknownCommand}
+use Rattle.numfmt.proofs.CommandLemmas.{IsOnly-unmet, IsOnly-refused, first_and_rest}
 use Rattle.numfmt.proofs.command.response_to.Goals as goal
 
-unknown : {T : Type 0} (bytes : T → List ℕ) (args : List T) (command : T) (name : List ℕ) → 1 ≤ length args → command ≡ get_or args 0 command → name ≡ bytes command
-    → name ≢ codes "show" → name ≢ codes "edit" → name ≢ codes "check" → name ≢ codes "same" → name ≢ codes "options" → name ≢ codes "migrate"
-    → IsOnly (CallsFor (map bytes args)) (Err UnknownCommand)
-unknown bytes [] command name some is is_name show edit check same options migrate = absurd (omega arith)
-unknown bytes (first ∷ args) command name some is is_name show edit check same options migrate =
-    let e : name ≡ bytes first = is_name ∙ ap bytes is in
-    λ other. (
-      (λ calls. (((((calls.1 (λ h. show (e ∙ h))).1 (λ h. edit (e ∙ h))).1 (λ h. check (e ∙ h))).1 (λ h. same (e ∙ h))).1 (λ h. options (e ∙ h))).1 (λ h. migrate (e ∙ h))),
-      (λ refused.
-          ((λ h. absurd (show (e ∙ h))), (λ _. ((λ h. absurd (edit (e ∙ h))), (λ _. ((λ h. absurd (check (e ∙ h))), (λ _. ((λ h. absurd (same (e ∙ h))), (λ _. ((λ h. absurd (options (e ∙ h))), (λ _. ((λ h. absurd (migrate (e ∙ h))), (λ _. refused))))))))))))),
-    )
+unknown : (said name : List ℕ) (args : List (List ℕ)) → said ≡ name
+    → said ≢ codes "show" → said ≢ codes "edit" → said ≢ codes "check" → said ≢ codes "same"
+    → said ≢ codes "options" → said ≢ codes "migrate" → said ≢ codes "source"
+    → IsOnly (CallsFor (name ∷ args)) (Err UnknownCommand)
+unknown said name args is show edit check same options migrate source =
+    IsOnly-unmet _ (λ h. show (is ∙ h)) (IsOnly-unmet _ (λ h. edit (is ∙ h)) (
+    IsOnly-unmet _ (λ h. check (is ∙ h)) (IsOnly-unmet _ (λ h. same (is ∙ h)) (
+    IsOnly-unmet _ (λ h. options (is ∙ h)) (IsOnly-unmet _ (λ h. migrate (is ∙ h)) (
+    IsOnly-unmet _ (λ h. source (is ∙ h)) (IsOnly-refused UnknownCommand)))))))
 
 pub returns-in_default : goal.returns-in_default
-returns-in_default c = unknown _ c.args.args.now c.command-item.result c.as_str.result.now c.in-len1-up.len_at_least c.command-item.is c.as_str.ensures.value c.in_default.not-show c.in_default.not-edit c.in_default.not-check c.in_default.not-same c.in_default.not-options c.in_default.not-migrate
+returns-in_default c =
+    let not = c.in_default in
+    subst (λ args. IsOnly (CallsFor args) (Err UnknownCommand))
+    (sym (first_and_rest string_bytes c.args.args.now _ (omega arith) c.command-item.is))
+    (unknown _ _ _ c.as_str.ensures.value not.not-show not.not-edit not.not-check not.not-same not.not-options not.not-migrate not.not-source)

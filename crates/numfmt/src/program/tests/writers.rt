@@ -49,7 +49,7 @@ impl Write for Writer {
 }
 
 // One command line for each form of output.
-const LINES: [&str; 11] = [
+const LINES: [&str; 12] = [
     "show 0x00000A0000000000000000000000000C",
     "edit 0xc radix=16 digit_separator=95 integer_digit_separator_flags=true",
     "check 0xC",
@@ -59,6 +59,7 @@ const LINES: [&str; 11] = [
     "options 0x1010100000000000000000000000000C 94 46",
     "migrate 0x00000A0000000000000000008000000C",
     "migrate 0x0",
+    "source 0x0605040302000001000010000000000D",
     "",
     "edit 0xC radix",
 ];

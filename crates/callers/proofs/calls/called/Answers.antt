@@ -1,7 +1,7 @@
 -- The calls make the fields of the word, which pack into it exactly if it is built.
 use Rattle.std.proofs.Common.{◌≡◌, ◌∙◌, rules}
 use Rattle.lexical_util.specs.Record.{raw, pack}
-use Rattle.callers.proofs.source.called.Goals as goal
+use Rattle.callers.proofs.calls.called.Goals as goal
 
 pub returns-clause-word : goal.returns-clause-word
 returns-clause-word c built =

@@ -1,7 +1,7 @@
 use Rattle.std.proofs.Common.{take}
 use Rattle.std.specs.Io.KnownBytes.{Appends}
-use Rattle.callers.specs.Source.{calls_text}
-use Rattle.callers.proofs.source.write_source.Given as goal
+use Rattle.numfmt.specs.Source.{calls_text}
+use Rattle.numfmt.proofs.source.write_source.Given as goal
 
 abbrev pub invariant-loop-edit : goal.invariant-loop-edit
 invariant-loop-edit g l = Appends (g.W.Write.contents l.initial.out) (g.W.Write.contents l.out) (calls_text (take l.edit-index l.edit-items))

@@ -1,17 +1,13 @@
--- The text of setter calls.
-use Rattle.std.specs.Prelude.{ℕ, Bool, true, false, List, ◌++◌, Option, Some, None, codes, decimal, flat_map}
+-- The builder expression of a format word, as Rust code.
+use Rattle.std.specs.Prelude.{ℕ, List, ◌++◌, Option, Some, None, codes, decimal, flat_map}
 use Rattle.lexical_util.specs.Record.{raw}
 use Rattle.lexical_util.specs.Listing.{changing}
 use Rattle.lexical_util.specs.SetterNames.{setter_name}
 use Rattle.lexical_util.specs.declared.edits.Edit.{Edit}
 use Rattle.lexical_util.specs.declared.edits.Edit.TheVariants as edits
+use Rattle.numfmt.specs.EditText.{truth_text}
 
--- a truth value in Rust
-abbrev pub truth_text : Bool → List ℕ
-truth_text true = codes "true"
-truth_text false = codes "false"
-
--- a byte that may be absent, in Rust
+-- a byte that may be absent, as Rust code
 abbrev pub option_text : Option ℕ → List ℕ
 option_text None = codes "None"
 option_text (Some byte) = codes "NonZeroU8::new(" ++ decimal byte ++ codes ")"
@@ -39,6 +35,6 @@ calls_text list = flat_map call_text list
 abbrev pub expression : List Edit → List ℕ
 expression list = codes "NumberFormatBuilder::new()" ++ calls_text list ++ codes ".build_unchecked()"
 
--- the source code of a word: that with the calls for the fields that a new builder does not have yet
+-- the builder expression of a word: one call for each field that differs from a new builder's
 unfoldable pub source_text : ℕ → List ℕ
 source_text word = expression (changing (raw word))

@@ -5,7 +5,7 @@ use Rattle.std.proofs.KnownBytes.{Appends-trans}
 use Rattle.std.proofs.lemmas.List.{take_more, take_all, take-append-le}
 use Rattle.std.proofs.lemmas.List.Concat.{flat_map-append}
 use Rattle.lexical_util.specs.declared.edits.Edit.{Edit}
-use Rattle.callers.specs.Source.{call_text, calls_text, expression}
+use Rattle.numfmt.specs.Source.{call_text, calls_text, expression}
 
 -- the first of two lists that are joined
 pub first_part : {X : Type 0} (list xs ys : List X) (n : ℕ) → list ≡ xs ++ ys → n ≡ length xs → take n list ≡ xs

@@ -5,9 +5,9 @@ use Rattle.std.proofs.KnownBytes.{Appends-nil, Appends-trans}
 use Rattle.std.proofs.lemmas.List.{take_all}
 use Rattle.lexical_util.specs.Record.{raw}
 use Rattle.lexical_util.specs.Listing.{changing, unchanging}
-use Rattle.callers.specs.Source.{source_text, call_text, calls_text}
-use Rattle.callers.proofs.SourceLemmas.{first_part, calls_more, all_written}
-use Rattle.callers.proofs.source.write_source.Goals as goal
+use Rattle.numfmt.specs.Source.{source_text, call_text, calls_text}
+use Rattle.numfmt.proofs.SourceLemmas.{first_part, calls_more, all_written}
+use Rattle.numfmt.proofs.source.write_source.Goals as goal
 
 pub loop-edit-init : goal.loop-edit-init
 loop-edit-init g c = Appends-nil (g.W.Write.contents c.write_all.new.self)
