@@ -1,5 +1,6 @@
 -- Writing the calls of a list of edits.
-use Rattle.std.proofs.Common.{◌≡◌, ℕ, ◌+◌, ◌<◌, List, [], ◌∷◌, ◌++◌, codes, length, take, get_or, Option, Result, Ok, Err, OnOk, ap, subst, ◌∙◌, append-nil, arith}
+use Rattle.std.proofs.Common.{◌≡◌, ℕ, ◌+◌, ◌<◌, List, [], ◌∷◌, ◌++◌, codes, length, take, get_or}
+use Rattle.std.proofs.Common.{Option, Result, Ok, Err, OnOk, ap, subst, ◌∙◌, append-nil, arith}
 use Rattle.std.specs.Io.KnownBytes.{Appends}
 use Rattle.std.proofs.KnownBytes.{Appends-trans}
 use Rattle.std.proofs.lemmas.List.{take_more, take_all, take-append-le}
@@ -9,19 +10,23 @@ use Rattle.numfmt.specs.Source.{call_text, calls_text, expression}
 
 -- the first of two lists that are joined
 pub first_part : {X : Type 0} (list xs ys : List X) (n : ℕ) → list ≡ xs ++ ys → n ≡ length xs → take n list ≡ xs
-first_part list xs ys n e is = ap (take n) e ∙ take-append-le n xs ys (omega arith) ∙ take_all n xs (omega arith)
+first_part list xs ys n e is =
+    ap (take n) e ∙ take-append-le n xs ys (omega arith) ∙ take_all n xs (omega arith)
 
 -- one call more
-pub calls_more : (list : List Edit) (i : ℕ) (d : Edit) → i < length list → calls_text (take (i + 1) list) ≡ calls_text (take i list) ++ call_text (get_or list i d)
-calls_more list i d inside =
-    ap calls_text (take_more list i d inside) ∙ flat_map-append call_text (take i list) (get_or list i d ∷ []) ∙ ap (λ l. calls_text (take i list) ++ l) (append-nil (call_text (get_or list i d)))
+pub calls_more : (list : List Edit) (i : ℕ) (edit : Edit) → i < length list
+    → calls_text (take (i + 1) list) ≡ calls_text (take i list) ++ call_text (get_or list i edit)
+calls_more list i edit inside =
+    ap calls_text (take_more list i edit inside)
+    ∙ flat_map-append call_text (take i list) (get_or list i edit ∷ [])
+    ∙ ap (λ call. calls_text (take i list) ++ call) (append-nil (call_text (get_or list i edit)))
 
 -- all calls of a list between the two ends of the expression
-pub all_written : {T E : Type 0} (r : Result T E) (start begun called end : Option (List ℕ)) (list items : List Edit) (n : ℕ) → take n items ≡ list
-    → Appends start begun (codes "NumberFormatBuilder::new()") → Appends begun called (calls_text (take n items)) → OnOk r (Appends called end (codes ".build_unchecked()"))
+pub all_written : {T E : Type 0} (r : Result T E) (start begun called end : Option (List ℕ)) (list written : List Edit)
+    → written ≡ list → Appends start begun (codes "NumberFormatBuilder::new()")
+    → Appends begun called (calls_text written) → OnOk r (Appends called end (codes ".build_unchecked()"))
     → OnOk r (Appends start end (expression list))
-all_written (Ok x) start begun called end list items n is first calls last =
-    let whole : Appends start end (codes "NumberFormatBuilder::new()" ++ calls_text (take n items) ++ codes ".build_unchecked()") =
-    Appends-trans start begun end _ _ first (Appends-trans begun called end _ _ calls last) in
-    subst (λ l. Appends start end (expression l)) is whole
-all_written (Err e) start begun called end list items n is first calls last = tt
+all_written (Ok x) start begun called end list written is first calls last =
+    subst (λ l. Appends start end (expression l)) is
+    (Appends-trans start begun end _ _ first (Appends-trans begun called end _ _ calls last))
+all_written (Err e) start begun called end list written is first calls last = tt

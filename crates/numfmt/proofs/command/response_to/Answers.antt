@@ -20,4 +20,5 @@ returns-in_default c =
     let not = c.in_default in
     subst (λ args. IsOnly (CallsFor args) (Err UnknownCommand))
     (sym (first_and_rest string_bytes c.args.args.now _ (omega arith) c.command-item.is))
-    (unknown _ _ _ c.as_str.ensures.value not.not-show not.not-edit not.not-check not.not-same not.not-options not.not-migrate not.not-source)
+    (unknown _ _ _ c.as_str.ensures.value not.not-show not.not-edit not.not-check not.not-same
+    not.not-options not.not-migrate not.not-source)

@@ -15,17 +15,21 @@ loop-edit-init g c = Appends-nil (g.W.Write.contents c.write_all.new.self)
 pub loop-edit-preserved : goal.loop-edit-preserved
 loop-edit-preserved g c =
     let list = take c.edits_of-edits.result.1 c.edits_of-edits.result.0 in
-    let item : get_or list c.loop-edit.edit-index c.edit-item.result ≡ c.edit-item.result = cc in
-    let more : calls_text (take (c.loop-edit.edit-index + 1) list) ≡ calls_text (take c.loop-edit.edit-index list) ++ call_text c.edit-item.result =
-    calls_more list c.loop-edit.edit-index c.edit-item.result c.loop-edit-test.true ∙ ap (λ edit. calls_text (take c.loop-edit.edit-index list) ++ call_text edit) item in
+    let i = c.loop-edit.edit-index in
+    let edit = c.edit-item.result in
+    let item : get_or list i edit ≡ edit = cc in
+    let more : calls_text (take (i + 1) list) ≡ calls_text (take i list) ++ call_text edit =
+    calls_more list i edit c.loop-edit-test.true ∙ ap (λ e. calls_text (take i list) ++ call_text e) item in
     subst (Appends (g.W.Write.contents c.write_all.new.self) (g.W.Write.contents c.write_call.new.out)) (sym more)
     (Appends-trans _ _ _ _ _ c.loop-edit.invariant c.in_ok-write_call.ensures)
 
 pub returns : goal.returns
 unfolding source_text
 returns g c =
-    let edits = c.edits_of-edits.result in
-    let list : take edits.1 edits.0 ≡ changing (raw c.args.word) = first_part edits.0 (changing (raw c.args.word)) (unchanging (raw c.args.word)) edits.1 c.edits_of-edits.ensures.list c.edits_of-edits.ensures.number in
-    all_written c.write_all-2.result (g.W.Write.contents c.args.out.now) (g.W.Write.contents c.write_all.new.self) (g.W.Write.contents c.loop-edit.out) (g.W.Write.contents c.write_all-2.new.self)
-    (changing (raw c.args.word)) (take edits.1 edits.0) c.loop-edit.edit-index (take_all c.loop-edit.edit-index (take edits.1 edits.0) c.loop-edit-test.false ∙ list)
+    let edits = c.edits_of-edits in
+    let list = take edits.result.1 edits.result.0 in
+    let fields = raw c.args.word in
+    let is : list ≡ changing fields =
+    first_part edits.result.0 (changing fields) (unchanging fields) edits.result.1 edits.ensures.list edits.ensures.number in
+    all_written c.write_all-2.result _ _ _ _ (changing fields) _ (take_all c.loop-edit.edit-index list c.loop-edit-test.false ∙ is)
     c.in_ok-write_all.ensures.bytes c.loop-edit.invariant c.write_all-2.ensures.bytes

@@ -4,4 +4,6 @@ use Rattle.numfmt.specs.Source.{calls_text}
 use Rattle.numfmt.proofs.source.write_source.Given as goal
 
 abbrev pub invariant-loop-edit : goal.invariant-loop-edit
-invariant-loop-edit g l = Appends (g.W.Write.contents l.initial.out) (g.W.Write.contents l.out) (calls_text (take l.edit-index l.edit-items))
+invariant-loop-edit g l =
+    let contents = g.W.Write.contents in
+    Appends (contents l.initial.out) (contents l.out) (calls_text (take l.edit-index l.edit-items))
