@@ -4,13 +4,17 @@ use super::*;
 
 // Words, the setter calls of their expressions, and the exit status.
 #[rattlefmt::skip]
-const SOURCES: [(&str, &str, u8); 9] = [
+const SOURCES: [(&str, &str, u8); 10] = [
     ("0x00000A0000000000000000000000000C", "", 0),
     ("0xa0000000000000000000000000c", "", 0),
     ("0x0A0A0A0000000000000000000000000C", ".exponent_base(NonZeroU8::new(10)).exponent_radix(NonZeroU8::new(10))", 0),
     ("0x0", ".required_exponent_digits(false).required_mantissa_digits(false).mantissa_radix(0)", 0),
     ("0x00000A000000005F000000010000000C",
         ".integer_internal_digit_separator(true).digit_separator(NonZeroU8::new(95))", 0),
+    ("0x0A0A10000000005F000000070000000C",
+        ".integer_internal_digit_separator(true).fraction_internal_digit_separator(true)\
+         .exponent_internal_digit_separator(true).digit_separator(NonZeroU8::new(95)).mantissa_radix(16)\
+         .exponent_base(NonZeroU8::new(10)).exponent_radix(NonZeroU8::new(10))", 0),
     ("0x0605040302000001000010000000000D",
         ".required_integer_digits(true).special_digit_separator(true).digit_separator(NonZeroU8::new(1))\
          .base_prefix(NonZeroU8::new(2)).base_suffix(NonZeroU8::new(3)).mantissa_radix(4)\
