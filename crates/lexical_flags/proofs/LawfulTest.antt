@@ -163,7 +163,7 @@ IsClean-passes word h =
     (and_from (part word 45 19 == 0) _ (eq-eqb (part word 45 19) 0 h.below_separator) (eq-eqb (part word 72 16) 0 h.below_prefix))
 
 -- each test decides its rule
-Holds-test : (rule : Rule) (word : ℕ) → keeps rule word ≡ true ↔ Holds rule word
+pub Holds-test : (rule : Rule) (word : ℕ) → keeps rule word ≡ true ↔ Holds rule word
 unfolding Holds
 Holds-test rules.reserved_bits_are_zero word = (IsClean-test word, IsClean-passes word)
 Holds-test rules.mantissa_radix_in_range word = (Demands-test rules.mantissa_radix_in_range (raw word), Demands-passes rules.mantissa_radix_in_range (raw word))

@@ -16,3 +16,4 @@ mod OptionLemmas
 mod OptionTest
 mod ReservedBits
 mod FlagTests
+mod ExampleLemmas

@@ -16,6 +16,8 @@ ghost use Rattle.lexical_flags.specs.Constants.{flag_constant, byte_mask, byte_s
 
 use crate::format_flags::*;
 
+pub mod examples;
+
 /// The value of every constant of `format_flags`, and what must hold between them.
 pub fn layout_facts()
     // Each flag is a power of two, and the double of the one before.
