@@ -17,6 +17,8 @@ ghost use Rattle.lexical_util.specs.declared.edits.Edit.{Edit};
 ghost use Rattle.lexical_util.specs.declared.edits.Edit.TheVariants as edits;
 ghost use Rattle.lexical_util.specs.declared.edits.FlagSetter.TheVariants as setters;
 
+pub mod examples;
+
 pub use lexical_base::laws as base;
 pub use lexical_flags::laws as flags;
 
