@@ -94,7 +94,9 @@ pub enum Error {
     InvalidBasePrefix,
     /// The base suffix is a digit, a sign, or not allowed ASCII.
     InvalidBaseSuffix,
-    /// Two of these bytes are equal.
+    /// Two of the format's characters share a byte: the digit separator, the base prefix and the base
+    /// suffix, or the exponent character and the decimal point beside them. A letter counts in both
+    /// cases where its role is not case-sensitive.
     InvalidPunctuation,
     /// Exponents are both required and forbidden.
     InvalidExponentFlags,

@@ -28,8 +28,8 @@ fn letters_are_a_to_z_in_both_cases(rt: HostRuntime) {
 #[test]
 fn slices_of_each_length_fail_at_any_index(rt: HostRuntime) {
     let mut bytes = [0x41; 1300];
-    let lengths: [usize; 16] = [
-        0, 1, 31, 32, 33, 63, 64, 65, 97, 255, 256, 257, 300, 1024, 1057, 1300,
+    let lengths: [usize; 17] = [
+        0, 1, 31, 32, 33, 34, 63, 64, 65, 97, 255, 256, 257, 300, 1024, 1057, 1300,
     ];
     for len in lengths {
         assert!(rt; is_valid_ascii_slice(&bytes[..len]), "{len} bytes");

@@ -124,16 +124,12 @@ fn other_outcomes() -> [(Error, &'static str); 30] {
     ]
 }
 
-// Indexes of 1, 2, 5, 19 and 20 digits.
-const INDEXES: [usize; 8] = [
-    0,
-    7,
-    10,
-    99,
-    12345,
-    1000000000000000000,
-    9999999999999999999,
-    usize::MAX,
+// Indexes of each number of digits, from 1 to 20.
+#[rattlefmt::skip]
+const INDEXES: [usize; 24] = [
+    0, 7, 10, 99, 100, 2034, 12345, 600000, 7654321, 80000000, 987654321, 1000000000, 99999999999,
+    100000000001, 1234567890123, 99999999999999, 100000000000000, 1000000000000001, 20202020202020202,
+    300000000000000000, 1000000000000000000, 9999999999999999999, 10000000000000000000, usize::MAX,
 ];
 
 // A writer that has room for so many more bytes, and fails at a text that is longer.
@@ -183,6 +179,10 @@ fn prints_the_same_at_any_width(rt: HostRuntime) -> Result<(), Fail> {
     let printed = [
         (
             format!(in alloc; "{:80}", Error::InvalidDigit(3))?,
+            "lexical parse error: 'invalid digit found' at index 3",
+        ),
+        (
+            format!(in alloc; "{}", Error::InvalidDigit(3))?,
             "lexical parse error: 'invalid digit found' at index 3",
         ),
         (

@@ -15,6 +15,8 @@ mod error;
 #[cfg(test)]
 mod feature_format;
 #[cfg(test)]
+mod format;
+#[cfg(test)]
 mod format_builder;
 #[cfg(test)]
 mod format_flags;
