@@ -4,3 +4,4 @@ mod TextLemmas
 mod EditsLemmas
 mod SourceLemmas
 mod CommandLemmas
+mod ExampleLemmas

@@ -22,7 +22,7 @@ fn read_edit(text: &str) -> Option<Edit>
 
 /// Parses `texts` as edits, in their order, into the front of `edits`, which has to be at least as
 /// long; `None` if any of them is not an edit.
-pub fn read_edits(texts: &[String], edits: &mut [Edit]) -> Option<()>
+pub(crate) fn read_edits(texts: &[String], edits: &mut [Edit]) -> Option<()>
     requires { length texts.now ≤ length edits.old }
     ensures { (list : List Edit) → AreTextsOf list (map string_bytes texts.now)
         ↔ (IsSome result × (list ≡ take (length texts.now) edits.new)) }

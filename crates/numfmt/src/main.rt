@@ -23,6 +23,7 @@ mod command;
 mod edit;
 #[cfg(test)]
 mod example;
+mod examples;
 mod numeral;
 mod program;
 mod response;

@@ -5,6 +5,7 @@ use std::io;
 use std::process::Abort;
 use std::test::Fail;
 
+mod every_value;
 mod sources;
 mod writers;
 

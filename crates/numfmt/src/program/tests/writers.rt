@@ -3,12 +3,14 @@
 use super::*;
 use std::io::{Error, ErrorKind};
 
-// Counts the calls. The call of `write` with this number fails, or `flush` does.
+// Counts the calls. The call of `write` with this number fails, or `flush` does. What is written is
+// flushed if a call of `flush` follows the last write.
 #[derive(Drop)]
 struct Writer {
     failing_write: u32,
     flush_fails: bool,
     writes: u32,
+    flushed: bool,
     failed: bool,
     calls_after_failure: u32,
 }
@@ -19,6 +21,7 @@ impl Writer {
             failing_write,
             flush_fails,
             writes: 0,
+            flushed: false,
             failed: false,
             calls_after_failure: 0,
         }
@@ -39,11 +42,13 @@ impl Writer {
 impl Write for Writer {
     fn write(&mut self, buf: &[u8]) -> io::Result<usize> {
         self.writes = self.writes.saturating_add(1);
+        self.flushed = false;
         self.result(self.writes == self.failing_write)?;
         Ok(buf.len())
     }
 
     fn flush(&mut self) -> io::Result<()> {
+        self.flushed = true;
         self.result(self.flush_fails)
     }
 }
@@ -64,14 +69,15 @@ const LINES: [&str; 12] = [
     "edit 0xC radix",
 ];
 
-// A write is failed at its first, then at its second call, until a run meets no error. Each run
-// before has status 3, and makes no call after the one that failed.
+// A write is failed at its first, then at its second call, until a run meets no error, which ends with
+// a flush. Each run before has status 3, and makes no call after the one that failed.
 fn check_failures(rt: &impl Abort, line: &str, args: &[String]) -> Result<(), Fail> {
     let mut writes = 0u32;
     for failing_write in 1..100u32 {
         let mut out = Writer::new(failing_write, false);
         let status = run(args, &mut out);
         if !out.failed {
+            assert!(rt; out.flushed, "the text of {line} is not flushed at the end");
             break;
         }
         assert_eq!(rt; status, 3, "for {line} at write {failing_write}");
