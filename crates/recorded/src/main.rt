@@ -3,7 +3,7 @@
 //! The file `results.txt` has one recorded result a line, written by `compare/run --record`. The
 //! program reads each line and asks the library the same. It prints how many results the library
 //! returns too, and ends with status 0; or it prints the first line that differs, or that it cannot
-//! read, and ends with status 1. It ends with status 2 if the file or a write fails.
+//! read, and ends with status 1, as it does if the file cannot be read or a write fails.
 #![tactic(auto)]
 
 mod fact;
@@ -18,8 +18,7 @@ use std::{fs, io};
 fn main(rt: HostRuntime) -> ExitCode {
     match replay_file(&rt) {
         Ok(true) => ExitCode::from(0),
-        Ok(false) => ExitCode::from(1),
-        Err(_) => ExitCode::from(2),
+        Ok(false) | Err(_) => ExitCode::from(1),
     }
 }
 

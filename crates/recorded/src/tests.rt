@@ -57,6 +57,7 @@ fn keeps_no_line_that_it_cannot_read(rt: HostRuntime) -> Result<(), Fail> {
         "byte 65 true true ",
         "byte 321 true true",
         "byte 65 true yes",
+        "byte 48 true no",
         "digit 122 36",
         "printed 0 success 'not actually an error'",
         "check 0x00000A0000000000000000000000000C Success",
