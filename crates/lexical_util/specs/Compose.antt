@@ -14,7 +14,8 @@ edited_fields word writes = after (fill (raw word)) writes
 abbrev pub LeavesByte : List Write → Byte → Type 0
 LeavesByte writes b = last_byte writes b ≡ None
 
--- what the first call does after its writes is undone by the second, or is nothing: a byte that it would fill or drop is written again, or cannot be filled, or need not be dropped
+-- what happens between the two lists is undone by the second, or is nothing: the first call drops a separator that no
+-- flag allows, and the second fills the exponent bytes before it writes; each of these bytes is written again, or stays
 pub record Composes (word : ℕ) (first second : List Write) : Type 0 where
   -- the exponent base is not empty, or there is no mantissa radix to fill it from
   pub exponent_base : LeavesByte second layout.exponent_base → (edited_fields word first).exponent_base ≡ 0 → (edited_fields word first).mantissa_radix ≡ 0
