@@ -23,33 +23,3 @@ pub fn called(word: u128) -> u128
     let (edits, count) = edits_of(word);
     apply_all(NumberFormatBuilder::new(), &edits[..count]).build_unchecked()
 }
-
-#[cfg(test)]
-mod tests {
-    use super::*;
-
-    #[test]
-    fn setter_calls_make_the_word_that_a_builder_packs(rt: HostRuntime) {
-        for (word, want) in [
-            (
-                0x00000A00_00000000_00000000_0000000Cu128,
-                0x00000A00_00000000_00000000_0000000Cu128,
-            ),
-            (
-                0x00001000_0000005F_00000249_0000000C,
-                0x00001000_0000005F_00000249_0000000C,
-            ),
-            (
-                0x0A0A0A00_0000005F_00000000_0000000C,
-                0x0A0A0A00_00000000_00000000_0000000C,
-            ),
-            (
-                0x00000A00_00000000_00000000_8000000C,
-                0x00000A00_00000000_00000000_0000000C,
-            ),
-            (0, 0),
-        ] {
-            assert_eq!(rt; called(word), want, "of {word:#x}");
-        }
-    }
-}

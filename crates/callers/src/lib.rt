@@ -6,6 +6,7 @@
 #![tactic(auto)]
 
 pub mod calls;
+pub mod examples;
 pub mod formats;
 pub mod keep;
 pub mod read;

@@ -1,6 +1,6 @@
 //! A reader of whole numbers: the digits of any lawful format into a `u64`.
 
-ghost use Rattle.std.specs.Prelude.{◌≡◌, ◌+◌, ◌*◌, ◌<◌, ◌^◌, ◌⊎◌, IfErr, IsTrue, length};
+ghost use Rattle.std.specs.Prelude.{◌≡◌, ◌+◌, ◌*◌, ◌<◌, ◌^◌, ◌⊎◌, Err, IfErr, IsTrue, length};
 ghost use Rattle.std.specs.Option.{SomeIff};
 ghost use Rattle.std.specs.Result.{OkIff};
 ghost use Rattle.lexical_util.specs.Digits.{value};
@@ -26,6 +26,9 @@ pub fn read_digits(format: u128, text: &[u8]) -> Result<u64, Error>
     requires { Lawful format }
     ensures number { OkIff result (IsNumeral (raw format) text.now) (number_of (raw format) text.now) }
     ensures refusal { IfErr result (IsRefusal (raw format) text.now) }
+
+    // A text is refused for one reason alone.
+    ensures only { (error : Error) → IsRefusal (raw format) text.now error → result ≡ Err error }
 {
     let mut number: u64 = 0;
     for (index, byte) in text.iter().enumerate() {

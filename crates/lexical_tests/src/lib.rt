@@ -7,6 +7,8 @@
 #[cfg(test)]
 mod ascii;
 #[cfg(test)]
+mod calls;
+#[cfg(test)]
 mod digit;
 #[cfg(test)]
 mod edits;
@@ -22,6 +24,8 @@ mod format_builder;
 mod format_flags;
 #[cfg(test)]
 mod format_page;
+#[cfg(test)]
+mod formats;
 #[cfg(test)]
 mod keep;
 #[cfg(test)]

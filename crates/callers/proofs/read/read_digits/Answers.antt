@@ -1,9 +1,9 @@
 -- Each byte is skipped, pushed or refused.
-use Rattle.std.proofs.Common.{sym, subst, ◌+◌, ◌∙◌, arith}
+use Rattle.std.proofs.Common.{Err, sym, subst, ap, ◌+◌, ◌∙◌, arith}
 use Rattle.std.proofs.lemmas.Bool.Decides.{nat_tests}
 use Rattle.lexical_util.specs.Record.{raw}
 use Rattle.lexical_util.specs.declared.error.Error.TheVariants as errors
-use Rattle.callers.proofs.ReadLemmas.{skipped, pushed, too_large, no_digit, whole, no_numeral, HasRead}
+use Rattle.callers.proofs.ReadLemmas.{skipped, pushed, too_large, no_digit, whole, no_numeral, IsRefusal-unique, HasRead}
 use Rattle.callers.proofs.read.read_digits.Goals as goal
 use Rattle.callers.proofs.read.read_digits.Goals.{then-not-is_skipped+in-Some+in-Some-push, else-not-is_skipped}
 
@@ -19,6 +19,12 @@ returns-in_default-push-clause-refusal c =
 
 pub returns-in_default-push-clause-number : goal.returns-in_default-push-clause-number
 returns-in_default-push-clause-number c = no_numeral c.args.format c.args.text.now (errors.Overflow c.loop-index.index) c.requires (returns-in_default-push-clause-refusal c)
+
+pub returns-in_default-clause-only : goal.returns-in_default-clause-only
+returns-in_default-clause-only c error refused = ap Err (IsRefusal-unique c.args.format c.args.text.now c.requires _ error (returns-in_default-clause-refusal c) refused)
+
+pub returns-in_default-push-clause-only : goal.returns-in_default-push-clause-only
+returns-in_default-push-clause-only c error refused = ap Err (IsRefusal-unique c.args.format c.args.text.now c.requires _ error (returns-in_default-push-clause-refusal c) refused)
 
 pub loop-index-preserved : goal.loop-index-preserved
 loop-index-preserved c =
@@ -37,3 +43,7 @@ pub returns-else-is_empty-clause-number : goal.returns-else-is_empty-clause-numb
 returns-else-is_empty-clause-number c =
     whole (raw c.args.format) c.args.text.now c.loop-index.index c.loop-index.number c.loop-index-test.false
     (grind (arith, nat_tests, c.is_empty.ensures)) c.loop-index.invariant
+
+pub returns-else-is_empty-clause-only : goal.returns-else-is_empty-clause-only
+returns-else-is_empty-clause-only c error refused =
+    absurd (no_numeral c.args.format c.args.text.now error c.requires refused (returns-else-is_empty-clause-number c).0)

@@ -19,6 +19,10 @@ fn prints_words_with_each_bit_alone_and_all_but_each(rt: HostRuntime) {
                 "{word:x}"
             );
             assert!(rt; is_printed(rt.alloc(), Ok(Answer::Word(word))), "{word:x}");
+            assert!(rt;
+                is_printed(rt.alloc(), Ok(Answer::Source(word, true))),
+                "{word:x}"
+            );
         }
     }
 }
@@ -30,6 +34,10 @@ fn prints_words_with_each_value_of_each_byte(rt: HostRuntime) {
             let word = u128::from(value) << shift;
             assert!(rt;
                 is_printed(rt.alloc(), Ok(Answer::Fields(word))),
+                "{word:x}"
+            );
+            assert!(rt;
+                is_printed(rt.alloc(), Ok(Answer::Source(word, false))),
                 "{word:x}"
             );
         }
