@@ -35,7 +35,10 @@ returns c = record {
           λ _. (
             λ is. absurd (differ (codes "shows") (codes "options") refl is),
             λ _.
-                (λ is. absurd (differ (codes "shows") (codes "migrate") refl is), λ _. refl),
+              (
+                λ is. absurd (differ (codes "shows") (codes "migrate") refl is),
+                λ _. (λ is. absurd (differ (codes "shows") (codes "source") refl is), λ _. refl),
+              ),
           ),
         ),
       ),
