@@ -1,4 +1,4 @@
--- The format of one radix passes the tests of the rules exactly if numbers can be written in that radix: each of the 256 bytes is tried.
+-- The format of one radix passes the tests of the rules exactly if numbers can be written in that radix.
 use Rattle.std.proofs.Common.{ℕ, ◌≡◌, ◌↔◌, ◌<◌, Bool, true, false, refl, sym, ap, ◌∙◌, arith}
 use Rattle.std.proofs.lemmas.Bool.{false≢true, agree_below_at}
 use Rattle.std.proofs.lemmas.Bool.Decides.{nat_tests}
@@ -9,6 +9,7 @@ use Rattle.lexical_flags.specs.Record.{pack}
 use Rattle.lexical_flags.specs.Rules.{IsRadix}
 use Rattle.lexical_builder.specs.Writes.{radix_record}
 
+-- whether an error is Success
 abbrev is_success : Error → Bool
 is_success Success = true
 is_success _ = false
@@ -17,6 +18,7 @@ success_from : (error : Error) → is_success error ≡ true → error ≡ Succe
 success_from Success e = refl
 success_from _ e = absurd (false≢true e)
 
+-- each of the 256 bytes is tried
 tried : (radix : ℕ) → radix < 256 → is_success (error_at (pack (radix_record radix))) ≡ is_radix radix
 unfolding on_literals
 tried radix fits = agree_below_at (λ n. is_success (error_at (pack (radix_record n)))) is_radix 256 radix refl fits
@@ -27,6 +29,7 @@ is_radix-from radix h = let low = h.0 in let high = h.1 in grind (arith, nat_tes
 IsRadix-from : (radix : ℕ) → is_radix radix ≡ true → IsRadix radix
 IsRadix-from radix test = grind (arith, nat_tests)
 
+-- so the error of the format is Success exactly for a radix
 pub radix-success : (radix : ℕ) → radix < 256 → (error_at (pack (radix_record radix)) ≡ Success) ↔ IsRadix radix
 radix-success radix fits = (
   λ e. IsRadix-from radix (sym (tried radix fits) ∙ ap is_success e),

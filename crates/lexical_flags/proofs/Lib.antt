@@ -5,9 +5,9 @@ pub mod Packing
 pub mod Masks
 pub mod FlagBits
 pub mod CommonLemmas
-pub mod RuleLemmas
-pub mod LawfulTest
-pub mod NormalRules
+mod RuleLemmas
+mod LawfulTest
+mod NormalRules
 mod PairLemmas
 mod OneRole
 mod CaseLemmas

@@ -1,4 +1,5 @@
--- What filling and trimming do to the rules: filled fields meet the same ones, trimmed fields still meet those that they met, and so does a clean word with such fields.
+-- What filling and trimming do to the rules: filled fields meet the same ones, trimmed fields still meet those that they met,
+-- and so does a clean word with such fields.
 use Rattle.std.proofs.Common.{◌≡◌, ℕ, ◌⊎◌, ◌↔◌, inl, inr, ◌||◌, IsTrue, refl, sym, ap, subst, arith}
 use Rattle.std.proofs.lemmas.Bool.{cases_Bool, cond-false, false≢true}
 use Rattle.std.proofs.lemmas.Bool.Decides.{nat_tests}
@@ -82,5 +83,6 @@ module _ (word normal : ℕ) (clean : IsClean normal) (fields : raw normal ≡ t
   Holds-back whole used rule h = (Demands-same rule (raw word) used).1 (subst (Demands rule) fields h)
 
   -- so it has the same error
-  pub IsErrorOf-kept : IsClean word → SeparatorIsUsed (raw word) → (error : Error) → IsErrorOf word error ↔ IsErrorOf normal error
+  pub IsErrorOf-kept : IsClean word → SeparatorIsUsed (raw word)
+      → (error : Error) → IsErrorOf word error ↔ IsErrorOf normal error
   IsErrorOf-kept whole used = IsErrorOf-same word normal (λ rule. (Holds-kept rule, Holds-back whole used rule))

@@ -1,4 +1,5 @@
--- The error of a word, and whether it accepts two options, by tests that compute. Nothing here has to be believed: the law `literal_facts` says that each is what the rules say.
+-- The error of a word, and whether it accepts two options, by tests that compute.
+-- Nothing here has to be believed: the law `literal_facts` says that the tests decide what the rules say.
 use Rattle.std.specs.Prelude.{ℕ, Bool, true, not, nat_le, ◌||◌, ◌&&◌, ◌==◌, if◌then◌else◌, List, [], ◌∷◌, ⊤}
 use Rattle.lexical_base.specs.Ascii.{allowed_ascii}
 use Rattle.lexical_base.specs.Digits.{value}

@@ -61,7 +61,6 @@ pub fn layout_facts()
 {}
 
 /// The laws of `pack`: what a packed word holds, and which words are packed.
-#[inline(always)]
 pub fn packing_facts()
     // Packing and reading back gives the trimmed record.
     ensures fields { (r : Record) → HasBytes r → raw (pack r) ≡ trim r }

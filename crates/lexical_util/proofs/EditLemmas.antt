@@ -56,7 +56,8 @@ module _ (w : ℕ) (L : List Write) (legal : All IsLegal L) where
 
   -- no other word has them
   pub edited-only : (u : ℕ) → u < 2 ^ 128 → IsClean u → raw u ≡ trim (after (fill (raw w)) L) → u ≡ edited w L
-  edited-only u fits clean same = raw-injective u (edited w L) fits edited-fits clean edited-clean (same ∙ sym edited-fields)
+  edited-only u fits clean same =
+      raw-injective u (edited w L) fits edited-fits clean edited-clean (same ∙ sym edited-fields)
 
 -- only the last write of each field counts
 pub edited-same : (w : ℕ) (K L : List Write) → SameWrites K L → edited w K ≡ edited w L

@@ -1,4 +1,5 @@
--- The definitions of the lower crates that a caller of this crate may unfold, as by `#[tactic(auto, unfolding(lexical_util::specs::Unfoldable::cased))]` on a function.
+-- The definitions that a caller of this crate may unfold,
+-- on a function by `#[tactic(auto, unfolding(lexical_util::specs::Unfoldable::cased))]`.
 use Rattle.std.specs.Prelude.{⊤}
 use Rattle.lexical_flags.specs.Computed.{on_literals as flags_on_literals}
 use Rattle.lexical_util.specs.Groups.{any_flag, bits_of}
@@ -9,7 +10,8 @@ unfoldable pub use Rattle.lexical_flags.specs.Roles.{Disjoint, cased}
 unfoldable pub use Rattle.lexical_flags.specs.Rules.{IsPunctuation, Holds, IsErrorOf, Lawful}
 unfoldable pub use Rattle.lexical_builder.specs.Writes.{after}
 
--- what a proof unfolds to compute on words that are literals: their fields, errors, digits and groups of flags, packed and edited words, normal forms
+-- all that a proof unfolds to compute on literals:
+-- fields of a word, its error, digits, groups of flags, packed and edited words, normal forms
 unfoldable pub on_literals : ⊤
 unfolding flags_on_literals after any_flag bits_of
 on_literals = tt

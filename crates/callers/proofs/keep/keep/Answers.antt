@@ -8,9 +8,13 @@ use Rattle.lexical_util.specs.Rules.{Lawful}
 use Rattle.lexical_util.specs.Normal.{normal_form_of, SameFormat}
 use Rattle.callers.proofs.keep.keep.Goals as goal
 
+-- what `migrate` returns of a word
+abbrev Migrates : ℕ → Result ℕ Error → Type 0
+Migrates word r = OkIff r (Lawful (normal_form_of word)) (normal_form_of word)
+
 pub returns-clause-lawful : goal.returns-clause-lawful
 returns-clause-lawful c = if_kept c.migrate.result c.migrate.ensures.lawful where
-  if_kept : (r : Result ℕ Error) → OkIff r (Lawful (normal_form_of c.args.word)) (normal_form_of c.args.word) → IfOk r Lawful
+  if_kept : (r : Result ℕ Error) → Migrates c.args.word r → IfOk r Lawful
   if_kept (Ok kept) is = subst Lawful (sym is.1) is.0
   if_kept (Err error) is = tt
 
@@ -19,7 +23,9 @@ returns-clause-one c other same = sym ((c.normal_form_facts.ensures.equal c.args
 
 pub returns-clause-refused : goal.returns-clause-refused
 returns-clause-refused c = if_refused c.migrate.result c.migrate.ensures.lawful where
-  if_refused : (r : Result ℕ Error) → OkIff r (Lawful (normal_form_of c.args.word)) (normal_form_of c.args.word)
+  if_refused : (r : Result ℕ Error) → Migrates c.args.word r
       → IsErr r ↔ ((other : ℕ) → SameFormat (raw c.args.word) (raw other) → Lawful other → ⊥)
-  if_refused (Ok kept) is = (λ err. absurd (false≢true err), λ none. absurd (none _ (c.normal_form_facts.ensures.same c.args.word) is.0))
-  if_refused (Err error) is = (λ _ other same lawful. is (c.normal_form_facts.ensures.lawful_same c.args.word other same lawful), λ _. refl)
+  if_refused (Ok kept) is =
+      (λ err. absurd (false≢true err), λ none. absurd (none _ (c.normal_form_facts.ensures.same c.args.word) is.0))
+  if_refused (Err error) is =
+      (λ _ other same lawful. is (c.normal_form_facts.ensures.lawful_same c.args.word other same lawful), λ _. refl)

@@ -1,11 +1,10 @@
 -- The result is the normal form, and each clause what the laws say of that.
-use Rattle.std.proofs.Common.{◌∙◌, sym, ap, arith}
-use Rattle.lexical_flags.specs.Record.{pack}
-use Rattle.lexical_util.proofs.NormalLemmas.{normal_form-is}
+use Rattle.std.proofs.Common.{◌∙◌, arith}
+use Rattle.lexical_util.proofs.NormalLemmas.{packed-normal}
 use Rattle.lexical_util.proofs.edits.normal_form.Goals as goal
 
 pub returns-clause-word : goal.returns-clause-word
-returns-clause-word c = c.build_unchecked.ensures.word ∙ ap pack c.rebuild.ensures ∙ sym (normal_form-is c.args.format)
+returns-clause-word c = c.build_unchecked.ensures.word ∙ packed-normal c.rebuild.result c.args.format c.rebuild.ensures
 
 pub returns-clause-fields : goal.returns-clause-fields
 returns-clause-fields c = rw (returns-clause-word c) (c.normal_form_facts.ensures.fields c.args.format)
@@ -17,7 +16,8 @@ pub returns-clause-again : goal.returns-clause-again
 returns-clause-again c = rw (returns-clause-word c) (c.normal_form_facts.ensures.again c.args.format)
 
 pub returns-clause-unchanged : goal.returns-clause-unchanged
-returns-clause-unchanged c = rw (returns-clause-word c) (c.normal_form_facts.ensures.unchanged c.args.format (omega arith))
+returns-clause-unchanged c =
+    rw (returns-clause-word c) (c.normal_form_facts.ensures.unchanged c.args.format (omega arith))
 
 pub returns-clause-same : goal.returns-clause-same
 returns-clause-same c = rw (returns-clause-word c) (c.normal_form_facts.ensures.same c.args.format)

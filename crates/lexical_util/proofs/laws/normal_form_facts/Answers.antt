@@ -7,7 +7,8 @@ use Rattle.lexical_util.proofs.laws.normal_form_facts.Goals as goal
 
 pub returns : goal.returns
 returns c =
-    let kept : (w : ℕ) → Lawful w → Lawful (normal_form_of w) = λ w. c.rule_facts.ensures.kept_lawful w (normal_form_of w) (clean_normal w) (raw_normal w) in
+    let kept : (w : ℕ) → Lawful w → Lawful (normal_form_of w) =
+    λ w. c.rule_facts.ensures.kept_lawful w (normal_form_of w) (clean_normal w) (raw_normal w) in
     record {
       fields = raw_normal;
       clean = clean_normal;
