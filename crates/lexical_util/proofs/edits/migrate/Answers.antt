@@ -7,10 +7,10 @@ use Rattle.lexical_util.specs.Normal.{SameFormat, IsNormal}
 use Rattle.lexical_util.proofs.NormalLemmas.{packed-normal}
 use Rattle.lexical_util.proofs.edits.migrate.Goals as goal
 
-value_holds : {E : Type 0} (r : Result ℕ E) {condition : Type 0} {value : ℕ} (P : ℕ → Type 0)
+value_holds : {E : Type 0} (r : Result ℕ E) (condition : Type 0) (value : ℕ) (P : ℕ → Type 0)
     → OkIff r condition value → P value → IfOk r P
-value_holds (Ok x) P is holds = subst P (sym is.1) holds
-value_holds (Err e) P is holds = tt
+value_holds (Ok x) condition value P is holds = subst P (sym is.1) holds
+value_holds (Err e) condition value P is holds = tt
 
 pub returns-clause-lawful : goal.returns-clause-lawful
 returns-clause-lawful c =
@@ -19,16 +19,17 @@ returns-clause-lawful c =
 
 pub returns-clause-fields : goal.returns-clause-fields
 returns-clause-fields c =
-    value_holds c.build_strict.result (λ w. raw w ≡ trim (fill (raw c.args.format))) (returns-clause-lawful c)
+    value_holds c.build_strict.result _ _ (λ w. raw w ≡ trim (fill (raw c.args.format))) (returns-clause-lawful c)
     (c.normal_form_facts.ensures.fields c.args.format)
 
 pub returns-clause-normal : goal.returns-clause-normal
 returns-clause-normal c =
-    value_holds c.build_strict.result IsNormal (returns-clause-lawful c) (c.normal_form_facts.ensures.normal c.args.format)
+    value_holds c.build_strict.result _ _ IsNormal (returns-clause-lawful c)
+    (c.normal_form_facts.ensures.normal c.args.format)
 
 pub returns-clause-same : goal.returns-clause-same
 returns-clause-same c =
-    value_holds c.build_strict.result (λ w. SameFormat (raw c.args.format) (raw w)) (returns-clause-lawful c)
+    value_holds c.build_strict.result _ _ (λ w. SameFormat (raw c.args.format) (raw w)) (returns-clause-lawful c)
     (c.normal_form_facts.ensures.same c.args.format)
 
 pub returns-clause-error : goal.returns-clause-error
