@@ -1,12 +1,13 @@
 -- The two cases of a letter, and the roles that they play.
-use Rattle.std.proofs.Common.{ℕ, ◌≡◌, ◌≢◌, ◌<◌, ◌⊎◌, inl, inr, ◌∙◌, ◌↔◌, ◌==◌, ◌||◌, ◌&&◌, Bool, true, false, not, IsTrue, bit_or, bit_xor, eqb-true, refl, ap, sym, subst, arith, min, nat_lt}
+use Rattle.std.proofs.Common.{ℕ, [], ◌∷◌, ◌≡◌, ◌≢◌, ◌<◌, ◌⊎◌, inl, inr, ◌∙◌, ◌↔◌, ◌==◌, ◌||◌, ◌&&◌, Bool, true, false, not, IsTrue, bit_or, bit_xor, eqb-true, refl, ap, sym, subst, arith, min, nat_lt}
 use Rattle.std.specs.Prelude.{position, unwrap_or}
-use Rattle.std.proofs.lemmas.Bool.{false≢true, agree_below_at}
+use Rattle.std.proofs.lemmas.Bool.{false≢true, or_parts, agree_below_at, cases_eq}
 use Rattle.std.proofs.lemmas.Bool.Decides.{nat_tests}
 use Rattle.lexical_base.specs.Ascii.{letters}
 use Rattle.lexical_base.specs.Digits.{value, digit_characters, uppercase}
 use Rattle.lexical_flags.specs.Record.{Record, effective_exponent_radix}
-use Rattle.lexical_flags.specs.Roles.{Disjoint, cased, other_case, digits, signs}
+use Rattle.lexical_flags.specs.Pairs.{ArePairwise}
+use Rattle.lexical_flags.specs.Roles.{Disjoint, cased, other_case, digits, signs, own_roles}
 
 -- the other case of a letter has the bit 32 flipped
 letter_flipped : (letter same : Bool) → (not letter || same) ≡ true → IsTrue letter → same ≡ true
@@ -52,6 +53,41 @@ pub other_bits_apart : (a_counts : Bool) (a : ℕ) (b_counts : Bool) (b : ℕ) �
 other_bits_apart a_counts a b_counts b below differ =
     differ_apart a_counts a b_counts b (λ same. differ (ap (λ n. bit_or n 32) same))
     (λ other. differ (sym (ap (λ n. bit_or n 32) other ∙ other_case-bits a below)))
+
+-- no byte plays the role of an absent one
+none_apart : (a_counts b_counts : Bool) (b : ℕ) → Disjoint (cased a_counts 0) (cased b_counts b)
+unfolding Disjoint cased
+none_apart a_counts b_counts b byte is_none is_b = false≢true is_none
+
+-- bytes that are not near have disjoint roles, whether case counts or not
+far_apart : (a_counts : Bool) (a : ℕ) (b_counts : Bool) (b : ℕ) {near : Bool} → a < 256
+    → (IsTrue near ↔ ((a ≢ 0) × (bit_or a 32 ≡ bit_or b 32))) → near ≡ false → Disjoint (cased a_counts a) (cased b_counts b)
+far_apart a_counts a b_counts b below told far =
+    elim (cases_eq a 0) [
+      | inl none ↦ subst (λ n. Disjoint (cased a_counts n) (cased b_counts b)) (sym none) (none_apart a_counts b_counts b)
+      | inr some ↦ other_bits_apart a_counts a b_counts b below (λ same. false≢true (sym far ∙ told.1 (some, same)))
+    ]
+
+-- if no two of the bytes that a format names are near, their roles are disjoint
+pub own_roles_apart : (r : Record) {a b c : ℕ} {ab ac bc : Bool}
+    → a ≡ r.digit_separator → b ≡ r.base_prefix → c ≡ r.base_suffix → r.digit_separator < 256 → r.base_prefix < 256
+    → (IsTrue ab ↔ ((a ≢ 0) × (bit_or a 32 ≡ bit_or b 32)))
+    → (IsTrue ac ↔ ((a ≢ 0) × (bit_or a 32 ≡ bit_or c 32)))
+    → (IsTrue bc ↔ ((b ≢ 0) × (bit_or b 32 ≡ bit_or c 32)))
+    → ((ab || ac) || bc) ≡ false → ArePairwise Disjoint (own_roles r)
+own_roles_apart r {a} {b} {c} {ab} {ac} {bc} a_is b_is c_is a_fits b_fits ab_told ac_told bc_told none =
+    let prefix = r.case_sensitive_base_prefix in
+    let suffix = r.case_sensitive_base_suffix in
+    let front = or_parts (ab || ac) bc none in
+    let first = or_parts ab ac front.0 in
+    let a_below : a < 256 = subst (λ n. n < 256) (sym a_is) a_fits in
+    let b_below : b < 256 = subst (λ n. n < 256) (sym b_is) b_fits in
+    let a_b : Disjoint (cased true a) (cased prefix b) = far_apart true a prefix b a_below ab_told first.0 in
+    let a_c : Disjoint (cased true a) (cased suffix c) = far_apart true a suffix c a_below ac_told first.1 in
+    let b_c : Disjoint (cased prefix b) (cased suffix c) = far_apart prefix b suffix c b_below bc_told front.1 in
+    subst (λ n. ArePairwise Disjoint (cased true n ∷ cased prefix r.base_prefix ∷ cased suffix r.base_suffix ∷ [])) a_is
+    (subst (λ n. ArePairwise Disjoint (cased true a ∷ cased prefix n ∷ cased suffix r.base_suffix ∷ [])) b_is
+    (subst (λ n. ArePairwise Disjoint (cased true a ∷ cased prefix b ∷ cased suffix n ∷ [])) c_is ((a_b, (a_c, tt)), ((b_c, tt), (tt, tt)))))
 
 -- the two cases of a letter have disjoint roles if both roles are case-sensitive
 both_count : (a b : ℕ) → a ≢ b → Disjoint (cased true a) (cased true b)

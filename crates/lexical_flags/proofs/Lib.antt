@@ -11,6 +11,7 @@ mod NormalRules
 mod PairLemmas
 mod OneRole
 mod CaseLemmas
+mod FreeBytes
 mod RoleLemmas
 mod OptionLemmas
 mod OptionTest

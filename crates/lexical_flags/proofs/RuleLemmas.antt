@@ -1,7 +1,7 @@
 -- A word is lawful exactly if it keeps every rule, and has one error.
-use Rattle.std.proofs.Common.{◌≡◌, ℕ, ◌≢◌, ◌↔◌, inl, inr, Bool, true, IsTrue, List, [], ◌∷◌, refl, sym, ◌∙◌, subst, arith}
+use Rattle.std.proofs.Common.{◌≡◌, ℕ, ◌≢◌, ◌↔◌, inl, inr, Bool, true, ◌&&◌, IsTrue, List, [], ◌∷◌, ◌++◌, refl, sym, ◌∙◌, subst, arith}
 use Rattle.std.specs.List.{AllByRecursion}
-use Rattle.std.proofs.lemmas.Bool.{cases_eq}
+use Rattle.std.proofs.lemmas.Bool.{and_parts, cases_eq}
 use Rattle.std.proofs.lemmas.Bool.Decides.{nat_tests}
 use Rattle.lexical_base.specs.declared.error.Error.{Error}
 use Rattle.lexical_base.specs.declared.error.Error.TheVariants.{InvalidFlags, Success}
@@ -118,6 +118,26 @@ Lawful-from_all word h =
       roles = five_apart r separator prefix suffix (h rules.punctuation_differs);
       clean = h rules.reserved_bits_are_zero;
     }
+
+-- tests joined by && tell whether all rules hold of which each tests one
+pub one_kept : (word : ℕ) (rule : Rule) {test : Bool} → IsTrue test ↔ Holds rule word → IsTrue test ↔ AllByRecursion (λ r. Holds r word) (rule ∷ [])
+one_kept word rule told = (λ h. (told.0 h, tt), λ all. told.1 all.0)
+
+join : (word : ℕ) (front : List Rule) (last : Rule) → AllByRecursion (λ r. Holds r word) front → Holds last word → AllByRecursion (λ r. Holds r word) (front ++ last ∷ [])
+join word [] last all kept = (kept, tt)
+join word (rule ∷ front) last all kept = (all.0, join word front last all.1 kept)
+
+split : (word : ℕ) (front : List Rule) (last : Rule) → AllByRecursion (λ r. Holds r word) (front ++ last ∷ []) → AllByRecursion (λ r. Holds r word) front × Holds last word
+split word [] last all = (tt, all.0)
+split word (rule ∷ front) last all = let rest = split word front last all.1 in ((all.0, rest.0), rest.1)
+
+pub more_kept : (word : ℕ) (front : List Rule) (last : Rule) {some more : Bool}
+    → IsTrue some ↔ AllByRecursion (λ r. Holds r word) front → IsTrue more ↔ Holds last word
+    → IsTrue (some && more) ↔ AllByRecursion (λ r. Holds r word) (front ++ last ∷ [])
+more_kept word front last {some} {more} some_told more_told = (
+  λ both. let parts = and_parts some more both in join word front last (some_told.0 parts.0) (more_told.0 parts.1),
+  λ all. let parts = split word front last all in rw (some_told.1 parts.0, more_told.1 parts.1) refl,
+)
 
 -- no rule has the error Success
 error_of-success : (rule : Rule) → error_of rule ≢ Success

@@ -210,6 +210,9 @@ const RESERVED_MASK: u128 = 0x00000000_00FFFF00_FFFFE000_FFFC0000;
 
 // EXTRACTORS
 
+// An exponent byte and the mantissa radix are both read before one is chosen, so that the compiler needs no
+// branch.
+
 /// Returns the raw digit separator byte, even if no flag allows a separator; 0 if there is none.
 #[inline(always)]
 pub fn digit_separator(format: u128) -> u8
@@ -250,12 +253,9 @@ pub fn exponent_base(format: u128) -> u32
     ensures value { result ≡ effective_exponent_base (raw format) }
     ensures lawful { Lawful format → IsRadix result }
 {
+    let radix = mantissa_radix(format);
     let base = ((format & EXPONENT_BASE) >> EXPONENT_BASE_SHIFT) as u32;
-    if base == 0 {
-        mantissa_radix(format)
-    } else {
-        base
-    }
+    if base == 0 { radix } else { base }
 }
 
 /// Returns the radix of the digits of an exponent: the byte of the format, or the mantissa radix if
@@ -265,12 +265,9 @@ pub fn exponent_radix(format: u128) -> u32
     ensures value { result ≡ effective_exponent_radix (raw format) }
     ensures lawful { Lawful format → IsRadix result }
 {
+    let mantissa_radix = mantissa_radix(format);
     let radix = ((format & EXPONENT_RADIX) >> EXPONENT_RADIX_SHIFT) as u32;
-    if radix == 0 {
-        mantissa_radix(format)
-    } else {
-        radix
-    }
+    if radix == 0 { mantissa_radix } else { radix }
 }
 
 /// Returns the bits that `format` and `mask` have in common, shifted right by `shift`, low 32 bits;

@@ -3,7 +3,7 @@
 //! A word that breaks no rule is *lawful*; the view of a word calls it valid.
 #![tactic(auto, using(crate::proofs::FlagTests::flag_tests), unfolding(crate::specs::Rules::Holds, crate::specs::Rules::IsPunctuation))]
 
-ghost use Rattle.std.specs.Prelude.{◌≡◌, ◌≢◌, ◌↔◌, IsTrue};
+ghost use Rattle.std.specs.Prelude.{◌≡◌, ◌≢◌, ◌↔◌, IsTrue, bit_or};
 ghost use Rattle.std.specs.List.{AllByRecursion};
 ghost use Rattle.lexical_base.specs.Ascii.{letters};
 ghost use Rattle.lexical_flags.specs.Layout.{IsClean};
@@ -14,12 +14,27 @@ ghost use Rattle.lexical_flags.specs.Rules.{IsRadix, IsFree, IsPunctuation, Hold
 ghost use Rattle.lexical_flags.specs.Rules as rules;
 
 use crate::format_flags::*;
-use lexical_base::ascii::{is_valid_ascii, is_valid_letter};
+use lexical_base::ascii::is_valid_letter;
 use lexical_base::digit::char_is_digit;
 use lexical_base::error::Error;
 use lexical_base::laws::digit_facts;
 
 // BYTES
+
+// For each byte, at its index, how many radixes leave it free: those below the entry. A digit is free in the
+// radixes up to its value, 0 and other text in all 256, and a sign and every other byte in none.
+const LIMITS: [u16; 256] = [
+    256, 0, 0, 0, 0, 0, 0, 0, 0, 256, 256, 256, 256, 256, 0, 0, 0, 0, 0, 0, 0, 0, 0, 0, 0, 0, 0, 0,
+    0, 0, 0, 0, 256, 256, 256, 256, 256, 256, 256, 256, 256, 256, 256, 0, 256, 0, 256, 256, 1, 2,
+    3, 4, 5, 6, 7, 8, 9, 10, 256, 256, 256, 256, 256, 256, 256, 11, 12, 13, 14, 15, 16, 17, 18, 19,
+    20, 21, 22, 23, 24, 25, 26, 27, 28, 29, 30, 31, 32, 33, 34, 35, 36, 256, 256, 256, 256, 256,
+    256, 11, 12, 13, 14, 15, 16, 17, 18, 19, 20, 21, 22, 23, 24, 25, 26, 27, 28, 29, 30, 31, 32,
+    33, 34, 35, 36, 256, 256, 256, 256, 0, 0, 0, 0, 0, 0, 0, 0, 0, 0, 0, 0, 0, 0, 0, 0, 0, 0, 0, 0,
+    0, 0, 0, 0, 0, 0, 0, 0, 0, 0, 0, 0, 0, 0, 0, 0, 0, 0, 0, 0, 0, 0, 0, 0, 0, 0, 0, 0, 0, 0, 0, 0,
+    0, 0, 0, 0, 0, 0, 0, 0, 0, 0, 0, 0, 0, 0, 0, 0, 0, 0, 0, 0, 0, 0, 0, 0, 0, 0, 0, 0, 0, 0, 0, 0,
+    0, 0, 0, 0, 0, 0, 0, 0, 0, 0, 0, 0, 0, 0, 0, 0, 0, 0, 0, 0, 0, 0, 0, 0, 0, 0, 0, 0, 0, 0, 0, 0,
+    0, 0, 0, 0, 0, 0, 0, 0, 0, 0, 0, 0, 0,
+];
 
 /// Returns whether `byte` is a digit of numbers in this format: a digit of the mantissa radix or of
 /// the exponent radix. Letters are digits in both cases.
@@ -34,20 +49,22 @@ pub fn is_digit(format: u128, byte: u8) -> bool
     char_is_digit(byte, mantissa_radix(format).max(exponent_radix(format)))
 }
 
-// Whether a byte is text, but no digit and no sign.
+// Whether a byte is absent, or text that is no digit and no sign.
+#[inline(always)]
+#[tactic(auto, using(crate::proofs::FreeBytes::free_below_limit))]
+fn is_free(format: u128, byte: u8) -> bool
+    ensures { IsTrue result ↔ IsFree (raw format) byte }
+{
+    let radix = mantissa_radix(format).max(exponent_radix(format));
+    radix < LIMITS[byte as usize] as u32
+}
+
+// Whether a byte is such text.
 #[inline(always)]
 fn is_punctuation(format: u128, byte: u8) -> bool
     ensures { IsTrue result ↔ IsPunctuation (raw format) byte }
 {
-    is_valid_ascii(byte) && byte != b'+' && byte != b'-' && !is_digit(format, byte)
-}
-
-// Whether a byte is absent, or such punctuation.
-#[inline(always)]
-fn is_free(format: u128, byte: u8) -> bool
-    ensures { IsTrue result ↔ IsFree (raw format) byte }
-{
-    byte == 0 || is_punctuation(format, byte)
+    byte != 0 && is_free(format, byte)
 }
 
 // Whether two bytes are the two cases of one letter.
@@ -77,6 +94,15 @@ fn are_apart(a: u8, a_case_counts: bool, b: u8, b_case_counts: bool) -> bool
     ensures { IsTrue result ↔ Disjoint (cased a_case_counts a) (cased b_case_counts b) }
 {
     (a | 0x20) != (b | 0x20) || are_disjoint(a, a_case_counts, b, b_case_counts)
+}
+
+// Whether two bytes, of which the first is there, have all bits but 0x20 in common. If not, their roles are
+// disjoint, whether case counts or not.
+#[inline(always)]
+fn are_near(a: u8, b: u8) -> bool
+    ensures { IsTrue result ↔ ((a ≢ 0) × (bit_or a 32 ≡ bit_or b 32)) }
+{
+    (a != 0) & (a | 0x20 == b | 0x20)
 }
 
 // Whether the base prefix is case-sensitive.
@@ -185,9 +211,13 @@ pub fn is_valid_punctuation(format: u128) -> bool
     let suffix = base_suffix(format);
     let prefix_case = prefix_case_counts(format);
     let suffix_case = suffix_case_counts(format);
-    are_apart(separator, true, prefix, prefix_case)
-        && are_apart(separator, true, suffix, suffix_case)
-        && are_apart(prefix, prefix_case, suffix, suffix_case)
+    let is_near = are_near(separator, prefix)
+        | are_near(separator, suffix)
+        | are_near(prefix, suffix);
+    !is_near
+        || (are_disjoint(separator, true, prefix, prefix_case)
+            && are_disjoint(separator, true, suffix, suffix_case)
+            && are_disjoint(prefix, prefix_case, suffix, suffix_case))
 }
 
 // Whether a byte clashes with none of digit separator, base prefix and base suffix.
@@ -328,23 +358,49 @@ fn first_broken_radix(format: u128) -> Error
     }
 }
 
-// The same for the rules of punctuation.
+// Whether all rules of punctuation are kept.
+#[inline(always)]
+fn keeps_punctuation_rules(format: u128) -> bool
+    ensures { IsTrue result ↔ AllByRecursion (λ rule. Holds rule format) rules.punctuation_rules }
+{
+    let are_free = is_valid_digit_separator(format)
+        & is_valid_base_prefix(format)
+        & is_valid_base_suffix(format);
+    are_free && is_valid_punctuation(format)
+}
+
+// The same for the rules of punctuation. Most words keep them all, which takes fewer branches to see.
 #[inline(always)]
 #[tactic(auto)]
 fn first_broken_punctuation(format: u128) -> Error
     ensures { IsFirstError rules.punctuation_rules format result }
 {
-    if !is_valid_digit_separator(format) {
+    if keeps_punctuation_rules(format) {
+        Error::Success
+    } else if !is_valid_digit_separator(format) {
         Error::InvalidDigitSeparator
     } else if !is_valid_base_prefix(format) {
         Error::InvalidBasePrefix
     } else if !is_valid_base_suffix(format) {
         Error::InvalidBaseSuffix
-    } else if !is_valid_punctuation(format) {
-        Error::InvalidPunctuation
     } else {
-        Error::Success
+        Error::InvalidPunctuation
     }
+}
+
+// Whether all rules of flags are kept.
+#[inline(always)]
+fn keeps_flag_rules(format: u128) -> bool
+    ensures { IsTrue result ↔ AllByRecursion (λ rule. Holds rule format) rules.flag_rules }
+{
+    is_valid_exponent_flags(format)
+        & is_valid_mantissa_sign_flags(format)
+        & is_valid_exponent_sign_flags(format)
+        & is_valid_special_case_flags(format)
+        & is_valid_special_separator_flags(format)
+        & is_valid_integer_consecutive_flags(format)
+        & is_valid_fraction_consecutive_flags(format)
+        & is_valid_exponent_consecutive_flags(format)
 }
 
 // The same for the rules of flags.
@@ -353,7 +409,9 @@ fn first_broken_punctuation(format: u128) -> Error
 fn first_broken_flags(format: u128) -> Error
     ensures { IsFirstError rules.flag_rules format result }
 {
-    if !is_valid_exponent_flags(format) {
+    if keeps_flag_rules(format) {
+        Error::Success
+    } else if !is_valid_exponent_flags(format) {
         Error::InvalidExponentFlags
     } else if !is_valid_mantissa_sign_flags(format) {
         Error::InvalidMantissaSign
@@ -365,10 +423,8 @@ fn first_broken_flags(format: u128) -> Error
         Error::InvalidConsecutiveIntegerDigitSeparator
     } else if !is_valid_fraction_consecutive_flags(format) {
         Error::InvalidConsecutiveFractionDigitSeparator
-    } else if !is_valid_exponent_consecutive_flags(format) {
-        Error::InvalidConsecutiveExponentDigitSeparator
     } else {
-        Error::Success
+        Error::InvalidConsecutiveExponentDigitSeparator
     }
 }
 

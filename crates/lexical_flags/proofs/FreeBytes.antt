@@ -1,0 +1,32 @@
+-- The radixes in which a byte is free, by a table of all bytes.
+use Rattle.std.proofs.Common.{◌≡◌, ℕ, ◌+◌, ◌<◌, ◌⊎◌, ◌↔◌, ◌==◌, ◌||◌, not, true, max, nat_lt, if◌then◌else◌, IsTrue, slice_index_or, eqb-true, refl, arith}
+use Rattle.std.proofs.lemmas.Bool.{agree_below_at}
+use Rattle.std.proofs.lemmas.Bool.Decides.{nat_tests}
+use Rattle.lexical_base.specs.Ascii.{allowed_ascii}
+use Rattle.lexical_base.specs.Digits.{value}
+use Rattle.lexical_base.proofs.ValueLemmas.{value-cases}
+use Rattle.lexical_flags.specs.Record.{Record, effective_exponent_radix}
+use Rattle.lexical_flags.specs.Roles.{signs}
+use Rattle.lexical_flags.specs.Rules.{IsFree, IsPunctuation}
+use Rattle.lexical_flags.specs.declared.format_flags.rules.TheConstants.{LIMITS}
+
+-- how many radixes from 0 up leave a byte free
+limit : ℕ → ℕ
+limit byte =
+    if byte == 0 then 256
+    else if not (allowed_ascii byte) || signs byte then 0
+    else if value byte == 255 then 256 else value byte + 1
+
+-- the table holds them
+limit_entry : (byte : ℕ) → byte < 256 → slice_index_or LIMITS byte 0 ≡ limit byte
+unfolding value limit
+limit_entry byte below = eqb-true _ _ (agree_below_at (λ b. slice_index_or LIMITS b 0 == limit b) (λ _. true) 256 byte refl below)
+
+-- a byte is free exactly if the larger radix is below its limit
+pub free_below_limit : (r : Record) (byte : ℕ) → byte < 256 → r.mantissa_radix < 256 → effective_exponent_radix r < 256 →
+    IsTrue (nat_lt (max r.mantissa_radix (effective_exponent_radix r)) (slice_index_or LIMITS byte 0)) ↔ IsFree r byte
+unfolding IsPunctuation limit
+free_below_limit r byte fits mantissa_fits exponent_fits =
+    let entry : slice_index_or LIMITS byte 0 ≡ limit byte = limit_entry byte fits in
+    let cases : (value byte < 36) ⊎ (value byte ≡ 255) = value-cases byte fits in
+    rw entry (grind (arith, nat_tests))
