@@ -1,11 +1,11 @@
--- Masks of 32 lanes, and what is known of all lanes together.
-use Rattle.std.proofs.Common.{◌≡◌, ℕ, suc, ◌+◌, ◌-◌, ◌*◌, ◌^◌, ◌<◌, ◌≤◌, ◌%◌, Bool, true, false, cond, eqb, leb, ◌&&◌, ◌||◌, List, [], ◌∷◌, map, length, bit_and, bit_or, replicate, refl, sym, ap, ◌∙◌, arith}
+-- Masks of n lanes, and what is known of all lanes together.
+use Rattle.std.proofs.Common.{◌≡◌, ℕ, zero, suc, ◌+◌, ◌-◌, ◌*◌, ◌^◌, ◌<◌, ◌≤◌, ◌%◌, Bool, true, false, cond, eqb, leb, ◌&&◌, ◌||◌, List, [], ◌∷◌, map, length, bit_and, bit_or, replicate, refl, sym, ap, ◌∙◌, arith}
 use Rattle.std.specs.List.{list_all}
 use Rattle.std.specs.Simd.Lanes.{zip2, mask_l, top}
 use Rattle.std.proofs.lemmas.Bool.Decides.{nat_tests}
 use Rattle.std.proofs.lemmas.List.{length-map}
 use Rattle.std.proofs.lemmas.List.Folds.{list_all-map}
-use Rattle.std.proofs.lemmas.Simd.{mask_l-mod, length-zip2}
+use Rattle.std.proofs.lemmas.Simd.{length-replicate, mask_l-mod, length-zip2}
 use Rattle.std.proofs.Math.Pow.{suc_ones}
 use Rattle.lexical_base.specs.Ascii.{in_either}
 
@@ -39,9 +39,9 @@ range_mask_is first second (x ∷ xs) =
     (ap (λ rest. lane (in_either first second x) ∷ rest) (range_mask_is first second xs))
 
 -- a mask whose lanes are all set exactly if a test passes
-pub record Tells (mask : List ℕ) (passes : Bool) : Type 0 where
+pub record Tells (n : ℕ) (mask : List ℕ) (passes : Bool) : Type 0 where
   pub lanes : List Bool
-  pub long : length lanes ≡ 32
+  pub long : length lanes ≡ n
   pub is : mask ≡ map lane lanes
   pub all : list_all (λ set. set) lanes ≡ passes
 
@@ -63,12 +63,12 @@ all-zip2 (b ∷ bs) [] same = absurd (omega (arith, same))
 all-zip2 (b ∷ bs) (c ∷ cs) same = rw (all-zip2 bs cs (omega (arith, same))) (and_swap b c (list_all (λ set. set) bs) (list_all (λ set. set) cs))
 
 -- a mask tells a test, and joined with the mask of a chunk also whether the chunk passes
-pub joined : (first second : ℕ × ℕ) (xs : List ℕ) (mask : List ℕ) (passes : Bool) → length xs ≡ 32 → Tells mask passes
-    → Tells (zip2 bit_and mask (range_mask first second 32 xs)) (passes && list_all (in_either first second) xs)
-joined first second xs mask passes long told =
+pub joined : (n : ℕ) (first second : ℕ × ℕ) (xs : List ℕ) (mask : List ℕ) (passes : Bool) → length xs ≡ n → Tells n mask passes
+    → Tells n (zip2 bit_and mask (range_mask first second n xs)) (passes && list_all (in_either first second) xs)
+joined n first second xs mask passes long told =
     let tests : List Bool = map (in_either first second) xs in
     let same : length told.lanes ≡ length tests = told.long ∙ sym (length-map xs (in_either first second) ∙ long) in
-    let mask_is : range_mask first second 32 xs ≡ map lane tests = ap (λ n. range_mask first second n xs) (sym long) ∙ range_mask_is first second xs in
+    let mask_is : range_mask first second n xs ≡ map lane tests = ap (λ k. range_mask first second k xs) (sym long) ∙ range_mask_is first second xs in
     record {
       lanes = zip2 (λ b c. b && c) told.lanes tests;
       long = length-zip2 (λ b c. b && c) told.lanes tests same ∙ told.long;
@@ -96,10 +96,22 @@ tops [] = refl
 tops (true ∷ bs) = ap (λ rest. true ∷ rest) (tops bs)
 tops (false ∷ bs) = ap (λ rest. false ∷ rest) (tops bs)
 
+-- before the first chunk all lanes are set
+pub none_joined : (n : ℕ) → Tells n (replicate n 255) true
+none_joined n = record { lanes = replicate n true; long = length-replicate n true; is = all_set n; all = all_pass n }
+  where
+    all_set : (k : ℕ) → replicate k 255 ≡ map lane (replicate k true)
+    all_set zero = refl
+    all_set (suc k) = ap (λ rest. 255 ∷ rest) (all_set k)
+
+    all_pass : (k : ℕ) → list_all (λ set. set) (replicate k true) ≡ true
+    all_pass zero = refl
+    all_pass (suc k) = all_pass k
+
 -- what `all` returns of a mask is the test that the mask tells
-pub all_told : (mask : List ℕ) (passes : Bool) → Tells mask passes → eqb (mask_l (map (top 7) mask) % 2 ^ 64) (2 ^ 32 - 1) ≡ passes
-all_told mask passes told =
-    let few : length told.lanes ≤ 64 = omega (arith, told.long) in
+pub all_told : (n : ℕ) (mask : List ℕ) (passes : Bool) → n ≤ 64 → Tells n mask passes → eqb (mask_l (map (top 7) mask) % 2 ^ 64) (2 ^ n - 1) ≡ passes
+all_told n mask passes narrow told =
+    let few : length told.lanes ≤ 64 = omega (arith, told.long, narrow) in
     let full : eqb (mask_l told.lanes) (2 ^ length told.lanes - 1) ≡ passes = full_mask told.lanes ∙ told.all in
-    let whole : eqb (mask_l told.lanes) (2 ^ 32 - 1) ≡ passes = rw told.long at full in
+    let whole : eqb (mask_l told.lanes) (2 ^ n - 1) ≡ passes = rw told.long at full in
     rw (told.is, tops told.lanes, mask_l-mod told.lanes 64 few) whole

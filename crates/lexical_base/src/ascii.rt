@@ -41,17 +41,29 @@ pub fn is_valid_letter_slice(slc: &[u8]) -> bool
 
 // Whether every byte of `bytes` is in one of two ranges, each given by its lowest and highest byte.
 //
-// It looks at 32 bytes at a time, and at the rest, fewer than 32, one by one.
+// It looks at 32 bytes at a time, and then at the rest, fewer than 32.
 #[inline(always)]
 fn all_in_either(bytes: &[u8], first: (u8, u8), second: (u8, u8)) -> bool
     ensures { IsTrue result ↔ AllPass (in_either first second) bytes.now }
 {
     let (chunks, rest) = bytes.as_chunks::<32>();
-    chunks_in_either(chunks, first, second) && bytes_in_either(rest, first, second)
+    any_chunks_in_either(chunks, first, second) && few_in_either(rest, first, second)
 }
 
-// The same for chunks of 32 bytes. It stops only after a block of eight chunks, since a test after
-// each chunk would take as long as all else.
+// The same for chunks of 32 bytes, few or many.
+#[inline(always)]
+fn any_chunks_in_either(chunks: &[[u8; 32]], first: (u8, u8), second: (u8, u8)) -> bool
+    ensures { result ≡ list_all (list_all (in_either first second)) chunks.now }
+{
+    if chunks.len() < 8 {
+        block_in_either(chunks, first, second)
+    } else {
+        chunks_in_either(chunks, first, second)
+    }
+}
+
+// The same for many chunks. It stops only after a block of eight, since a test after each chunk would
+// take as long as all else.
 #[inline(always)]
 fn chunks_in_either(chunks: &[[u8; 32]], first: (u8, u8), second: (u8, u8)) -> bool
     ensures { result ≡ list_all (list_all (in_either first second)) chunks.now }
@@ -109,7 +121,31 @@ fn block_in_either(block: &[[u8; 32]], first: (u8, u8), second: (u8, u8)) -> boo
     joined.all()
 }
 
-// The same for single bytes. It looks at all of them, so that the compiler can take several at a time.
+// The same for fewer than 32 bytes: 16 of them at once, if there are as many, and the others one by one.
+#[inline(always)]
+fn few_in_either(bytes: &[u8], first: (u8, u8), second: (u8, u8)) -> bool
+    ensures { result ≡ list_all (in_either first second) bytes.now }
+{
+    let (halves, rest) = bytes.as_chunks::<16>();
+    halves_in_either(halves, first, second) && bytes_in_either(rest, first, second)
+}
+
+// The same for chunks of half the length.
+#[inline(always)]
+fn halves_in_either(halves: &[[u8; 16]], first: (u8, u8), second: (u8, u8)) -> bool
+    ensures { result ≡ list_all (list_all (in_either first second)) halves.now }
+{
+    let mut joined = Mask::splat(true);
+    for half in halves {
+        let lanes = u8x16::from_array(*half);
+        let of_first = lanes.simd_ge(u8x16::splat(first.0)) & lanes.simd_le(u8x16::splat(first.1));
+        let of_second = lanes.simd_ge(u8x16::splat(second.0)) & lanes.simd_le(u8x16::splat(second.1));
+        joined &= of_first | of_second;
+    }
+    joined.all()
+}
+
+// The same for single bytes. It looks at all of them, with one test after the last.
 #[inline(always)]
 fn bytes_in_either(bytes: &[u8], first: (u8, u8), second: (u8, u8)) -> bool
     ensures { result ≡ list_all (in_either first second) bytes.now }

@@ -150,6 +150,7 @@ impl Error {
     /// Returns what went wrong, as text between single quotes and without the index.
     ///
     /// See [`Error::index`] for the index, and `Display` for the whole text.
+    #[inline(always)]
     pub fn description(&self) -> &'static str
         ensures { result.now ≡ description_of self.now }
     {
@@ -220,6 +221,7 @@ impl Error {
 
     /// Returns the index of the byte at which a parser found the error: `Some` of it for a parse
     /// error, and `None` for every other variant.
+    #[inline(always)]
     pub fn index(&self) -> Option<&usize>
         ensures value { option_copied result ≡ index_of self.now }
         ensures held { IsSome result ↔ (rank_of self.now < 19) }
@@ -593,6 +595,7 @@ impl Error {
     }
 
     // The rank of the variant.
+    #[inline(always)]
     fn rank(&self) -> u8
         ensures value { result ≡ rank_of self.now }
         ensures last { result < 49 }
@@ -651,6 +654,7 @@ impl Error {
     }
 
     // The index of a parse error, and 0 for every other variant.
+    #[inline(always)]
     fn held_index(&self) -> usize
         ensures { result ≡ held_index self.now }
     {
@@ -690,9 +694,10 @@ impl Ord for Error {
         ensures equal { (result ≡ Ordering.Equal) ↔ (self.now ≡ other.now) }
         ensures turned { compare_outcomes other.now self.now ≡ ordering_reverse result }
     {
-        self.rank()
-            .cmp(&other.rank())
-            .then(self.held_index().cmp(&other.held_index()))
+        match self.rank().cmp(&other.rank()) {
+            Ordering::Equal => self.held_index().cmp(&other.held_index()),
+            order => order,
+        }
     }
 }
 
