@@ -28,6 +28,12 @@ const LOW_FLAGS: u32 = 0x3_FFFF;
 
 const SEPARATOR_FLAGS: u32 = 0x7FFC_0000;
 
+// The flags of a new builder, at the bits of a format word.
+const NEW_FLAGS: u128 = 0xC;
+
+// 1 in each of mantissa radix, exponent base and exponent radix of a format word.
+const ALL_RADIXES: u128 = 0x01010100_00000000_00000000_00000000;
+
 // The index of each byte of a builder.
 const DIGIT_SEPARATOR: usize = 0;
 
@@ -141,17 +147,13 @@ impl NumberFormatBuilder {
     /// Returns the format of a new builder with `radix` as mantissa radix, exponent base and
     /// exponent radix. The radix is not checked; the word is lawful only for 2 to 36.
     #[inline(always)]
-    #[tactic(auto, using(crate::proofs::OptionByteLemmas::byte_of_option_back), unfolding(crate::specs::Writes::after))]
+    #[tactic(auto, unfolding(lexical_flags::specs::Record::word_of))]
     pub fn from_radix(radix: u8) -> u128
         ensures word { result ≡ pack (radix_record radix) }
         ensures lawful { Lawful result ↔ IsRadix radix }
     {
         literal_facts();
-        Self::new()
-            .mantissa_radix(radix)
-            .exponent_base(NonZeroU8::new(radix))
-            .exponent_radix(NonZeroU8::new(radix))
-            .build_unchecked()
+        NEW_FLAGS + (radix as u128) * ALL_RADIXES
     }
 }
 
