@@ -77,6 +77,17 @@ fn over_numbers<'a>(
     Row { name: name.to_string(), calls: numbers.len() / each, ours, theirs }
 }
 
+/// A row over outcomes, each of which is asked several times.
+fn over_outcomes<'a>(
+    name: &str,
+    numbers: &'a [u64],
+    ours: OverNumbers,
+    theirs: OverNumbers,
+) -> Row<'a> {
+    let row = over_numbers(name, (numbers, 1), ours, theirs);
+    Row { calls: row.calls * theirs::TIMES, ..row }
+}
+
 fn size_name(size: usize) -> String {
     match size {
         0..1024 => format!("{size} B"),
@@ -130,6 +141,7 @@ fn byte_rows(data: &Data) -> Vec<Row<'_>> {
         theirs::digits_to_char,
     ));
     rows.push(over_bytes("is_valid_ascii", any, calls, ours::ascii, theirs::ascii));
+    rows.push(over_bytes("from_radix", any, calls, ours::from_radix, theirs::from_radix));
     rows.extend(slice_rows(data));
     rows
 }
@@ -161,15 +173,14 @@ fn slice_rows(data: &Data) -> Vec<Row<'_>> {
 }
 
 fn number_rows(data: &Data) -> Vec<Row<'_>> {
-    let numbers = (&data.numbers[..], 1);
     let [lawful, broken, few, any] =
         [&data.lawful, &data.broken, &data.few, &data.any].map(|cases| (&cases[..], 3));
     let row = over_numbers;
     vec![
-        row("description", numbers, ours::descriptions, theirs::descriptions),
-        row("Display", numbers, ours::display, theirs::display),
-        row("4 tests and index", numbers, ours::tests, theirs::tests),
-        row("cmp and ==", numbers, ours::order, theirs::order),
+        over_outcomes("description", &data.numbers, ours::descriptions, theirs::descriptions),
+        row("Display", (&data.numbers, 1), ours::display, theirs::display),
+        over_outcomes("4 tests and index", &data.numbers, ours::tests, theirs::tests),
+        over_outcomes("cmp and ==", &data.numbers, ours::order, theirs::order),
         row("format_error, lawful", lawful, ours::format_error, theirs::format_error),
         row("format_error, broken", broken, ours::format_error, theirs::format_error),
         row("radix_error_impl", any, ours::radix_error, theirs::radix_error),
@@ -183,7 +194,6 @@ fn number_rows(data: &Data) -> Vec<Row<'_>> {
         row("rebuild, 3 setters, build", any, ours::setters, theirs::setters),
         row("rebuild, 37 getters", any, ours::builder_getters, theirs::builder_getters),
         row("rebuild, build_strict, lawful", lawful, ours::build_strict, theirs::build_strict),
-        row("from_radix", any, ours::from_radix, theirs::from_radix),
         row("normal_form", any, ours::normal_form, theirs::normal_form),
         row("same_format", any, ours::same_format, theirs::same_format),
         row("edit_word, 3 known edits", any, ours::known_edits, theirs::known_edits),
@@ -212,7 +222,7 @@ fn main() {
     rows.extend(number_rows(&data));
     rows.retain(|row| row.name.contains(&only));
     println!("{:<42} {:>10} {:>10} {:>6} {:>14}", "row", "Rattle ns", "Rust ns", "ratio", "spread");
-    let mut differing = 0;
+    let (mut differing, mut worst) = (0, None::<(f64, &str)>);
     for row in &rows {
         let (ours, theirs) = ((row.ours)(), (row.theirs)());
         if ours != theirs {
@@ -221,6 +231,9 @@ fn main() {
             continue;
         }
         let times = row.measure(rounds);
+        if worst.is_none_or(|(ratio, _)| times.ratio > ratio) {
+            worst = Some((times.ratio, &row.name));
+        }
         println!(
             "{:<42} {:>10.2} {:>10.2} {:>6.2} {:>6.2} to {:.2}",
             row.name, times.ours, times.theirs, times.ratio, times.low, times.high
@@ -229,5 +242,8 @@ fn main() {
     if differing > 0 {
         println!("{differing} rows differ and were not timed");
         exit(1);
+    }
+    if let Some((ratio, name)) = worst {
+        println!("worst row: {ratio:.2}, {name}");
     }
 }

@@ -34,6 +34,7 @@ over_bytes! {
     ascii_slices: bench_ascii_slices(size: usize),
     letter_slices: bench_letter_slices(size: usize),
     short_slices: bench_short_slices(),
+    from_radix: bench_from_radix(),
 }
 
 over_numbers! {
@@ -51,7 +52,6 @@ over_numbers! {
     setters: bench_setters,
     new_builders: bench_new_builders,
     build_strict: bench_build_strict,
-    from_radix: bench_from_radix,
     builder_getters: bench_builder_getters,
     known_edits: bench_known_edits,
     any_edits: bench_any_edits,

@@ -86,7 +86,11 @@ pub fn digits_to_char(bytes: &[u8]) -> u64 {
 }
 
 pub fn ascii(bytes: &[u8]) -> u64 {
-    bytes.iter().map(|c| is_valid_ascii(*c) as u64).sum()
+    let mut count = 0u64;
+    for c in bytes {
+        count = count.wrapping_add(is_valid_ascii(*c) as u64);
+    }
+    count
 }
 
 pub fn ascii_slices(bytes: &[u8], size: usize) -> u64 {
@@ -108,31 +112,92 @@ pub fn short_slices(bytes: &[u8]) -> u64 {
 
 // OUTCOMES
 
+/// How often each outcome is asked, so that making it does not count.
+pub const TIMES: usize = 8;
+
+/// The outcome that a number stands for: any of the 49, a parse error with an index.
 fn outcome_of(bits: u64) -> Error {
     let index = (bits >> 8) as usize;
-    match bits % 8 {
+    match bits % 49 {
         0 => Error::Overflow(index),
-        1 => Error::InvalidDigit(index),
-        2 => Error::InvalidNegativeSign(index),
-        3 => Error::InvalidMantissaRadix,
-        4 => Error::InvalidPunctuation,
-        5 => Error::InvalidFlags,
-        6 => Error::InvalidFloatPrecision,
+        1 => Error::Underflow(index),
+        2 => Error::InvalidDigit(index),
+        3 => Error::Empty(index),
+        4 => Error::EmptyMantissa(index),
+        5 => Error::EmptyExponent(index),
+        6 => Error::EmptyInteger(index),
+        7 => Error::EmptyFraction(index),
+        8 => Error::InvalidPositiveMantissaSign(index),
+        9 => Error::MissingMantissaSign(index),
+        10 => Error::InvalidExponent(index),
+        11 => Error::InvalidPositiveExponentSign(index),
+        12 => Error::MissingExponentSign(index),
+        13 => Error::ExponentWithoutFraction(index),
+        14 => Error::InvalidLeadingZeros(index),
+        15 => Error::MissingExponent(index),
+        16 => Error::MissingSign(index),
+        17 => Error::InvalidPositiveSign(index),
+        18 => Error::InvalidNegativeSign(index),
+        19 => Error::InvalidMantissaRadix,
+        20 => Error::InvalidExponentBase,
+        21 => Error::InvalidExponentRadix,
+        22 => Error::InvalidDigitSeparator,
+        23 => Error::InvalidDecimalPoint,
+        24 => Error::InvalidExponentSymbol,
+        25 => Error::InvalidBasePrefix,
+        26 => Error::InvalidBaseSuffix,
+        27 => Error::InvalidPunctuation,
+        28 => Error::InvalidExponentFlags,
+        29 => Error::InvalidMantissaSign,
+        30 => Error::InvalidExponentSign,
+        31 => Error::InvalidSpecial,
+        32 => Error::InvalidConsecutiveIntegerDigitSeparator,
+        33 => Error::InvalidConsecutiveFractionDigitSeparator,
+        34 => Error::InvalidConsecutiveExponentDigitSeparator,
+        35 => Error::InvalidFlags,
+        36 => Error::InvalidNanString,
+        37 => Error::NanStringTooLong,
+        38 => Error::InvalidInfString,
+        39 => Error::InfStringTooLong,
+        40 => Error::InvalidInfinityString,
+        41 => Error::InfinityStringTooLong,
+        42 => Error::InfinityStringTooShort,
+        43 => Error::InvalidFloatParseAlgorithm,
+        44 => Error::InvalidRadix,
+        45 => Error::InvalidFloatPrecision,
+        46 => Error::InvalidNegativeExponentBreak,
+        47 => Error::InvalidPositiveExponentBreak,
         _ => Error::Success,
     }
 }
 
+/// The outcomes of 64 numbers. It is not inlined, so that no loop is compiled for some outcomes alone.
+#[inline(never)]
+fn outcomes_of(numbers: &[u64; 64]) -> [Error; 64] {
+    numbers.map(outcome_of)
+}
+
 pub fn descriptions(numbers: &[u64]) -> u64 {
-    let len = |bits: &u64| outcome_of(*bits).description().len() as u64;
-    numbers.iter().fold(Fold::new(), |fold, bits| fold.with(len(bits))).sum
+    let mut fold = Fold::new();
+    for block in numbers.as_chunks::<64>().0 {
+        let outcomes = outcomes_of(block);
+        for _ in 0..TIMES {
+            for error in &outcomes {
+                fold = fold.with(error.description().len() as u64);
+            }
+        }
+    }
+    fold.sum
 }
 
 pub fn display(numbers: &[u64]) -> u64 {
     let mut fold = Fold::new();
-    for bits in numbers {
-        let mut page = Page { text: [0; 160], len: 0 };
-        let _ = write!(page, "{}", outcome_of(*bits));
-        fold = fold.with(page.len as u64).with(page.text[40] as u64);
+    for block in numbers.as_chunks::<64>().0 {
+        for error in &outcomes_of(block) {
+            let mut page = Page { text: [0; 160], len: 0 };
+            let _ = write!(page, "{error}");
+            fold = fold.with(page.len as u64).with(page.text[40] as u64);
+        }
     }
     fold.sum
 }
@@ -157,29 +222,37 @@ impl Write for Page {
 pub fn order(numbers: &[u64]) -> u64 {
     let mut fold = Fold::new();
     let mut last = Error::Success;
-    for bits in numbers {
-        let error = outcome_of(*bits);
-        let sign = match error.cmp(&last) {
-            Ordering::Less => 1,
-            Ordering::Equal => 2,
-            Ordering::Greater => 3,
-        };
-        fold = fold.with(sign).with((error == last) as u64);
-        last = error;
+    for block in numbers.as_chunks::<64>().0 {
+        let outcomes = outcomes_of(block);
+        for _ in 0..TIMES {
+            for error in &outcomes {
+                let sign = match error.cmp(&last) {
+                    Ordering::Less => 1,
+                    Ordering::Equal => 2,
+                    Ordering::Greater => 3,
+                };
+                fold = fold.with(sign).with((*error == last) as u64);
+                last = *error;
+            }
+        }
     }
     fold.sum
 }
 
 pub fn tests(numbers: &[u64]) -> u64 {
     let mut fold = Fold::new();
-    for bits in numbers {
-        let error = outcome_of(*bits);
-        let mut tests = error.is_success() as u64;
-        tests = tests << 1 | error.is_overflow() as u64;
-        tests = tests << 1 | error.is_invalid_digit() as u64;
-        tests = tests << 1 | error.is_invalid_flags() as u64;
-        let index = error.index().map_or(1, |index| *index as u64);
-        fold = fold.with(tests).with(index);
+    for block in numbers.as_chunks::<64>().0 {
+        let outcomes = outcomes_of(block);
+        for _ in 0..TIMES {
+            for error in &outcomes {
+                let mut tests = error.is_success() as u64;
+                tests = tests << 1 | error.is_overflow() as u64;
+                tests = tests << 1 | error.is_invalid_digit() as u64;
+                tests = tests << 1 | error.is_invalid_flags() as u64;
+                let index = error.index().map_or(1, |index| *index as u64);
+                fold = fold.with(tests).with(index);
+            }
+        }
     }
     fold.sum
 }
@@ -348,8 +421,12 @@ pub fn build_strict(cases: &[u64]) -> u64 {
     over(cases, |fold, word, _| fold.with_word(NumberFormatBuilder::rebuild(word).build_strict()))
 }
 
-pub fn from_radix(cases: &[u64]) -> u64 {
-    over(cases, |fold, _, bits| fold.with_word(NumberFormatBuilder::from_radix(bits as u8)))
+pub fn from_radix(radixes: &[u8]) -> u64 {
+    let mut fold = Fold::new();
+    for radix in radixes {
+        fold = fold.with_word(NumberFormatBuilder::from_radix(*radix));
+    }
+    fold.sum
 }
 
 pub fn builder_getters(cases: &[u64]) -> u64 {
