@@ -53,13 +53,6 @@ pub fn setter_named(name: &str) -> Option<u32> {
     (0..SETTERS).find(|position| setter_name(*position) == name)
 }
 
-impl SetterCall {
-    /// The call as it is handed to the library.
-    pub fn number(self) -> u32 {
-        self.setter << 8 | self.value as u32
-    }
-}
-
 impl Debug for SetterCall {
     fn fmt(&self, f: &mut Formatter) -> fmt::Result {
         let name = setter_name(self.setter);

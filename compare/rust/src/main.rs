@@ -2,6 +2,7 @@
 //!
 //!     driver [--seed N] [--scale N] [--threads N] [--only WORD] [--record FILE]
 
+mod calls;
 mod inputs;
 mod ours;
 mod random;

@@ -39,6 +39,72 @@ macro_rules! with_flags {
     };
 }
 
+/// The constants of the layout.
+macro_rules! with_constants {
+    ($then:ident) => {
+        $then! {
+            REQUIRED_INTEGER_DIGITS
+            REQUIRED_FRACTION_DIGITS
+            REQUIRED_EXPONENT_DIGITS
+            REQUIRED_MANTISSA_DIGITS
+            NO_POSITIVE_MANTISSA_SIGN
+            REQUIRED_MANTISSA_SIGN
+            NO_EXPONENT_NOTATION
+            NO_POSITIVE_EXPONENT_SIGN
+            REQUIRED_EXPONENT_SIGN
+            NO_EXPONENT_WITHOUT_FRACTION
+            NO_SPECIAL
+            CASE_SENSITIVE_SPECIAL
+            NO_INTEGER_LEADING_ZEROS
+            NO_FLOAT_LEADING_ZEROS
+            REQUIRED_EXPONENT_NOTATION
+            CASE_SENSITIVE_EXPONENT
+            CASE_SENSITIVE_BASE_PREFIX
+            CASE_SENSITIVE_BASE_SUFFIX
+            INTEGER_INTERNAL_DIGIT_SEPARATOR
+            FRACTION_INTERNAL_DIGIT_SEPARATOR
+            EXPONENT_INTERNAL_DIGIT_SEPARATOR
+            INTEGER_LEADING_DIGIT_SEPARATOR
+            FRACTION_LEADING_DIGIT_SEPARATOR
+            EXPONENT_LEADING_DIGIT_SEPARATOR
+            INTEGER_TRAILING_DIGIT_SEPARATOR
+            FRACTION_TRAILING_DIGIT_SEPARATOR
+            EXPONENT_TRAILING_DIGIT_SEPARATOR
+            INTEGER_CONSECUTIVE_DIGIT_SEPARATOR
+            FRACTION_CONSECUTIVE_DIGIT_SEPARATOR
+            EXPONENT_CONSECUTIVE_DIGIT_SEPARATOR
+            SPECIAL_DIGIT_SEPARATOR
+            REQUIRED_DIGITS
+            INTERNAL_DIGIT_SEPARATOR
+            LEADING_DIGIT_SEPARATOR
+            TRAILING_DIGIT_SEPARATOR
+            CONSECUTIVE_DIGIT_SEPARATOR
+            DIGIT_SEPARATOR_FLAG_MASK
+            FLAG_MASK
+            INTERFACE_FLAG_MASK
+            EXPONENT_FLAG_MASK
+            INTEGER_DIGIT_SEPARATOR_FLAG_MASK
+            FRACTION_DIGIT_SEPARATOR_FLAG_MASK
+            EXPONENT_DIGIT_SEPARATOR_FLAG_MASK
+            DIGIT_SEPARATOR
+            BASE_PREFIX
+            BASE_SUFFIX
+            MANTISSA_RADIX
+            RADIX
+            EXPONENT_BASE
+            EXPONENT_RADIX
+            RADIX_MASK
+            DIGIT_SEPARATOR_SHIFT
+            BASE_PREFIX_SHIFT
+            BASE_SUFFIX_SHIFT
+            MANTISSA_RADIX_SHIFT
+            RADIX_SHIFT
+            EXPONENT_BASE_SHIFT
+            EXPONENT_RADIX_SHIFT
+        }
+    };
+}
+
 /// The outcomes in their order: position, variant with an index, test.
 macro_rules! with_parse_errors {
     ($then:ident) => {
@@ -104,4 +170,4 @@ macro_rules! with_other_outcomes {
     };
 }
 
-pub(crate) use {with_flags, with_other_outcomes, with_parse_errors};
+pub(crate) use {with_constants, with_flags, with_other_outcomes, with_parse_errors};

@@ -594,9 +594,9 @@ impl Error {
         matches!(self, Error::Success)
     }
 
-    // The rank of the variant.
+    /// Returns the rank of the variant: its index in the list of the 49 variants, 0 to 48.
     #[inline(always)]
-    fn rank(&self) -> u8
+    pub fn rank(&self) -> u8
         ensures value { result ≡ rank_of self.now }
         ensures last { result < 49 }
     {

@@ -1,5 +1,5 @@
 -- Where a builder keeps each field, and the record that it stands for.
-use Rattle.std.specs.Prelude.{ℕ, ◌+◌, ◌-◌, ◌*◌, ◌^◌, ◌<◌, ◌==◌, nat_lt, if◌then◌else◌, find, unwrap_or, slice_index}
+use Rattle.std.specs.Prelude.{ℕ, ◌+◌, ◌-◌, ◌*◌, ◌^◌, ◌<◌, ◌==◌, nat_lt, if◌then◌else◌, List, find, unwrap_or, slice_index}
 use Rattle.lexical_flags.specs.Layout.{part, Flag, Byte, bit, flags}
 use Rattle.lexical_flags.specs.Layout as layout
 use Rattle.lexical_flags.specs.Record.{Record, tabulate}
@@ -26,9 +26,13 @@ index_of layout.exponent_radix = 5
 abbrev pub flag_with : ℕ → Flag
 flag_with mask = unwrap_or (find (λ f. 2 ^ bit f == mask) flags) layout.no_special
 
+-- the record with the flags at these bits, and these six bytes
+abbrev pub record_of_parts : ℕ → List ℕ → Record
+record_of_parts flags bytes = tabulate (λ f. part flags (builder_bit f) 1 == 1) (λ b. slice_index bytes (index_of b))
+
 -- the record that a builder stands for
 abbrev pub record_of : Inside → Record
-record_of inside = tabulate (λ f. part inside.flags (builder_bit f) 1 == 1) (λ b. slice_index inside.bytes (index_of b))
+record_of inside = record_of_parts inside.flags inside.bytes
 
 -- bit 31 is 0
 abbrev pub HasClearTop : Inside → Type 0

@@ -7,7 +7,7 @@ ghost use Rattle.lexical_flags.specs.Layout.{IsClean, bit, part};
 ghost use Rattle.lexical_flags.specs.Record.{Record, HasBytes, raw, fill, trim, pack, flag_of, byte_of, tabulate, effective, separator_on};
 ghost use Rattle.lexical_flags.specs.Rules.{IsErrorOf, IsRadix, Lawful};
 ghost use Rattle.lexical_builder.specs.OptionByte.{byte_of_option};
-ghost use Rattle.lexical_builder.specs.Fields.{builder_bit, flags_in, index_of, flag_with};
+ghost use Rattle.lexical_builder.specs.Fields.{builder_bit, flags_in, index_of, flag_with, record_of_parts};
 ghost use Rattle.lexical_builder.specs.Writes.{new_record, radix_record};
 
 use lexical_base::error::Error;
@@ -226,6 +226,30 @@ impl NumberFormatBuilder {
                 (high >> 56) as u8,
             ],
         }
+    }
+
+    // PARTS
+
+    /// Returns a builder with these flags and bytes, as [`to_parts`][Self::to_parts] returns them. Bit 31
+    /// of the flags is ignored.
+    #[inline(always)]
+    pub fn from_parts(flags: u32, bytes: [u8; 6]) -> Self
+        ensures { result ≡ record_of_parts (flags % 2 ^ 31) bytes }
+    {
+        NumberFormatBuilder {
+            flags: flags % (1 << 31),
+            bytes,
+        }
+    }
+
+    /// Returns the 31 flags, the first in bit 0, and the bytes digit separator, base prefix, base suffix,
+    /// mantissa radix, exponent base and exponent radix, each 0 if it is absent.
+    #[inline(always)]
+    pub fn to_parts(&self) -> (u32, [u8; 6])
+        ensures fields { record_of_parts result.0 result.1 ≡ self.now }
+        ensures flags { result.0 < 2 ^ 31 }
+    {
+        (self.flags, self.bytes)
     }
 
     // Packs the fields. The separator is joined last, since it has to wait for a test.

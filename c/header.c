@@ -1,0 +1,144 @@
+/* Tests that peltzivar.h fits the library: the order of fields, and each call once. Its expected values are of
+ * the layout that the header tells, and of the Rust crate lexical-util 1.0.7. */
+#include "peltzivar.h"
+
+#include <stdio.h>
+#include <string.h>
+
+static int failed = 0;
+
+#define CHECK(condition) \
+    do { \
+        if (!(condition)) { \
+            printf("line %d: %s\n", __LINE__, #condition); \
+            failed = 1; \
+        } \
+    } while (0)
+
+static bool is_word(peltzivar_word word, uint64_t high, uint64_t low) {
+    return word.high == high && word.low == low;
+}
+
+/* Whether a text of this length was written, and nothing after it. */
+static bool is_text(const char *wanted, size_t len, const uint8_t *text) {
+    return len == strlen(wanted) && memcmp(wanted, text, len) == 0 && text[len] == '#';
+}
+
+static const peltzivar_word ZERO = {0, 0};
+static const peltzivar_word RESERVED = {0x8000000C, 0x00000A0000000000};
+
+/* Each byte of the fields at its bits, and each flag. */
+static void test_fields(void) {
+    const peltzivar_edit edits[] = {
+        {PELTZIVAR_SET_DIGIT_SEPARATOR, 1}, {PELTZIVAR_SET_BASE_PREFIX, 2}, {PELTZIVAR_SET_BASE_SUFFIX, 3},
+        {PELTZIVAR_SET_MANTISSA_RADIX, 4},  {PELTZIVAR_SET_EXPONENT_BASE, 5}, {PELTZIVAR_SET_EXPONENT_RADIX, 6},
+        {PELTZIVAR_SET_SPECIAL_DIGIT_SEPARATOR, 1},
+    };
+    peltzivar_fields fields = PELTZIVAR_NEW_FIELDS;
+    CHECK(peltzivar_edit_fields(&fields, edits, 7));
+    CHECK(fields.digit_separator == 1 && fields.base_prefix == 2 && fields.base_suffix == 3);
+    CHECK(fields.mantissa_radix == 4 && fields.exponent_base == 5 && fields.exponent_radix == 6);
+    CHECK(fields.flags == (0xC | 1u << PELTZIVAR_SET_SPECIAL_DIGIT_SEPARATOR));
+    CHECK(is_word(peltzivar_pack(fields), 0x0605040302000001, 0x0000100000000000 | 0xC));
+    fields.flags |= 1u << 31;
+    CHECK(is_word(peltzivar_pack(fields), 0x0605040302000001, 0x0000100000000000 | 0xC));
+
+    const peltzivar_edit unknown[] = {{PELTZIVAR_SET_RADIX, 7}, {47, 0}};
+    const peltzivar_fields before = fields;
+    CHECK(!peltzivar_edit_fields(&fields, unknown, 2));
+    CHECK(memcmp(&fields, &before, sizeof fields) == 0);
+    for (uint8_t flag = 0; flag < 31; flag++) {
+        const peltzivar_edit set = {flag, 200};
+        peltzivar_word word;
+        CHECK(peltzivar_edit_word(ZERO, &set, 1, &word));
+        CHECK(is_word(word, 0, 1ull << (flag < 18 ? flag : flag + 14)));
+        CHECK(peltzivar_fields_of(word).flags == 1u << flag);
+    }
+}
+
+static void test_words(void) {
+    peltzivar_word word = {1, 2};
+    const peltzivar_edit unknown = {PELTZIVAR_NO_SETTER, 0};
+    CHECK(!peltzivar_edit_word(ZERO, &unknown, 1, &word) && is_word(word, 2, 1));
+    CHECK(peltzivar_migrate(ZERO, &word) == PELTZIVAR_INVALID_MANTISSA_RADIX && is_word(word, 2, 1));
+    CHECK(peltzivar_build_strict(peltzivar_fields_of(ZERO), &word) == PELTZIVAR_INVALID_MANTISSA_RADIX);
+    CHECK(is_word(word, 2, 1));
+    CHECK(peltzivar_migrate(RESERVED, &word) == PELTZIVAR_SUCCESS && is_word(word, 0x0A0A0A0000000000, 0xC));
+    CHECK(peltzivar_build_strict(PELTZIVAR_NEW_FIELDS, &word) == PELTZIVAR_SUCCESS);
+    CHECK(is_word(word, PELTZIVAR_STANDARD.high, PELTZIVAR_STANDARD.low));
+    CHECK(is_word(peltzivar_normal_form(PELTZIVAR_STANDARD), 0x0A0A0A0000000000, 0xC));
+    CHECK(peltzivar_same_format(PELTZIVAR_STANDARD, RESERVED) && !peltzivar_same_format(PELTZIVAR_STANDARD, ZERO));
+    CHECK(peltzivar_is_built(PELTZIVAR_STANDARD) && !peltzivar_is_built(RESERVED));
+    peltzivar_edit edits[37];
+    CHECK(peltzivar_edits_of((peltzivar_word){0xC, 0x0000100000000000}, edits) == 1);
+    CHECK(edits[0].setter == PELTZIVAR_SET_MANTISSA_RADIX && edits[0].value == 16);
+}
+
+static void test_rules(void) {
+    const peltzivar_word hexadecimal = {0xC, 0x1010100000000000};
+    const peltzivar_word full = {0x4040, 0x0101012B2B00002B};
+    CHECK(peltzivar_format_error(PELTZIVAR_STANDARD) == PELTZIVAR_SUCCESS);
+    CHECK(peltzivar_format_error(RESERVED) == PELTZIVAR_INVALID_FLAGS);
+    CHECK(peltzivar_radix_error((peltzivar_word){0, 0x2505050000000000}) == PELTZIVAR_INVALID_EXPONENT_RADIX);
+    CHECK(peltzivar_is_valid_radix(36) && !peltzivar_is_valid_radix(37));
+    CHECK(!peltzivar_is_valid_exponent_flags(full) && peltzivar_is_valid_exponent_flags(ZERO));
+    CHECK(!peltzivar_is_valid_digit_separator(full) && peltzivar_is_valid_digit_separator(ZERO));
+    CHECK(!peltzivar_is_valid_base_prefix(full) && peltzivar_is_valid_base_prefix(ZERO));
+    CHECK(!peltzivar_is_valid_base_suffix(full) && peltzivar_is_valid_base_suffix(ZERO));
+    CHECK(!peltzivar_is_valid_punctuation(full) && peltzivar_is_valid_punctuation(ZERO));
+    CHECK(!peltzivar_is_valid_options_punctuation(hexadecimal, 'e', '.'));
+    CHECK(peltzivar_is_valid_options_punctuation(hexadecimal, '^', '.'));
+    CHECK(peltzivar_is_digit(hexadecimal, 'f') && !peltzivar_is_digit(hexadecimal, 'g'));
+    const peltzivar_word mask = {0, 0xFF00000000000000};
+    CHECK(peltzivar_radix_from_flags(hexadecimal, mask, 120) == 16);
+    CHECK(peltzivar_radix_from_flags(hexadecimal, mask, 128) == UINT32_MAX);
+}
+
+static void test_bytes(void) {
+    const uint8_t text[] = {'A', 'z', ' ', 127};
+    CHECK(peltzivar_is_valid_ascii('~') && !peltzivar_is_valid_ascii(127));
+    CHECK(peltzivar_is_valid_ascii_slice(text, 3) && !peltzivar_is_valid_ascii_slice(text, 4));
+    CHECK(peltzivar_is_valid_letter('z') && !peltzivar_is_valid_letter('0'));
+    CHECK(peltzivar_is_valid_letter_slice(text, 2) && !peltzivar_is_valid_letter_slice(text, 3));
+    CHECK(peltzivar_is_valid_ascii_slice(text, 0) && peltzivar_is_valid_letter_slice(text, 0));
+    CHECK(peltzivar_char_to_digit('f', 16) == 15 && peltzivar_char_to_digit_const('f', 16) == 15);
+    CHECK(peltzivar_char_to_digit('g', 16) == PELTZIVAR_NO_DIGIT && peltzivar_char_to_digit('!', 256) == 255);
+    CHECK(peltzivar_char_is_digit('9', 10) && !peltzivar_char_is_digit_const('9', 9));
+    CHECK(peltzivar_char_to_valid_digit_const('A', 10) == 17 && peltzivar_char_to_valid_digit_const('A', 11) == 10);
+    CHECK(peltzivar_digit_to_char(35) == 'Z' && peltzivar_digit_to_char(36) == PELTZIVAR_NO_CHAR);
+    CHECK(peltzivar_digit_to_char_const(11, 10) == ';');
+    CHECK(peltzivar_digit_to_char_const(36, 36) == PELTZIVAR_NO_CHAR);
+}
+
+static void test_texts(void) {
+    uint8_t text[256];
+    memset(text, '#', sizeof text);
+    CHECK(is_text("'not actually an error'", peltzivar_description(PELTZIVAR_SUCCESS, text, sizeof text), text));
+    memset(text, '#', sizeof text);
+    size_t len = peltzivar_text(PELTZIVAR_OVERFLOW, SIZE_MAX, text, sizeof text);
+    CHECK(is_text("lexical parse error: 'numeric overflow occurred' at index 18446744073709551615", len, text));
+    memset(text, '#', sizeof text);
+    CHECK(peltzivar_text(PELTZIVAR_INVALID_FLAGS, 0, text, 8) == 79);
+    CHECK(is_text("lexical ", 8, text));
+    memset(text, '#', sizeof text);
+    CHECK(peltzivar_text(PELTZIVAR_EMPTY, 5, text, 0) == 63 && text[0] == '#');
+    CHECK(peltzivar_text(49, 0, text, sizeof text) == 0 && text[0] == '#');
+    CHECK(peltzivar_description(49, text, sizeof text) == 0 && text[0] == '#');
+    CHECK(peltzivar_setter_name(47, text, sizeof text) == 0 && text[0] == '#');
+    for (uint8_t setter = 0; setter < 47; setter++) {
+        size_t len = peltzivar_setter_name(setter, text, sizeof text);
+        CHECK(peltzivar_setter_of_name(text, len) == setter);
+        CHECK(peltzivar_setter_of_name(text, len - 1) == PELTZIVAR_NO_SETTER);
+    }
+    memset(text, '#', sizeof text);
+    CHECK(is_text("exponent_base", peltzivar_setter_name(PELTZIVAR_SET_EXPONENT_BASE, text, sizeof text), text));
+}
+
+int main(void) {
+    test_fields();
+    test_words();
+    test_rules();
+    test_bytes();
+    test_texts();
+    return failed;
+}

@@ -1,0 +1,275 @@
+/* Number formats in words of 128 bits: their fields, edits and rules. Link with liblexical_c.a.
+ *
+ * A format word has 31 flags (bits 0 to 17 and 32 to 44) and six bytes (from bit 64 up: digit separator, bits
+ * 64 to 71; base prefix, 88; base suffix, 96; mantissa radix, 104; exponent base, 112; exponent radix, 120). The
+ * other 49 bits are reserved and 0 in a lawful word.
+ *
+ * Any word, number, byte or length that fits its type is allowed. A pointer has to point to what its type says,
+ * or to as many as the length beside it says, and is not null, not even for a length of 0; what a call writes must
+ * not overlap what it reads. No call allocates, keeps a pointer, or sets errno, and all can be made from several
+ * threads at once. */
+#ifndef PELTZIVAR_H
+#define PELTZIVAR_H
+
+#include <stdbool.h>
+#include <stddef.h>
+#include <stdint.h>
+
+#ifdef __cplusplus
+extern "C" {
+#endif
+
+/* A format word as two halves. */
+typedef struct {
+    uint64_t low, high;
+} peltzivar_word;
+
+/* The fields of a builder: the 31 flags, the first at bit 0, and six bytes, each 0 if it is absent. Bit 31 of the
+ * flags is ignored. */
+typedef struct {
+    uint32_t flags;
+    uint8_t digit_separator;
+    uint8_t base_prefix;
+    uint8_t base_suffix;
+    uint8_t mantissa_radix;
+    uint8_t exponent_base;
+    uint8_t exponent_radix;
+} peltzivar_fields;
+
+/* An edit: a setter and its argument. For a setter of flags any value but 0 is true; for a setter of a byte 0 is
+ * none. */
+typedef struct {
+    uint8_t setter, value;
+} peltzivar_edit;
+
+/* The standard format, which is what a new builder packs, and the fields of a new builder. */
+#define PELTZIVAR_STANDARD ((peltzivar_word){0xC, 0x00000A0000000000})
+#define PELTZIVAR_NEW_FIELDS ((peltzivar_fields){0xC, 0, 0, 0, 10, 0, 0})
+
+/* What stands for no setter, no digit, and no digit character. */
+#define PELTZIVAR_NO_SETTER 255
+#define PELTZIVAR_NO_DIGIT UINT32_MAX
+#define PELTZIVAR_NO_CHAR 0
+
+/* The setters. Those from 0 to 30 set the flag at that bit of `flags`, those from 31 to 39 set groups of flags, and
+ * those from 40 to 46 set bytes. */
+enum {
+    PELTZIVAR_SET_REQUIRED_INTEGER_DIGITS = 0,
+    PELTZIVAR_SET_REQUIRED_FRACTION_DIGITS = 1,
+    PELTZIVAR_SET_REQUIRED_EXPONENT_DIGITS = 2,
+    PELTZIVAR_SET_REQUIRED_MANTISSA_DIGITS = 3,
+    PELTZIVAR_SET_NO_POSITIVE_MANTISSA_SIGN = 4,
+    PELTZIVAR_SET_REQUIRED_MANTISSA_SIGN = 5,
+    PELTZIVAR_SET_NO_EXPONENT_NOTATION = 6,
+    PELTZIVAR_SET_NO_POSITIVE_EXPONENT_SIGN = 7,
+    PELTZIVAR_SET_REQUIRED_EXPONENT_SIGN = 8,
+    PELTZIVAR_SET_NO_EXPONENT_WITHOUT_FRACTION = 9,
+    PELTZIVAR_SET_NO_SPECIAL = 10,
+    PELTZIVAR_SET_CASE_SENSITIVE_SPECIAL = 11,
+    PELTZIVAR_SET_NO_INTEGER_LEADING_ZEROS = 12,
+    PELTZIVAR_SET_NO_FLOAT_LEADING_ZEROS = 13,
+    PELTZIVAR_SET_REQUIRED_EXPONENT_NOTATION = 14,
+    PELTZIVAR_SET_CASE_SENSITIVE_EXPONENT = 15,
+    PELTZIVAR_SET_CASE_SENSITIVE_BASE_PREFIX = 16,
+    PELTZIVAR_SET_CASE_SENSITIVE_BASE_SUFFIX = 17,
+    PELTZIVAR_SET_INTEGER_INTERNAL_DIGIT_SEPARATOR = 18,
+    PELTZIVAR_SET_FRACTION_INTERNAL_DIGIT_SEPARATOR = 19,
+    PELTZIVAR_SET_EXPONENT_INTERNAL_DIGIT_SEPARATOR = 20,
+    PELTZIVAR_SET_INTEGER_LEADING_DIGIT_SEPARATOR = 21,
+    PELTZIVAR_SET_FRACTION_LEADING_DIGIT_SEPARATOR = 22,
+    PELTZIVAR_SET_EXPONENT_LEADING_DIGIT_SEPARATOR = 23,
+    PELTZIVAR_SET_INTEGER_TRAILING_DIGIT_SEPARATOR = 24,
+    PELTZIVAR_SET_FRACTION_TRAILING_DIGIT_SEPARATOR = 25,
+    PELTZIVAR_SET_EXPONENT_TRAILING_DIGIT_SEPARATOR = 26,
+    PELTZIVAR_SET_INTEGER_CONSECUTIVE_DIGIT_SEPARATOR = 27,
+    PELTZIVAR_SET_FRACTION_CONSECUTIVE_DIGIT_SEPARATOR = 28,
+    PELTZIVAR_SET_EXPONENT_CONSECUTIVE_DIGIT_SEPARATOR = 29,
+    PELTZIVAR_SET_SPECIAL_DIGIT_SEPARATOR = 30,
+    PELTZIVAR_SET_REQUIRED_DIGITS = 31,
+    PELTZIVAR_SET_INTERNAL_DIGIT_SEPARATOR = 32,
+    PELTZIVAR_SET_LEADING_DIGIT_SEPARATOR = 33,
+    PELTZIVAR_SET_TRAILING_DIGIT_SEPARATOR = 34,
+    PELTZIVAR_SET_CONSECUTIVE_DIGIT_SEPARATOR = 35,
+    PELTZIVAR_SET_DIGIT_SEPARATOR_FLAGS = 36,
+    PELTZIVAR_SET_INTEGER_DIGIT_SEPARATOR_FLAGS = 37,
+    PELTZIVAR_SET_FRACTION_DIGIT_SEPARATOR_FLAGS = 38,
+    PELTZIVAR_SET_EXPONENT_DIGIT_SEPARATOR_FLAGS = 39,
+    PELTZIVAR_SET_DIGIT_SEPARATOR = 40,
+    PELTZIVAR_SET_BASE_PREFIX = 41,
+    PELTZIVAR_SET_BASE_SUFFIX = 42,
+    PELTZIVAR_SET_MANTISSA_RADIX = 43,
+    PELTZIVAR_SET_RADIX = 44,
+    PELTZIVAR_SET_EXPONENT_BASE = 45,
+    PELTZIVAR_SET_EXPONENT_RADIX = 46,
+};
+
+/* The outcomes. Those from 0 to 18 are errors of parsing, each with the index at which it was found; 19 to 35 are
+ * errors of formats, 36 to 47 of options. */
+enum {
+    PELTZIVAR_OVERFLOW = 0,
+    PELTZIVAR_UNDERFLOW = 1,
+    PELTZIVAR_INVALID_DIGIT = 2,
+    PELTZIVAR_EMPTY = 3,
+    PELTZIVAR_EMPTY_MANTISSA = 4,
+    PELTZIVAR_EMPTY_EXPONENT = 5,
+    PELTZIVAR_EMPTY_INTEGER = 6,
+    PELTZIVAR_EMPTY_FRACTION = 7,
+    PELTZIVAR_INVALID_POSITIVE_MANTISSA_SIGN = 8,
+    PELTZIVAR_MISSING_MANTISSA_SIGN = 9,
+    PELTZIVAR_INVALID_EXPONENT = 10,
+    PELTZIVAR_INVALID_POSITIVE_EXPONENT_SIGN = 11,
+    PELTZIVAR_MISSING_EXPONENT_SIGN = 12,
+    PELTZIVAR_EXPONENT_WITHOUT_FRACTION = 13,
+    PELTZIVAR_INVALID_LEADING_ZEROS = 14,
+    PELTZIVAR_MISSING_EXPONENT = 15,
+    PELTZIVAR_MISSING_SIGN = 16,
+    PELTZIVAR_INVALID_POSITIVE_SIGN = 17,
+    PELTZIVAR_INVALID_NEGATIVE_SIGN = 18,
+    PELTZIVAR_INVALID_MANTISSA_RADIX = 19,
+    PELTZIVAR_INVALID_EXPONENT_BASE = 20,
+    PELTZIVAR_INVALID_EXPONENT_RADIX = 21,
+    PELTZIVAR_INVALID_DIGIT_SEPARATOR = 22,
+    PELTZIVAR_INVALID_DECIMAL_POINT = 23,
+    PELTZIVAR_INVALID_EXPONENT_SYMBOL = 24,
+    PELTZIVAR_INVALID_BASE_PREFIX = 25,
+    PELTZIVAR_INVALID_BASE_SUFFIX = 26,
+    PELTZIVAR_INVALID_PUNCTUATION = 27,
+    PELTZIVAR_INVALID_EXPONENT_FLAGS = 28,
+    PELTZIVAR_INVALID_MANTISSA_SIGN = 29,
+    PELTZIVAR_INVALID_EXPONENT_SIGN = 30,
+    PELTZIVAR_INVALID_SPECIAL = 31,
+    PELTZIVAR_INVALID_CONSECUTIVE_INTEGER_DIGIT_SEPARATOR = 32,
+    PELTZIVAR_INVALID_CONSECUTIVE_FRACTION_DIGIT_SEPARATOR = 33,
+    PELTZIVAR_INVALID_CONSECUTIVE_EXPONENT_DIGIT_SEPARATOR = 34,
+    PELTZIVAR_INVALID_FLAGS = 35,
+    PELTZIVAR_INVALID_NAN_STRING = 36,
+    PELTZIVAR_NAN_STRING_TOO_LONG = 37,
+    PELTZIVAR_INVALID_INF_STRING = 38,
+    PELTZIVAR_INF_STRING_TOO_LONG = 39,
+    PELTZIVAR_INVALID_INFINITY_STRING = 40,
+    PELTZIVAR_INFINITY_STRING_TOO_LONG = 41,
+    PELTZIVAR_INFINITY_STRING_TOO_SHORT = 42,
+    PELTZIVAR_INVALID_FLOAT_PARSE_ALGORITHM = 43,
+    PELTZIVAR_INVALID_RADIX = 44,
+    PELTZIVAR_INVALID_FLOAT_PRECISION = 45,
+    PELTZIVAR_INVALID_NEGATIVE_EXPONENT_BREAK = 46,
+    PELTZIVAR_INVALID_POSITIVE_EXPONENT_BREAK = 47,
+    PELTZIVAR_SUCCESS = 48,
+};
+
+/* BUILDERS */
+
+/* Returns the fields of a word; an exponent base or exponent radix of 0 becomes the mantissa radix. */
+peltzivar_fields peltzivar_fields_of(peltzivar_word format);
+
+/* Applies the edits to the fields in order and returns true. If one of them has no setter, returns false and leaves
+ * the fields as they were. */
+bool peltzivar_edit_fields(peltzivar_fields *fields, const peltzivar_edit *edits, size_t len);
+
+/* Returns the word that the fields are packed into, lawful or not. The digit separator is packed only if a flag
+ * allows one. */
+peltzivar_word peltzivar_pack(peltzivar_fields fields);
+
+/* Packs the fields. If the word is lawful, writes it to *out and returns PELTZIVAR_SUCCESS; else writes nothing and
+ * returns the error of the first rule that it breaks. */
+uint32_t peltzivar_build_strict(peltzivar_fields fields, peltzivar_word *out);
+
+/* WORDS */
+
+/* Applies the edits to a word in order, writes the new word to *out and returns true. If one of them has no setter,
+ * returns false and writes nothing. Empty exponent bytes are filled from the mantissa radix before the edits. */
+bool peltzivar_edit_word(peltzivar_word format, const peltzivar_edit *edits, size_t len, peltzivar_word *out);
+
+/* Returns the normal form: the canonical one among the words that mean the same. */
+peltzivar_word peltzivar_normal_form(peltzivar_word format);
+
+/* Writes the normal form to *out and returns PELTZIVAR_SUCCESS if it is lawful; else writes nothing and returns the
+ * error of the first rule that it breaks. */
+uint32_t peltzivar_migrate(peltzivar_word format, peltzivar_word *out);
+
+/* Returns whether two words have the same normal form. */
+bool peltzivar_same_format(peltzivar_word a, peltzivar_word b);
+
+/* Returns whether peltzivar_pack can return the word. */
+bool peltzivar_is_built(peltzivar_word format);
+
+/* Writes one edit for each of the 37 fields, with its value in the word, and returns how many of them make these
+ * fields from those of a new builder. These come first, and no shorter list does. */
+size_t peltzivar_edits_of(peltzivar_word format, peltzivar_edit edits[37]);
+
+/* RULES */
+
+/* Returns the error of the first rule that a word breaks, or PELTZIVAR_SUCCESS if it is lawful. */
+uint32_t peltzivar_format_error(peltzivar_word format);
+
+/* Returns the error of the first of the three radixes that is not 2 to 36, or PELTZIVAR_SUCCESS. */
+uint32_t peltzivar_radix_error(peltzivar_word format);
+
+/* Returns whether a number is 2 to 36. */
+bool peltzivar_is_valid_radix(uint32_t radix);
+
+/* Returns whether the word keeps one rule: exponents are not both required and forbidden; the byte is absent, or
+ * allowed ASCII that is no sign and no digit; no byte is two of separator, prefix and suffix. */
+bool peltzivar_is_valid_exponent_flags(peltzivar_word format);
+bool peltzivar_is_valid_digit_separator(peltzivar_word format);
+bool peltzivar_is_valid_base_prefix(peltzivar_word format);
+bool peltzivar_is_valid_base_suffix(peltzivar_word format);
+bool peltzivar_is_valid_punctuation(peltzivar_word format);
+
+/* Returns whether an exponent character and a decimal point fit a word: no byte has two roles. */
+bool peltzivar_is_valid_options_punctuation(peltzivar_word format, uint8_t exponent, uint8_t decimal_point);
+
+/* Returns whether a byte is a digit of the mantissa radix or of the exponent radix. */
+bool peltzivar_is_digit(peltzivar_word format, uint8_t byte);
+
+/* Returns the bits that word and mask have in common, shifted right, low 32 bits; the mantissa radix if these are
+ * 0; and UINT32_MAX for a shift of 128 or more. */
+uint32_t peltzivar_radix_from_flags(peltzivar_word format, peltzivar_word mask, uint32_t shift);
+
+/* BYTES AND DIGITS */
+
+/* Returns whether a byte, or each byte, is ASCII that a format may use: 9 to 13, and 32 to 126. */
+bool peltzivar_is_valid_ascii(uint8_t byte);
+bool peltzivar_is_valid_ascii_slice(const uint8_t *bytes, size_t len);
+
+/* Returns whether a byte, or each byte, is an ASCII letter. */
+bool peltzivar_is_valid_letter(uint8_t byte);
+bool peltzivar_is_valid_letter_slice(const uint8_t *bytes, size_t len);
+
+/* Returns the digit that a byte is in a radix, or PELTZIVAR_NO_DIGIT. In a radix above 255 a byte that is no digit
+ * character is the digit 255. */
+uint32_t peltzivar_char_to_digit(uint8_t byte, uint32_t radix);
+
+/* Returns whether a byte is a digit of a radix. */
+bool peltzivar_char_is_digit(uint8_t byte, uint32_t radix);
+
+/* Returns the digit character of a digit, or PELTZIVAR_NO_CHAR for a digit of 36 or more. */
+uint8_t peltzivar_digit_to_char(uint32_t digit);
+
+/* The same by the calls that the Rust crate has for a radix known at compile time. The second is meaningful only if
+ * the byte is a digit of the radix, the last only if the digit is below the radix. */
+uint32_t peltzivar_char_to_digit_const(uint8_t byte, uint32_t radix);
+uint32_t peltzivar_char_to_valid_digit_const(uint8_t byte, uint32_t radix);
+bool peltzivar_char_is_digit_const(uint8_t byte, uint32_t radix);
+uint8_t peltzivar_digit_to_char_const(uint32_t digit, uint32_t radix);
+
+/* TEXTS: each is ASCII without a 0 at its end. A call writes as much of it as has room and returns the length of the
+ * whole, or writes nothing and returns 0 if there is no such outcome or setter. 256 bytes are enough for each. */
+
+/* Writes what is wrong, as text between single quotes and without an index. */
+size_t peltzivar_description(uint32_t outcome, uint8_t *text, size_t len);
+
+/* Writes the class of the outcome, its description, and for an error of parsing the index. */
+size_t peltzivar_text(uint32_t outcome, size_t index, uint8_t *text, size_t len);
+
+/* Writes the name of a setter. */
+size_t peltzivar_setter_name(uint8_t setter, uint8_t *text, size_t len);
+
+/* Returns the setter of a name, or PELTZIVAR_NO_SETTER. */
+uint8_t peltzivar_setter_of_name(const uint8_t *name, size_t len);
+
+#ifdef __cplusplus
+}
+#endif
+
+#endif

@@ -1,0 +1,86 @@
+-- Changes that are applied one after another.
+use Rattle.std.proofs.Common.{◌≡◌, rules, ℕ, zero, suc, ◌+◌, ◌<◌, ◌≤◌, Option, Some, IsSome, List, [], ◌∷◌, ◌++◌, length, get_or, take, set, filter_map, refl, sym, ap, ◌∙◌, subst, append-nil, length-set, take_all, All, arith}
+use Rattle.std.proofs.lemmas.List.{take_more, take_more_set}
+use Rattle.std.proofs.lemmas.List.Concat.{flat_map-append}
+use Rattle.std.proofs.lemmas.List.Elements.{All-append, All-same, filter_map-append}
+use Rattle.std.specs.List.{cons_option}
+use Rattle.lexical_util.specs.Record.{Record}
+use Rattle.lexical_util.specs.Writes.{Write, after}
+use Rattle.lexical_util.specs.Edits.{all_writes, writes_of}
+use Rattle.lexical_util.specs.declared.edits.Edit.{Edit}
+use Rattle.lexical_c.specs.declared.changes.Change.{Change}
+use Rattle.lexical_c.specs.Edits.{edit_of, HasSetter, known}
+
+-- the first i changes have setters, and are applied to a record
+pub record HaveApplied (R : Record) (changes : List Change) (i : ℕ) (b : Record) : Type 0 where
+  pub fields : b ≡ after R (all_writes (known (take i changes)))
+  pub each : All HasSetter (take i changes)
+
+-- before the first change
+pub none_applied : (none : (r : Record) → after r [] ≡ r) (R : Record) (changes : List Change) → HaveApplied R changes 0 R
+none_applied none R changes = record { fields = sym (none R); each = λ k d h. absurd (omega arith) }
+
+one : (c : Change) (e : Edit) → edit_of c ≡ Some e → known (c ∷ []) ≡ e ∷ []
+one c e is = ap (λ o. cons_option o []) is
+
+single : (c : Change) (e : Edit) → edit_of c ≡ Some e → All HasSetter (c ∷ [])
+single c e is zero d l = subst IsSome (sym is) (search rules)
+single c e is (suc k) d l = absurd (omega (arith, l))
+
+-- the writes of one change more
+more_writes : (changes : List Change) (i : ℕ) (e : Edit) (d : Change) → i < length changes → edit_of (get_or changes i d) ≡ Some e
+    → all_writes (known (take (i + 1) changes)) ≡ all_writes (known (take i changes)) ++ writes_of e
+more_writes changes i e d inside edit =
+    let c = get_or changes i d in
+    let front = take i changes in
+    ap (λ xs. all_writes (known xs)) (take_more changes i d inside)
+    ∙ ap all_writes (filter_map-append edit_of front (c ∷ []) ∙ ap (λ xs. known front ++ xs) (one c e edit))
+    ∙ flat_map-append writes_of (known front) (e ∷ []) ∙ ap (λ L. all_writes (known front) ++ L) (append-nil (writes_of e))
+
+-- one change more
+pub more_applied : {R : Record} {changes : List Change} {i : ℕ} {b next : Record} {e : Edit}
+    → (append : (r : Record) (first second : List Write) → after (after r first) second ≡ after r (first ++ second)) (d : Change)
+    → HaveApplied R changes i b → i < length changes → edit_of (get_or changes i d) ≡ Some e → next ≡ after b (writes_of e)
+    → HaveApplied R changes (i + 1) next
+more_applied {R} {changes} {i} {b} {next} {e} append d h inside edit applied = record {
+  fields = applied ∙ ap (λ S. after S (writes_of e)) h.fields ∙ append R (all_writes (known (take i changes))) (writes_of e)
+      ∙ ap (after R) (sym (more_writes changes i e d inside edit));
+  each = All-same HasSetter _ _ (take_more changes i d inside) (All-append HasSetter (take i changes) (get_or changes i d ∷ []) h.each (single _ e edit));
+}
+
+-- after the last change
+pub all_applied : {R : Record} {changes : List Change} {i : ℕ} {b : Record} → HaveApplied R changes i b → length changes ≤ i
+    → (b ≡ after R (all_writes (known changes))) × All HasSetter changes
+all_applied {R} {changes} {i} {b} h end =
+    let all : take i changes ≡ changes = take_all i changes end in
+    (h.fields ∙ ap (λ xs. after R (all_writes (known xs))) all, All-same HasSetter _ _ (sym all) h.each)
+
+-- of 37 changes the first i stand for the first i edits
+pub record StandFor (changes : List Change) (edits : List Edit) (i : ℕ) : Type 0 where
+  pub count : length changes ≡ 37
+  pub edits_are : known (take i changes) ≡ take i edits
+  pub each : All HasSetter (take i changes)
+
+-- before the first
+pub none_stand : (changes : List Change) (edits : List Edit) → length changes ≡ 37 → StandFor changes edits 0
+none_stand changes edits count = record { count = count; edits_are = refl; each = λ k d h. absurd (omega arith) }
+
+-- one change more
+pub more_stand : {changes : List Change} {edits : List Edit} {i : ℕ} {e : Edit} (c : Change) → StandFor changes edits i
+    → i < 37 → i < length edits → e ≡ get_or edits i e → edit_of c ≡ Some e → StandFor (set changes i c) edits (i + 1)
+more_stand {changes} {edits} {i} {e} c h inside some is edit =
+    let front = take i changes in
+    let taken : take (i + 1) (set changes i c) ≡ front ++ c ∷ [] = take_more_set changes i c (omega (arith, h.count)) in
+    record {
+      count = length-set changes i c ∙ h.count;
+      edits_are = ap known taken ∙ filter_map-append edit_of front (c ∷ []) ∙ ap (λ xs. known front ++ xs) (one c e edit)
+          ∙ ap (λ xs. xs ++ e ∷ []) h.edits_are ∙ ap (λ x. take i edits ++ x ∷ []) is ∙ sym (take_more edits i e some);
+      each = All-same HasSetter _ _ taken (All-append HasSetter front (c ∷ []) h.each (single c e edit));
+    }
+
+-- after the last
+pub all_stand : {changes : List Change} {edits : List Edit} {i : ℕ} → StandFor changes edits i → 37 ≤ i → length edits ≤ i
+    → (known changes ≡ edits) × All HasSetter changes
+all_stand {changes} {edits} {i} h end ends =
+    let all : take i changes ≡ changes = take_all i changes (omega (arith, h.count)) in
+    (ap known (sym all) ∙ h.edits_are ∙ take_all i edits ends, All-same HasSetter _ _ (sym all) h.each)

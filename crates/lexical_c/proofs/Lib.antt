@@ -1,0 +1,4 @@
+mod FieldLemmas
+mod ChangeLemmas
+mod TextLemmas
+mod OutcomeLemmas

@@ -1,0 +1,15 @@
+use Rattle.std.proofs.Common.{◌≡◌, ◌∙◌, sym, ap, inl, inr, arith}
+use Rattle.std.proofs.lemmas.Bool.{cases_lt}
+use Rattle.std.proofs.lemmas.Bool.Decides.{not_from_Decides}
+use Rattle.std.proofs.lemmas.Slice.Eq.{bytes_eq-Decides}
+use Rattle.lexical_c.specs.Edits.{name_of_setter}
+use Rattle.lexical_c.proofs.setters.peltzivar_setter_of_name.Goals as goal
+
+pub loop-setter-preserved : goal.loop-setter-preserved
+loop-setter-preserved c setter below named = elim (cases_lt setter c.loop-setter.setter) [
+  | inl less ↦ c.loop-setter.invariant setter less named
+  | inr last ↦
+      let same : c.loop-setter.setter ≡ setter = omega arith in
+      let other = not_from_Decides _ (bytes_eq-Decides c.as_bytes.result.now c.args.text.now) (sym c.eq.ensures ∙ c.if-eq.false) in
+      other (c.as_bytes.ensures.value ∙ c.name.ensures ∙ ap name_of_setter same ∙ named)
+]

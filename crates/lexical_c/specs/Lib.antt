@@ -1,0 +1,4 @@
+pub mod Words
+pub mod Edits
+pub mod Outcomes
+pub mod Texts

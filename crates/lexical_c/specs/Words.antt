@@ -1,0 +1,16 @@
+-- The numbers and records that the structs which cross to C stand for.
+use Rattle.std.specs.Prelude.{ℕ, ◌+◌, ◌*◌, ◌^◌, ◌%◌, [], ◌∷◌}
+use Rattle.lexical_util.specs.Fields.{record_of_parts}
+use Rattle.lexical_util.specs.Record.{Record}
+use Rattle.lexical_c.specs.declared.words.Word.TheInside as word
+use Rattle.lexical_c.specs.declared.words.Fields as fields
+
+-- the number that two halves make
+abbrev pub number_of : word.Inside → ℕ
+number_of w = w.low + w.high * 2 ^ 64
+
+-- the record of fields that cross; bit 31 of the flags is ignored
+abbrev pub fields_of : fields.Fields → Record
+fields_of f =
+    record_of_parts (f.flags % 2 ^ 31)
+    (f.digit_separator ∷ f.base_prefix ∷ f.base_suffix ∷ f.mantissa_radix ∷ f.exponent_base ∷ f.exponent_radix ∷ [])

@@ -1,0 +1,63 @@
+//! Builders, which are structs of fields here.
+
+ghost use Rattle.std.specs.Prelude.{◌≡◌, ◌↔◌, IsTrue, IsFalse, All};
+ghost use Rattle.lexical_util.specs.Record.{raw, fill, trim, pack};
+ghost use Rattle.lexical_util.specs.Layout.{IsClean};
+ghost use Rattle.lexical_util.specs.Rules.{IsErrorOf, Lawful};
+ghost use Rattle.lexical_util.specs.Writes.{after};
+ghost use Rattle.lexical_util.specs.Edits.{all_writes};
+ghost use Rattle.lexical_c.specs.Words.{fields_of};
+ghost use Rattle.lexical_c.specs.Edits.{HasSetter, known};
+ghost use Rattle.lexical_c.specs.Outcomes.{IsRankOfOne};
+
+use crate::changes::Change;
+use crate::edits::apply_changes;
+use crate::rules::checked;
+use crate::words::{Fields, Word};
+use lexical_util::format_builder::NumberFormatBuilder;
+
+/// Returns the fields of a word, empty exponent bytes filled from its mantissa radix.
+#[unsafe(no_mangle)]
+pub extern "C" fn peltzivar_fields_of(format: Word) -> Fields
+    ensures { fields_of result ≡ fill (raw format) }
+{
+    Fields::new(&NumberFormatBuilder::rebuild(format.number()))
+}
+
+/// Applies the changes to the fields in order and returns `true`. If one of them has no setter, it returns
+/// `false` and leaves the fields as they were.
+#[unsafe(no_mangle)]
+pub extern "C" fn peltzivar_edit_fields(fields: &mut Fields, changes: &[Change]) -> bool
+    ensures known { IsTrue result ↔ All HasSetter changes.now }
+    ensures fields { IsTrue result → fields_of fields.new
+        ≡ after (fields_of fields.old) (all_writes (known changes.now)) }
+    ensures unchanged { IsFalse result → fields.new ≡ fields.old }
+{
+    let Some(builder) = apply_changes(fields.builder(), changes) else {
+        return false;
+    };
+    *fields = Fields::new(&builder);
+    true
+}
+
+/// Packs the fields into a word, lawful or not.
+#[unsafe(no_mangle)]
+pub extern "C" fn peltzivar_pack(fields: Fields) -> Word
+    ensures word { result ≡ pack (fields_of fields) }
+    ensures fields { raw result ≡ trim (fields_of fields) }
+    ensures clean { IsClean result }
+{
+    Word::new(fields.builder().build_unchecked())
+}
+
+/// Packs the fields into a word. If it is lawful, writes it and returns 48; else writes nothing and returns
+/// the rank of its error.
+#[unsafe(no_mangle)]
+pub extern "C" fn peltzivar_build_strict(fields: Fields, out: &mut Word) -> u32
+    ensures error { IsRankOfOne (IsErrorOf (pack (fields_of fields))) result }
+    ensures lawful { (result ≡ 48) ↔ Lawful (pack (fields_of fields)) }
+    ensures written { result ≡ 48 → out.new ≡ pack (fields_of fields) }
+    ensures unchanged { (result ≡ 48 → ⊥) → out.new ≡ out.old }
+{
+    checked(fields.builder().build_unchecked(), out)
+}

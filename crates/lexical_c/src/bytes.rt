@@ -1,0 +1,114 @@
+//! Bytes and digits.
+
+ghost use Rattle.std.specs.Prelude.{◌≡◌, ◌↔◌, ℕ, ◌<◌, ◌≤◌, ◌+◌, ◌-◌, ◌^◌, ◌%◌, ◌||◌, IsTrue, IsSome, Some, unwrap_or, slice_get, nat_le, nat_lt, if◌then◌else◌};
+ghost use Rattle.std.specs.List.{AllPass};
+ghost use Rattle.lexical_util.specs.Ascii.{allowed_ascii, letters};
+ghost use Rattle.lexical_util.specs.Digits.{value, digit_of, digit_characters};
+
+use lexical_util::{ascii, digit};
+
+/// Returns whether a byte is ASCII that a format may use.
+#[unsafe(no_mangle)]
+pub extern "C" fn peltzivar_is_valid_ascii(byte: u8) -> bool
+    ensures { IsTrue result ↔ IsTrue (allowed_ascii byte) }
+{
+    ascii::is_valid_ascii(byte)
+}
+
+/// Returns whether every byte is ASCII that a format may use.
+#[unsafe(no_mangle)]
+pub extern "C" fn peltzivar_is_valid_ascii_slice(bytes: &[u8]) -> bool
+    ensures { IsTrue result ↔ AllPass allowed_ascii bytes.now }
+{
+    ascii::is_valid_ascii_slice(bytes)
+}
+
+/// Returns whether a byte is an ASCII letter.
+#[unsafe(no_mangle)]
+pub extern "C" fn peltzivar_is_valid_letter(byte: u8) -> bool
+    ensures { IsTrue result ↔ IsTrue (letters byte) }
+{
+    ascii::is_valid_letter(byte)
+}
+
+/// Returns whether every byte is an ASCII letter.
+#[unsafe(no_mangle)]
+pub extern "C" fn peltzivar_is_valid_letter_slice(bytes: &[u8]) -> bool
+    ensures { IsTrue result ↔ AllPass letters bytes.now }
+{
+    ascii::is_valid_letter_slice(bytes)
+}
+
+/// Returns the digit that a byte is in a radix, or `u32::MAX` if it is none.
+#[unsafe(no_mangle)]
+pub extern "C" fn peltzivar_char_to_digit(byte: u8, radix: u32) -> u32
+    ensures { result ≡ unwrap_or (digit_of byte radix) (2 ^ 32 - 1) }
+{
+    digit_or_max(digit::char_to_digit(byte, radix))
+}
+
+/// Returns whether a byte is a digit of a radix.
+#[unsafe(no_mangle)]
+pub extern "C" fn peltzivar_char_is_digit(byte: u8, radix: u32) -> bool
+    ensures { IsTrue result ↔ IsSome (digit_of byte radix) }
+{
+    digit::char_is_digit(byte, radix)
+}
+
+/// Returns the digit character of a digit, or 0 for a digit of 36 or more.
+#[unsafe(no_mangle)]
+pub extern "C" fn peltzivar_digit_to_char(digit: u32) -> u8
+    ensures character { digit < 36 → slice_get digit_characters digit ≡ Some result }
+    ensures none { (digit < 36 → ⊥) → result ≡ 0 }
+{
+    if digit < 36 { digit::digit_to_char(digit) } else { 0 }
+}
+
+/// Returns what [`peltzivar_char_to_digit`] returns, by the call for a radix known at compile time.
+#[unsafe(no_mangle)]
+pub extern "C" fn peltzivar_char_to_digit_const(byte: u8, radix: u32) -> u32
+    ensures { result ≡ unwrap_or (digit_of byte radix) (2 ^ 32 - 1) }
+{
+    digit_or_max(digit::char_to_digit_const(byte, radix))
+}
+
+/// Returns the value of a byte that is known to be a digit of a radix.
+#[unsafe(no_mangle)]
+pub extern "C" fn peltzivar_char_to_valid_digit_const(byte: u8, radix: u32) -> u32
+    ensures small { radix ≤ 10 → result ≡ (byte + 208) % 256 }
+    ensures large { 10 < radix → result ≡ value byte }
+{
+    digit::char_to_valid_digit_const(byte, radix)
+}
+
+/// Returns what [`peltzivar_char_is_digit`] returns, by the call for a radix known at compile time.
+#[unsafe(no_mangle)]
+pub extern "C" fn peltzivar_char_is_digit_const(byte: u8, radix: u32) -> bool
+    ensures { IsTrue result ↔ IsSome (digit_of byte radix) }
+{
+    digit::char_is_digit_const(byte, radix)
+}
+
+/// Returns the digit character of a digit that is below a radix, or 0 for a digit of 36 or more.
+#[unsafe(no_mangle)]
+pub extern "C" fn peltzivar_digit_to_char_const(digit: u32, radix: u32) -> u8
+    ensures byte { digit < 36 → result ≡ (if (nat_le radix 10) || (nat_lt digit 10) then 48 + digit else 55 + digit) }
+    ensures none { (digit < 36 → ⊥) → result ≡ 0 }
+{
+    if digit < 36 {
+        digit::digit_to_char_const(digit, radix)
+    } else {
+        0
+    }
+}
+
+// The digit, or `u32::MAX`, which is no digit of any radix: 255 is one of radixes above 255.
+#[inline(always)]
+fn digit_or_max(digit: Option<u32>) -> u32
+    ensures { result ≡ unwrap_or digit (2 ^ 32 - 1) }
+{
+    match digit {
+        Some(digit) => digit,
+        None => u32::MAX,
+    }
+}

@@ -1,0 +1,139 @@
+//! Edits of words.
+
+ghost use Rattle.std.specs.Prelude.{◌≡◌, ◌↔◌, ◌++◌, ◌≤◌, IsTrue, IsFalse, IsSome, IfSome, List, All, length, take};
+ghost use Rattle.lexical_util.specs.Rules.{Lawful, IsErrorOf};
+ghost use Rattle.lexical_util.specs.Layout.{IsClean};
+ghost use Rattle.lexical_util.specs.Record.{raw, fill, trim, pack, IsBuilt};
+ghost use Rattle.lexical_util.specs.Edits.{all_writes, edited};
+ghost use Rattle.lexical_util.specs.Listing.{IsBuiltByWrites, changing, unchanging};
+ghost use Rattle.lexical_util.specs.Normal.{normal_form_of, SameFormat, IsNormal};
+ghost use Rattle.lexical_util.specs.Writes.{Write, IsLegal, new_record, after};
+ghost use Rattle.lexical_c.specs.Edits.{HasSetter, known};
+ghost use Rattle.lexical_c.specs.Outcomes.{IsRankOfOne};
+
+use crate::changes::Change;
+use crate::rules::checked;
+use crate::words::Word;
+use lexical_util::edits;
+use lexical_util::edits::apply;
+use lexical_util::format_builder::NumberFormatBuilder;
+use lexical_util::laws::write_facts;
+
+/// Applies the changes to a builder in order. Returns `None` if one of them has no setter.
+#[inline(always)]
+pub fn apply_changes(mut builder: NumberFormatBuilder, changes: &[Change]) -> Option<NumberFormatBuilder>
+    ensures known { IsSome result ↔ All HasSetter changes.now }
+    ensures fields { IfSome result (λ applied. applied ≡ after builder (all_writes (known changes.now))) }
+{
+    write_facts();
+    for change in changes {
+        let Some(edit) = change.edit() else {
+            return None;
+        };
+        builder = apply(builder, edit);
+    }
+    Some(builder)
+}
+
+/// Applies the changes to a word in order, writes the new word and returns `true`. If one of them has no
+/// setter, it returns `false` and writes nothing.
+#[unsafe(no_mangle)]
+pub extern "C" fn peltzivar_edit_word(format: Word, changes: &[Change], out: &mut Word) -> bool
+    ensures known { IsTrue result ↔ All HasSetter changes.now }
+    ensures word { IsTrue result → out.new ≡ edited format (all_writes (known changes.now)) }
+    ensures fields { IsTrue result → raw out.new ≡ trim (after (fill (raw format)) (all_writes (known changes.now))) }
+    ensures clean { IsTrue result → IsClean out.new }
+    ensures unchanged { IsFalse result → out.new ≡ out.old }
+{
+    let start = NumberFormatBuilder::rebuild(format.number());
+    let Some(builder) = apply_changes(start, changes) else {
+        return false;
+    };
+    *out = Word::new(builder.build_unchecked());
+    true
+}
+
+/// Returns the normal form of a word.
+#[unsafe(no_mangle)]
+pub extern "C" fn peltzivar_normal_form(format: Word) -> Word
+    ensures word { result ≡ normal_form_of format }
+    ensures normal { IsNormal result }
+    ensures same { SameFormat (raw format) (raw result) }
+    ensures unchanged { (result ≡ format) ↔ IsNormal format }
+{
+    Word::new(edits::normal_form(format.number()))
+}
+
+/// Writes the normal form of a word and returns 48 if the normal form is lawful; else writes nothing and
+/// returns the rank of its error.
+#[unsafe(no_mangle)]
+pub extern "C" fn peltzivar_migrate(format: Word, out: &mut Word) -> u32
+    ensures error { IsRankOfOne (IsErrorOf (normal_form_of format)) result }
+    ensures lawful { (result ≡ 48) ↔ Lawful (normal_form_of format) }
+    ensures written { result ≡ 48 → out.new ≡ normal_form_of format }
+    ensures unchanged { (result ≡ 48 → ⊥) → out.new ≡ out.old }
+{
+    checked(edits::normal_form(format.number()), out)
+}
+
+/// Returns whether two words mean the same, that is, have the same normal form.
+#[unsafe(no_mangle)]
+pub extern "C" fn peltzivar_same_format(a: Word, b: Word) -> bool
+    ensures normal_forms { IsTrue result ↔ (normal_form_of a ≡ normal_form_of b) }
+    ensures fields { IsTrue result ↔ SameFormat (raw a) (raw b) }
+{
+    edits::same_format(a.number(), b.number())
+}
+
+/// Returns whether [`peltzivar_pack`][crate::builders::peltzivar_pack] can return this word.
+#[unsafe(no_mangle)]
+pub extern "C" fn peltzivar_is_built(format: Word) -> bool
+    ensures rule { IsTrue result ↔ IsBuilt format }
+    ensures image { IsTrue result ↔ IsBuiltByWrites format }
+{
+    edits::is_built(format.number())
+}
+
+/// Writes one change for each of the 37 fields, with the field's value in the word, and returns how many of
+/// them make these fields from those of a new builder. These come first, and there is no shorter list.
+#[unsafe(no_mangle)]
+pub extern "C" fn peltzivar_edits_of(format: Word, changes: &mut [Change; 37]) -> usize
+    ensures each { All HasSetter changes.new }
+    ensures list { known changes.new ≡ changing (raw format) ++ unchanging (raw format) }
+    ensures number { result ≡ length (changing (raw format)) }
+    ensures first { after new_record (all_writes (take result (known changes.new))) ≡ raw format }
+    ensures fewest { (writes : List Write) → All IsLegal writes
+        → pack (after new_record writes) ≡ format → result ≤ length writes }
+{
+    let (edits, count) = edits::edits_of(format.number());
+    for index in 0..37 {
+        changes[index] = Change::new(edits[index]);
+    }
+    count
+}
+
+#[cfg(test)]
+mod tests {
+    use super::*;
+    use crate::builders::{peltzivar_edit_fields, peltzivar_fields_of};
+
+    #[test]
+    fn an_unknown_setter_changes_nothing(rt: HostRuntime) {
+        let known = Change {
+            setter: 43,
+            value: 16,
+        };
+        let unknown = Change {
+            setter: 47,
+            value: 0,
+        };
+        let mut out = Word::new(7);
+        assert!(rt; !peltzivar_edit_word(Word::new(12), &[known, unknown], &mut out));
+        assert_eq!(rt; out.number(), 7);
+        assert!(rt; peltzivar_edit_word(Word::new(12), &[known], &mut out));
+        assert_eq!(rt; out.number(), 12 | 16 << 104);
+        let mut fields = peltzivar_fields_of(Word::new(12));
+        assert!(rt; !peltzivar_edit_fields(&mut fields, &[known, unknown]));
+        assert_eq!(rt; fields.mantissa_radix, 0);
+    }
+}

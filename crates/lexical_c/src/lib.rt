@@ -1,0 +1,17 @@
+//! The library for callers in C, Rust and other languages: a static library of its calls.
+//!
+//! Each export calls the library's function of the same name and states its clauses again. None has a
+//! `requires`: a number that names no setter, outcome or digit makes it return `false` or a value that
+//! means none, and what the caller passed is then unchanged. What a caller owes is what C's types say: a
+//! pointer points to a whole value, or to as many as the length says, and a `bool` is 0 or 1.
+#![tactic(auto)]
+
+mod builders;
+mod bytes;
+mod changes;
+mod edits;
+mod outcomes;
+mod rules;
+mod setters;
+mod texts;
+mod words;

@@ -1,0 +1,127 @@
+//! The rules of words.
+
+ghost use Rattle.std.specs.Prelude.{◌≡◌, ◌↔◌, ℕ, ◌<◌, ◌^◌, ◌-◌, ◌/◌, ◌%◌, IsTrue, pos, unsigned_abs, ◌≤ℤ◌, ◌<ℤ◌};
+ghost use Rattle.lexical_util.specs.Roles.{digits};
+ghost use Rattle.lexical_util.specs.Rules.{Lawful, IsErrorOf, IsRadix, IsFirstError, Holds};
+ghost use Rattle.lexical_util.specs.Rules as rules;
+ghost use Rattle.lexical_util.specs.Record.{raw, effective};
+ghost use Rattle.lexical_util.specs.Common.{common};
+ghost use Rattle.lexical_util.specs.Options.{AreAccepted, HaveOneRole, LeavesRoom};
+ghost use Rattle.lexical_c.specs.Outcomes.{IsRankOfOne};
+
+use crate::words::Word;
+use lexical_util::format;
+use lexical_util::format_flags as flags;
+
+/// Writes a word and returns 48 if it is lawful; else writes nothing and returns the rank of its error.
+#[inline(always)]
+pub fn checked(word: u128, out: &mut Word) -> u32
+    ensures error { IsRankOfOne (IsErrorOf word) result }
+    ensures lawful { (result ≡ 48) ↔ Lawful word }
+    ensures written { result ≡ 48 → out.new ≡ word }
+    ensures unchanged { (result ≡ 48 → ⊥) → out.new ≡ out.old }
+{
+    let error = format::format_error(word);
+    if error.is_success() {
+        *out = Word::new(word);
+    }
+    error.rank() as u32
+}
+
+/// Returns the rank of the error of the first rule that a word breaks, or 48 if it is lawful.
+#[unsafe(no_mangle)]
+pub extern "C" fn peltzivar_format_error(format: Word) -> u32
+    ensures first { IsRankOfOne (IsErrorOf format) result }
+    ensures lawful { (result ≡ 48) ↔ Lawful format }
+{
+    format::format_error(format.number()).rank() as u32
+}
+
+/// Returns the rank of the error of the first of the three radixes that is not 2 to 36, or 48.
+#[unsafe(no_mangle)]
+pub extern "C" fn peltzivar_radix_error(format: Word) -> u32
+    ensures { IsRankOfOne (IsFirstError rules.radix_rules format) result }
+{
+    flags::radix_error_impl(format.number()).rank() as u32
+}
+
+/// Returns whether a number is 2 to 36.
+#[unsafe(no_mangle)]
+pub extern "C" fn peltzivar_is_valid_radix(radix: u32) -> bool
+    ensures { IsTrue result ↔ IsRadix radix }
+{
+    flags::is_valid_radix(radix)
+}
+
+/// Returns whether exponents are not both required and forbidden.
+#[unsafe(no_mangle)]
+pub extern "C" fn peltzivar_is_valid_exponent_flags(format: Word) -> bool
+    ensures { IsTrue result ↔ Holds rules.exponent_flags_agree format }
+{
+    flags::is_valid_exponent_flags(format.number())
+}
+
+/// Returns whether the digit separator is absent, or allowed ASCII that is no sign and no digit.
+#[unsafe(no_mangle)]
+pub extern "C" fn peltzivar_is_valid_digit_separator(format: Word) -> bool
+    ensures { IsTrue result ↔ Holds rules.digit_separator_is_free format }
+{
+    flags::is_valid_digit_separator(format.number())
+}
+
+/// Returns whether the base prefix is absent, or allowed ASCII that is no sign and no digit.
+#[unsafe(no_mangle)]
+pub extern "C" fn peltzivar_is_valid_base_prefix(format: Word) -> bool
+    ensures { IsTrue result ↔ Holds rules.base_prefix_is_free format }
+{
+    flags::is_valid_base_prefix(format.number())
+}
+
+/// Returns whether the base suffix is absent, or allowed ASCII that is no sign and no digit.
+#[unsafe(no_mangle)]
+pub extern "C" fn peltzivar_is_valid_base_suffix(format: Word) -> bool
+    ensures { IsTrue result ↔ Holds rules.base_suffix_is_free format }
+{
+    flags::is_valid_base_suffix(format.number())
+}
+
+/// Returns whether no byte is two of digit separator, base prefix and base suffix.
+#[unsafe(no_mangle)]
+pub extern "C" fn peltzivar_is_valid_punctuation(format: Word) -> bool
+    ensures { IsTrue result ↔ Holds rules.punctuation_differs format }
+{
+    flags::is_valid_punctuation(format.number())
+}
+
+/// Returns whether an exponent character and a decimal point fit a word.
+#[unsafe(no_mangle)]
+pub extern "C" fn peltzivar_is_valid_options_punctuation(format: Word, exponent: u8, decimal_point: u8) -> bool
+    ensures accepted { IsTrue result ↔ AreAccepted format exponent decimal_point }
+    ensures roles { Lawful format → (IsTrue result ↔ HaveOneRole format exponent decimal_point) }
+    ensures some { Lawful format → LeavesRoom format }
+{
+    flags::is_valid_options_punctuation(format.number(), exponent, decimal_point)
+}
+
+/// Returns whether a byte is a digit of the mantissa radix or of the exponent radix.
+#[unsafe(no_mangle)]
+pub extern "C" fn peltzivar_is_digit(format: Word, byte: u8) -> bool
+    ensures { IsTrue result ↔ IsTrue (digits (raw format) byte) }
+{
+    flags::is_digit(format.number(), byte)
+}
+
+/// Returns the bits that a word and a mask have in common, shifted right, low 32 bits; the mantissa radix if
+/// these are 0; and `u32::MAX` for a shift of 128 or more.
+#[unsafe(no_mangle)]
+pub extern "C" fn peltzivar_radix_from_flags(format: Word, mask: Word, shift: u32) -> u32
+    ensures radix { shift < 128 → result
+        ≡ effective (common format mask / 2 ^ shift % 2 ^ 32) (raw format).mantissa_radix }
+    ensures none { (shift < 128 → ⊥) → result ≡ 2 ^ 32 - 1 }
+{
+    if shift < 128 {
+        flags::radix_from_flags(format.number(), mask.number(), shift as i32)
+    } else {
+        u32::MAX
+    }
+}

@@ -1,0 +1,104 @@
+//! The structs that stand for a word and for the fields of a builder.
+
+ghost use Rattle.std.specs.Prelude.{◌≡◌};
+ghost use Rattle.lexical_c.specs.Words.{fields_of};
+
+use lexical_util::format_builder::NumberFormatBuilder;
+use std::marker::Model;
+
+/// A format word as two halves, since C has no type of 128 bits that every compiler knows.
+#[repr(C)]
+#[derive(Clone, Copy)]
+pub struct Word {
+    pub low: u64,
+    pub high: u64,
+}
+
+impl Model for Word {
+    ghost use Rattle.std.specs.Prelude.{ℕ};
+
+    ghost Value = { ℕ };
+
+    ghost use Rattle.lexical_c.specs.Words.{number_of};
+
+    ghost view = { number_of };
+
+    ghost use Rattle.std.specs.Prelude.{◌%◌, ◌/◌, ◌^◌, ◌<◌};
+
+    ghost invariant = { λ w. (w.low < 2 ^ 64) × (w.high < 2 ^ 64) };
+
+    ghost inverse = { λ n. record { low = n % 2 ^ 64; high = n / 2 ^ 64 } };
+}
+
+impl Word {
+    /// Returns the halves of a number.
+    #[inline(always)]
+    pub fn new(number: u128) -> Word
+        ensures { result ≡ number }
+    {
+        Word {
+            low: (number % (1 << 64)) as u64,
+            high: (number / (1 << 64)) as u64,
+        }
+    }
+
+    /// Returns the number that the halves make.
+    #[inline(always)]
+    pub fn number(self) -> u128
+        ensures { result ≡ self }
+    {
+        self.low as u128 + self.high as u128 * (1 << 64)
+    }
+}
+
+/// The fields of a builder: 31 flags, the first at bit 0, and six bytes, each 0 if it is absent. Bit 31 of
+/// the flags is ignored.
+#[repr(C)]
+#[derive(Clone, Copy)]
+pub struct Fields {
+    pub flags: u32,
+    pub digit_separator: u8,
+    pub base_prefix: u8,
+    pub base_suffix: u8,
+    pub mantissa_radix: u8,
+    pub exponent_base: u8,
+    pub exponent_radix: u8,
+}
+
+impl Fields {
+    /// Returns the fields of a builder.
+    #[inline(always)]
+    #[tactic(auto, using(crate::proofs::FieldLemmas::same_fields))]
+    pub fn new(builder: &NumberFormatBuilder) -> Fields
+        ensures { fields_of result ≡ builder.now }
+    {
+        let (flags, bytes) = builder.to_parts();
+        Fields {
+            flags,
+            digit_separator: bytes[0],
+            base_prefix: bytes[1],
+            base_suffix: bytes[2],
+            mantissa_radix: bytes[3],
+            exponent_base: bytes[4],
+            exponent_radix: bytes[5],
+        }
+    }
+
+    /// Returns a builder with these fields.
+    #[inline(always)]
+    pub fn builder(self) -> NumberFormatBuilder
+        ensures { result ≡ fields_of self }
+    {
+        NumberFormatBuilder::from_parts(
+            self.flags,
+            [
+                self.digit_separator,
+                self.base_prefix,
+                self.base_suffix,
+                self.mantissa_radix,
+                self.exponent_base,
+                self.exponent_radix,
+            ],
+        )
+    }
+}
