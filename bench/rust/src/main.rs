@@ -3,6 +3,7 @@
 //!
 //!     driver [--rounds N] [--only TEXT]
 
+mod calls;
 mod data;
 mod edits;
 mod measure;
@@ -220,6 +221,7 @@ fn main() {
     let data = Data::new();
     let mut rows = byte_rows(&data);
     rows.extend(number_rows(&data));
+    rows.extend(calls::rows(&data));
     rows.retain(|row| row.name.contains(&only));
     println!("{:<42} {:>10} {:>10} {:>6} {:>14}", "row", "Rattle ns", "Rust ns", "ratio", "spread");
     let (mut differing, mut worst) = (0, None::<(f64, &str)>);

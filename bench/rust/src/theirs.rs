@@ -14,30 +14,30 @@ use upstream::format_flags as flags;
 
 /// A sum in which each number has another weight.
 #[derive(Clone, Copy)]
-struct Fold {
+pub struct Fold {
     sum: u64,
     weight: u64,
 }
 
 impl Fold {
-    fn new() -> Fold {
+    pub fn new() -> Fold {
         Fold { sum: 0, weight: 0x9E37_79B9_7F4A_7C15 }
     }
 
-    fn with(self, number: u64) -> Fold {
+    pub fn with(self, number: u64) -> Fold {
         Fold {
             sum: self.sum.wrapping_add(number.wrapping_mul(self.weight)),
             weight: self.weight.wrapping_add(2),
         }
     }
 
-    fn with_word(self, word: u128) -> Fold {
+    pub fn with_word(self, word: u128) -> Fold {
         self.with((word as u64).wrapping_mul(3).wrapping_add((word >> 64) as u64))
     }
 }
 
 /// Folds over the cases: a word, and the bits from which the other arguments are taken.
-fn over(cases: &[u64], mut with: impl FnMut(Fold, u128, u64) -> Fold) -> u64 {
+pub fn over(cases: &[u64], mut with: impl FnMut(Fold, u128, u64) -> Fold) -> u64 {
     let mut fold = Fold::new();
     for [low, high, bits] in cases.as_chunks::<3>().0 {
         fold = with(fold, (*high as u128) << 64 | *low as u128, *bits);
