@@ -1,8 +1,7 @@
 -- The test of the reserved bits, by one mask.
 use Rattle.std.proofs.Common.{ℕ, ◌≡◌, ◌+◌, ◌*◌, ◌^◌, ◌↔◌, ◌==◌, IsTrue, eqb-true, eq-eqb, bit_and, ap, ◌∙◌, arith}
 use Rattle.std.specs.Int.Bits.{and_zero_r}
-use Rattle.lexical_flags.specs.Layout.{part}
-use Rattle.lexical_flags.specs.Rules.{Holds, reserved_bits_are_zero}
+use Rattle.lexical_flags.specs.Layout.{part, IsClean}
 use Rattle.lexical_flags.proofs.Masks.{and_block_more}
 
 -- the bits under the mask are the three reserved parts
@@ -14,8 +13,7 @@ under_mask word =
     third ∙ ap (λ n. n + part word 72 16 * 2 ^ 72) (second ∙ ap (λ n. n + part word 45 19 * 2 ^ 45) (first ∙ ap (λ n. n + part word 18 14 * 2 ^ 18) (and_zero_r word))) ∙ omega arith
 
 -- so none of them is set exactly if the word is clean
-pub reserved_bits : (word : ℕ) → IsTrue (bit_and word 0x00FFFF00_FFFFE000_FFFC0000 == 0) ↔ Holds reserved_bits_are_zero word
-unfolding Holds
+pub reserved_bits : (word : ℕ) → IsTrue (bit_and word 0x00FFFF00_FFFFE000_FFFC0000 == 0) ↔ IsClean word
 reserved_bits word =
     let sum = under_mask word in (
       λ test. let none : bit_and word 0x00FFFF00_FFFFE000_FFFC0000 ≡ 0 = eqb-true _ 0 test in record { below_separator_flags = omega arith; below_separator = omega arith; below_prefix = omega arith },

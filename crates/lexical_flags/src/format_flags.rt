@@ -14,7 +14,7 @@ ghost use Rattle.lexical_flags.specs.Rules.{IsRadix, Lawful};
 mod rules;
 
 pub use crate::format_flags::rules::{
-    format_error_impl, is_digit, is_valid_base_prefix, is_valid_base_suffix,
+    format_error_impl, is_clean, is_digit, is_valid_base_prefix, is_valid_base_suffix,
     is_valid_digit_separator, is_valid_exponent_flags, is_valid_options_punctuation,
     is_valid_punctuation, is_valid_radix, radix_error_impl,
 };

@@ -331,10 +331,11 @@ fn is_valid_exponent_consecutive_flags(format: u128) -> bool
     format & EXPONENT_DIGIT_SEPARATOR_FLAG_MASK != EXPONENT_CONSECUTIVE_DIGIT_SEPARATOR
 }
 
-// Whether all reserved bits are 0.
+/// Returns whether all reserved bits of `format` are 0: the bits 18 to 31, 45 to 63 and 72 to 87. The
+/// Rust crate has no such function.
 #[inline(always)]
-fn is_clean(format: u128) -> bool
-    ensures { IsTrue result ↔ Holds rules.reserved_bits_are_zero format }
+pub fn is_clean(format: u128) -> bool
+    ensures { IsTrue result ↔ IsClean format }
 {
     format & RESERVED_MASK == 0
 }
@@ -430,7 +431,7 @@ fn first_broken_flags(format: u128) -> Error
 
 // The same for the rule of reserved bits.
 #[inline(always)]
-#[tactic(auto)]
+#[tactic(auto, unfolding(crate::specs::Rules::Holds))]
 fn first_broken_reserved(format: u128) -> Error
     ensures { IsFirstError rules.reserved_rules format result }
 {

@@ -28,16 +28,7 @@ pub fn is_built(format: u128) -> bool
 fn has_built_form(format: u128) -> bool
     ensures { IsTrue result ↔ IsBuilt format }
 {
-    is_clean(format) && is_separator_used(format)
-}
-
-// Whether the reserved bits are 0: the bits 18 to 31, 45 to 63 and 72 to 87.
-fn is_clean(format: u128) -> bool
-    ensures { IsTrue result ↔ IsClean format }
-{
-    (format >> 18) % (1 << 14) == 0
-        && (format >> 45) % (1 << 19) == 0
-        && (format >> 72) % (1 << 16) == 0
+    flags::is_clean(format) && is_separator_used(format)
 }
 
 // Whether there is no digit separator, or a flag that allows one.
