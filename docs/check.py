@@ -1,12 +1,25 @@
 #!/usr/bin/env python3
-"""Compares the pages with the code that they quote and c/peltzivar.h with the numbers that it names, and ends with 1 if
-one differs."""
+"""Compares the pages with the repository, prints what differs, and ends with 1 if something does.
+
+- Each link between pages has a file and a heading to lead to.
+- Each block of code is a piece of a file; `..` stands for lines that it leaves out. c/peltzivar.h has the numbers of setters
+  and outcomes.
+- The tables of FORMAT.md are those of the tests in format_page.rt, and each of its words stands in some code.
+- PROVED.md names each file of definitions.
+- A format word outside of a block of code can be pasted: it has no `_`.
+- Flags, fields, rules, reserved bits and outcomes are as many as a page says.
+"""
 import pathlib
 import re
 import sys
 
-DOCS = pathlib.Path(__file__).resolve().parent
-CRATES = DOCS.parent / "crates"
+TOP = pathlib.Path(__file__).resolve().parent.parent
+PAGES = sorted(page for folder in (".", "docs", "compare", "bench", "rust") for page in (TOP / folder).glob("*.md"))
+SOURCES = [("crates", "*.rt"), ("crates", "*.antt"), ("rust", "*.rs"), ("rust", "*.toml"), ("c", "*.*")]
+LANGUAGES = ["rust", "antt", "c", "python", "toml"]
+# What the rows of FORMAT.md begin with: flags, groups, bytes, rules.
+KINDS = [r"\| \d+ \| `", r"\| `", r"\| \d+ to ", r"\| \d+ \| \.\."]
+FENCED = re.compile(r"^```(\w*)\n(.*?)^```", re.M | re.S)
 
 
 def lines_of(text):
@@ -15,10 +28,38 @@ def lines_of(text):
     return "\n" + "\n".join(line for line in lines if line and not line.startswith(("//", "-- "))) + "\n"
 
 
-def snippets(page, languages="rust|antt"):
-    """Returns the pieces of the page's blocks of code; `..` stands for lines that a block leaves out."""
-    for block in re.findall(rf"^```(?:{languages})\n(.*?)^```", page, re.M | re.S):
-        yield from re.split(r"^ *\.\.$", block, flags=re.M)
+def code():
+    """Returns the lines of each file of code."""
+    for folder, pattern in SOURCES:
+        for path in (TOP / folder).rglob(pattern):
+            if not {"out", "target"} & set(path.parts):
+                yield lines_of(path.read_text())
+
+
+def unquoted(text, files):
+    """Returns the pieces of the page's blocks of code that no file has."""
+    for language, block in FENCED.findall(text):
+        if language in LANGUAGES:
+            for piece in re.split(r"^ *\.\.$", block, flags=re.M):
+                if not any(lines_of(piece) in file for file in files):
+                    yield f"not in the code:\n{piece}"
+
+
+def headings(text):
+    """Returns the anchors of the page's headings."""
+    titles = re.findall(r"^#+ (.*)", FENCED.sub("", text), re.M)
+    return {re.sub(r"[^\w\- ]", "", title.lower()).replace(" ", "-") for title in titles}
+
+
+def broken_links(page, text):
+    """Returns the links of the page that lead nowhere."""
+    for target in re.findall(r"\]\(([^)\s]+)\)", FENCED.sub("", text)):
+        name, _, anchor = target.partition("#")
+        path = page.parent / name if name else page
+        if "://" not in target and not path.exists():
+            yield f"leads to no file: {target}"
+        elif anchor and path.suffix == ".md" and anchor not in headings(path.read_text()):
+            yield f"leads to no heading: {target}"
 
 
 def flag_text(mask):
@@ -27,7 +68,7 @@ def flag_text(mask):
 
 
 def rows(tests):
-    """Returns the rows of the page that the tables of the tests stand for, without their last columns."""
+    """Returns the rows of FORMAT.md that the tables of the tests stand for, without their last columns."""
     for bit, name, default in re.findall(r'\((\d+), b"(\w+)", \w+, (true|false)\)', tests):
         yield f"| {bit} | `{name}` | {default} |"
     for name, mask in re.findall(r'\(b"(\w+)", \w+, (0x\w+)\)', tests):
@@ -35,44 +76,83 @@ def rows(tests):
     for shift, name, default in re.findall(r'\((\d+), b"(\w+)", \d, (\d+)\)', tests):
         yield f"| {shift} to {int(shift) + 7} | `{name}` | {default} |"
     for rule, error, word in re.findall(r"\((\d+), Error::(\w+), (\w+)\)", tests):
-        yield f"| {rule} | .. | `{error}` | `{word}` |"
+        yield f"| {rule} | .. | `{error}` | `{word.replace('_', '')}` |"
+
+
+def counts(found):
+    """Returns how many there are of what the rows of FORMAT.md name."""
+    flags, groups, bytes_, rules = (sum(bool(re.match(kind, row)) for row in found) for kind in KINDS)
+    error = (TOP / "crates/lexical_base/src/error.rt").read_text()
+    outcomes = re.search(r"pub enum Error \{(.*?)^\}", error, re.M | re.S)[1]
+    return {
+        "flags": flags,
+        "groups": groups,
+        "fields": flags + bytes_,
+        "rules": rules,
+        "reserved bits": 128 - flags - 8 * bytes_,
+        "outcomes": len(re.findall(r"^    \w+(\(usize\))?,", outcomes, re.M)),
+    }
+
+
+def wrong_counts(text, wanted):
+    """Returns the numbers of flags and the like that the page says wrong."""
+    for number, name in re.findall(rf"\b(\d+) ({'|'.join(wanted)})\b", text):
+        if int(number) != wanted[name]:
+            yield f"there are {wanted[name]} {name}, not {number}"
+
+
+def format_page(text, found, files):
+    """Returns the rows of FORMAT.md that differ from the tests, and its words that no code has."""
+    table = re.sub(r"^(\| \d+ \|)[^|]*(\| `Invalid)", r"\1 .. \2", text, flags=re.M).splitlines()
+    for row in found:
+        if sum(line.startswith(row) for line in table) != 1:
+            yield f"not in the table once: {row}"
+    shown = sum(bool(re.match(r"\| (`[a-z_]+`|\d+( to \d+)?) \|", line)) for line in table)
+    if len(found) != shown:
+        yield f"the tests have {len(found)} rows, and the tables {shown}"
+    known = "".join(files).replace("_", "")
+    for word in re.findall(r"^(?!    ).*`(0x[0-9A-F]{32})`", text, re.M):
+        if word not in known:
+            yield f"in no code: {word}"
 
 
 def header():
-    """Returns the lines of the header that name setters and outcomes, by the table of setters and that of outcomes."""
-    changes = (CRATES / "lexical_c/src/changes.rt").read_text()
-    bytes_from = re.findall(r"(\d+) => Some\(Edit::(\w+)\(", changes)
-    setters = [*enumerate(re.findall(r"^    FlagSetter::(\w+),", changes, re.M)), *bytes_from]
-    outcomes = re.findall(r"^rank_of \(?outcomes\.(\w+).*= (\d+)$", (CRATES / "lexical_base/specs/Outcomes.antt").read_text(), re.M)
-    upper = lambda name: re.sub(r"(?<!^)(?=[A-Z])", "_", name).upper()
-    yield from (f"    PELTZIVAR_SET_{upper(name)} = {number},\n" for number, name in setters)
-    yield from (f"    PELTZIVAR_{upper(name)} = {rank},\n" for name, rank in outcomes)
+    """Returns the lines of the C header that name setters and outcomes, by the tables of both."""
+    changes = (TOP / "crates/lexical_c/src/changes.rt").read_text()
+    setters = [*enumerate(re.findall(r"^    FlagSetter::(\w+),", changes, re.M))]
+    setters += re.findall(r"(\d+) => Some\(Edit::(\w+)\(", changes)
+    table = (TOP / "crates/lexical_base/specs/Outcomes.antt").read_text()
+    outcomes = re.findall(r"^rank_of \(?outcomes\.(\w+).*= (\d+)$", table, re.M)
+    names = [(f"SET_{name}", number) for number, name in setters] + outcomes
+    for name, number in names:
+        upper = re.sub(r"(?<=[a-z])(?=[A-Z])", "_", name).upper()
+        yield f"    PELTZIVAR_{upper} = {number},\n"
 
 
 def main():
-    code = [lines_of(path.read_text()) for kind in ("*.rt", "*.antt") for path in CRATES.rglob(kind) if "out" not in path.parts]
-    pages = [(DOCS.parent / "README.md").read_text(), (DOCS / "CALLING.md").read_text()]
-    pieces = [piece for page in pages for piece in snippets(page)]
-    wrong = [piece for piece in pieces if not any(lines_of(piece) in text for text in code)]
-    page = (DOCS / "FORMAT.md").read_text()
-    table = re.sub(r"^(\| \d+ \|)[^|]*(\| `Invalid)", r"\1 .. \2", page, flags=re.M).splitlines()
-    tests = " ".join((CRATES / "lexical_tests/src/format_page.rt").read_text().split()).replace("( ", "(").replace(", )", ")")
-    found = list(rows(tests))
-    wrong += [row for row in found if sum(line.startswith(row) for line in table) != 1]
-    if len(found) != 31 + 9 + 6 + 16:
-        wrong.append(f"the tests have {len(found)} rows")
-    known = "".join(code)
-    wrong += [word for word in re.findall(r"0x[0-9A-F]{8}(?:_[0-9A-F]{8}){3}", page) if word not in known]
-    top = DOCS.parent
-    others = [lines_of(path.read_text()) for path in (*top.glob("c/*.*"), *top.glob("rust/examples/*"), *top.glob("rust/src/*.rs"))]
-    page = (DOCS / "CALLING-FROM-RUST-AND-C.md").read_text()
-    wrong += [piece for piece in snippets(page, "rust|c|python|text") if not any(lines_of(piece) in text for text in others)]
-    named = list(header())
-    wrong += [line for line in named if (top / "c/peltzivar.h").read_text().count(line) != 1]
-    if len(named) != 47 + 49:
-        wrong.append(f"{len(named)} setters and outcomes are named")
-    for it in wrong:
-        print(f"not in the code:\n{it}")
+    files = list(code())
+    tests = " ".join(next((TOP / "crates").rglob("format_page.rt")).read_text().split())
+    found_rows = list(rows(tests.replace("( ", "(").replace(", )", ")")))
+    wanted = counts(found_rows)
+    wrong = 0
+    for page in PAGES:
+        text = page.read_text()
+        found = [*broken_links(page, text), *unquoted(text, files), *wrong_counts(text, wanted)]
+        found += [f"has a `_`: {word}" for word in re.findall(r"0x[0-9A-F]{8}_\w*", FENCED.sub("", text))]
+        if page.name == "FORMAT.md":
+            found += format_page(text, found_rows, files)
+        if page.name == "PROVED.md":
+            specs = {path.stem for path in (TOP / "crates").glob("*/specs/*.antt")} - {"Lib"}
+            found += [f"has no `{name}` of specs/" for name in sorted(specs) if f"`{name}`" not in text]
+        if page.name == "CALLING-FROM-RUST-AND-C.md":
+            lines = list(header())
+            text = (TOP / "c/peltzivar.h").read_text()
+            found += [f"not once in c/peltzivar.h: {line}" for line in lines if text.count(line) != 1]
+            if len(lines) != 47 + 49:
+                found.append(f"{len(lines)} setters and outcomes are named")
+        for it in found:
+            print(f"{page.relative_to(TOP)}: {it}")
+        wrong += len(found)
     return 1 if wrong else 0
 
 

@@ -6,6 +6,7 @@ use Rattle.std.proofs.lemmas.Bool.{false≢true, cases_Bool, cases_lt}
 use Rattle.std.proofs.lemmas.List.{take_all, take-append-drop, take-take}
 use Rattle.std.proofs.lemmas.List.Elements.{filter_more, filter-append}
 use borrow.Author.Count.{below_more}
+use Rattle.std.proofs.lemmas.Bool.{and_parts}
 use Rattle.lexical_util.specs.Digits.{value, digits_of}
 use Rattle.lexical_util.specs.Ascii.{ByteSet}
 use Rattle.lexical_util.specs.Record.{Record, raw, effective_exponent_radix}
@@ -86,17 +87,11 @@ pub record HasRead (r : Record) (text : List ℕ) (i number : ℕ) : Type 0 wher
   pub read : (k : ℕ) → k < i → IsTrue (is_read r text k)
   pub fits : number < 2 ^ 64
 
--- the second of four tests that all hold
-and_second : (a b c d : Bool) → IsTrue (a && b && c && d) → IsTrue b
-and_second true true c d h = refl
-and_second true false c d h = absurd (false≢true h)
-and_second false b c d h = absurd (false≢true h)
-
 -- a separator is skipped
 pub skipped : (word : ℕ) (text : List ℕ) (i number : ℕ) → Lawful word → i < length text → IsTrue (is_skipped (raw word) text i)
     → HasRead (raw word) text i number → HasRead (raw word) text (i + 1) number
 skipped word text i number lawful inside here before =
-    let is_separator : IsTrue (separator (raw word) (byte_at text i)) = and_second (raw word).integer_internal_digit_separator _ _ _ here in
+    let is_separator : IsTrue (separator (raw word) (byte_at text i)) = (and_parts _ _ here).0 in
     record {
       sum = before.sum ∙ sym (number-skipped (raw word) text i inside (separator_is_no_digit word (byte_at text i) lawful is_separator));
       fits = before.fits;

@@ -24,11 +24,15 @@ abbrev pub byte_before : List ℕ → ℕ → ℕ
 byte_before text zero = 0
 byte_before text (suc i) = byte_at text i
 
+-- whether a digit separator may stand at an index: between digits, if the flag says so
+abbrev pub may_stand : Record → List ℕ → ℕ → Bool
+may_stand r text i =
+    r.integer_internal_digit_separator &&
+    is_neighbour r (byte_before text i) && is_neighbour r (byte_at text (i + 1))
+
 -- whether a digit separator stands at an index, and may stand there
 abbrev pub is_skipped : Record → List ℕ → ℕ → Bool
-is_skipped r text i =
-    r.integer_internal_digit_separator && separator r (byte_at text i) &&
-    is_neighbour r (byte_before text i) && is_neighbour r (byte_at text (i + 1))
+is_skipped r text i = separator r (byte_at text i) && may_stand r text i
 
 -- whether a digit stands at an index, or such a separator
 abbrev pub is_read : Record → List ℕ → ℕ → Bool

@@ -1,11 +1,13 @@
 //! Callers of `lexical_util`, one for each kind of user, each proved from its public contracts.
 //!
-//! [`formats`] has formats that are constants, proved lawful: read it first. [`roles`] tells what a byte
-//! stands for in a number, [`keep`] says which word to keep for a stored one, [`read`] reads whole
-//! numbers, and [`calls`] makes a word by setter calls. docs/CALLING.md explains them.
+//! [`digits`] is the smallest: read it first. [`formats`] has formats that are constants, proved lawful,
+//! [`roles`] tells what a byte stands for in a number, [`keep`] says which word to keep for a stored
+//! one, [`read`] reads whole numbers, and [`calls`] makes a word by setter calls. docs/CALLING.md
+//! explains them.
 #![tactic(auto)]
 
 pub mod calls;
+pub mod digits;
 pub mod examples;
 pub mod formats;
 pub mod keep;

@@ -5,11 +5,11 @@ ghost use Rattle.std.specs.Option.{SomeIff};
 ghost use Rattle.std.specs.Result.{OkIff};
 ghost use Rattle.lexical_util.specs.Digits.{value};
 ghost use Rattle.lexical_util.specs.Record.{raw};
+ghost use Rattle.lexical_util.specs.Roles.{separator};
 ghost use Rattle.lexical_util.specs.Rules.{Lawful, IsErrorOf};
 ghost use Rattle.callers.specs.Reading.{byte_at, byte_before, is_digit, is_neighbour, is_skipped};
-ghost use Rattle.callers.specs.Reading.{number_of, IsNumeral, IsRefusal};
+ghost use Rattle.callers.specs.Reading.{may_stand, number_of, IsNumeral, IsRefusal};
 
-use crate::roles::is_separator;
 use lexical_util::digit::char_to_digit;
 use lexical_util::error::Error;
 use lexical_util::format::{NumberFormat, format_error, mantissa_radix};
@@ -85,8 +85,23 @@ fn is_skipped(format: u128, text: &[u8], index: usize) -> bool
     requires { index < length text.now }
     ensures { result ≡ is_skipped (raw format) text.now index }
 {
+    is_separator(format, text[index]) && may_stand(format, text, index)
+}
+
+// Whether `byte` is the digit separator.
+#[tactic(auto, unfolding(lexical_util::specs::Unfoldable::cased))]
+pub(crate) fn is_separator(format: u128, byte: u8) -> bool
+    ensures { result ≡ separator (raw format) byte }
+{
+    byte != 0 && byte == NumberFormat::new(format).digit_separator()
+}
+
+// Whether a digit separator may stand at `index`.
+fn may_stand(format: u128, text: &[u8], index: usize) -> bool
+    requires { index < length text.now }
+    ensures { result ≡ may_stand (raw format) text.now index }
+{
     NumberFormat::new(format).integer_internal_digit_separator()
-        && is_separator(format, text[index])
         && is_neighbour(format, byte_before(text, index))
         && is_neighbour(format, byte_at(text, index + 1))
 }

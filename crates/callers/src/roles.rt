@@ -2,11 +2,12 @@
 
 ghost use Rattle.std.specs.Prelude.{◌≡◌, ◌↔◌, ◌⊎◌, IsTrue, IsOk, IfOk, IfErr};
 ghost use Rattle.lexical_util.specs.Record.{raw};
-ghost use Rattle.lexical_util.specs.Roles.{cased, exponent as exponent_set, prefix, separator, signs, suffix};
+ghost use Rattle.lexical_util.specs.Roles.{cased, exponent as exponent_set, prefix, signs, suffix};
 ghost use Rattle.lexical_util.specs.Rules.{Lawful, IsErrorOf};
 ghost use Rattle.lexical_util.specs.Options.{AreAccepted};
 ghost use Rattle.callers.specs.Playing.{IsRoleOf};
 
+use crate::read::is_separator;
 use lexical_util::error::Error;
 use lexical_util::format::{NumberFormat, format_error, is_valid_options_punctuation};
 use lexical_util::format_flags::is_digit;
@@ -86,13 +87,6 @@ fn is_sign(byte: u8) -> bool
     ensures { result ≡ signs byte }
 {
     matches!(byte, b'+' | b'-')
-}
-
-// Whether `byte` is the digit separator.
-pub(crate) fn is_separator(format: u128, byte: u8) -> bool
-    ensures { result ≡ separator (raw format) byte }
-{
-    is_byte(NumberFormat::new(format).digit_separator(), true, byte)
 }
 
 // Whether `byte` is the base prefix.

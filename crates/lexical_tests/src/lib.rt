@@ -11,9 +11,13 @@ mod calls;
 #[cfg(test)]
 mod digit;
 #[cfg(test)]
+mod digits;
+#[cfg(test)]
 mod edits;
 #[cfg(test)]
 mod error;
+#[cfg(test)]
+mod example;
 #[cfg(test)]
 mod feature_format;
 #[cfg(test)]

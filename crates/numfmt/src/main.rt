@@ -21,8 +21,6 @@
 
 mod command;
 mod edit;
-#[cfg(test)]
-mod example;
 mod examples;
 mod numeral;
 mod program;
