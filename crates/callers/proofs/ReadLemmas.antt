@@ -15,7 +15,8 @@ use Rattle.lexical_util.specs.Roles.{Disjoint, digits, signs, separator, prefix,
 use Rattle.lexical_util.specs.Rules.{Lawful}
 use Rattle.lexical_util.specs.declared.error.Error.{Error}
 use Rattle.lexical_util.specs.declared.error.Error.TheVariants as errors
-use Rattle.callers.specs.Reading.{is_digit, is_read, is_skipped, byte_at, sum_of, number_of, IsNumeral, IsReadTo, IsRefusal}
+use Rattle.callers.specs.Reading.{is_digit, is_read, is_skipped, byte_at, sum_of, number_of}
+use Rattle.callers.specs.Reading.{IsNumeral, IsReadTo, IsRefusal}
 
 -- one more digit at the right
 sum-push : (radix : ℕ) (digits : List ℕ) (digit : ℕ) → sum_of radix (digits ++ digit ∷ []) ≡ sum_of radix digits * radix + value digit
@@ -148,52 +149,60 @@ no_numeral word text (errors.Empty i) lawful refused is = omega (arith, refused.
 no_numeral word text _ lawful refused is = absurd refused
 
 -- more bytes write no smaller number
-number-within : (r : Record) (text : List ℕ) (i j : ℕ) → 1 ≤ r.mantissa_radix → i ≤ j → number_of r (take i text) ≤ number_of r (take j text)
+number-within : (r : Record) (text : List ℕ) (i j : ℕ) → 1 ≤ r.mantissa_radix → i ≤ j
+    → number_of r (take i text) ≤ number_of r (take j text)
 number-within r text i j some less =
-    subst (λ t. number_of r t ≤ number_of r (take j text)) (take-take i j text less) (number-grows r (take j text) i some)
+    let first = number-grows r (take j text) i some in
+    subst (λ t. number_of r t ≤ number_of r (take j text)) (take-take i j text less) first
 
 -- a text is refused for one reason
 module _ (word : ℕ) (text : List ℕ) (lawful : Lawful word) where
+  abbrev Refuses : Error → Type 0
+  Refuses = IsRefusal (raw word) text
+
   -- nothing is read past a byte that is refused
-  read_to_digit : (i j : ℕ) → IsRefusal (raw word) text (errors.InvalidDigit i) → IsReadTo (raw word) text j → j ≤ i
+  read_to_digit : (i j : ℕ) → Refuses (errors.InvalidDigit i) → IsReadTo (raw word) text j → j ≤ i
   read_to_digit i j refused reads = elim (cases_lt i j) [
     | inl before ↦ absurd (false≢true (sym refused.1 ∙ reads.read i before))
     | inr after ↦ after
   ]
 
-  read_to_large : (i j : ℕ) → IsRefusal (raw word) text (errors.Overflow i) → IsReadTo (raw word) text j → j ≤ i
+  read_to_large : (i j : ℕ) → Refuses (errors.Overflow i) → IsReadTo (raw word) text j → j ≤ i
   read_to_large i j refused reads = elim (cases_lt i j) [
     | inl before ↦
-        let more = number-within (raw word) text (i + 1) j (omega (arith, radix_some word lawful)) (omega (arith, before)) in
+        let some : 1 ≤ (raw word).mantissa_radix = omega (arith, radix_some word lawful) in
+        let more = number-within (raw word) text (i + 1) j some (omega (arith, before)) in
         absurd (omega (arith, more, refused.2, reads.fits))
     | inr after ↦ after
   ]
 
   -- a byte that may not stand there is not one at which the number is too large
-  digit_or_large : (i j : ℕ) → IsRefusal (raw word) text (errors.InvalidDigit i) → IsRefusal (raw word) text (errors.Overflow j) → ⊥
+  digit_or_large : (i j : ℕ) → Refuses (errors.InvalidDigit i) → Refuses (errors.Overflow j) → ⊥
   digit_or_large i j h k =
       let same : j ≡ i = omega (arith, read_to_digit i j h k.0, read_to_large j i k h.0) in
       false≢true (sym h.1 ∙ subst (λ n. IsTrue (is_read (raw word) text n)) same k.1)
 
-  digit_alone : (i : ℕ) (other : Error) → IsRefusal (raw word) text (errors.InvalidDigit i) → IsRefusal (raw word) text other → errors.InvalidDigit i ≡ other
-  digit_alone i (errors.InvalidDigit j) h k = ap errors.InvalidDigit (omega (arith, read_to_digit i j h k.0, read_to_digit j i k h.0))
+  digit_alone : (i : ℕ) (other : Error) → Refuses (errors.InvalidDigit i) → Refuses other → errors.InvalidDigit i ≡ other
+  digit_alone i (errors.InvalidDigit j) h k =
+      ap errors.InvalidDigit (omega (arith, read_to_digit i j h k.0, read_to_digit j i k h.0))
   digit_alone i (errors.Overflow j) h k = absurd (digit_or_large i j h k)
   digit_alone i (errors.Empty j) h k = absurd (omega (arith, k.1, h.0.inside))
   digit_alone i _ h k = absurd k
 
-  large_alone : (i : ℕ) (other : Error) → IsRefusal (raw word) text (errors.Overflow i) → IsRefusal (raw word) text other → errors.Overflow i ≡ other
+  large_alone : (i : ℕ) (other : Error) → Refuses (errors.Overflow i) → Refuses other → errors.Overflow i ≡ other
   large_alone i (errors.InvalidDigit j) h k = absurd (digit_or_large j i k h)
-  large_alone i (errors.Overflow j) h k = ap errors.Overflow (omega (arith, read_to_large i j h k.0, read_to_large j i k h.0))
+  large_alone i (errors.Overflow j) h k =
+      ap errors.Overflow (omega (arith, read_to_large i j h k.0, read_to_large j i k h.0))
   large_alone i (errors.Empty j) h k = absurd (omega (arith, k.1, h.0.inside))
   large_alone i _ h k = absurd k
 
-  empty_alone : (i : ℕ) (other : Error) → IsRefusal (raw word) text (errors.Empty i) → IsRefusal (raw word) text other → errors.Empty i ≡ other
+  empty_alone : (i : ℕ) (other : Error) → Refuses (errors.Empty i) → Refuses other → errors.Empty i ≡ other
   empty_alone i (errors.InvalidDigit j) h k = absurd (omega (arith, h.1, k.0.inside))
   empty_alone i (errors.Overflow j) h k = absurd (omega (arith, h.1, k.0.inside))
   empty_alone i (errors.Empty j) h k = ap errors.Empty (omega (arith, h.0, k.0))
   empty_alone i _ h k = absurd k
 
-  pub IsRefusal-unique : (error other : Error) → IsRefusal (raw word) text error → IsRefusal (raw word) text other → error ≡ other
+  pub IsRefusal-unique : (error other : Error) → Refuses error → Refuses other → error ≡ other
   IsRefusal-unique (errors.InvalidDigit i) other h k = digit_alone i other h k
   IsRefusal-unique (errors.Overflow i) other h k = large_alone i other h k
   IsRefusal-unique (errors.Empty i) other h k = empty_alone i other h k

@@ -35,8 +35,10 @@ pub fn read_examples()
 /// Why a text writes no number in decimal.
 pub fn refusal_examples()
     ensures digit { IsRefusal (raw 0x00000A00_00000000_00000000_0000000C) (codes "1a2b") (errors.InvalidDigit 1) }
-    ensures digit_read { IsRefusal (raw 0x00000A00_00000000_00000000_0000000C) (codes "1a2b") (errors.InvalidDigit 0) → ⊥ }
-    ensures digit_later { IsRefusal (raw 0x00000A00_00000000_00000000_0000000C) (codes "1a2b") (errors.InvalidDigit 3) → ⊥ }
+    ensures digit_read { IsRefusal
+        (raw 0x00000A00_00000000_00000000_0000000C) (codes "1a2b") (errors.InvalidDigit 0) → ⊥ }
+    ensures digit_later { IsRefusal
+        (raw 0x00000A00_00000000_00000000_0000000C) (codes "1a2b") (errors.InvalidDigit 3) → ⊥ }
     ensures large { IsRefusal
         (raw 0x00000A00_00000000_00000000_0000000C) (codes "18446744073709551616") (errors.Overflow 19) }
     ensures fits { IsRefusal

@@ -10,7 +10,11 @@ unfolding value cased
 returns c =
     let decimal : Record = raw 0x00000A00_00000000_00000000_0000000C in
     record {
-      digit = record { inside = omega arith; read = λ k. agree_below_at (is_read decimal (codes "12a")) (λ _. true) 2 k refl; fits = omega arith };
+      digit = record {
+        inside = omega arith;
+        read = λ k. agree_below_at (is_read decimal (codes "12a")) (λ _. true) 2 k refl;
+        fits = omega arith;
+      };
       end = λ h. let inside : 2 < 2 = h.inside in omega (arith, inside);
       letter = λ h. false≢true (h.read 0 (omega arith));
       largest = record {

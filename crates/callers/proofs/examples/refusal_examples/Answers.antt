@@ -11,7 +11,11 @@ returns c =
     let decimal : Record = raw 0x00000A00_00000000_00000000_0000000C in
     record {
       digit = (
-        record { inside = omega arith; read = λ k. agree_below_at (is_read decimal (codes "1a2b")) (λ _. true) 1 k refl; fits = omega arith },
+        record {
+          inside = omega arith;
+          read = λ k. agree_below_at (is_read decimal (codes "1a2b")) (λ _. true) 1 k refl;
+          fits = omega arith;
+        },
         refl,
       );
       digit_read = λ h. let stays : true ≡ false = h.1 in cc;

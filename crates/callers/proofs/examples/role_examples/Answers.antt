@@ -19,7 +19,9 @@ in_no_set library.decimal_point plays = false≢true plays
 
 pub returns : goal.returns
 returns c = record {
-  sign = one_role (raw 0x0A0A0A00_00000000_00000000_0000000C) 0x65 0x2E 0x2B c.role_examples.ensures.one_role library.sign refl;
+  sign =
+      let law = c.role_examples.ensures.one_role in
+      one_role (raw 0x0A0A0A00_00000000_00000000_0000000C) 0x65 0x2E 0x2B law library.sign refl;
   none = no_role (raw 0x0A0A0A00_00000000_00000000_0000000C) 0x65 0x2E 0x5F in_no_set;
   no_sign = λ h. false≢true ((h library.sign).1 refl);
   other_role = λ h. let same : Some library.digit ≡ Some library.sign = (h library.sign).0 refl in cc;

@@ -3,7 +3,8 @@ use Rattle.std.proofs.Common.{Err, sym, subst, ap, ◌+◌, ◌∙◌, arith}
 use Rattle.std.proofs.lemmas.Bool.Decides.{nat_tests}
 use Rattle.lexical_util.specs.Record.{raw}
 use Rattle.lexical_util.specs.declared.error.Error.TheVariants as errors
-use Rattle.callers.proofs.ReadLemmas.{skipped, pushed, too_large, no_digit, whole, no_numeral, IsRefusal-unique, HasRead}
+use Rattle.callers.proofs.ReadLemmas.{skipped, pushed, too_large, no_digit, whole}
+use Rattle.callers.proofs.ReadLemmas.{no_numeral, IsRefusal-unique, HasRead}
 use Rattle.callers.proofs.read.read_digits.Goals as goal
 use Rattle.callers.proofs.read.read_digits.Goals.{then-not-is_skipped+in-Some+in-Some-push, else-not-is_skipped}
 
@@ -21,10 +22,13 @@ pub returns-in_default-push-clause-number : goal.returns-in_default-push-clause-
 returns-in_default-push-clause-number c = no_numeral c.args.format c.args.text.now (errors.Overflow c.loop-index.index) c.requires (returns-in_default-push-clause-refusal c)
 
 pub returns-in_default-clause-only : goal.returns-in_default-clause-only
-returns-in_default-clause-only c error refused = ap Err (IsRefusal-unique c.args.format c.args.text.now c.requires _ error (returns-in_default-clause-refusal c) refused)
+returns-in_default-clause-only c error refused =
+    ap Err (IsRefusal-unique c.args.format c.args.text.now c.requires _ error (returns-in_default-clause-refusal c) refused)
 
 pub returns-in_default-push-clause-only : goal.returns-in_default-push-clause-only
-returns-in_default-push-clause-only c error refused = ap Err (IsRefusal-unique c.args.format c.args.text.now c.requires _ error (returns-in_default-push-clause-refusal c) refused)
+returns-in_default-push-clause-only c error refused =
+    let own = returns-in_default-push-clause-refusal c in
+    ap Err (IsRefusal-unique c.args.format c.args.text.now c.requires _ error own refused)
 
 pub loop-index-preserved : goal.loop-index-preserved
 loop-index-preserved c =

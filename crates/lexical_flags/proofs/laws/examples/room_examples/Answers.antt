@@ -18,8 +18,8 @@ fits = HaveOneRole-from_accepted _ _ _ (lawful_tested _ refl) (accepted_tested _
 clashes : (e p : ℕ) → HaveOneRole 0x00000A68_68000000_00000000_0000000C e p → ⊥
 unfolding Disjoint cased
 clashes e p h =
-    let apart = Disjoint-at 7 (omega arith) (role_set (raw 0x00000A68_68000000_00000000_0000000C) e p) h.roles roles.base_prefix roles.base_suffix refl refl in
-    apart 0x68 refl refl
+    let sets = role_set (raw 0x00000A68_68000000_00000000_0000000C) e p in
+    Disjoint-at 7 (omega arith) sets h.roles roles.base_prefix roles.base_suffix refl refl 0x68 refl refl
 
 pub returns : goal.returns
 unfolding value

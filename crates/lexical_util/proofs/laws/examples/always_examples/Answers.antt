@@ -13,7 +13,9 @@ returns c = record {
   fields = record {
     exponent_base = other 2 0 (omega arith);
     exponent_radix = unset 0;
-    digit_separator = λ absent. let no = unset true in (no, (no, (no, (no, (no, (no, (no, (no, (no, (no, (no, (no, (no, tt)))))))))))));
+    digit_separator = λ absent.
+        let no = unset true in
+        (no, (no, (no, (no, (no, (no, (no, (no, (no, (no, (no, (no, (no, tt)))))))))))));
   };
   separator_and_flag = record {
     exponent_base = unset 0;

@@ -14,6 +14,8 @@ returns c = record {
     clean = record { below_separator_flags = refl; below_separator = refl; below_prefix = refl };
     separator_used = inr refl;
   });
-  reserved_bit = λ made. let value : 8192 ≡ 0 = (IsBuilt-by_writes _ made).clean.below_separator_flags in omega (arith, value);
+  reserved_bit = λ made.
+      let value : 8192 ≡ 0 = (IsBuilt-by_writes _ made).clean.below_separator_flags in
+      omega (arith, value);
   unused_separator = λ made. not_used (IsBuilt-by_writes _ made).separator_used;
 }

@@ -23,7 +23,8 @@ in_another_order = record { same_flags = on_flag; same_bytes = on_byte } where
   on_byte _ = refl
 
 written_twice : SameWrites
-    (write_byte layout.mantissa_radix 8 ∷ write_byte layout.mantissa_radix 16 ∷ []) (write_byte layout.mantissa_radix 16 ∷ [])
+    (write_byte layout.mantissa_radix 8 ∷ write_byte layout.mantissa_radix 16 ∷ [])
+    (write_byte layout.mantissa_radix 16 ∷ [])
 written_twice = record { same_flags = λ f. refl; same_bytes = on_byte } where
   on_byte : (b : Byte) → last_byte (write_byte layout.mantissa_radix 8 ∷ write_byte layout.mantissa_radix 16 ∷ []) b
       ≡ last_byte (write_byte layout.mantissa_radix 16 ∷ []) b
@@ -37,7 +38,9 @@ returns c = record {
   too_large = λ legal. omega (arith, legal);
   order = in_another_order;
   twice = written_twice;
-  other_last = λ same. let value : 16 ≡ 8 = number (Some 16) (Some 8) (same.same_bytes layout.mantissa_radix) in omega (arith, value);
+  other_last = λ same.
+      let value : 16 ≡ 8 = number (Some 16) (Some 8) (same.same_bytes layout.mantissa_radix) in
+      omega (arith, value);
   other_flag = λ same. let value : Some true ≡ Some false = same.same_flags layout.no_special in cc;
   none = λ same. let value : Some 0 ≡ None = same.same_bytes layout.base_prefix in cc;
 }
