@@ -19,6 +19,8 @@
 //! printed.
 #![tactic(auto)]
 
+ghost use Rattle.std.specs.Prelude.{◌≡◌, ◌≤◌, IsErr};
+
 mod command;
 mod edit;
 mod examples;
@@ -29,7 +31,9 @@ mod source;
 mod word;
 
 use program::run;
+use std::alloc::AllocError;
 use std::env;
+use std::io::Write;
 use std::process::ExitCode;
 
 fn main(rt: HostRuntime) -> ExitCode {
@@ -37,8 +41,18 @@ fn main(rt: HostRuntime) -> ExitCode {
     let Ok(args) = env::args(&rt) else {
         return ExitCode::from(3);
     };
-    let Ok(args) = args.skip(1).collect::<Vec<String>>(rt.alloc()) else {
-        return ExitCode::from(3);
-    };
-    ExitCode::from(run(args.as_slice(), &mut rt.stdout()))
+    let args = args.skip(1).collect::<Vec<String>>(rt.alloc());
+    ExitCode::from(run_collected(args, &mut rt.stdout()))
+}
+
+// The exit status of a run with these arguments; 3 if there was no memory to collect them, and then
+// nothing is printed.
+fn run_collected<W: Write>(args: Result<Vec<String>, AllocError>, out: &mut W) -> u8
+    ensures no_memory { IsErr args → (result ≡ 3) × (W.contents out.new ≡ W.contents out.old) }
+    ensures status { result ≤ 3 }
+{
+    match args {
+        Ok(args) => run(args.as_slice(), out),
+        Err(_) => 3,
+    }
 }
