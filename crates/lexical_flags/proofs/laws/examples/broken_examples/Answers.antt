@@ -1,4 +1,3 @@
-use Rattle.std.proofs.Common.{refl}
 use Rattle.std.proofs.lemmas.Bool.{false≢true}
 use Rattle.lexical_base.specs.Digits.{value}
 use Rattle.lexical_flags.specs.Rules as rules

@@ -1,4 +1,4 @@
-use Rattle.std.proofs.Common.{ℕ, ◌≡◌, true, refl, arith}
+use Rattle.std.proofs.Common.{ℕ, refl, arith}
 use Rattle.lexical_base.specs.Digits.{value}
 use Rattle.lexical_flags.specs.Options.{HaveOneRole}
 use Rattle.lexical_flags.specs.Record.{raw}

@@ -1,7 +1,7 @@
 use Rattle.std.proofs.Common.{ℕ, ◌≡◌, Option, Some, None, [], ◌∷◌, true, false, unwrap_or, refl, ap, arith}
 use Rattle.lexical_flags.specs.Layout.{Flag, Byte}
 use Rattle.lexical_flags.specs.Layout as layout
-use Rattle.lexical_builder.specs.Writes.{Write, write_flag, write_byte, last_flag, last_byte, SameWrites}
+use Rattle.lexical_builder.specs.Writes.{write_flag, write_byte, last_flag, last_byte, SameWrites}
 use Rattle.lexical_util.proofs.laws.examples.write_examples.Goals as goal
 
 -- the numbers of equal options
