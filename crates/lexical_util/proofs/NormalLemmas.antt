@@ -60,10 +60,6 @@ SameFormat-from_trim R S e =
 pub normal_form-is : (w : ℕ) → normal_form_of w ≡ pack (fill (raw w))
 normal_form-is w = ap pack (after_none (fill (raw w)))
 
--- and so does a builder that was made of the word
-pub packed-normal : (r : Record) (w : ℕ) → r ≡ fill (raw w) → pack r ≡ normal_form_of w
-packed-normal r w is = ap pack is ∙ sym (normal_form-is w)
-
 -- words of the same format have one normal form
 pub normal_same : (a b : ℕ) → SameFormat (raw a) (raw b) → normal_form_of a ≡ normal_form_of b
 normal_same a b s = normal_form-is a ∙ ap word_of (trim-same_format (raw a) (raw b) s) ∙ sym (normal_form-is b)

@@ -1,10 +1,11 @@
 -- The result is the normal form, and each clause what the laws say of that.
-use Rattle.std.proofs.Common.{◌∙◌, arith}
-use Rattle.lexical_util.proofs.NormalLemmas.{packed-normal}
+use Rattle.std.proofs.Common.{◌∙◌, sym, ap, arith}
+use Rattle.lexical_flags.specs.Record.{pack}
+use Rattle.lexical_util.proofs.NormalLemmas.{normal_form-is}
 use Rattle.lexical_util.proofs.edits.normal_form.Goals as goal
 
 pub returns-clause-word : goal.returns-clause-word
-returns-clause-word c = c.build_unchecked.ensures.word ∙ packed-normal c.rebuild.result c.args.format c.rebuild.ensures
+returns-clause-word c = c.build_unchecked.ensures.word ∙ ap pack c.rebuild.ensures ∙ sym (normal_form-is c.args.format)
 
 pub returns-clause-fields : goal.returns-clause-fields
 returns-clause-fields c = rw (returns-clause-word c) (c.normal_form_facts.ensures.fields c.args.format)
