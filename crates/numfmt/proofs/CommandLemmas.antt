@@ -1,5 +1,5 @@
 -- The only response that a demand allows, and lists of a known length.
-use Rattle.std.proofs.Common.{◌≡◌, ◌≢◌, ◌↔◌, ◌≤◌, ◌-◌, ℕ, Bool, true, false, IsTrue, Ok, Err, List, [], ◌∷◌, length, get_or, map, take, drop, take_all, inl, inr, refl, sym, ap, ◌∙◌, arith}
+use Rattle.std.proofs.Common.{◌≡◌, ◌≢◌, ◌↔◌, ◌≤◌, ◌-◌, ℕ, Bool, true, false, IsTrue, Ok, Err, List, [], ◌∷◌, length, get_or, map, take, drop, take_all, refl, sym, ap, ◌∙◌, arith}
 use Rattle.lexical_util.specs.declared.error.Error.{Error}
 use Rattle.lexical_util.specs.Rules.{IsErrorOf}
 use Rattle.lexical_util.specs.declared.edits.Edit.{Edit}
