@@ -139,7 +139,8 @@ fn halves_in_either(halves: &[[u8; 16]], first: (u8, u8), second: (u8, u8)) -> b
     for half in halves {
         let lanes = u8x16::from_array(*half);
         let of_first = lanes.simd_ge(u8x16::splat(first.0)) & lanes.simd_le(u8x16::splat(first.1));
-        let of_second = lanes.simd_ge(u8x16::splat(second.0)) & lanes.simd_le(u8x16::splat(second.1));
+        let of_second = lanes.simd_ge(u8x16::splat(second.0))
+            & lanes.simd_le(u8x16::splat(second.1));
         joined &= of_first | of_second;
     }
     joined.all()
