@@ -113,7 +113,7 @@ pub fn short_slices(bytes: &[u8]) -> u64 {
 // OUTCOMES
 
 /// How often each outcome is asked, so that making it does not count.
-pub const TIMES: usize = 8;
+pub const TIMES: usize = 32;
 
 /// The outcome that a number stands for: any of the 49, a parse error with an index.
 fn outcome_of(bits: u64) -> Error {

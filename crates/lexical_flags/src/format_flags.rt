@@ -253,8 +253,8 @@ pub fn exponent_base(format: u128) -> u32
     ensures value { result ≡ effective_exponent_base (raw format) }
     ensures lawful { Lawful format → IsRadix result }
 {
-    let radix = mantissa_radix(format);
     let base = ((format & EXPONENT_BASE) >> EXPONENT_BASE_SHIFT) as u32;
+    let radix = mantissa_radix(format);
     if base == 0 { radix } else { base }
 }
 
@@ -265,8 +265,8 @@ pub fn exponent_radix(format: u128) -> u32
     ensures value { result ≡ effective_exponent_radix (raw format) }
     ensures lawful { Lawful format → IsRadix result }
 {
-    let mantissa_radix = mantissa_radix(format);
     let radix = ((format & EXPONENT_RADIX) >> EXPONENT_RADIX_SHIFT) as u32;
+    let mantissa_radix = mantissa_radix(format);
     if radix == 0 { mantissa_radix } else { radix }
 }
 
