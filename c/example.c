@@ -50,6 +50,6 @@ int main(int argc, char **argv) {
         size_t len = peltzivar_setter_name(all[i].setter, name, sizeof name);
         printf("%.*s=%d\n", (int)len, (char *)name, all[i].value);
     }
-    peltzivar_word again = peltzivar_pack(fields);
+    peltzivar_word again = peltzivar_pack(&fields);
     return again.low == word.low && again.high == word.high ? 0 : 1;
 }

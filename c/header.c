@@ -39,9 +39,9 @@ static void test_fields(void) {
     CHECK(fields.digit_separator == 1 && fields.base_prefix == 2 && fields.base_suffix == 3);
     CHECK(fields.mantissa_radix == 4 && fields.exponent_base == 5 && fields.exponent_radix == 6);
     CHECK(fields.flags == (0xC | 1u << PELTZIVAR_SET_SPECIAL_DIGIT_SEPARATOR));
-    CHECK(is_word(peltzivar_pack(fields), 0x0605040302000001, 0x0000100000000000 | 0xC));
+    CHECK(is_word(peltzivar_pack(&fields), 0x0605040302000001, 0x0000100000000000 | 0xC));
     fields.flags |= 1u << 31;
-    CHECK(is_word(peltzivar_pack(fields), 0x0605040302000001, 0x0000100000000000 | 0xC));
+    CHECK(is_word(peltzivar_pack(&fields), 0x0605040302000001, 0x0000100000000000 | 0xC));
 
     const peltzivar_edit unknown[] = {{PELTZIVAR_SET_RADIX, 7}, {47, 0}};
     const peltzivar_fields before = fields;
@@ -59,12 +59,13 @@ static void test_fields(void) {
 static void test_words(void) {
     peltzivar_word word = {1, 2};
     const peltzivar_edit unknown = {PELTZIVAR_NO_SETTER, 0};
+    const peltzivar_fields zero = peltzivar_fields_of(ZERO);
     CHECK(!peltzivar_edit_word(ZERO, &unknown, 1, &word) && is_word(word, 2, 1));
     CHECK(peltzivar_migrate(ZERO, &word) == PELTZIVAR_INVALID_MANTISSA_RADIX && is_word(word, 2, 1));
-    CHECK(peltzivar_build_strict(peltzivar_fields_of(ZERO), &word) == PELTZIVAR_INVALID_MANTISSA_RADIX);
+    CHECK(peltzivar_build_strict(&zero, &word) == PELTZIVAR_INVALID_MANTISSA_RADIX);
     CHECK(is_word(word, 2, 1));
     CHECK(peltzivar_migrate(RESERVED, &word) == PELTZIVAR_SUCCESS && is_word(word, 0x0A0A0A0000000000, 0xC));
-    CHECK(peltzivar_build_strict(PELTZIVAR_NEW_FIELDS, &word) == PELTZIVAR_SUCCESS);
+    CHECK(peltzivar_build_strict(&PELTZIVAR_NEW_FIELDS, &word) == PELTZIVAR_SUCCESS);
     CHECK(is_word(word, PELTZIVAR_STANDARD.high, PELTZIVAR_STANDARD.low));
     CHECK(is_word(peltzivar_normal_form(PELTZIVAR_STANDARD), 0x0A0A0A0000000000, 0xC));
     CHECK(peltzivar_same_format(PELTZIVAR_STANDARD, RESERVED) && !peltzivar_same_format(PELTZIVAR_STANDARD, ZERO));

@@ -168,11 +168,11 @@ bool peltzivar_edit_fields(peltzivar_fields *fields, const peltzivar_edit *edits
 
 /* Returns the word that the fields are packed into, lawful or not. The digit separator is packed only if a flag
  * allows one. */
-peltzivar_word peltzivar_pack(peltzivar_fields fields);
+peltzivar_word peltzivar_pack(const peltzivar_fields *fields);
 
 /* Packs the fields. If the word is lawful, writes it to *out and returns PELTZIVAR_SUCCESS; else writes nothing and
  * returns the error of the first rule that it breaks. */
-uint32_t peltzivar_build_strict(peltzivar_fields fields, peltzivar_word *out);
+uint32_t peltzivar_build_strict(const peltzivar_fields *fields, peltzivar_word *out);
 
 /* WORDS */
 

@@ -62,6 +62,16 @@ macro_rules! setters {
                     $(FlagSetter::$Group => Edit::$Group(value),)*
                 }
             }
+
+            /// Returns the setter and the value of an edit of a flag or of a group, and `None` of any other.
+            #[inline]
+            pub const fn as_flag(self) -> Option<(FlagSetter, bool)> {
+                match self {
+                    $(Edit::$Flag(value) => Some((FlagSetter::$Flag, value)),)*
+                    $(Edit::$Group(value) => Some((FlagSetter::$Group, value)),)*
+                    _ => None,
+                }
+            }
         }
     };
 }
@@ -98,15 +108,25 @@ impl Edit {
 
     /// Returns the name of the setter.
     pub fn name(self) -> &'static str {
+        &names()[usize::from(self.numbers().0)]
+    }
+
+    /// The number of the setter, and the argument.
+    #[inline]
+    pub(crate) fn numbers(self) -> (u8, u8) {
+        if let Some((setter, value)) = self.as_flag() {
+            return (setter as u8, value.into());
+        }
+        let byte = |byte: OptionU8| byte.map_or(0, NonZeroU8::get);
         match self {
-            Edit::DigitSeparator(_) => &names()[40],
-            Edit::BasePrefix(_) => &names()[41],
-            Edit::BaseSuffix(_) => &names()[42],
-            Edit::MantissaRadix(_) => &names()[43],
-            Edit::Radix(_) => &names()[44],
-            Edit::ExponentBase(_) => &names()[45],
-            Edit::ExponentRadix(_) => &names()[46],
-            flag => flag.setter().expect("an edit of a flag").name(),
+            Edit::DigitSeparator(value) => (40, byte(value)),
+            Edit::BasePrefix(value) => (41, byte(value)),
+            Edit::BaseSuffix(value) => (42, byte(value)),
+            Edit::MantissaRadix(value) => (43, value),
+            Edit::Radix(value) => (44, value),
+            Edit::ExponentBase(value) => (45, byte(value)),
+            Edit::ExponentRadix(value) => (46, byte(value)),
+            _ => unreachable!("an edit of a flag"),
         }
     }
 
@@ -125,12 +145,6 @@ impl Edit {
                 Some(Edit::flag(*setter, value != 0))
             }
         }
-    }
-
-    /// Returns the setter of an edit of a flag or of a group.
-    pub fn setter(self) -> Option<FlagSetter> {
-        let is_of = |setter: &FlagSetter| [false, true].map(|value| Edit::flag(*setter, value)).contains(&self);
-        FlagSetter::ALL.into_iter().find(is_of)
     }
 }
 

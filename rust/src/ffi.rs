@@ -61,8 +61,8 @@ const SUCCESS: u32 = 48;
 extern "C" {
     fn peltzivar_fields_of(format: Word) -> Fields;
     fn peltzivar_edit_fields(fields: &mut Fields, changes: *const Change, len: usize) -> bool;
-    fn peltzivar_pack(fields: Fields) -> Word;
-    fn peltzivar_build_strict(fields: Fields, out: &mut Word) -> u32;
+    fn peltzivar_pack(fields: &Fields) -> Word;
+    fn peltzivar_build_strict(fields: &Fields, out: &mut Word) -> u32;
     fn peltzivar_edit_word(format: Word, changes: *const Change, len: usize, out: &mut Word) -> bool;
     fn peltzivar_normal_form(format: Word) -> Word;
     fn peltzivar_migrate(format: Word, out: &mut Word) -> u32;
@@ -116,8 +116,15 @@ pub fn edit_fields(fields: &mut Fields, edits: &[Edit]) {
     debug_assert!(known, "each edit has a setter");
 }
 
+/// The same for the first `len` of eight edits, each its number and then its argument.
 #[inline]
-pub fn pack(fields: Fields) -> u128 {
+pub fn edit_fields_by_numbers(fields: &mut Fields, edits: [u8; 16], len: u32) {
+    let known = unsafe { peltzivar_edit_fields(fields, edits.as_ptr().cast(), len.min(8) as usize) };
+    debug_assert!(known, "each edit has a setter");
+}
+
+#[inline]
+pub fn pack(fields: &Fields) -> u128 {
     unsafe { peltzivar_pack(fields) }.into()
 }
 
@@ -132,7 +139,7 @@ fn word_or_rank(call: impl FnOnce(&mut Word) -> u32) -> Result<u128, u32> {
 }
 
 #[inline]
-pub fn build_strict(fields: Fields) -> Result<u128, u32> {
+pub fn build_strict(fields: &Fields) -> Result<u128, u32> {
     word_or_rank(|word| unsafe { peltzivar_build_strict(fields, word) })
 }
 

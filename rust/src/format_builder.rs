@@ -11,7 +11,7 @@ use std::num::NonZeroU8;
 pub type OptionU8 = Option<NonZeroU8>;
 
 /// The most edits that a builder keeps before it applies them.
-const KEPT: usize = 16;
+const KEPT: u32 = 8;
 
 /// The fields of a number format, to be set one by one and packed into a format word.
 ///
@@ -24,8 +24,10 @@ const KEPT: usize = 16;
 #[derive(Clone, Copy)]
 pub struct NumberFormatBuilder {
     fields: Fields,
-    edits: [Edit; KEPT],
-    len: u8,
+    // How many edits are kept, and their numbers and arguments in the order of the calls, the first lowest: a number,
+    // so that it stays in registers while setters are called.
+    len: u32,
+    edits: u128,
 }
 
 impl NumberFormatBuilder {
@@ -84,7 +86,7 @@ impl NumberFormatBuilder {
     /// separator: it is written only if one of the 13 digit separator flags is set, and is 0 otherwise.
     #[inline]
     pub fn build_unchecked(&self) -> u128 {
-        ffi::pack(self.fields())
+        ffi::pack(&self.fields())
     }
 
     /// Packs the fields into a format word. Returns the word if it is lawful, or else what is wrong with it,
@@ -93,7 +95,7 @@ impl NumberFormatBuilder {
     /// `lexical-util` panics with the description of the error instead.
     #[inline]
     pub fn build_strict(&self) -> Result<u128, Error> {
-        ffi::build_strict(self.fields()).map_err(Error::of_word)
+        ffi::build_strict(&self.fields()).map_err(Error::of_word)
     }
 
     /// Another name of `build_unchecked`. Deprecated in `lexical-util`.
@@ -104,7 +106,7 @@ impl NumberFormatBuilder {
 
     #[inline]
     pub(crate) const fn of(fields: Fields) -> Self {
-        NumberFormatBuilder { fields, edits: [Edit::RequiredDigits(false); KEPT], len: 0 }
+        NumberFormatBuilder { fields, len: 0, edits: 0 }
     }
 
     /// The fields after the edits that are kept.
@@ -112,17 +114,18 @@ impl NumberFormatBuilder {
     fn fields(&self) -> Fields {
         let mut fields = self.fields;
         if self.len > 0 {
-            ffi::edit_fields(&mut fields, &self.edits[..usize::from(self.len)]);
+            ffi::edit_fields_by_numbers(&mut fields, self.edits.to_le_bytes(), self.len);
         }
         fields
     }
 
     #[inline]
     pub(crate) fn with(mut self, edit: Edit) -> Self {
-        if usize::from(self.len) == KEPT {
+        if self.len == KEPT {
             self = Self::of(self.fields());
         }
-        self.edits[usize::from(self.len)] = edit;
+        let (setter, value) = edit.numbers();
+        self.edits |= u128::from(u16::from_le_bytes([setter, value])) << (16 * self.len);
         self.len += 1;
         self
     }

@@ -49,7 +49,7 @@ macro_rules! setters {
                 assert_eq!(edit_word(word, &[Edit::$Group(false)]), NO_FLAG);
                 assert_eq!(FlagSetter::$Group.name(), stringify!($group));
                 assert_eq!(FlagSetter::from_name(stringify!($group)), Some(FlagSetter::$Group));
-                assert_eq!(Edit::$Group(true).setter(), Some(FlagSetter::$Group));
+                assert_eq!(Edit::$Group(true).as_flag(), Some((FlagSetter::$Group, true)));
             )*
         }
 

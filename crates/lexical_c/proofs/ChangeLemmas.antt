@@ -1,5 +1,5 @@
 -- Changes that are applied one after another.
-use Rattle.std.proofs.Common.{◌≡◌, rules, ℕ, zero, suc, ◌+◌, ◌<◌, ◌≤◌, Option, Some, IsSome, List, [], ◌∷◌, ◌++◌, length, get_or, take, set, filter_map, refl, sym, ap, ◌∙◌, subst, append-nil, length-set, take_all, All, arith}
+use Rattle.std.proofs.Common.{◌≡◌, rules, ℕ, zero, suc, ◌+◌, ◌<◌, ◌≤◌, Some, IsSome, List, [], ◌∷◌, ◌++◌, length, get_or, take, set, refl, sym, ap, ◌∙◌, subst, append-nil, length-set, take_all, All, arith}
 use Rattle.std.proofs.lemmas.List.{take_more, take_more_set}
 use Rattle.std.proofs.lemmas.List.Concat.{flat_map-append}
 use Rattle.std.proofs.lemmas.List.Elements.{All-append, All-same, filter_map-append}

@@ -1,5 +1,5 @@
 -- Fields that cross to C and back.
-use Rattle.std.proofs.Common.{◌≡◌, ℕ, ◌<◌, ◌%◌, ◌^◌, List, [], ◌∷◌, ap, sym, arith}
+use Rattle.std.proofs.Common.{◌≡◌, ℕ, ◌<◌, ◌%◌, ◌^◌, List, [], ◌∷◌, arith}
 use Rattle.std.specs.Prelude.{slice_index}
 use Rattle.lexical_util.specs.Record.{Record}
 use Rattle.lexical_util.specs.Fields.{record_of_parts}

@@ -1,17 +1,23 @@
 -- The edits that numbers stand for.
-use Rattle.std.specs.Prelude.{ℕ, Bool, not, ◌==◌, nat_lt, if◌then◌else◌, Option, Some, None, IsSome, List, filter_map, get_or, codes}
+use Rattle.std.specs.Prelude.{ℕ, not, ◌==◌, nat_lt, if◌then◌else◌, Option, Some, None, IsSome, List, filter_map, get_or, codes}
 use Rattle.lexical_util.specs.SetterNames.{setter_name}
 use Rattle.lexical_util.specs.OptionByte.{option_of_byte}
+use Rattle.lexical_util.specs.declared.edits.FlagSetter.{FlagSetter}
 use Rattle.lexical_util.specs.declared.edits.FlagSetter.TheVariants as setters
 use Rattle.lexical_util.specs.declared.edits.Edit.{Edit}
 use Rattle.lexical_util.specs.declared.edits.Edit.TheVariants as edits
 use Rattle.lexical_c.specs.declared.changes.Change.{Change}
 use Rattle.lexical_c.specs.declared.changes.TheConstants.{FLAG_SETTERS}
 
--- the edit of a setter's number with a value, if there is such a setter: first the 40 setters of flags and groups, for which any value but 0 is true, then those of the bytes, for which 0 is none
+-- the setter of flags with a number below 40
+abbrev pub flag_setter : ℕ → FlagSetter
+flag_setter number = get_or FLAG_SETTERS number setters.RequiredIntegerDigits
+
+-- the edit of a setter's number with a value, if there is such a setter: the 40 setters of flags and groups, for which
+-- any value but 0 is true, and then those of the bytes, for which 0 is none
 abbrev pub edit_of_numbers : ℕ → ℕ → Option Edit
 edit_of_numbers setter value =
-    if nat_lt setter 40 then Some (edits.Flag (get_or FLAG_SETTERS setter setters.RequiredIntegerDigits) (not (value == 0)))
+    if nat_lt setter 40 then Some (edits.Flag (flag_setter setter) (not (value == 0)))
     else if setter == 40 then Some (edits.DigitSeparator (option_of_byte value))
     else if setter == 41 then Some (edits.BasePrefix (option_of_byte value))
     else if setter == 42 then Some (edits.BaseSuffix (option_of_byte value))
@@ -21,6 +27,7 @@ edit_of_numbers setter value =
     else if setter == 46 then Some (edits.ExponentRadix (option_of_byte value))
     else None
 
+-- the edit that a change stands for
 abbrev pub edit_of : Change → Option Edit
 edit_of change = edit_of_numbers change.setter change.value
 
@@ -35,7 +42,7 @@ known changes = filter_map edit_of changes
 -- the name of a setter's number, 0 to 46
 abbrev pub name_of_setter : ℕ → List ℕ
 name_of_setter setter =
-    if nat_lt setter 40 then setter_name (get_or FLAG_SETTERS setter setters.RequiredIntegerDigits)
+    if nat_lt setter 40 then setter_name (flag_setter setter)
     else if setter == 40 then codes "digit_separator"
     else if setter == 41 then codes "base_prefix"
     else if setter == 42 then codes "base_suffix"

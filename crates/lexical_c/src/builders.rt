@@ -42,9 +42,9 @@ pub extern "C" fn peltzivar_edit_fields(fields: &mut Fields, changes: &[Change])
 
 /// Packs the fields into a word, lawful or not.
 #[unsafe(no_mangle)]
-pub extern "C" fn peltzivar_pack(fields: Fields) -> Word
-    ensures word { result ≡ pack (fields_of fields) }
-    ensures fields { raw result ≡ trim (fields_of fields) }
+pub extern "C" fn peltzivar_pack(fields: &Fields) -> Word
+    ensures word { result ≡ pack (fields_of fields.now) }
+    ensures fields { raw result ≡ trim (fields_of fields.now) }
     ensures clean { IsClean result }
 {
     Word::new(fields.builder().build_unchecked())
@@ -53,10 +53,10 @@ pub extern "C" fn peltzivar_pack(fields: Fields) -> Word
 /// Packs the fields into a word. If it is lawful, writes it and returns 48; else writes nothing and returns
 /// the rank of its error.
 #[unsafe(no_mangle)]
-pub extern "C" fn peltzivar_build_strict(fields: Fields, out: &mut Word) -> u32
-    ensures error { IsRankOfOne (IsErrorOf (pack (fields_of fields))) result }
-    ensures lawful { (result ≡ 48) ↔ Lawful (pack (fields_of fields)) }
-    ensures written { result ≡ 48 → out.new ≡ pack (fields_of fields) }
+pub extern "C" fn peltzivar_build_strict(fields: &Fields, out: &mut Word) -> u32
+    ensures error { IsRankOfOne (IsErrorOf (pack (fields_of fields.now))) result }
+    ensures lawful { (result ≡ 48) ↔ Lawful (pack (fields_of fields.now)) }
+    ensures written { result ≡ 48 → out.new ≡ pack (fields_of fields.now) }
     ensures unchanged { (result ≡ 48 → ⊥) → out.new ≡ out.old }
 {
     checked(fields.builder().build_unchecked(), out)

@@ -61,7 +61,11 @@ pub extern "C" fn peltzivar_digit_to_char(digit: u32) -> u8
     ensures character { digit < 36 → slice_get digit_characters digit ≡ Some result }
     ensures none { (digit < 36 → ⊥) → result ≡ 0 }
 {
-    if digit < 36 { digit::digit_to_char(digit) } else { 0 }
+    if digit < 36 {
+        digit::digit_to_char(digit)
+    } else {
+        0
+    }
 }
 
 /// Returns what [`peltzivar_char_to_digit`] returns, by the call for a radix known at compile time.

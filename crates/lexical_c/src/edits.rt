@@ -21,7 +21,10 @@ use lexical_util::laws::write_facts;
 
 /// Applies the changes to a builder in order. Returns `None` if one of them has no setter.
 #[inline(always)]
-pub fn apply_changes(mut builder: NumberFormatBuilder, changes: &[Change]) -> Option<NumberFormatBuilder>
+pub fn apply_changes(
+    mut builder: NumberFormatBuilder,
+    changes: &[Change],
+) -> Option<NumberFormatBuilder>
     ensures known { IsSome result ↔ All HasSetter changes.now }
     ensures fields { IfSome result (λ applied. applied ≡ after builder (all_writes (known changes.now))) }
 {

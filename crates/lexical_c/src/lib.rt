@@ -10,6 +10,7 @@ mod builders;
 mod bytes;
 mod changes;
 mod edits;
+mod laws;
 mod outcomes;
 mod rules;
 mod setters;

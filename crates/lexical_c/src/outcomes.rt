@@ -5,7 +5,7 @@ ghost use Rattle.lexical_util.specs.Outcomes.{rank_of, held_index, description_o
 ghost use Rattle.lexical_c.specs.Outcomes.{IsRankOfOne};
 ghost use Rattle.lexical_c.specs.Texts.{IsWritten};
 
-use crate::texts::{write_decimal, write_after, write_text};
+use crate::texts::{write_after, write_decimal, write_text};
 use lexical_util::error::Error;
 
 /// Writes the front of an outcome's description, as much as has room, and returns the length of the whole.

@@ -10,8 +10,7 @@ ghost use Rattle.lexical_util.specs.Options.{AreAccepted, HaveOneRole, LeavesRoo
 ghost use Rattle.lexical_c.specs.Outcomes.{IsRankOfOne};
 
 use crate::words::Word;
-use lexical_util::format;
-use lexical_util::format_flags as flags;
+use lexical_util::{format, format_flags as flags};
 
 /// Writes a word and returns 48 if it is lawful; else writes nothing and returns the rank of its error.
 #[inline(always)]
@@ -95,7 +94,11 @@ pub extern "C" fn peltzivar_is_valid_punctuation(format: Word) -> bool
 
 /// Returns whether an exponent character and a decimal point fit a word.
 #[unsafe(no_mangle)]
-pub extern "C" fn peltzivar_is_valid_options_punctuation(format: Word, exponent: u8, decimal_point: u8) -> bool
+pub extern "C" fn peltzivar_is_valid_options_punctuation(
+    format: Word,
+    exponent: u8,
+    decimal_point: u8,
+) -> bool
     ensures accepted { IsTrue result ↔ AreAccepted format exponent decimal_point }
     ensures roles { Lawful format → (IsTrue result ↔ HaveOneRole format exponent decimal_point) }
     ensures some { Lawful format → LeavesRoom format }

@@ -1,5 +1,5 @@
 use Rattle.std.proofs.Common.{sym, ◌∙◌}
-use Rattle.lexical_c.proofs.ChangeLemmas.{none_applied, more_applied, all_applied}
+use Rattle.lexical_c.proofs.ChangeLemmas.{none_applied, more_applied}
 use Rattle.lexical_c.proofs.edits.apply_changes.Goals as goal
 
 pub loop-change-init : goal.loop-change-init

@@ -1,9 +1,8 @@
-use Rattle.std.proofs.Common.{◌≡◌, ◌++◌, ◌≤◌, List, Some, length, take, sym, ap, subst, ◌∙◌, arith}
+use Rattle.std.proofs.Common.{◌++◌, Some, length, take, sym, ap, ◌∙◌, arith}
 use Rattle.lexical_util.specs.Record.{raw}
 use Rattle.lexical_util.specs.Listing.{changing, unchanging}
 use Rattle.lexical_util.specs.Writes.{new_record, after}
 use Rattle.lexical_util.specs.Edits.{all_writes}
-use Rattle.lexical_c.specs.Edits.{known}
 use Rattle.lexical_c.proofs.ChangeLemmas.{more_stand, all_stand}
 use Rattle.lexical_c.proofs.edits.peltzivar_edits_of.Goals as goal
 

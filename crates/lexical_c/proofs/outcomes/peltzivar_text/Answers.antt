@@ -1,4 +1,4 @@
-use Rattle.std.proofs.Common.{rules, ◌≡◌, ◌++◌, codes, sym, ap, ap₂, subst, ◌∙◌, arith}
+use Rattle.std.proofs.Common.{rules, ◌≡◌, ◌++◌, codes, sym, ap₂, subst, ◌∙◌, arith}
 use Rattle.std.specs.Fmt.{decimal}
 use Rattle.lexical_util.specs.Outcomes.{description_of, printed_text, held_index}
 use Rattle.lexical_c.specs.Texts.{IsWritten}
