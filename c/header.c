@@ -43,13 +43,18 @@ static void test_fields(void) {
     fields.flags |= 1u << 31;
     CHECK(is_word(peltzivar_pack(&fields), 0x0605040302000001, 0x0000100000000000 | 0xC));
 
+    peltzivar_word word = {1, 2};
+    CHECK(peltzivar_build(&PELTZIVAR_NEW_FIELDS, edits, 7, &word));
+    CHECK(is_word(word, 0x0605040302000001, 0x0000100000000000 | 0xC));
+
     const peltzivar_edit unknown[] = {{PELTZIVAR_SET_RADIX, 7}, {47, 0}};
+    CHECK(!peltzivar_build(&fields, unknown, 2, &word));
+    CHECK(is_word(word, 0x0605040302000001, 0x0000100000000000 | 0xC));
     const peltzivar_fields before = fields;
     CHECK(!peltzivar_edit_fields(&fields, unknown, 2));
     CHECK(memcmp(&fields, &before, sizeof fields) == 0);
     for (uint8_t flag = 0; flag < 31; flag++) {
         const peltzivar_edit set = {flag, 200};
-        peltzivar_word word;
         CHECK(peltzivar_edit_word(ZERO, &set, 1, &word));
         CHECK(is_word(word, 0, 1ull << (flag < 18 ? flag : flag + 14)));
         CHECK(peltzivar_fields_of(word).flags == 1u << flag);

@@ -170,6 +170,10 @@ bool peltzivar_edit_fields(peltzivar_fields *fields, const peltzivar_edit *edits
  * allows one. */
 peltzivar_word peltzivar_pack(const peltzivar_fields *fields);
 
+/* Applies the edits to the fields in order, writes the word that they are packed into to *out and returns true. If one
+ * of them has no setter, returns false and writes nothing. */
+bool peltzivar_build(const peltzivar_fields *fields, const peltzivar_edit *edits, size_t len, peltzivar_word *out);
+
 /* Packs the fields. If the word is lawful, writes it to *out and returns PELTZIVAR_SUCCESS; else writes nothing and
  * returns the error of the first rule that it breaks. */
 uint32_t peltzivar_build_strict(const peltzivar_fields *fields, peltzivar_word *out);

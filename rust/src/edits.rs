@@ -108,26 +108,17 @@ impl Edit {
 
     /// Returns the name of the setter.
     pub fn name(self) -> &'static str {
-        &names()[usize::from(self.numbers().0)]
-    }
-
-    /// The number of the setter, and the argument.
-    #[inline]
-    pub(crate) fn numbers(self) -> (u8, u8) {
-        if let Some((setter, value)) = self.as_flag() {
-            return (setter as u8, value.into());
-        }
-        let byte = |byte: OptionU8| byte.map_or(0, NonZeroU8::get);
-        match self {
-            Edit::DigitSeparator(value) => (40, byte(value)),
-            Edit::BasePrefix(value) => (41, byte(value)),
-            Edit::BaseSuffix(value) => (42, byte(value)),
-            Edit::MantissaRadix(value) => (43, value),
-            Edit::Radix(value) => (44, value),
-            Edit::ExponentBase(value) => (45, byte(value)),
-            Edit::ExponentRadix(value) => (46, byte(value)),
-            _ => unreachable!("an edit of a flag"),
-        }
+        let setter = match self {
+            Edit::DigitSeparator(_) => 40,
+            Edit::BasePrefix(_) => 41,
+            Edit::BaseSuffix(_) => 42,
+            Edit::MantissaRadix(_) => 43,
+            Edit::Radix(_) => 44,
+            Edit::ExponentBase(_) => 45,
+            Edit::ExponentRadix(_) => 46,
+            flag => flag.as_flag().expect("any other edit is of flags").0 as usize,
+        };
+        &names()[setter]
     }
 
     fn from_numbers(setter: u8, value: u8) -> Option<Edit> {

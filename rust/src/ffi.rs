@@ -61,7 +61,7 @@ const SUCCESS: u32 = 48;
 extern "C" {
     fn peltzivar_fields_of(format: Word) -> Fields;
     fn peltzivar_edit_fields(fields: &mut Fields, changes: *const Change, len: usize) -> bool;
-    fn peltzivar_pack(fields: &Fields) -> Word;
+    fn peltzivar_build(fields: &Fields, changes: *const Change, len: usize, out: &mut Word) -> bool;
     fn peltzivar_build_strict(fields: &Fields, out: &mut Word) -> u32;
     fn peltzivar_edit_word(format: Word, changes: *const Change, len: usize, out: &mut Word) -> bool;
     fn peltzivar_normal_form(format: Word) -> Word;
@@ -116,16 +116,12 @@ pub fn edit_fields(fields: &mut Fields, edits: &[Edit]) {
     debug_assert!(known, "each edit has a setter");
 }
 
-/// The same for the first `len` of eight edits, each its number and then its argument.
 #[inline]
-pub fn edit_fields_by_numbers(fields: &mut Fields, edits: [u8; 16], len: u32) {
-    let known = unsafe { peltzivar_edit_fields(fields, edits.as_ptr().cast(), len.min(8) as usize) };
+pub fn build(fields: &Fields, edits: &[Edit]) -> u128 {
+    let mut word = Word::default();
+    let known = unsafe { peltzivar_build(fields, edits.as_ptr().cast(), edits.len(), &mut word) };
     debug_assert!(known, "each edit has a setter");
-}
-
-#[inline]
-pub fn pack(fields: &Fields) -> u128 {
-    unsafe { peltzivar_pack(fields) }.into()
+    word.into()
 }
 
 /// The word, or the rank of its error.

@@ -11,7 +11,7 @@ use std::num::NonZeroU8;
 pub type OptionU8 = Option<NonZeroU8>;
 
 /// The most edits that a builder keeps before it applies them.
-const KEPT: u32 = 8;
+const KEPT: usize = 16;
 
 /// The fields of a number format, to be set one by one and packed into a format word.
 ///
@@ -24,10 +24,8 @@ const KEPT: u32 = 8;
 #[derive(Clone, Copy)]
 pub struct NumberFormatBuilder {
     fields: Fields,
-    // How many edits are kept, and their numbers and arguments in the order of the calls, the first lowest: a number,
-    // so that it stays in registers while setters are called.
-    len: u32,
-    edits: u128,
+    edits: [Edit; KEPT],
+    len: u8,
 }
 
 impl NumberFormatBuilder {
@@ -86,7 +84,7 @@ impl NumberFormatBuilder {
     /// separator: it is written only if one of the 13 digit separator flags is set, and is 0 otherwise.
     #[inline]
     pub fn build_unchecked(&self) -> u128 {
-        ffi::pack(&self.fields())
+        ffi::build(&self.fields, self.kept())
     }
 
     /// Packs the fields into a format word. Returns the word if it is lawful, or else what is wrong with it,
@@ -106,26 +104,31 @@ impl NumberFormatBuilder {
 
     #[inline]
     pub(crate) const fn of(fields: Fields) -> Self {
-        NumberFormatBuilder { fields, len: 0, edits: 0 }
+        NumberFormatBuilder { fields, edits: [Edit::RequiredDigits(false); KEPT], len: 0 }
     }
 
-    /// The fields after the edits that are kept.
+    /// The edits that are not applied yet.
+    #[inline]
+    fn kept(&self) -> &[Edit] {
+        &self.edits[..usize::from(self.len)]
+    }
+
+    /// The fields after these edits.
     #[inline]
     fn fields(&self) -> Fields {
         let mut fields = self.fields;
         if self.len > 0 {
-            ffi::edit_fields_by_numbers(&mut fields, self.edits.to_le_bytes(), self.len);
+            ffi::edit_fields(&mut fields, self.kept());
         }
         fields
     }
 
     #[inline]
     pub(crate) fn with(mut self, edit: Edit) -> Self {
-        if self.len == KEPT {
+        if usize::from(self.len) == KEPT {
             self = Self::of(self.fields());
         }
-        let (setter, value) = edit.numbers();
-        self.edits |= u128::from(u16::from_le_bytes([setter, value])) << (16 * self.len);
+        self.edits[usize::from(self.len)] = edit;
         self.len += 1;
         self
     }

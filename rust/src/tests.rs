@@ -13,7 +13,8 @@ const NO_FLAG: u128 = 0x24242400 << 96;
 
 /// A name in snake case.
 fn snake(name: &str) -> String {
-    let separated = name.chars().map(|c| if c.is_uppercase() { format!("_{}", c.to_ascii_lowercase()) } else { c.into() });
+    let separated =
+        name.chars().map(|c| if c.is_uppercase() { format!("_{}", c.to_ascii_lowercase()) } else { c.into() });
     separated.collect::<String>().trim_start_matches('_').to_string()
 }
 
@@ -79,7 +80,9 @@ fn a_variant_is_the_name_of_its_setter() {
         assert_eq!(Edit::flag(setter, true), Edit::from_name(setter.name(), 1).expect("a setter"));
         assert_eq!(format!("{:?}", Edit::flag(setter, true)), format!("{setter:?}(true)"));
     }
-    for name in ["digit_separator", "base_prefix", "base_suffix", "mantissa_radix", "radix", "exponent_base", "exponent_radix"] {
+    for name in
+        ["digit_separator", "base_prefix", "base_suffix", "mantissa_radix", "radix", "exponent_base", "exponent_radix"]
+    {
         let edit = Edit::from_name(name, 7).expect("a setter");
         assert_eq!(snake(format!("{edit:?}").split('(').next().expect("a variant")), name);
         assert_eq!(edit.name(), name);

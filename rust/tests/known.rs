@@ -60,8 +60,7 @@ fn outcomes_are_ordered_by_rank_then_by_index() {
 #[test]
 fn a_builder_keeps_a_separator_that_it_does_not_pack() {
     assert_eq!(NumberFormatBuilder::new().build_unchecked(), STANDARD);
-    let builder =
-        NumberFormatBuilder::new().digit_separator(NonZeroU8::new(b'_')).internal_digit_separator(true);
+    let builder = NumberFormatBuilder::new().digit_separator(NonZeroU8::new(b'_')).internal_digit_separator(true);
     let view = NumberFormat::new(builder.build_strict().expect("a lawful format"));
     assert!(view.is_valid() && view.internal_digit_separator() && view.has_digit_separator());
     let off = builder.internal_digit_separator(false);
@@ -88,7 +87,10 @@ fn words_that_mean_the_same_have_one_normal_form() {
 
 #[test]
 fn bytes_and_digits() {
-    assert_eq!([char_to_digit(b'f', 16), char_to_digit(b'g', 16), char_to_digit(b'!', 256)], [Some(15), None, Some(255)]);
+    assert_eq!(
+        [char_to_digit(b'f', 16), char_to_digit(b'g', 16), char_to_digit(b'!', 256)],
+        [Some(15), None, Some(255)]
+    );
     assert!(char_is_digit(b'9', 10) && !char_is_digit(b'9', 9) && digit_to_char(35) == b'Z');
     assert!(is_valid_ascii(b'~') && !is_valid_ascii(0x7F) && is_valid_letter(b'z') && !is_valid_letter(b'0'));
     assert!(is_valid_ascii_slice(b"") && is_valid_ascii_slice(&[b' '; 100]) && !is_valid_ascii_slice(b" \x7F"));

@@ -1,13 +1,15 @@
 //! Loops over the crate in `rust/`, whose calls into the static library cannot be inlined, beside the loops over the
 //! Rust crate that do the same.
 
+use crate::measure::Row;
 use crate::theirs::over;
 use crate::{over_bytes, over_numbers, size_name, theirs, Data};
-use crate::measure::Row;
 use peltzivar::ascii::is_valid_ascii_slice;
 use peltzivar::digit::char_to_digit;
 use peltzivar::edits::{edit_word, migrate, normal_form, same_format, Edit};
-use peltzivar::format::{format_error, is_valid_options_punctuation, NumberFormat, NumberFormatBuilder};
+use peltzivar::format::{
+    format_error, is_valid_options_punctuation, NumberFormat, NumberFormatBuilder,
+};
 use std::num::NonZeroU8;
 
 fn digit_sum(bytes: &[u8], radix: u32) -> u64 {

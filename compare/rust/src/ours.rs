@@ -8,7 +8,8 @@ use crate::tables::{with_constants, with_flags, with_other_outcomes, with_parse_
 use peltzivar::ascii::*;
 use peltzivar::digit::*;
 use peltzivar::edits::{
-    apply, apply_all, edit_word, edits_of, is_built, migrate, normal_form, same_format, Edit, FlagSetter,
+    apply, apply_all, edit_word, edits_of, is_built, migrate, normal_form, same_format, Edit,
+    FlagSetter,
 };
 use peltzivar::error::Error;
 use peltzivar::feature_format::NumberFormat;

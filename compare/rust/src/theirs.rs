@@ -1,10 +1,10 @@
 //! The same calls of the Rust crate. What it has only for a word that is known when it is compiled, or
 //! not at all, is written over the calls that it has.
 
+use crate::calls::{common_calls, fields, other_outcomes, parse_errors};
 use crate::inputs::SetterCall;
 use crate::results::*;
 use crate::rules;
-use crate::calls::{common_calls, fields, other_outcomes, parse_errors};
 use crate::tables::{with_constants, with_flags, with_other_outcomes, with_parse_errors};
 use std::cmp::Ordering;
 use std::num::NonZeroU8;

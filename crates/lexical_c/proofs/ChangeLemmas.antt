@@ -48,13 +48,6 @@ more_applied {R} {changes} {i} {b} {next} {e} append d h inside edit applied = r
   each = All-same HasSetter _ _ (take_more changes i d inside) (All-append HasSetter (take i changes) (get_or changes i d ∷ []) h.each (single _ e edit));
 }
 
--- after the last change
-pub all_applied : {R : Record} {changes : List Change} {i : ℕ} {b : Record} → HaveApplied R changes i b → length changes ≤ i
-    → (b ≡ after R (all_writes (known changes))) × All HasSetter changes
-all_applied {R} {changes} {i} {b} h end =
-    let all : take i changes ≡ changes = take_all i changes end in
-    (h.fields ∙ ap (λ xs. after R (all_writes (known xs))) all, All-same HasSetter _ _ (sym all) h.each)
-
 -- of 37 changes the first i stand for the first i edits
 pub record StandFor (changes : List Change) (edits : List Edit) (i : ℕ) : Type 0 where
   pub count : length changes ≡ 37

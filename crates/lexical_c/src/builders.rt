@@ -50,6 +50,22 @@ pub extern "C" fn peltzivar_pack(fields: &Fields) -> Word
     Word::new(fields.builder().build_unchecked())
 }
 
+/// Applies the changes to the fields in order, writes the word that they are packed into and returns `true`.
+/// If one of them has no setter, it returns `false` and writes nothing.
+#[unsafe(no_mangle)]
+pub extern "C" fn peltzivar_build(fields: &Fields, changes: &[Change], out: &mut Word) -> bool
+    ensures known { IsTrue result ↔ All HasSetter changes.now }
+    ensures word { IsTrue result → out.new ≡ pack (after (fields_of fields.now) (all_writes (known changes.now))) }
+    ensures clean { IsTrue result → IsClean out.new }
+    ensures unchanged { IsFalse result → out.new ≡ out.old }
+{
+    let Some(builder) = apply_changes(fields.builder(), changes) else {
+        return false;
+    };
+    *out = Word::new(builder.build_unchecked());
+    true
+}
+
 /// Packs the fields into a word. If it is lawful, writes it and returns 48; else writes nothing and returns
 /// the rank of its error.
 #[unsafe(no_mangle)]

@@ -114,29 +114,3 @@ pub extern "C" fn peltzivar_edits_of(format: Word, changes: &mut [Change; 37]) -
     }
     count
 }
-
-#[cfg(test)]
-mod tests {
-    use super::*;
-    use crate::builders::{peltzivar_edit_fields, peltzivar_fields_of};
-
-    #[test]
-    fn an_unknown_setter_changes_nothing(rt: HostRuntime) {
-        let known = Change {
-            setter: 43,
-            value: 16,
-        };
-        let unknown = Change {
-            setter: 47,
-            value: 0,
-        };
-        let mut out = Word::new(7);
-        assert!(rt; !peltzivar_edit_word(Word::new(12), &[known, unknown], &mut out));
-        assert_eq!(rt; out.number(), 7);
-        assert!(rt; peltzivar_edit_word(Word::new(12), &[known], &mut out));
-        assert_eq!(rt; out.number(), 12 | 16 << 104);
-        let mut fields = peltzivar_fields_of(Word::new(12));
-        assert!(rt; !peltzivar_edit_fields(&mut fields, &[known, unknown]));
-        assert_eq!(rt; fields.mantissa_radix, 0);
-    }
-}
