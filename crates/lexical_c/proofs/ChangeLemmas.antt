@@ -1,5 +1,7 @@
 -- Changes that are applied one after another.
-use Rattle.std.proofs.Common.{◌≡◌, rules, ℕ, zero, suc, ◌+◌, ◌<◌, ◌≤◌, Some, IsSome, List, [], ◌∷◌, ◌++◌, length, get_or, take, set, refl, sym, ap, ◌∙◌, subst, append-nil, length-set, take_all, All, arith}
+use Rattle.std.proofs.Common.{◌≡◌, rules, ℕ, zero, suc, ◌+◌, ◌<◌, ◌≤◌, Some, IsSome, List, [], ◌∷◌, ◌++◌, length}
+use Rattle.std.proofs.Common.{get_or, take, set, refl, sym, ap, ◌∙◌, subst, append-nil, length-set, take_all, All}
+use Rattle.std.proofs.Common.{arith}
 use Rattle.std.proofs.lemmas.List.{take_more, take_more_set}
 use Rattle.std.proofs.lemmas.List.Concat.{flat_map-append}
 use Rattle.std.proofs.lemmas.List.Elements.{All-append, All-same, filter_map-append}
@@ -17,7 +19,8 @@ pub record HaveApplied (R : Record) (changes : List Change) (i : ℕ) (b : Recor
   pub each : All HasSetter (take i changes)
 
 -- before the first change
-pub none_applied : (none : (r : Record) → after r [] ≡ r) (R : Record) (changes : List Change) → HaveApplied R changes 0 R
+pub none_applied : (none : (r : Record) → after r [] ≡ r) (R : Record) (changes : List Change)
+    → HaveApplied R changes 0 R
 none_applied none R changes = record { fields = sym (none R); each = λ k d h. absurd (omega arith) }
 
 one : (c : Change) (e : Edit) → edit_of c ≡ Some e → known (c ∷ []) ≡ e ∷ []
@@ -28,24 +31,28 @@ single c e is zero d l = subst IsSome (sym is) (search rules)
 single c e is (suc k) d l = absurd (omega (arith, l))
 
 -- the writes of one change more
-more_writes : (changes : List Change) (i : ℕ) (e : Edit) (d : Change) → i < length changes → edit_of (get_or changes i d) ≡ Some e
+more_writes : (changes : List Change) (i : ℕ) (e : Edit) (d : Change)
+    → i < length changes → edit_of (get_or changes i d) ≡ Some e
     → all_writes (known (take (i + 1) changes)) ≡ all_writes (known (take i changes)) ++ writes_of e
 more_writes changes i e d inside edit =
     let c = get_or changes i d in
     let front = take i changes in
     ap (λ xs. all_writes (known xs)) (take_more changes i d inside)
     ∙ ap all_writes (filter_map-append edit_of front (c ∷ []) ∙ ap (λ xs. known front ++ xs) (one c e edit))
-    ∙ flat_map-append writes_of (known front) (e ∷ []) ∙ ap (λ L. all_writes (known front) ++ L) (append-nil (writes_of e))
+    ∙ flat_map-append writes_of (known front) (e ∷ [])
+    ∙ ap (λ L. all_writes (known front) ++ L) (append-nil (writes_of e))
 
 -- one change more
 pub more_applied : {R : Record} {changes : List Change} {i : ℕ} {b next : Record} {e : Edit}
-    → (append : (r : Record) (first second : List Write) → after (after r first) second ≡ after r (first ++ second)) (d : Change)
-    → HaveApplied R changes i b → i < length changes → edit_of (get_or changes i d) ≡ Some e → next ≡ after b (writes_of e)
+    → (append : (r : Record) (first second : List Write) → after (after r first) second ≡ after r (first ++ second))
+    → (d : Change) → HaveApplied R changes i b → i < length changes
+    → edit_of (get_or changes i d) ≡ Some e → next ≡ after b (writes_of e)
     → HaveApplied R changes (i + 1) next
 more_applied {R} {changes} {i} {b} {next} {e} append d h inside edit applied = record {
-  fields = applied ∙ ap (λ S. after S (writes_of e)) h.fields ∙ append R (all_writes (known (take i changes))) (writes_of e)
-      ∙ ap (after R) (sym (more_writes changes i e d inside edit));
-  each = All-same HasSetter _ _ (take_more changes i d inside) (All-append HasSetter (take i changes) (get_or changes i d ∷ []) h.each (single _ e edit));
+  fields = applied ∙ ap (λ S. after S (writes_of e)) h.fields
+      ∙ append R (all_writes (known (take i changes))) (writes_of e) ∙ ap (after R) (sym (more_writes changes i e d inside edit));
+  each = All-same HasSetter _ _ (take_more changes i d inside)
+      (All-append HasSetter (take i changes) (get_or changes i d ∷ []) h.each (single _ e edit));
 }
 
 -- of 37 changes the first i stand for the first i edits
@@ -72,7 +79,8 @@ more_stand {changes} {edits} {i} {e} c h inside some is edit =
     }
 
 -- after the last
-pub all_stand : {changes : List Change} {edits : List Edit} {i : ℕ} → StandFor changes edits i → 37 ≤ i → length edits ≤ i
+pub all_stand : {changes : List Change} {edits : List Edit} {i : ℕ}
+    → StandFor changes edits i → 37 ≤ i → length edits ≤ i
     → (known changes ≡ edits) × All HasSetter changes
 all_stand {changes} {edits} {i} h end ends =
     let all : take i changes ≡ changes = take_all i changes (omega (arith, h.count)) in

@@ -1,5 +1,7 @@
 -- Texts that are written one after another.
-use Rattle.std.proofs.Common.{◌≡◌, ℕ, zero, suc, ◌+◌, ◌≤◌, List, [], ◌∷◌, ◌++◌, length, take, drop, min, sym, ap, ap₂, ◌∙◌, inl, inr, arith, append-nil, append_assoc, length-append, length-drop, length-take, drop-drop, take_all}
+use Rattle.std.proofs.Common.{◌≡◌, ℕ, zero, suc, ◌+◌, ◌≤◌, List, [], ◌∷◌, ◌++◌, length, take, drop, min, sym, ap, ap₂}
+use Rattle.std.proofs.Common.{◌∙◌, inl, inr, arith, append-nil, append_assoc, length-append, length-drop, length-take}
+use Rattle.std.proofs.Common.{drop-drop, take_all}
 use Rattle.std.proofs.lemmas.Bool.{cases_lt}
 use Rattle.std.proofs.lemmas.List.{drop_all, take-append-le}
 use Rattle.lexical_c.specs.Texts.{written_over, IsWritten}
@@ -22,20 +24,26 @@ written_inside : (front text base : List ℕ) → length front ≤ length base
 written_inside front text base inside =
     let rest = drop (length front) base in
     let room : length base ≡ length front + length rest = omega (arith, length-drop (length front) base) in
-    let past : drop (length text) rest ≡ drop (length (front ++ text)) base = drop-drop (length text) (length front) base ∙ ap (λ n. drop n base) (sym (length-append front text)) in
-    ap (λ xs. front ++ (take (length rest) text ++ xs)) past ∙ sym (append_assoc front (take (length rest) text) (drop (length (front ++ text)) base))
+    let past : drop (length text) rest ≡ drop (length (front ++ text)) base =
+    drop-drop (length text) (length front) base ∙ ap (λ n. drop n base) (sym (length-append front text)) in
+    ap (λ xs. front ++ (take (length rest) text ++ xs)) past
+    ∙ sym (append_assoc front (take (length rest) text) (drop (length (front ++ text)) base))
     ∙ ap (λ xs. xs ++ drop (length (front ++ text)) base) (sym (take_past front text (length base) (length rest) room))
 
 -- a text that fills the buffer leaves nothing of it
 written_full : (front base : List ℕ) → length base ≤ length front → written_over front base ≡ take (length base) front
-written_full front base full = ap (λ xs. take (length base) front ++ xs) (drop_all (length front) base full) ∙ append-nil (take (length base) front)
+written_full front base full =
+    ap (λ xs. take (length base) front ++ xs) (drop_all (length front) base full)
+    ∙ append-nil (take (length base) front)
 
 -- one that ends inside it stands there whole
-written_whole : (front base : List ℕ) → length front ≤ length base → written_over front base ≡ front ++ drop (length front) base
+written_whole : (front base : List ℕ) → length front ≤ length base
+    → written_over front base ≡ front ++ drop (length front) base
 written_whole front base inside = ap (λ xs. xs ++ drop (length front) base) (take_all (length base) front inside)
 
 -- a second text is written from the end of the first on
-pub written_more : (front text base out : List ℕ) (end m : ℕ) → IsWritten front end base out → m ≡ min end (length out)
+pub written_more : (front text base out : List ℕ) (end m : ℕ)
+    → IsWritten front end base out → m ≡ min end (length out)
     → take m out ++ written_over text (drop m out) ≡ written_over (front ++ text) base
 written_more front text base out end m h middle = elim (cases_lt (length base) (length front)) [
   | inl full ↦
@@ -50,9 +58,11 @@ written_more front text base out end m h middle = elim (cases_lt (length base) (
   | inr inside ↦
       let fits : length front ≤ length base = omega arith in
       let is : out ≡ front ++ drop (length front) base = h.front ∙ written_whole front base fits in
-      let len : length out ≡ length base = ap length is ∙ omega (arith, length-append front (drop (length front) base), length-drop (length front) base) in
+      let rest = drop (length front) base in
+      let len : length out ≡ length base =
+      ap length is ∙ omega (arith, length-append front rest, length-drop (length front) base) in
       let here : m ≡ length front + 0 = omega (arith, h.whole) in
-      let before : take m out ≡ front = ap (take m) is ∙ take_past front (drop (length front) base) m 0 here ∙ append-nil front in
-      let behind : drop m out ≡ drop (length front) base = ap (drop m) is ∙ drop_past front (drop (length front) base) m 0 here in
+      let before : take m out ≡ front = ap (take m) is ∙ take_past front rest m 0 here ∙ append-nil front in
+      let behind : drop m out ≡ rest = ap (drop m) is ∙ drop_past front rest m 0 here in
       ap₂ (λ xs ys. xs ++ written_over text ys) before behind ∙ written_inside front text base fits
 ]

@@ -1,5 +1,6 @@
 -- The edits that numbers stand for.
-use Rattle.std.specs.Prelude.{ℕ, not, ◌==◌, nat_lt, if◌then◌else◌, Option, Some, None, IsSome, List, filter_map, get_or, codes}
+use Rattle.std.specs.Prelude.{ℕ, not, ◌==◌, nat_lt, if◌then◌else◌, Option, Some, None, IsSome, List, filter_map}
+use Rattle.std.specs.Prelude.{get_or, codes}
 use Rattle.lexical_util.specs.SetterNames.{setter_name}
 use Rattle.lexical_util.specs.OptionByte.{option_of_byte}
 use Rattle.lexical_util.specs.declared.edits.FlagSetter.{FlagSetter}

@@ -1,6 +1,7 @@
 //! Bytes and digits.
 
-ghost use Rattle.std.specs.Prelude.{◌≡◌, ◌↔◌, ℕ, ◌<◌, ◌≤◌, ◌+◌, ◌-◌, ◌^◌, ◌%◌, ◌||◌, IsTrue, IsSome, Some, unwrap_or, slice_get, nat_le, nat_lt, if◌then◌else◌};
+ghost use Rattle.std.specs.Prelude.{◌≡◌, ◌↔◌, ℕ, ◌<◌, ◌≤◌, ◌+◌, ◌-◌, ◌^◌, ◌%◌, ◌||◌, IsTrue, IsSome, Some, unwrap_or};
+ghost use Rattle.std.specs.Prelude.{slice_get, nat_le, nat_lt, if◌then◌else◌};
 ghost use Rattle.std.specs.List.{AllPass};
 ghost use Rattle.lexical_util.specs.Ascii.{allowed_ascii, letters};
 ghost use Rattle.lexical_util.specs.Digits.{value, digit_of, digit_characters};

@@ -25,7 +25,8 @@ pub extern "C" fn peltzivar_setter_name(setter: u8, text: &mut [u8]) -> usize
 #[unsafe(no_mangle)]
 pub extern "C" fn peltzivar_setter_of_name(text: &[u8]) -> u8
     ensures named { result < 47 → name_of_setter result ≡ text.now }
-    ensures none { (result < 47 → ⊥) → (result ≡ 255) × ((setter : ℕ) → setter < 47 → name_of_setter setter ≡ text.now → ⊥) }
+    ensures none { (result < 47 → ⊥) → (result ≡ 255)
+        × ((setter : ℕ) → setter < 47 → name_of_setter setter ≡ text.now → ⊥) }
 {
     for setter in 0..47 {
         if name(setter).as_bytes() == text {

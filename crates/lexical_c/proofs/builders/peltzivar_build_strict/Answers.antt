@@ -4,7 +4,10 @@ use Rattle.lexical_util.specs.Rules.{Lawful}
 use Rattle.lexical_c.proofs.builders.peltzivar_build_strict.Goals as goal
 
 pub returns-clause-lawful : goal.returns-clause-lawful
-returns-clause-lawful c = subst (λ word. (c.checked.result ≡ 48) ↔ Lawful word) (c.build_unchecked.ensures.word ∙ ap pack c.builder.ensures) c.checked.ensures.lawful
+returns-clause-lawful c =
+    let word = c.build_unchecked.ensures.word ∙ ap pack c.builder.ensures in
+    subst (λ w. (c.checked.result ≡ 48) ↔ Lawful w) word c.checked.ensures.lawful
 
 pub returns-clause-written : goal.returns-clause-written
-returns-clause-written c lawful = c.checked.ensures.written lawful ∙ c.build_unchecked.ensures.word ∙ ap pack c.builder.ensures
+returns-clause-written c lawful =
+    c.checked.ensures.written lawful ∙ c.build_unchecked.ensures.word ∙ ap pack c.builder.ensures

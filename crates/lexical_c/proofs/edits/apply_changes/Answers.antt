@@ -6,4 +6,7 @@ pub loop-change-init : goal.loop-change-init
 loop-change-init c = none_applied c.write_facts.ensures.none c.args.builder c.args.changes.now
 
 pub loop-change-preserved : goal.loop-change-preserved
-loop-change-preserved c = more_applied c.write_facts.ensures.append _ c.loop-change.invariant c.loop-change-test.true (sym c.edit.ensures ∙ c.in-Some.is) c.apply-builder.ensures.fields
+loop-change-preserved c =
+    let edit = sym c.edit.ensures ∙ c.in-Some.is in
+    let inside = c.loop-change-test.true in
+    more_applied c.write_facts.ensures.append _ c.loop-change.invariant inside edit c.apply-builder.ensures.fields

@@ -2,4 +2,6 @@ use Rattle.lexical_c.proofs.FieldLemmas.{same_fields}
 use Rattle.lexical_c.proofs.words.Fields.new.Goals as goal
 
 pub returns : goal.returns
-returns c = same_fields c.to_parts-flags.result.0 c.to_parts-flags.result.1 c.args.builder.now c.to_parts-flags.ensures.flags c.to_parts-flags.ensures.fields
+returns c =
+    let parts = c.to_parts-flags in
+    same_fields parts.result.0 parts.result.1 c.args.builder.now parts.ensures.flags parts.ensures.fields
