@@ -14,4 +14,7 @@ one_role r e p byte law own plays role = (
 -- no role
 pub no_role : (r : Record) (e p byte : ℕ) → ((role : Role) → IsTrue (role_set r e p role byte) → ⊥)
     → (role : Role) → IsTrue (role_set r e p role byte) ↔ (None ≡ Some role)
-no_role r e p byte none role = (λ plays. absurd (none role plays), λ same. absurd (let no : None ≡ Some role = same in cc))
+no_role r e p byte none role = (
+  λ plays. absurd (none role plays),
+  λ same. absurd (let no : None ≡ Some role = same in cc),
+)

@@ -16,7 +16,8 @@ named roles.Suffix = library.base_suffix
 named roles.Exponent = library.exponent_character
 named roles.Point = library.decimal_point
 
--- of all roles in a format, with this exponent character and decimal point, exactly the one found has the byte in its set
+-- of all roles in a format, with this exponent character and decimal point, exactly the one found has the byte in its
+-- set
 abbrev pub IsRoleOf : ℕ → ℕ → ℕ → ℕ → Option Role → Type 0
 IsRoleOf format exponent decimal_point byte found =
     (role : library.Role)

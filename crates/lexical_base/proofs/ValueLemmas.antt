@@ -1,5 +1,6 @@
 -- The value of a byte by ranges of bytes, and the byte of a value.
-use Rattle.std.proofs.Common.{◌≡◌, ℕ, ◌+◌, ◌-◌, ◌%◌, ◌<◌, ◌≤◌, ◌⊎◌, ◌↔◌, max, Bool, true, false, not, ◌||◌, nat_lt, if◌then◌else◌, IsTrue, IsSome, None, Some, slice_get, slice_index_or, refl, arith}
+use Rattle.std.proofs.Common.{◌≡◌, ℕ, ◌+◌, ◌-◌, ◌%◌, ◌<◌, ◌≤◌, ◌⊎◌, ◌↔◌, max, Bool, true, false, not, ◌||◌, nat_lt}
+use Rattle.std.proofs.Common.{if◌then◌else◌, IsTrue, IsSome, None, Some, slice_get, slice_index_or, refl, arith}
 use Rattle.std.proofs.lemmas.Option.{slice_get-get_or}
 use Rattle.std.proofs.lemmas.Bool.Decides.{nat_tests}
 use Rattle.lexical_base.specs.Digits.{value, digit_characters, digit_of, digits_of, is_lowercase}
@@ -28,7 +29,8 @@ IsSome-if true x = (λ h. refl, λ h. refl)
 IsSome-if false x = (λ h. h, λ h. h)
 
 -- the bytes that have a digit in a radix are its digits
-pub digit_of-digits_of : (byte radix : ℕ) → byte < 256 → radix < 256 → IsSome (digit_of byte radix) ↔ IsTrue (digits_of radix byte)
+pub digit_of-digits_of : (byte radix : ℕ) → byte < 256 → radix < 256 → IsSome (digit_of byte radix)
+    ↔ IsTrue (digits_of radix byte)
 digit_of-digits_of byte radix fits radix_fits =
     let cases : (value byte < 36) ⊎ (value byte ≡ 255) = value-cases byte fits in
     let same : nat_lt (value byte) radix ≡ digits_of radix byte = grind (arith, nat_tests) in
@@ -39,11 +41,13 @@ pub digit_of-larger : (byte first second : ℕ) → byte < 256 → first < 256 �
     IsSome (digit_of byte (max first second)) ↔ IsTrue (digits_of first byte || digits_of second byte)
 digit_of-larger byte first second fits first_fits second_fits =
     let cases : (value byte < 36) ⊎ (value byte ≡ 255) = value-cases byte fits in
-    let same : nat_lt (value byte) (max first second) ≡ (digits_of first byte || digits_of second byte) = grind (arith, nat_tests) in
+    let same : nat_lt (value byte) (max first second) ≡ (digits_of first byte || digits_of second byte) =
+    grind (arith, nat_tests) in
     rw (← same) (IsSome-if (nat_lt (value byte) (max first second)) (value byte))
 
 -- a byte minus 48, modulo 256, is its value if either is below a radix up to 10
-pub small_digit : (byte radix : ℕ) → byte < 256 → radix ≤ 10 → ((byte + 208) % 256 < radix → value byte ≡ (byte + 208) % 256) × (radix ≤ (byte + 208) % 256 → radix ≤ value byte)
+pub small_digit : (byte radix : ℕ) → byte < 256 → radix ≤ 10
+    → ((byte + 208) % 256 < radix → value byte ≡ (byte + 208) % 256) × (radix ≤ (byte + 208) % 256 → radix ≤ value byte)
 small_digit byte radix fits small =
     let by_range : value byte ≡ value_by_range byte = value_is byte fits in
     (λ below. grind (arith, nat_tests), λ above. grind (arith, nat_tests))
@@ -52,7 +56,8 @@ small_digit byte radix fits small =
 pub ruleset values = (value_is, nat_tests)
 
 -- the digit character at an index
-pub digit_character-get : (digit : ℕ) → digit < 36 → slice_get digit_characters digit ≡ Some (slice_index_or digit_characters digit 0)
+pub digit_character-get : (digit : ℕ) → digit < 36 → slice_get digit_characters digit ≡ Some
+    (slice_index_or digit_characters digit 0)
 digit_character-get digit below = slice_get-get_or digit_characters digit 0 below
 
 -- the character of a digit, by cases
@@ -60,27 +65,33 @@ abbrev character_by_range : ℕ → ℕ
 character_by_range digit = if nat_lt digit 10 then 48 + digit else 55 + digit
 
 -- the digit characters from index 10 on are the uppercase letters
-pub character_is_letter : (digit byte : ℕ) → 10 ≤ digit → digit < 36 → byte ≡ 55 + digit → slice_get digit_characters digit ≡ Some byte
+pub character_is_letter : (digit byte : ℕ) → 10 ≤ digit → digit < 36 → byte ≡ 55 + digit
+    → slice_get digit_characters digit ≡ Some byte
 character_is_letter digit byte large below is =
-    let letter : slice_index_or digit_characters digit 0 ≡ character_by_range digit = same_at (λ d. slice_index_or digit_characters d 0) character_by_range 36 digit refl below in
+    let letter : slice_index_or digit_characters digit 0 ≡ character_by_range digit =
+    same_at (λ d. slice_index_or digit_characters d 0) character_by_range 36 digit refl below in
     let same : character_by_range digit ≡ byte = grind (arith, nat_tests) in
     rw (digit_character-get digit below, letter, same) refl
 
 -- the value of the digit character at an index is the index
 pub value-digit_character : (digit : ℕ) → digit < 36 → value (slice_index_or digit_characters digit 0) ≡ digit
 unfolding value
-value-digit_character digit below = same_at (λ d. value (slice_index_or digit_characters d 0)) (λ d. d) 36 digit refl below
+value-digit_character digit below = same_at (λ d. value (slice_index_or digit_characters d 0))
+    (λ d. d) 36 digit refl below
 
 -- every larger radix reads a digit character as its index
-pub digit_of-digit_character : (digit : ℕ) → digit < 36 → (radix : ℕ) → digit < radix → digit_of (slice_index_or digit_characters digit 0) radix ≡ Some digit
+pub digit_of-digit_character : (digit : ℕ) → digit < 36 → (radix : ℕ) → digit < radix
+    → digit_of (slice_index_or digit_characters digit 0) radix ≡ Some digit
 digit_of-digit_character digit below radix in_radix =
     let is : value (slice_index_or digit_characters digit 0) ≡ digit = value-digit_character digit below in
     rw is (grind (arith, nat_tests))
 
 -- no digit character is a lowercase letter
-pub digit_character-uppercase : (digit : ℕ) → digit < 36 → is_lowercase (slice_index_or digit_characters digit 0) ≡ false
+pub digit_character-uppercase : (digit : ℕ) → digit < 36
+    → is_lowercase (slice_index_or digit_characters digit 0) ≡ false
 digit_character-uppercase digit below =
-    let passes : not (is_lowercase (slice_index_or digit_characters digit 0)) ≡ true = passes_at (λ d. not (is_lowercase (slice_index_or digit_characters d 0))) 36 digit refl below in
+    let passes : not (is_lowercase (slice_index_or digit_characters digit 0)) ≡ true =
+    passes_at (λ d. not (is_lowercase (slice_index_or digit_characters d 0))) 36 digit refl below in
     not_true (is_lowercase (slice_index_or digit_characters digit 0)) passes
   where
     not_true : (b : Bool) → not b ≡ true → b ≡ false

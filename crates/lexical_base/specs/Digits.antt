@@ -1,5 +1,6 @@
 -- Digits and their values.
-use Rattle.std.specs.Prelude.{ℕ, ◌-◌, List, Option, Some, None, codes, position, unwrap_or, ◌==◌, nat_lt, if◌then◌else◌, min}
+use Rattle.std.specs.Prelude.{ℕ, ◌-◌, List, Option, Some, None, codes, position, unwrap_or, ◌==◌, nat_lt, if◌then◌else◌}
+use Rattle.std.specs.Prelude.{min}
 use Rattle.lexical_base.specs.Ascii.{ByteSet, between}
 
 -- the 36 digit characters, each at the index of its value
@@ -14,7 +15,8 @@ is_lowercase = between 97 122
 abbrev pub uppercase : ℕ → ℕ
 uppercase byte = if is_lowercase byte then byte - 32 else byte
 
--- the value of a byte: the index of its uppercase letter, or of itself, among the digit characters, and 255 for any other byte
+-- the value of a byte: the index of its uppercase letter, or of itself, among the digit characters, and 255 for any
+-- other byte
 unfoldable pub value : ℕ → ℕ
 value byte = unwrap_or (position (λ character. character == uppercase byte) digit_characters) 255
 

@@ -103,19 +103,26 @@ description_of (outcomes.InvalidNegativeSign _) = codes "'invalid `-` sign for a
 description_of outcomes.InvalidMantissaRadix = codes "'invalid radix for mantissa digits'"
 description_of outcomes.InvalidExponentBase = codes "'invalid exponent base'"
 description_of outcomes.InvalidExponentRadix = codes "'invalid radix for exponent digits'"
-description_of outcomes.InvalidDigitSeparator = codes "'invalid digit separator: must be ASCII and not a digit or a `+/-` sign'"
-description_of outcomes.InvalidDecimalPoint = codes "'invalid decimal point: must be ASCII and not a digit or a `+/-` sign'"
-description_of outcomes.InvalidExponentSymbol = codes "'invalid exponent symbol: must be ASCII and not a digit or a `+/-` sign'"
+description_of outcomes.InvalidDigitSeparator =
+    codes "'invalid digit separator: must be ASCII and not a digit or a `+/-` sign'"
+description_of outcomes.InvalidDecimalPoint =
+    codes "'invalid decimal point: must be ASCII and not a digit or a `+/-` sign'"
+description_of outcomes.InvalidExponentSymbol =
+    codes "'invalid exponent symbol: must be ASCII and not a digit or a `+/-` sign'"
 description_of outcomes.InvalidBasePrefix = codes "'invalid base prefix character'"
 description_of outcomes.InvalidBaseSuffix = codes "'invalid base suffix character'"
 description_of outcomes.InvalidPunctuation = codes "'invalid punctuation: multiple characters overlap'"
 description_of outcomes.InvalidExponentFlags = codes "'exponent flags set while disabling exponent notation'"
-description_of outcomes.InvalidMantissaSign = codes "'disabled the `+` sign while requiring a sign for significant digits'"
+description_of outcomes.InvalidMantissaSign =
+    codes "'disabled the `+` sign while requiring a sign for significant digits'"
 description_of outcomes.InvalidExponentSign = codes "'disabled the `+` sign while requiring a sign for exponent digits'"
 description_of outcomes.InvalidSpecial = codes "'special flags set while disabling special floats'"
-description_of outcomes.InvalidConsecutiveIntegerDigitSeparator = codes "'enabled consecutive digit separators in the integer without setting a valid location'"
-description_of outcomes.InvalidConsecutiveFractionDigitSeparator = codes "'enabled consecutive digit separators in the fraction without setting a valid location'"
-description_of outcomes.InvalidConsecutiveExponentDigitSeparator = codes "'enabled consecutive digit separators in the exponent without setting a valid location'"
+description_of outcomes.InvalidConsecutiveIntegerDigitSeparator =
+    codes "'enabled consecutive digit separators in the integer without setting a valid location'"
+description_of outcomes.InvalidConsecutiveFractionDigitSeparator =
+    codes "'enabled consecutive digit separators in the fraction without setting a valid location'"
+description_of outcomes.InvalidConsecutiveExponentDigitSeparator =
+    codes "'enabled consecutive digit separators in the exponent without setting a valid location'"
 description_of outcomes.InvalidFlags = codes "'invalid flags enabled without the format feature'"
 description_of outcomes.InvalidNanString = codes "'NaN string must started with `n`'"
 description_of outcomes.NanStringTooLong = codes "'NaN string is too long'"
@@ -144,11 +151,13 @@ pub data Class : Type 0 where
 
 -- the class of a rank: 19 errors of parsing, 17 of formats, 12 of options, and success
 abbrev pub class_of : ℕ → Class
-class_of rank = if nat_lt rank 19 then parse_error else if nat_lt rank 36 then format_error else if nat_lt rank 48 then options_error else no_error
+class_of rank = if nat_lt rank 19 then parse_error else if nat_lt rank 36 then format_error else if nat_lt rank 48 then
+    options_error else no_error
 
 -- an outcome of a class, with its description and index, as text
 abbrev pub text_in_class : Class → List ℕ → ℕ → List ℕ
-text_in_class parse_error description index = codes "lexical parse error: " ++ description ++ codes " at index " ++ decimal index
+text_in_class parse_error description index = codes "lexical parse error: " ++ description ++ codes " at index "
+    ++ decimal index
 text_in_class format_error description index = codes "lexical number format error: " ++ description
 text_in_class options_error description index = codes "lexical options error: " ++ description
 text_in_class no_error description index = description

@@ -1,5 +1,6 @@
 -- The flags of a builder: each at its bit, moved to and from a word, and written under a mask.
-use Rattle.std.proofs.Common.{ℕ, zero, suc, ◌≡◌, ◌+◌, ◌-◌, ◌*◌, ◌/◌, ◌%◌, ◌^◌, ◌<◌, ◌==◌, min, max, Bool, true, false, if◌then◌else◌, map, sum_by, bit_and, bit_or, w32, refl, ap, ◌∙◌, arith}
+use Rattle.std.proofs.Common.{ℕ, zero, suc, ◌≡◌, ◌+◌, ◌-◌, ◌*◌, ◌/◌, ◌%◌, ◌^◌, ◌<◌, ◌==◌, min, max, Bool, true, false}
+use Rattle.std.proofs.Common.{if◌then◌else◌, map, sum_by, bit_and, bit_or, w32, refl, ap, ◌∙◌, arith}
 use Rattle.std.specs.Int.Bits.{or_zero_r}
 use Rattle.std.proofs.Math.Nat.{mod-lt}
 use Rattle.std.proofs.lemmas.Nat.{shr-shr, mod-pow-add, and_mask, or_comm, or_shifted, pow_pos}
@@ -33,7 +34,8 @@ pub flags_in-lt : (word : ℕ) → flags_in word < 2 ^ 31
 flags_in-lt word = omega arith
 
 -- two blocks of a word, moved together and joined by `|`
-pub blocks_joined-builder : (word : ℕ) → bit_or (bit_and word 0x3FFFF) (bit_and (word / 2 ^ 14) 0x7FFC0000) ≡ flags_in word
+pub blocks_joined-builder : (word : ℕ) → bit_or (bit_and word 0x3FFFF)
+    (bit_and (word / 2 ^ 14) 0x7FFC0000) ≡ flags_in word
 blocks_joined-builder word =
     let low : bit_and word 0x3FFFF ≡ part word 0 18 = and_mask word 18 ∙ omega arith in
     let high : bit_and (word / 2 ^ 14) 0x7FFC0000 ≡ part word 32 13 * 2 ^ 18 =
@@ -47,15 +49,18 @@ bit_value zero value l = omega arith
 bit_value (suc n) value l = let none : n ≡ 0 = omega arith in rw none (omega arith)
 
 -- the flags of a builder as the bits of a word
-pub flags_as_blocks : (n : ℕ) → sum_by (λ f. if part n (builder_bit f) 1 == 1 then 2 ^ bit f else 0) flags ≡ part n 0 18 + part n 18 13 * 2 ^ 32
+pub flags_as_blocks : (n : ℕ) → sum_by (λ f. if part n (builder_bit f) 1 == 1 then 2 ^ bit f else 0) flags ≡ part n 0 18
+    + part n 18 13 * 2 ^ 32
 flags_as_blocks n =
     let low = joined-segments 0 (map (λ _. 1) base_flags) n in
     let both = joined-segments 18 (map (λ _. 1) digit_separator_flags) n in
     let high = mod-pow-add n 13 18 in
-    (λ i. sum_by (λ f. bit_value (part n (builder_bit f) 1) (2 ^ bit f) (bit-lt n (builder_bit f)) i) flags) ∙ omega arith
+    (λ i. sum_by (λ f. bit_value (part n (builder_bit f) 1) (2 ^ bit f) (bit-lt n (builder_bit f)) i) flags)
+    ∙ omega arith
 
 -- two blocks of a builder, moved apart and joined by `|`
-pub blocks_joined-word : (n : ℕ) → n < 2 ^ 31 → bit_or (bit_and n 0x3FFFF) (n / 2 ^ 18 * 2 ^ 32 % 2 ^ 128) ≡ part n 0 18 + part n 18 13 * 2 ^ 32
+pub blocks_joined-word : (n : ℕ) → n < 2 ^ 31 → bit_or (bit_and n 0x3FFFF)
+    (n / 2 ^ 18 * 2 ^ 32 % 2 ^ 128) ≡ part n 0 18 + part n 18 13 * 2 ^ 32
 blocks_joined-word n l =
     let low : bit_and n 0x3FFFF ≡ part n 0 18 = and_mask n 18 ∙ omega arith in
     let high : n / 2 ^ 18 * 2 ^ 32 % 2 ^ 128 ≡ part n 18 13 * 2 ^ 32 = omega arith in
@@ -72,7 +77,8 @@ min_test a m l k = grind (arith, nat_tests)
 or_test : (a m i : ℕ) → (part (bit_or a m) i 1 == 1) ≡ (if part m i 1 == 1 then true else (part a i 1 == 1))
 or_test a m i = ap (λ n. n == 1) (bit_at_or a m i) ∙ max_test _ _ (bit-lt a i) (bit-lt m i)
 
-and_not_test : (a m i : ℕ) → m < 2 ^ 32 → i < 32 → (part (bit_and a (2 ^ 32 - 1 - m)) i 1 == 1) ≡ (if part m i 1 == 1 then false else (part a i 1 == 1))
+and_not_test : (a m i : ℕ) → m < 2 ^ 32 → i < 32 → (part (bit_and a (2 ^ 32 - 1 - m)) i 1 == 1) ≡
+    (if part m i 1 == 1 then false else (part a i 1 == 1))
 and_not_test a m i l k =
     ap (λ n. n == 1) (bit_at_and a (2 ^ 32 - 1 - m) i ∙ ap (λ n. min (part a i 1) n) (bit_at_not w32 m i l k))
     ∙ min_test _ _ (bit-lt a i) (bit-lt m i)
@@ -83,11 +89,13 @@ set_over false u = refl
 
 -- the bits of a mask, cleared and then set or not
 pub replaced_test : (a m i : ℕ) (value : Bool) → m < 2 ^ 32 → i < 32
-    → (part (bit_or (bit_and a (2 ^ 32 - 1 - m)) (if value then m else 0)) i 1 == 1) ≡ (if part m i 1 == 1 then value else (part a i 1 == 1))
+    → (part (bit_or (bit_and a (2 ^ 32 - 1 - m)) (if value then m else 0)) i 1 == 1) ≡
+    (if part m i 1 == 1 then value else (part a i 1 == 1))
 replaced_test a m i true l k =
     or_test (bit_and a (2 ^ 32 - 1 - m)) m i ∙ ap (λ b. if part m i 1 == 1 then true else b) (and_not_test a m i l k)
     ∙ set_over (part m i 1 == 1) (part a i 1 == 1)
-replaced_test a m i false l k = ap (λ n. part n i 1 == 1) (or_zero_r (bit_and a (2 ^ 32 - 1 - m))) ∙ and_not_test a m i l k
+replaced_test a m i false l k = ap (λ n. part n i 1 == 1) (or_zero_r (bit_and a (2 ^ 32 - 1 - m)))
+    ∙ and_not_test a m i l k
 
 pub bits_if-lt : (value : Bool) (m : ℕ) → m < 2 ^ 31 → (if value then m else 0) < 2 ^ 31
 bits_if-lt true m l = l

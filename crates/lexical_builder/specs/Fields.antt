@@ -1,5 +1,6 @@
 -- Where a builder keeps each field, and the record that it stands for.
-use Rattle.std.specs.Prelude.{ℕ, ◌+◌, ◌-◌, ◌*◌, ◌^◌, ◌<◌, ◌==◌, nat_lt, if◌then◌else◌, List, find, unwrap_or, slice_index}
+use Rattle.std.specs.Prelude.{ℕ, ◌+◌, ◌-◌, ◌*◌, ◌^◌, ◌<◌, ◌==◌, nat_lt, if◌then◌else◌, List, find, unwrap_or}
+use Rattle.std.specs.Prelude.{slice_index}
 use Rattle.lexical_flags.specs.Layout.{part, Flag, Byte, bit, flags}
 use Rattle.lexical_flags.specs.Layout as layout
 use Rattle.lexical_flags.specs.Record.{Record, tabulate}

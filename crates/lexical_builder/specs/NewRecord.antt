@@ -8,7 +8,12 @@ empty_record = tabulate (λ f. false) (λ b. 0)
 
 -- the record of a new builder: radix 10, and digits required in the mantissa and the exponent
 abbrev pub new_record : Record
-new_record = record empty_record { required_exponent_digits = true; required_mantissa_digits = true; mantissa_radix = 10 }
+new_record = record empty_record {
+  required_exponent_digits = true;
+  required_mantissa_digits = true;
+  mantissa_radix =
+      10;
+}
 
 -- that record with one radix as mantissa radix, exponent base and exponent radix
 abbrev pub radix_record : ℕ → Record

@@ -1,5 +1,6 @@
 -- Writes of fields, and the record that they leave.
-use Rattle.std.specs.Prelude.{◌≡◌, ℕ, ◌<◌, ◌==◌, Bool, not, if◌then◌else◌, List, Option, Some, None, map, unwrap_or, filter_map, ⊤}
+use Rattle.std.specs.Prelude.{◌≡◌, ℕ, ◌<◌, ◌==◌, Bool, not, if◌then◌else◌, List, Option, Some, None, map, unwrap_or}
+use Rattle.std.specs.Prelude.{filter_map, ⊤}
 use Rattle.std.specs.List.{last_or}
 use Rattle.std.specs.Bool.{beq}
 use Rattle.lexical_flags.specs.Layout.{Flag, Byte, bit, shift}

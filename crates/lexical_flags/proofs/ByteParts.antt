@@ -28,4 +28,11 @@ exponent_base_part word = masked_part word 112 8
 pub exponent_radix_part : (word : ℕ) → bit_and word 0xFF000000_00000000_00000000_00000000 / 2 ^ 120 ≡ part word 120 8
 exponent_radix_part word = masked_part word 120 8
 
-pub ruleset byte_parts = (digit_separator_part, base_prefix_part, base_suffix_part, mantissa_radix_part, exponent_base_part, exponent_radix_part)
+pub ruleset byte_parts = (
+  digit_separator_part,
+  base_prefix_part,
+  base_suffix_part,
+  mantissa_radix_part,
+  exponent_base_part,
+  exponent_radix_part,
+)

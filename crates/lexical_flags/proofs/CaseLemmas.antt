@@ -1,5 +1,6 @@
 -- The two cases of a letter, and the roles that they play.
-use Rattle.std.proofs.Common.{ℕ, [], ◌∷◌, ◌≡◌, ◌≢◌, ◌<◌, ◌⊎◌, inl, inr, ◌∙◌, ◌↔◌, ◌==◌, ◌||◌, ◌&&◌, Bool, true, false, not, IsTrue, bit_or, bit_xor, eqb-true, refl, ap, sym, subst, arith, min, nat_lt}
+use Rattle.std.proofs.Common.{ℕ, [], ◌∷◌, ◌≡◌, ◌≢◌, ◌<◌, ◌⊎◌, inl, inr, ◌∙◌, ◌↔◌, ◌==◌, ◌||◌, ◌&&◌, Bool, true, false}
+use Rattle.std.proofs.Common.{not, IsTrue, bit_or, bit_xor, eqb-true, refl, ap, sym, subst, arith, min, nat_lt}
 use Rattle.std.specs.Prelude.{position, unwrap_or}
 use Rattle.std.proofs.lemmas.Bool.{false≢true, or_parts, agree_below_at, cases_eq}
 use Rattle.std.proofs.lemmas.Bool.Decides.{nat_tests}
@@ -16,12 +17,14 @@ letter_flipped false same e h = cc
 
 pub flipped : (byte : ℕ) → byte < 256 → IsTrue (letters byte) → bit_xor byte 32 ≡ other_case byte
 flipped byte below is_letter =
-    let all : (not (letters byte) || (bit_xor byte 32 == other_case byte)) ≡ true = agree_below_at (λ b. not (letters b) || (bit_xor b 32 == other_case b)) (λ _. true) 256 byte refl below in
+    let all : (not (letters byte) || (bit_xor byte 32 == other_case byte)) ≡ true =
+    agree_below_at (λ b. not (letters b) || (bit_xor b 32 == other_case b)) (λ _. true) 256 byte refl below in
     let same : (bit_xor byte 32 == other_case byte) ≡ true = letter_flipped (letters byte) _ all is_letter in
     grind (arith, nat_tests)
 
 -- the bytes that play the role of a byte
-pub cased-cases : (counts : Bool) (own byte : ℕ) → IsTrue (cased counts own byte) → (own ≢ 0) × ((byte ≡ own) ⊎ (byte ≡ other_case own))
+pub cased-cases : (counts : Bool) (own byte : ℕ) → IsTrue (cased counts own byte)
+    → (own ≢ 0) × ((byte ≡ own) ⊎ (byte ≡ other_case own))
 unfolding cased
 cased-cases counts own byte inside = grind (arith, nat_tests)
 
@@ -29,7 +32,8 @@ other_case-twice : (byte : ℕ) → other_case (other_case byte) ≡ byte
 other_case-twice byte = grind (arith, nat_tests)
 
 -- bytes that differ, and are not the two cases of a letter, have disjoint roles
-pub differ_apart : (a_counts : Bool) (a : ℕ) (b_counts : Bool) (b : ℕ) → a ≢ b → b ≢ other_case a → Disjoint (cased a_counts a) (cased b_counts b)
+pub differ_apart : (a_counts : Bool) (a : ℕ) (b_counts : Bool) (b : ℕ) → a ≢ b → b ≢ other_case a
+    → Disjoint (cased a_counts a) (cased b_counts b)
 unfolding Disjoint
 differ_apart a_counts a b_counts b differ other byte is_a is_b =
     elim ((cased-cases a_counts a byte is_a).1) [
@@ -49,7 +53,8 @@ other_case-bits byte below =
     eqb-true _ _ (agree_below_at (λ b. bit_or (other_case b) 32 == bit_or b 32) (λ _. true) 256 byte refl below)
 
 -- so bytes that differ in another bit have disjoint roles
-pub other_bits_apart : (a_counts : Bool) (a : ℕ) (b_counts : Bool) (b : ℕ) → a < 256 → bit_or a 32 ≢ bit_or b 32 → Disjoint (cased a_counts a) (cased b_counts b)
+pub other_bits_apart : (a_counts : Bool) (a : ℕ) (b_counts : Bool) (b : ℕ) → a < 256 → bit_or a 32 ≢ bit_or b 32
+    → Disjoint (cased a_counts a) (cased b_counts b)
 other_bits_apart a_counts a b_counts b below differ =
     differ_apart a_counts a b_counts b (λ same. differ (ap (λ n. bit_or n 32) same))
     (λ other. differ (sym (ap (λ n. bit_or n 32) other ∙ other_case-bits a below)))
@@ -61,10 +66,12 @@ none_apart a_counts b_counts b byte is_none is_b = false≢true is_none
 
 -- bytes that are not near have disjoint roles, whether case counts or not
 far_apart : (a_counts : Bool) (a : ℕ) (b_counts : Bool) (b : ℕ) {near : Bool} → a < 256
-    → (IsTrue near ↔ ((a ≢ 0) × (bit_or a 32 ≡ bit_or b 32))) → near ≡ false → Disjoint (cased a_counts a) (cased b_counts b)
+    → (IsTrue near ↔ ((a ≢ 0) × (bit_or a 32 ≡ bit_or b 32))) → near ≡ false
+    → Disjoint (cased a_counts a) (cased b_counts b)
 far_apart a_counts a b_counts b below told far =
     elim (cases_eq a 0) [
-      | inl none ↦ subst (λ n. Disjoint (cased a_counts n) (cased b_counts b)) (sym none) (none_apart a_counts b_counts b)
+      | inl none ↦ subst (λ n. Disjoint (cased a_counts n) (cased b_counts b)) (sym none)
+          (none_apart a_counts b_counts b)
       | inr some ↦ other_bits_apart a_counts a b_counts b below (λ same. false≢true (sym far ∙ told.1 (some, same)))
     ]
 
@@ -87,7 +94,8 @@ own_roles_apart r {a} {b} {c} {ab} {ac} {bc} a_is b_is c_is a_fits b_fits ab_tol
     let b_c : Disjoint (cased prefix b) (cased suffix c) = far_apart prefix b suffix c b_below bc_told front.1 in
     subst (λ n. ArePairwise Disjoint (cased true n ∷ cased prefix r.base_prefix ∷ cased suffix r.base_suffix ∷ [])) a_is
     (subst (λ n. ArePairwise Disjoint (cased true a ∷ cased prefix n ∷ cased suffix r.base_suffix ∷ [])) b_is
-    (subst (λ n. ArePairwise Disjoint (cased true a ∷ cased prefix b ∷ cased suffix n ∷ [])) c_is ((a_b, (a_c, tt)), ((b_c, tt), (tt, tt)))))
+    (subst (λ n. ArePairwise Disjoint (cased true a ∷ cased prefix b ∷ cased suffix n ∷ [])) c_is
+    ((a_b, (a_c, tt)), ((b_c, tt), (tt, tt)))))
 
 -- the two cases of a letter have disjoint roles if both roles are case-sensitive
 both_count : (a b : ℕ) → a ≢ b → Disjoint (cased true a) (cased true b)
@@ -95,7 +103,8 @@ unfolding Disjoint cased
 both_count a b differ byte is_a is_b = grind (arith, nat_tests)
 
 -- and else not
-first_counts_not : (a : ℕ) (b_counts : Bool) (b : ℕ) → IsTrue (letters a) → b ≡ other_case a → Disjoint (cased false a) (cased b_counts b) → ⊥
+first_counts_not : (a : ℕ) (b_counts : Bool) (b : ℕ) → IsTrue (letters a) → b ≡ other_case a
+    → Disjoint (cased false a) (cased b_counts b) → ⊥
 unfolding Disjoint cased
 first_counts_not a b_counts b letter other apart = apart b (grind (arith, nat_tests)) (grind (arith, nat_tests))
 
@@ -106,20 +115,28 @@ second_counts_not a b letter other apart = apart a (grind (arith, nat_tests)) (g
 pub cases_apart : (a : ℕ) (a_counts : Bool) (b : ℕ) (b_counts : Bool) → a ≢ b → IsTrue (letters a) → b ≡ other_case a →
     IsTrue (a_counts && b_counts) ↔ Disjoint (cased a_counts a) (cased b_counts b)
 cases_apart a true b true differ letter other = (λ _. both_count a b differ, λ _. refl)
-cases_apart a true b false differ letter other = (λ both. absurd (false≢true both), λ apart. absurd (second_counts_not a b letter other apart))
-cases_apart a false b b_counts differ letter other = (λ both. absurd (false≢true both), λ apart. absurd (first_counts_not a b_counts b letter other apart))
+cases_apart a true b false differ letter other = (
+  λ both. absurd (false≢true both),
+  λ apart. absurd (second_counts_not a b letter other apart),
+)
+cases_apart a false b b_counts differ letter other = (
+  λ both. absurd (false≢true both),
+  λ apart. absurd (first_counts_not a b_counts b letter other apart),
+)
 
 uppercase-other_case : (byte : ℕ) → uppercase (other_case byte) ≡ uppercase byte
 uppercase-other_case byte = grind (arith, nat_tests)
 
 value-other_case : (byte : ℕ) → value (other_case byte) ≡ value byte
 unfolding value
-value-other_case byte = ap (λ k. unwrap_or (position (λ character. character == k) digit_characters) 255) (uppercase-other_case byte)
+value-other_case byte = ap (λ k. unwrap_or (position (λ character. character == k) digit_characters) 255)
+    (uppercase-other_case byte)
 
 -- a letter is a digit in both cases or in none
 pub digits-other_case : (r : Record) (byte : ℕ) → IsTrue (digits r (other_case byte)) → IsTrue (digits r byte)
 digits-other_case r byte inside =
-    subst (λ v. IsTrue (nat_lt v (min r.mantissa_radix 36) || nat_lt v (min (effective_exponent_radix r) 36))) (value-other_case byte) inside
+    subst (λ v. IsTrue (nat_lt v (min r.mantissa_radix 36) || nat_lt v (min (effective_exponent_radix r) 36)))
+    (value-other_case byte) inside
 
 -- no sign is a letter
 pub signs-other_case : (byte : ℕ) → IsTrue (signs (other_case byte)) → IsTrue (signs byte)

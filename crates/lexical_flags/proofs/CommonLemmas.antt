@@ -1,5 +1,6 @@
 -- What two words have in common is their `&`.
-use Rattle.std.proofs.Common.{ℕ, ℤ, ◌≡◌, unsigned_abs, w32, SFits, of_z, to_z, ◌<◌, ◌*◌, ◌/◌, ◌%◌, ◌^◌, ◌==◌, ◌&&◌, min, if◌then◌else◌, sum_by, bit_and, refl, ap, sym, ◌∙◌, arith}
+use Rattle.std.proofs.Common.{ℕ, ℤ, ◌≡◌, unsigned_abs, w32, SFits, of_z, to_z, ◌<◌, ◌*◌, ◌/◌, ◌%◌, ◌^◌, ◌==◌, ◌&&◌, min}
+use Rattle.std.proofs.Common.{if◌then◌else◌, sum_by, bit_and, refl, ap, sym, ◌∙◌, arith}
 use Rattle.std.specs.List.{range_with_len}
 use Rattle.std.proofs.Math.Nat.{mod-eq_of_lt, mod-lt, lt_of_le_of_lt}
 use Rattle.std.proofs.lemmas.Nat.{and_mask, and_le_r, pow_pos}
@@ -30,7 +31,8 @@ common-bit_and v w fits =
 
 -- what `radix_from_flags` reads before it looks at the mantissa radix
 pub common_part : (v w : ℕ) (z : ℤ) → w < 2 ^ 128 → SFits w32 z →
-    bit_and (bit_and v w / 2 ^ unsigned_abs (to_z w32 (of_z w32 z))) 0xFFFF_FFFF ≡ common v w / 2 ^ unsigned_abs z % 2 ^ 32
+    bit_and (bit_and v w / 2 ^ unsigned_abs (to_z w32 (of_z w32 z))) 0xFFFF_FFFF
+    ≡ common v w / 2 ^ unsigned_abs z % 2 ^ 32
 common_part v w z fits sfits =
     ap (λ s. bit_and (bit_and v w / 2 ^ unsigned_abs s) 0xFFFF_FFFF) (to_z-of_z w32 z sfits)
     ∙ and_mask _ 32

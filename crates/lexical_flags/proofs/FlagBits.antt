@@ -1,5 +1,6 @@
 -- The flags of a word under a mask, and the fields of a record joined by `|`.
-use Rattle.std.proofs.Common.{ℕ, ◌≡◌, ◌≢◌, ◌+◌, ◌*◌, ◌^◌, ◌<◌, ◌==◌, Bool, true, false, not, ◌||◌, ◌&&◌, inl, inr, List, [], ◌∷◌, sum_by, bit_and, bit_or, refl, ap, sym, ◌∙◌, arith}
+use Rattle.std.proofs.Common.{ℕ, ◌≡◌, ◌≢◌, ◌+◌, ◌*◌, ◌^◌, ◌<◌, ◌==◌, Bool, true, false, not, ◌||◌, ◌&&◌, inl, inr, List}
+use Rattle.std.proofs.Common.{[], ◌∷◌, sum_by, bit_and, bit_or, refl, ap, sym, ◌∙◌, arith}
 use mathlib.Core.Bool.{not-not}
 use Rattle.std.specs.List.{fold, list_any}
 use Rattle.std.proofs.Math.Nat.{mod-lt, zero-mul}
@@ -9,7 +10,8 @@ use Rattle.std.proofs.lemmas.Nat.Bits.{and_pow}
 use Rattle.std.proofs.lemmas.Bool.{cases_lt, ne_eqb, eq-eqb}
 use Rattle.std.proofs.lemmas.Bool.Decides.{nat_tests}
 use Rattle.lexical_flags.specs.Layout.{part, Flag, bit, shift, flags, bytes, digit_separator_flags}
-use Rattle.lexical_flags.specs.Record.{Record, tabulate, flag_of, byte_of, raw, word_of, flag_bits, byte_bits, separator_on, HasBytes}
+use Rattle.lexical_flags.specs.Record.{Record, tabulate, flag_of, byte_of, raw, word_of, flag_bits, byte_bits}
+use Rattle.lexical_flags.specs.Record.{separator_on, HasBytes}
 use Rattle.lexical_flags.specs.Constants.{mask_of}
 use Rattle.lexical_flags.proofs.RecordLemmas.{flag_of-raw}
 use Rattle.lexical_flags.proofs.Packing.{bit_value, bit_value-lt, flag_bits-value, raw-word_of, HasBytes-by_name}
@@ -37,31 +39,36 @@ not_either true b = refl
 not_either false b = refl
 
 -- the bits of some flags add up to 0 exactly if none of the flags is set
-sum_by-zero : (fs : List Flag) (word : ℕ) → (sum_by (λ f. part word (bit f) 1 * 2 ^ bit f) fs == 0) ≡ not (list_any (flag_of (raw word)) fs)
+sum_by-zero : (fs : List Flag) (word : ℕ) → (sum_by (λ f. part word (bit f) 1 * 2 ^ bit f) fs == 0) ≡ not
+    (list_any (flag_of (raw word)) fs)
 sum_by-zero [] word = refl
 sum_by-zero (f ∷ fs) word =
     let here : (part word (bit f) 1 * 2 ^ bit f == 0) ≡ not (flag_of (raw word) f) =
-    moved_bit-zero (part word (bit f) 1) (2 ^ bit f) (mod-lt _ (omega arith)) (pow_pos (bit f)) ∙ ap not (sym (flag_of-raw word f)) in
+    moved_bit-zero (part word (bit f) 1) (2 ^ bit f) (mod-lt _ (omega arith)) (pow_pos (bit f))
+    ∙ ap not (sym (flag_of-raw word f)) in
     ap (λ n. n == 0) (sum_by-cons (λ f. part word (bit f) 1 * 2 ^ bit f) f fs)
     ∙ sum-zero (part word (bit f) 1 * 2 ^ bit f) (sum_by (λ f. part word (bit f) 1 * 2 ^ bit f) fs)
     ∙ (λ i. here i && sum_by-zero fs word i)
     ∙ not_either (flag_of (raw word) f) (list_any (flag_of (raw word)) fs)
 
 -- a word has no bit in common with the mask of some flags exactly if none of them is set
-pub mask_test : (fs : List Flag) (word : ℕ) → ascends bit 1 0 fs ≡ true → (bit_and word (mask_of fs) == 0) ≡ not (list_any (flag_of (raw word)) fs)
+pub mask_test : (fs : List Flag) (word : ℕ) → ascends bit 1 0 fs ≡ true
+    → (bit_and word (mask_of fs) == 0) ≡ not (list_any (flag_of (raw word)) fs)
 mask_test fs word up = ap (λ n. n == 0) (and_all bit fs word up) ∙ sum_by-zero fs word
 
 negated : (a b : Bool) → a ≡ not b → b ≡ not a
 negated a b e = sym (not-not b) ∙ ap not (sym e)
 
 -- if it has one, one of them is set
-pub any_set : (fs : List Flag) (word : ℕ) → ascends bit 1 0 fs ≡ true → bit_and word (mask_of fs) ≢ 0 → list_any (flag_of (raw word)) fs ≡ true
+pub any_set : (fs : List Flag) (word : ℕ) → ascends bit 1 0 fs ≡ true → bit_and word (mask_of fs) ≢ 0
+    → list_any (flag_of (raw word)) fs ≡ true
 any_set fs word up some =
     let test : (bit_and word (mask_of fs) == 0) ≡ false = ne_eqb _ _ some in
     negated _ _ (mask_test fs word up) ∙ ap not test
 
 -- if it has none, none of them is
-pub none_set : (fs : List Flag) (word : ℕ) → ascends bit 1 0 fs ≡ true → bit_and word (mask_of fs) ≡ 0 → list_any (flag_of (raw word)) fs ≡ false
+pub none_set : (fs : List Flag) (word : ℕ) → ascends bit 1 0 fs ≡ true → bit_and word (mask_of fs) ≡ 0
+    → list_any (flag_of (raw word)) fs ≡ false
 none_set fs word up none =
     let test : (bit_and word (mask_of fs) == 0) ≡ true = eq-eqb _ _ none in
     negated _ _ (mask_test fs word up) ∙ ap not test
@@ -89,7 +96,8 @@ flags-lt r =
     omega arith
 
 -- and the bytes joined with them
-pub fields_joined : (r : Record) → HasBytes r → fold (λ bits b. bit_or bits (byte_bits r b)) (sum_by (flag_bits r) flags) bytes ≡ word_of r
+pub fields_joined : (r : Record) → HasBytes r → fold (λ bits b. bit_or bits (byte_bits r b))
+    (sum_by (flag_bits r) flags) bytes ≡ word_of r
 unfolding word_of
 fields_joined r h =
     or_all shift (byte_of r) 8 h.each bytes 64 (sum_by (flag_bits r) flags) (flags-lt r) refl
@@ -106,5 +114,6 @@ word_of-flags_only r = omega arith
 -- the flags alone tell whether a digit separator is allowed
 pub separator_on-flags : (r : Record) → separator_on (raw (sum_by (flag_bits r) flags)) ≡ separator_on r
 separator_on-flags r =
-    let none : HasBytes (flags_only r) = HasBytes-by_name (flags_only r) (omega arith) (omega arith) (omega arith) (omega arith) (omega arith) (omega arith) in
+    let none : HasBytes (flags_only r) = HasBytes-by_name (flags_only r) (omega arith) (omega arith) (omega arith)
+    (omega arith) (omega arith) (omega arith) in
     ap (λ word. separator_on (raw word)) (word_of-flags_only r) ∙ ap separator_on (raw-word_of (flags_only r) none)

@@ -1,5 +1,6 @@
 -- What the tests of flags say of a word, with the constants that the rules name.
-use Rattle.std.proofs.Common.{ℕ, ◌≡◌, ◌≢◌, ◌⊎◌, ◌+◌, ◌*◌, ◌^◌, ◌<◌, ◌==◌, ◌&&◌, ◌||◌, true, false, not, bit_and, [], ◌∷◌, sum_by, ap, ◌∙◌, refl, arith}
+use Rattle.std.proofs.Common.{ℕ, ◌≡◌, ◌≢◌, ◌⊎◌, ◌+◌, ◌*◌, ◌^◌, ◌<◌, ◌==◌, ◌&&◌, ◌||◌, true, false, not, bit_and, []}
+use Rattle.std.proofs.Common.{◌∷◌, sum_by, ap, ◌∙◌, refl, arith}
 use Rattle.std.proofs.Math.Nat.{mod-lt}
 use Rattle.std.proofs.lemmas.Nat.{pow_pos}
 use Rattle.std.proofs.lemmas.Bool.Decides.{nat_tests}
@@ -55,12 +56,14 @@ special_digit_separator_tells word = flag_tells word 44
 
 -- of four bits, each three above the one before, the last alone is set
 alone : (unit a b c d : ℕ) → 0 < unit → a < 2 → b < 2 → c < 2 → d < 2 →
-    ((a * unit + b * (8 * unit) + c * (64 * unit) + d * (512 * unit)) == 512 * unit) ≡ ((d == 1) && not ((a == 1) || (b == 1) || (c == 1)))
+    ((a * unit + b * (8 * unit) + c * (64 * unit) + d * (512 * unit)) == 512 * unit) ≡
+    ((d == 1) && not ((a == 1) || (b == 1) || (c == 1)))
 alone unit a b c d positive la lb lc ld = grind (arith, nat_tests)
 
 -- what a word has under a mask of four bits
 under_mask : (word i j k l : ℕ) → ascends (λ n. n) 1 0 (i ∷ j ∷ k ∷ l ∷ []) ≡ true →
-    bit_and word (sum_by (λ n. 2 ^ n) (i ∷ j ∷ k ∷ l ∷ [])) ≡ part word i 1 * 2 ^ i + part word j 1 * 2 ^ j + part word k 1 * 2 ^ k + part word l 1 * 2 ^ l
+    bit_and word (sum_by (λ n. 2 ^ n) (i ∷ j ∷ k ∷ l ∷ [])) ≡ part word i 1 * 2 ^ i + part word j 1 * 2 ^ j
+    + part word k 1 * 2 ^ k + part word l 1 * 2 ^ l
 under_mask word i j k l up = and_all (λ n. n) (i ∷ j ∷ k ∷ l ∷ []) word up ∙ omega arith
 
 bit-lt : (word n : ℕ) → part word n 1 < 2

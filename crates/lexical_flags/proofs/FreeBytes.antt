@@ -1,5 +1,6 @@
 -- The radixes in which a byte is free, by a table of all bytes.
-use Rattle.std.proofs.Common.{◌≡◌, ℕ, ◌+◌, ◌<◌, ◌⊎◌, ◌↔◌, ◌==◌, ◌||◌, not, true, max, nat_lt, if◌then◌else◌, IsTrue, slice_index_or, eqb-true, refl, arith}
+use Rattle.std.proofs.Common.{◌≡◌, ℕ, ◌+◌, ◌<◌, ◌⊎◌, ◌↔◌, ◌==◌, ◌||◌, not, true, max, nat_lt, if◌then◌else◌, IsTrue}
+use Rattle.std.proofs.Common.{slice_index_or, eqb-true, refl, arith}
 use Rattle.std.proofs.lemmas.Bool.{agree_below_at}
 use Rattle.std.proofs.lemmas.Bool.Decides.{nat_tests}
 use Rattle.lexical_base.specs.Ascii.{allowed_ascii}
@@ -20,10 +21,12 @@ limit byte =
 -- the table holds them
 limit_entry : (byte : ℕ) → byte < 256 → slice_index_or LIMITS byte 0 ≡ limit byte
 unfolding value limit
-limit_entry byte below = eqb-true _ _ (agree_below_at (λ b. slice_index_or LIMITS b 0 == limit b) (λ _. true) 256 byte refl below)
+limit_entry byte below = eqb-true _ _ (agree_below_at (λ b. slice_index_or LIMITS b 0 == limit b)
+    (λ _. true) 256 byte refl below)
 
 -- a byte is free exactly if the larger radix is below its limit
-pub free_below_limit : (r : Record) (byte : ℕ) → byte < 256 → r.mantissa_radix < 256 → effective_exponent_radix r < 256 →
+pub free_below_limit : (r : Record) (byte : ℕ) → byte < 256 → r.mantissa_radix < 256
+    → effective_exponent_radix r < 256 →
     IsTrue (nat_lt (max r.mantissa_radix (effective_exponent_radix r)) (slice_index_or LIMITS byte 0)) ↔ IsFree r byte
 unfolding IsPunctuation limit
 free_below_limit r byte fits mantissa_fits exponent_fits =

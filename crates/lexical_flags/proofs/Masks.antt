@@ -1,10 +1,12 @@
 -- Fields one above the other, joined by `|` and picked by `&`.
-use Rattle.std.proofs.Common.{ℕ, ◌≡◌, ◌+◌, ◌-◌, ◌*◌, ◌/◌, ◌%◌, ◌^◌, ◌<◌, ◌≤◌, Bool, true, ◌&&◌, leb, List, [], ◌∷◌, sum_by, bit_and, bit_or, refl, ap, sym, ◌∙◌, arith}
+use Rattle.std.proofs.Common.{ℕ, ◌≡◌, ◌+◌, ◌-◌, ◌*◌, ◌/◌, ◌%◌, ◌^◌, ◌<◌, ◌≤◌, Bool, true, ◌&&◌, leb, List, [], ◌∷◌}
+use Rattle.std.proofs.Common.{sum_by, bit_and, bit_or, refl, ap, sym, ◌∙◌, arith}
 use Rattle.std.specs.Int.Bits.{and_zero_r}
 use Rattle.std.specs.List.{fold}
 use Rattle.std.proofs.Math.Nat.{mul-le-mul_left, mod-eq_of_lt, mod-lt, pow-le-pow_right, lt_of_le_of_lt}
 use Rattle.std.proofs.lemmas.Bool.{leb-true, and_parts}
-use Rattle.std.proofs.lemmas.Nat.{pow-add, pow_pos, shr_split, and_block, and_mask, and_mod, and_le_r, or_comm, or_shifted}
+use Rattle.std.proofs.lemmas.Nat.{pow-add, pow_pos, shr_split, and_block, and_mask, and_mod, and_le_r, or_comm}
+use Rattle.std.proofs.lemmas.Nat.{or_shifted}
 use Rattle.std.proofs.lemmas.Nat.Bits.{shr_and_one}
 use Rattle.lexical_flags.specs.Layout.{part}
 
@@ -22,10 +24,12 @@ above start width s (x ∷ xs) = above start width (start x + width) xs
 and_more : (w a k : ℕ) → a < 2 ^ k → bit_and w (a + 2 ^ k) ≡ bit_and w a + part w k 1 * 2 ^ k
 and_more w a k l =
     let split : (w / 2 ^ k) * 2 ^ k + w % 2 ^ k ≡ w = shr_split w k in
-    let blocks : bit_and ((w / 2 ^ k) * 2 ^ k + w % 2 ^ k) (1 * 2 ^ k + a) ≡ bit_and (w / 2 ^ k) 1 * 2 ^ k + bit_and (w % 2 ^ k) a =
+    let blocks : bit_and ((w / 2 ^ k) * 2 ^ k + w % 2 ^ k) (1 * 2 ^ k + a) ≡ bit_and (w / 2 ^ k) 1 * 2 ^ k + bit_and
+    (w % 2 ^ k) a =
     and_block k (w / 2 ^ k) 1 (w % 2 ^ k) a (mod-lt w (pow_pos k)) l in
     let low : bit_and (w % 2 ^ k) a ≡ bit_and w a =
-    ap (λ x. bit_and (w % 2 ^ k) x) (sym (mod-eq_of_lt l)) ∙ sym (and_mod w a k) ∙ mod-eq_of_lt (lt_of_le_of_lt (and_le_r w a) l) in
+    ap (λ x. bit_and (w % 2 ^ k) x) (sym (mod-eq_of_lt l)) ∙ sym (and_mod w a k)
+    ∙ mod-eq_of_lt (lt_of_le_of_lt (and_le_r w a) l) in
     let mask : a + 2 ^ k ≡ 1 * 2 ^ k + a = omega arith in
     ap (λ x. bit_and w x) mask
     ∙ ap (λ x. bit_and x (1 * 2 ^ k + a)) (sym split)
@@ -35,15 +39,18 @@ and_more w a k l =
 pub and_block_more : (w a k n : ℕ) → a < 2 ^ k → bit_and w ((2 ^ n - 1) * 2 ^ k + a) ≡ bit_and w a + part w k n * 2 ^ k
 and_block_more w a k n l =
     let split : (w / 2 ^ k) * 2 ^ k + w % 2 ^ k ≡ w = shr_split w k in
-    let blocks : bit_and ((w / 2 ^ k) * 2 ^ k + w % 2 ^ k) ((2 ^ n - 1) * 2 ^ k + a) ≡ bit_and (w / 2 ^ k) (2 ^ n - 1) * 2 ^ k + bit_and (w % 2 ^ k) a =
+    let blocks : bit_and ((w / 2 ^ k) * 2 ^ k + w % 2 ^ k) ((2 ^ n - 1) * 2 ^ k + a) ≡ bit_and (w / 2 ^ k)
+    (2 ^ n - 1) * 2 ^ k + bit_and (w % 2 ^ k) a =
     and_block k (w / 2 ^ k) (2 ^ n - 1) (w % 2 ^ k) a (mod-lt w (pow_pos k)) l in
     let low : bit_and (w % 2 ^ k) a ≡ bit_and w a =
-    ap (λ x. bit_and (w % 2 ^ k) x) (sym (mod-eq_of_lt l)) ∙ sym (and_mod w a k) ∙ mod-eq_of_lt (lt_of_le_of_lt (and_le_r w a) l) in
+    ap (λ x. bit_and (w % 2 ^ k) x) (sym (mod-eq_of_lt l)) ∙ sym (and_mod w a k)
+    ∙ mod-eq_of_lt (lt_of_le_of_lt (and_le_r w a) l) in
     ap (λ x. bit_and x ((2 ^ n - 1) * 2 ^ k + a)) (sym split)
     ∙ blocks ∙ (λ i. and_mask (w / 2 ^ k) n i * 2 ^ k + low i) ∙ omega arith
 
 -- one more field
-or_more : (low s k n v : ℕ) → low < 2 ^ s → s ≤ k → v < 2 ^ n → (bit_or low (v * 2 ^ k) ≡ low + v * 2 ^ k) × (low + v * 2 ^ k < 2 ^ (k + n))
+or_more : (low s k n v : ℕ) → low < 2 ^ s → s ≤ k → v < 2 ^ n
+    → (bit_or low (v * 2 ^ k) ≡ low + v * 2 ^ k) × (low + v * 2 ^ k < 2 ^ (k + n))
 or_more low s k n v l start fits =
     let wide : 2 ^ s ≤ 2 ^ k = pow-le-pow_right {n = 2} (omega arith) start in
     let below : low < 2 ^ k = omega arith in
@@ -51,7 +58,8 @@ or_more low s k n v l start fits =
     (or_comm low (v * 2 ^ k) ∙ or_shifted v k low below ∙ omega arith, rw (pow-add 2 k n) (omega arith))
 
 module _ {X : Type 0} (start value : X → ℕ) (n : ℕ) (fits : (x : X) → value x < 2 ^ n) where
-  pub or_all : (xs : List X) (s low : ℕ) → low < 2 ^ s → ascends start n s xs ≡ true → fold (λ a x. bit_or a (value x * 2 ^ start x)) low xs ≡ fold (λ a x. a + value x * 2 ^ start x) low xs
+  pub or_all : (xs : List X) (s low : ℕ) → low < 2 ^ s → ascends start n s xs ≡ true
+      → fold (λ a x. bit_or a (value x * 2 ^ start x)) low xs ≡ fold (λ a x. a + value x * 2 ^ start x) low xs
   or_all [] s low l up = refl
   or_all (x ∷ xs) s low l up =
       let parts = and_parts (leb s (start x)) (ascends start n (start x + n) xs) up in
@@ -59,7 +67,8 @@ module _ {X : Type 0} (start value : X → ℕ) (n : ℕ) (fits : (x : X) → va
       ap (λ a. fold (λ a x. bit_or a (value x * 2 ^ start x)) a xs) more.0
       ∙ or_all xs (start x + n) (low + value x * 2 ^ start x) more.1 parts.1
 
-  pub sum-below : (xs : List X) (s low : ℕ) → low < 2 ^ s → ascends start n s xs ≡ true → fold (λ a x. a + value x * 2 ^ start x) low xs < 2 ^ above start n s xs
+  pub sum-below : (xs : List X) (s low : ℕ) → low < 2 ^ s → ascends start n s xs ≡ true
+      → fold (λ a x. a + value x * 2 ^ start x) low xs < 2 ^ above start n s xs
   sum-below [] s low l up = l
   sum-below (x ∷ xs) s low l up =
       let parts = and_parts (leb s (start x)) (ascends start n (start x + n) xs) up in
@@ -67,7 +76,9 @@ module _ {X : Type 0} (start value : X → ℕ) (n : ℕ) (fits : (x : X) → va
       sum-below xs (start x + n) (low + value x * 2 ^ start x) more.1 parts.1
 
 module _ {X : Type 0} (start : X → ℕ) where
-  and_from : (xs : List X) (s w low : ℕ) → low < 2 ^ s → ascends start 1 s xs ≡ true → bit_and w (fold (λ a x. a + 2 ^ start x) low xs) ≡ fold (λ a x. a + part w (start x) 1 * 2 ^ start x) (bit_and w low) xs
+  and_from : (xs : List X) (s w low : ℕ) → low < 2 ^ s → ascends start 1 s xs ≡ true
+      → bit_and w (fold (λ a x. a + 2 ^ start x) low xs) ≡ fold (λ a x. a + part w (start x) 1 * 2 ^ start x)
+      (bit_and w low) xs
   and_from [] s w low l up = refl
   and_from (x ∷ xs) s w low l up =
       let parts = and_parts (leb s (start x)) (ascends start 1 (start x + 1) xs) up in
@@ -78,5 +89,7 @@ module _ {X : Type 0} (start : X → ℕ) where
       ∙ ap (λ a. fold (λ a x. a + part w (start x) 1 * 2 ^ start x) a xs) (and_more w low (start x) below)
 
   -- a word and a mask have in common the bits that the mask has
-  pub and_all : (xs : List X) (w : ℕ) → ascends start 1 0 xs ≡ true → bit_and w (sum_by (λ x. 2 ^ start x) xs) ≡ sum_by (λ x. part w (start x) 1 * 2 ^ start x) xs
-  and_all xs w up = and_from xs 0 w 0 (omega arith) up ∙ ap (λ a. fold (λ a x. a + part w (start x) 1 * 2 ^ start x) a xs) (and_zero_r w)
+  pub and_all : (xs : List X) (w : ℕ) → ascends start 1 0 xs ≡ true
+      → bit_and w (sum_by (λ x. 2 ^ start x) xs) ≡ sum_by (λ x. part w (start x) 1 * 2 ^ start x) xs
+  and_all xs w up = and_from xs 0 w 0 (omega arith) up
+      ∙ ap (λ a. fold (λ a x. a + part w (start x) 1 * 2 ^ start x) a xs) (and_zero_r w)

@@ -1,4 +1,5 @@
--- What filling and trimming do to the rules: filled fields meet the same ones, trimmed fields still meet those that they met,
+-- What filling and trimming do to the rules: filled fields meet the same ones, trimmed fields still meet those that
+-- they met,
 -- and so does a clean word with such fields.
 use Rattle.std.proofs.Common.{◌≡◌, ℕ, ◌⊎◌, ◌↔◌, inl, inr, ◌||◌, IsTrue, refl, sym, ap, subst, arith}
 use Rattle.std.proofs.lemmas.Bool.{cases_Bool, cond-false, false≢true}
@@ -21,7 +22,8 @@ fill_once own radix = grind (arith, nat_tests)
 IsFree-fill : (r : Record) (byte : ℕ) → IsFree (fill r) byte ≡ IsFree r byte
 unfolding IsPunctuation
 IsFree-fill r byte =
-    ap (λ radix. (byte ≡ 0) ⊎ (IsTrue (allowed_ascii byte) × (IsTrue (digits_of r.mantissa_radix byte || digits_of radix byte) → ⊥) × (IsTrue (signs byte) → ⊥)))
+    ap (λ radix. (byte ≡ 0) ⊎ (IsTrue (allowed_ascii byte)
+    × (IsTrue (digits_of r.mantissa_radix byte || digits_of radix byte) → ⊥) × (IsTrue (signs byte) → ⊥)))
     (fill_once r.exponent_radix r.mantissa_radix)
 
 -- the rules demand the same of filled fields
@@ -50,7 +52,8 @@ Demands-trim : (rule : Rule) (r : Record) → Demands rule r → Demands rule (t
 Demands-trim rule r h =
     elim (cases_Bool (separator_on r)) [
       | inl on ↦ subst (Demands rule) (sym (trim-same r (inl on))) h
-      | inr off ↦ subst (λ n. Demands rule (record r { digit_separator = n })) (sym (cond-false (separator_on r) r.digit_separator 0 off)) (Demands-bare rule r h)
+      | inr off ↦ subst (λ n. Demands rule (record r { digit_separator = n }))
+          (sym (cond-false (separator_on r) r.digit_separator 0 off)) (Demands-bare rule r h)
     ]
 
 -- what fields meet they meet when filled and trimmed

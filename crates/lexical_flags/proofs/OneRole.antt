@@ -1,5 +1,6 @@
 -- Disjoint roles by name: what a list of sets says of two roles, and that then a byte plays at most one.
-use Rattle.std.proofs.Common.{ℕ, ◌≡◌, ◌<◌, ◌≤◌, ◌==◌, Bool, true, nat_lt, map, take, length, get_or, inl, inr, refl, sym, ap, subst, ◌∙◌, eqb-true, arith}
+use Rattle.std.proofs.Common.{ℕ, ◌≡◌, ◌<◌, ◌≤◌, ◌==◌, Bool, true, nat_lt, map, take, length, get_or, inl, inr, refl}
+use Rattle.std.proofs.Common.{sym, ap, subst, ◌∙◌, eqb-true, arith}
 use Rattle.std.specs.List.{AllPairs}
 use Rattle.std.proofs.lemmas.Bool.{cases_order, agree_below_at, ltb-true, lt-ltb}
 use Rattle.std.proofs.lemmas.List.{get_or-map, get_or-take, length-map, length-take-le}
@@ -37,7 +38,8 @@ role-at roles.digit = refl
 role-at _ = refl
 
 rank-at : (i : ℕ) → i < 7 → rank (get_or roles i roles.digit) ≡ i
-rank-at i inside = eqb-true _ i (agree_below_at (λ k. rank (get_or roles k roles.digit) == k) (λ _. true) 7 i refl inside)
+rank-at i inside = eqb-true _ i (agree_below_at (λ k. rank (get_or roles k roles.digit) == k)
+    (λ _. true) 7 i refl inside)
 
 rank-injective : (a b : Role) → rank a ≡ rank b → a ≡ b
 rank-injective a b same = sym (role-at a) ∙ ap (λ k. get_or roles k roles.digit) same ∙ role-at b
@@ -49,7 +51,8 @@ module _ (n : ℕ) (few : n ≤ 7) (sets : Role → ByteSet) where
       get_or-map sets (take n roles) i roles.digit d (omega arith) ∙ ap sets (get_or-take n roles i roles.digit inside)
 
   -- two of the first n roles whose sets are pairwise disjoint
-  pub Disjoint-at : ArePairwise Disjoint (map sets (take n roles)) → (a b : Role) → before a b ≡ true → among n b ≡ true → Disjoint (sets a) (sets b)
+  pub Disjoint-at : ArePairwise Disjoint (map sets (take n roles)) → (a b : Role) → before a b ≡ true → among n b ≡ true
+      → Disjoint (sets a) (sets b)
   Disjoint-at pairs a b first last =
       let less : rank a < rank b = ltb-true _ _ first in
       let inside : rank b < n = ltb-true _ _ last in
@@ -61,7 +64,8 @@ module _ (n : ℕ) (few : n ≤ 7) (sets : Role → ByteSet) where
       (AllPairs-from_pairwise Disjoint (map sets (take n roles)) pairs (rank a) (rank b) (sets a) less (omega arith)))
 
   -- and the other way round
-  pub pairwise-from_Disjoint : ((a b : Role) → before a b ≡ true → among n b ≡ true → Disjoint (sets a) (sets b)) → ArePairwise Disjoint (map sets (take n roles))
+  pub pairwise-from_Disjoint : ((a b : Role) → before a b ≡ true → among n b ≡ true → Disjoint (sets a) (sets b))
+      → ArePairwise Disjoint (map sets (take n roles))
   pairwise-from_Disjoint apart = ArePairwise-from_pairs Disjoint (map sets (take n roles)) by_index where
     by_index : AllPairs Disjoint (map sets (take n roles))
     by_index i j d less inside =

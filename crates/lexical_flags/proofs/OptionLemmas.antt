@@ -1,12 +1,14 @@
 -- An exponent character and a decimal point beside the five roles of a word.
-use Rattle.std.proofs.Common.{ℕ, zero, suc, ◌≡◌, ◌+◌, ◌≤◌, ◌<◌, ◌≢◌, ◌⊎◌, ◌==◌, inl, inr, if◌then◌else◌, Bool, true, false, not, IsTrue, List, [], ◌∷◌, length, refl, sym, ◌∙◌, eqb-true, arith}
+use Rattle.std.proofs.Common.{ℕ, zero, suc, ◌≡◌, ◌+◌, ◌≤◌, ◌<◌, ◌≢◌, ◌⊎◌, ◌==◌, inl, inr, if◌then◌else◌, Bool, true}
+use Rattle.std.proofs.Common.{false, not, IsTrue, List, [], ◌∷◌, length, refl, sym, ◌∙◌, eqb-true, arith}
 use Rattle.std.specs.List.{AllByRecursion, filter}
 use Rattle.std.proofs.lemmas.Bool.{eqb-false}
 use Rattle.std.proofs.lemmas.Bool.Decides.{nat_tests}
 use Rattle.lexical_base.specs.Ascii.{ByteSet, allowed_ascii}
 use Rattle.lexical_flags.specs.Record.{Record, raw}
 use Rattle.lexical_flags.specs.Roles as roles
-use Rattle.lexical_flags.specs.Roles.{Disjoint, Role, cased, digits, signs, separator, prefix, suffix, exponent, point, own_roles, role_set, seven_roles}
+use Rattle.lexical_flags.specs.Roles.{Disjoint, Role, cased, digits, signs, separator, prefix, suffix, exponent, point}
+use Rattle.lexical_flags.specs.Roles.{own_roles, role_set, seven_roles}
 use Rattle.lexical_flags.specs.Rules.{IsPunctuation, Lawful}
 use Rattle.lexical_flags.specs.Options.{AreAccepted, HaveOneRole, LeavesRoom}
 use Rattle.lexical_flags.proofs.OneRole.{before, among, Disjoint-at, pairwise-from_Disjoint}
@@ -25,8 +27,10 @@ AreAccepted-from_roles word e p h =
     let apart = Disjoint-at 7 (omega arith) (role_set r e p) h.roles in
     let e_some : e ≢ 0 = text-positive e h.exponent_is_text in
     let p_some : p ≢ 0 = text-positive p h.point_is_text in
-    let e_apart : (a : Role) → before a roles.exponent_character ≡ true → Disjoint (role_set r e p a) (exponent r e) = λ a first. apart a roles.exponent_character first refl in
-    let p_apart : (a : Role) → before a roles.decimal_point ≡ true → Disjoint (role_set r e p a) (point p) = λ a first. apart a roles.decimal_point first refl in
+    let e_apart : (a : Role) → before a roles.exponent_character ≡ true
+    → Disjoint (role_set r e p a) (exponent r e) = λ a first. apart a roles.exponent_character first refl in
+    let p_apart : (a : Role) → before a roles.decimal_point ≡ true
+    → Disjoint (role_set r e p a) (point p) = λ a first. apart a roles.decimal_point first refl in
     record {
       exponent_is_punctuation = (
         h.exponent_is_text,
@@ -41,11 +45,17 @@ AreAccepted-from_roles word e p h =
       apart = p_apart roles.exponent_character refl;
       exponent_is_new = (
         Disjoint-sym (separator r) (exponent r e) (e_apart roles.digit_separator refl),
-        (Disjoint-sym (prefix r) (exponent r e) (e_apart roles.base_prefix refl), (Disjoint-sym (suffix r) (exponent r e) (e_apart roles.base_suffix refl), tt)),
+        (
+          Disjoint-sym (prefix r) (exponent r e) (e_apart roles.base_prefix refl),
+          (Disjoint-sym (suffix r) (exponent r e) (e_apart roles.base_suffix refl), tt),
+        ),
       );
       point_is_new = (
         Disjoint-sym (separator r) (point p) (p_apart roles.digit_separator refl),
-        (Disjoint-sym (prefix r) (point p) (p_apart roles.base_prefix refl), (Disjoint-sym (suffix r) (point p) (p_apart roles.base_suffix refl), tt)),
+        (
+          Disjoint-sym (prefix r) (point p) (p_apart roles.base_prefix refl),
+          (Disjoint-sym (suffix r) (point p) (p_apart roles.base_suffix refl), tt),
+        ),
       );
     }
 
@@ -78,8 +88,10 @@ HaveOneRole-from_accepted word e p lawful h = record {
   from_signs counts b free = Disjoint-signs-cased counts b (λ _. free.2)
 
   apart : (a b : Role) → before a b ≡ true → among 7 b ≡ true → Disjoint (role_set r e p a) (role_set r e p b)
-  apart roles.digit roles.exponent_character first last = from_digits r.case_sensitive_exponent e h.exponent_is_punctuation
-  apart roles.sign roles.exponent_character first last = from_signs r.case_sensitive_exponent e h.exponent_is_punctuation
+  apart roles.digit roles.exponent_character first last =
+      from_digits r.case_sensitive_exponent e h.exponent_is_punctuation
+  apart roles.sign roles.exponent_character first last =
+      from_signs r.case_sensitive_exponent e h.exponent_is_punctuation
   apart roles.digit_separator roles.exponent_character first last = new_separator r (exponent r e) h.exponent_is_new
   apart roles.base_prefix roles.exponent_character first last = new_prefix r (exponent r e) h.exponent_is_new
   apart roles.base_suffix roles.exponent_character first last = new_suffix r (exponent r e) h.exponent_is_new
@@ -103,18 +115,22 @@ abbrev without : ℕ → List ℕ → List ℕ
 without x taken = filter (λ t. not (t == x)) taken
 
 -- what is none of these, and not that one, is none of all
-none_of-without : (a x : ℕ) (taken : List ℕ) → a ≢ x → AllByRecursion (λ t. a ≢ t) (without x taken) → AllByRecursion (λ t. a ≢ t) taken
+none_of-without : (a x : ℕ) (taken : List ℕ) → a ≢ x → AllByRecursion (λ t. a ≢ t) (without x taken)
+    → AllByRecursion (λ t. a ≢ t) taken
 none_of-without a x [] differ h = tt
 none_of-without a x (t ∷ taken) differ h = by (t == x) refl h (none_of-without a x taken differ) where
-  by : (same : Bool) → (t == x) ≡ same → AllByRecursion (λ t. a ≢ t) (if not same then t ∷ without x taken else without x taken)
-      → (AllByRecursion (λ t. a ≢ t) (without x taken) → AllByRecursion (λ t. a ≢ t) taken) → a ≢ t × AllByRecursion (λ t. a ≢ t) taken
+  by : (same : Bool) → (t == x) ≡ same → AllByRecursion (λ t. a ≢ t)
+      (if not same then t ∷ without x taken else without x taken)
+      → (AllByRecursion (λ t. a ≢ t) (without x taken) → AllByRecursion (λ t. a ≢ t) taken)
+      → a ≢ t × AllByRecursion (λ t. a ≢ t) taken
   by true is rest others = (λ e. differ (e ∙ eqb-true t x is), others rest)
   by false is rest others = (rest.0, others rest.1)
 
 shorter : (x : ℕ) (taken : List ℕ) → length (without x taken) ≤ length taken
 shorter x [] = omega arith
 shorter x (t ∷ taken) = by (t == x) (shorter x taken) where
-  by : (same : Bool) → length (without x taken) ≤ length taken → length (if not same then t ∷ without x taken else without x taken) ≤ suc (length taken)
+  by : (same : Bool) → length (without x taken) ≤ length taken
+      → length (if not same then t ∷ without x taken else without x taken) ≤ suc (length taken)
   by true less = omega arith
   by false less = omega arith
 
@@ -123,7 +139,8 @@ taken_or_not : (x : ℕ) (taken : List ℕ) → AllByRecursion (λ t. x ≢ t) t
 taken_or_not x [] = inl tt
 taken_or_not x (t ∷ taken) = by (t == x) refl (taken_or_not x taken) where
   by : (same : Bool) → (t == x) ≡ same → AllByRecursion (λ t. x ≢ t) taken ⊎ (length (without x taken) < length taken)
-      → (x ≢ t × AllByRecursion (λ t. x ≢ t) taken) ⊎ (length (if not same then t ∷ without x taken else without x taken) < suc (length taken))
+      → (x ≢ t × AllByRecursion (λ t. x ≢ t) taken) ⊎ (length
+      (if not same then t ∷ without x taken else without x taken) < suc (length taken))
   by true is found = let less = shorter x taken in inr (omega arith)
   by false is (inl none) = inl (λ e. eqb-false t x is (sym e), none)
   by false is (inr less) = inr (omega arith)
@@ -146,19 +163,28 @@ fresh_from (suc n) low taken few =
 -- the bytes ! " # $ % have no part in numbers
 IsPunctuation-mark : (r : Record) (byte : ℕ) → 33 ≤ byte → byte ≤ 37 → IsPunctuation r byte
 unfolding IsPunctuation
-IsPunctuation-mark r byte low high = (grind (arith, nat_tests), no_digit r byte (omega arith), (λ is_sign. grind (arith, nat_tests)))
+IsPunctuation-mark r byte low high = (
+  grind (arith, nat_tests),
+  no_digit r byte (omega arith),
+  (λ is_sign. grind (arith, nat_tests)),
+)
 
 -- the roles of such a byte and of one that differs
-Disjoint-mark : (a : ℕ) (a_counts : Bool) (b : ℕ) (b_counts : Bool) → 33 ≤ a → a ≤ 37 → a ≢ b → Disjoint (cased a_counts a) (cased b_counts b)
+Disjoint-mark : (a : ℕ) (a_counts : Bool) (b : ℕ) (b_counts : Bool) → 33 ≤ a → a ≤ 37 → a ≢ b
+    → Disjoint (cased a_counts a) (cased b_counts b)
 unfolding Disjoint cased
 Disjoint-mark a a_counts b b_counts low high differ byte is_a is_b = grind (arith, nat_tests)
 
 -- such a byte that differs from the three of a format has none of their roles
 is_new : (r : Record) (byte : ℕ) (counts : Bool) → 33 ≤ byte → byte ≤ 37
-    → AllByRecursion (λ t. byte ≢ t) (r.digit_separator ∷ r.base_prefix ∷ r.base_suffix ∷ []) → AllByRecursion (Disjoint (cased counts byte)) (own_roles r)
+    → AllByRecursion (λ t. byte ≢ t) (r.digit_separator ∷ r.base_prefix ∷ r.base_suffix ∷ [])
+    → AllByRecursion (Disjoint (cased counts byte)) (own_roles r)
 is_new r byte counts low high (separator, (prefix, (suffix, _))) = (
   Disjoint-mark byte counts _ true low high separator,
-  (Disjoint-mark byte counts _ r.case_sensitive_base_prefix low high prefix, (Disjoint-mark byte counts _ r.case_sensitive_base_suffix low high suffix, tt)),
+  (
+    Disjoint-mark byte counts _ r.case_sensitive_base_prefix low high prefix,
+    (Disjoint-mark byte counts _ r.case_sensitive_base_suffix low high suffix, tt),
+  ),
 )
 
 -- of the five marks two are left

@@ -8,16 +8,25 @@ use Rattle.lexical_flags.specs.Options.{AreAccepted}
 use Rattle.lexical_flags.specs.Computed.{is_punctuation, are_apart, is_new, accepts}
 use Rattle.lexical_flags.proofs.LawfulTest.{IsPunctuation-test, IsPunctuation-passes, Disjoint-test, Disjoint-passes}
 
-is_new-test : (r : Record) (counts : Bool) (byte : ℕ) → is_new r counts byte ≡ true → AllByRecursion (Disjoint (cased counts byte)) (own_roles r)
+is_new-test : (r : Record) (counts : Bool) (byte : ℕ) → is_new r counts byte ≡ true
+    → AllByRecursion (Disjoint (cased counts byte)) (own_roles r)
 is_new-test r counts byte test =
     let separator = and_parts (are_apart counts byte true r.digit_separator) _ test in
-    let rest = and_parts (are_apart counts byte r.case_sensitive_base_prefix r.base_prefix) (are_apart counts byte r.case_sensitive_base_suffix r.base_suffix) separator.1 in
-    (Disjoint-test counts byte true _ separator.0, (Disjoint-test counts byte _ _ rest.0, (Disjoint-test counts byte _ _ rest.1, tt)))
+    let rest = and_parts (are_apart counts byte r.case_sensitive_base_prefix r.base_prefix)
+    (are_apart counts byte r.case_sensitive_base_suffix r.base_suffix) separator.1 in (
+      Disjoint-test counts byte true _ separator.0,
+      (
+        Disjoint-test counts byte _ _ rest.0,
+        (Disjoint-test counts byte _ _ rest.1, tt),
+      ),
+    )
 
-is_new-passes : (r : Record) (counts : Bool) (byte : ℕ) → AllByRecursion (Disjoint (cased counts byte)) (own_roles r) → is_new r counts byte ≡ true
+is_new-passes : (r : Record) (counts : Bool) (byte : ℕ) → AllByRecursion (Disjoint (cased counts byte)) (own_roles r)
+    → is_new r counts byte ≡ true
 is_new-passes r counts byte (separator, (prefix, (suffix, _))) =
     and_from (are_apart counts byte true r.digit_separator) _ (Disjoint-passes counts byte true _ separator)
-    (and_from (are_apart counts byte r.case_sensitive_base_prefix r.base_prefix) _ (Disjoint-passes counts byte _ _ prefix) (Disjoint-passes counts byte _ _ suffix))
+    (and_from (are_apart counts byte r.case_sensitive_base_prefix r.base_prefix) _
+    (Disjoint-passes counts byte _ _ prefix) (Disjoint-passes counts byte _ _ suffix))
 
 -- a pair that passes is accepted
 pub accepted_tested : (word e p : ℕ) → accepts (raw word) e p ≡ true → AreAccepted word e p
@@ -40,9 +49,12 @@ accepted-passes : (word e p : ℕ) → AreAccepted word e p → accepts (raw wor
 accepted-passes word e p h =
     let r : Record = raw word in
     and_from (is_punctuation r e && is_punctuation r p) _
-    (and_from (is_punctuation r e) _ (IsPunctuation-passes r e h.exponent_is_punctuation) (IsPunctuation-passes r p h.point_is_punctuation))
-    (and_from (are_apart r.case_sensitive_exponent e true p) _ (Disjoint-passes r.case_sensitive_exponent e true p h.apart)
-    (and_from (is_new r r.case_sensitive_exponent e) _ (is_new-passes r r.case_sensitive_exponent e h.exponent_is_new) (is_new-passes r true p h.point_is_new)))
+    (and_from (is_punctuation r e) _ (IsPunctuation-passes r e h.exponent_is_punctuation)
+    (IsPunctuation-passes r p h.point_is_punctuation))
+    (and_from (are_apart r.case_sensitive_exponent e true p) _
+    (Disjoint-passes r.case_sensitive_exponent e true p h.apart)
+    (and_from (is_new r r.case_sensitive_exponent e) _ (is_new-passes r r.case_sensitive_exponent e h.exponent_is_new)
+    (is_new-passes r true p h.point_is_new)))
 
 -- whether a pair is accepted is what the test computes
 pub accepted_computed : (word e p : ℕ) → IsTrue (accepts (raw word) e p) ↔ AreAccepted word e p

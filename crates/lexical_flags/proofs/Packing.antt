@@ -1,12 +1,15 @@
 -- A packed record, and the record that a word holds.
-use Rattle.std.proofs.Common.{ℕ, zero, suc, ◌≡◌, ◌+◌, ◌*◌, ◌^◌, ◌<◌, ◌==◌, ◌⊎◌, ◌↔◌, ◌-◌, nat_lt, Bool, true, false, IsTrue, if◌then◌else◌, List, [], ◌∷◌}
+use Rattle.std.proofs.Common.{ℕ, zero, suc, ◌≡◌, ◌+◌, ◌*◌, ◌^◌, ◌<◌, ◌==◌, ◌⊎◌, ◌↔◌, ◌-◌, nat_lt, Bool, true, false}
+use Rattle.std.proofs.Common.{IsTrue, if◌then◌else◌, List, [], ◌∷◌}
 use Rattle.std.proofs.Common.{◌++◌, map, drop, get_or, sum_by, refl, ap, sym, ◌∙◌, subst, inl, inr, arith}
 use Rattle.std.proofs.Math.Nat.{mod-eq_of_lt, mod-lt}
 use Rattle.std.proofs.lemmas.Nat.{pow_pos}
 use Rattle.std.proofs.lemmas.Bool.Decides.{nat_tests}
-use Rattle.lexical_flags.specs.Layout.{part, Flag, Byte, bit, flags, bytes, base_flags, digit_separator_flags, shift, IsClean}
+use Rattle.lexical_flags.specs.Layout.{part, Flag, Byte, bit, flags, bytes, base_flags, digit_separator_flags, shift}
+use Rattle.lexical_flags.specs.Layout.{IsClean}
 use Rattle.lexical_flags.specs.Layout as layout
-use Rattle.lexical_flags.specs.Record.{Record, tabulate, flag_of, byte_of, raw, fill, trim, pack, word_of, byte_bits, effective, separator_on, HasBytes, IsBuilt}
+use Rattle.lexical_flags.specs.Record.{Record, tabulate, flag_of, byte_of, raw, fill, trim, pack, word_of, byte_bits}
+use Rattle.lexical_flags.specs.Record.{effective, separator_on, HasBytes, IsBuilt}
 use Rattle.lexical_flags.proofs.Segments.{joined, segments, segments-joined, joined-segments, joined-below, Fit}
 
 -- the widths of the segments of a word from the lowest up, with the three reserved ones
@@ -67,7 +70,8 @@ pub bit_value-lt : (b : Bool) → bit_value b < 2
 bit_value-lt true = omega arith
 bit_value-lt false = omega arith
 
-fit_bits : (g : Flag → Bool) (fs : List Flag) (ns vs : List ℕ) → Fit ns vs → Fit (map (λ _. 1) fs ++ ns) (map (λ f. bit_value (g f)) fs ++ vs)
+fit_bits : (g : Flag → Bool) (fs : List Flag) (ns vs : List ℕ) → Fit ns vs
+    → Fit (map (λ _. 1) fs ++ ns) (map (λ f. bit_value (g f)) fs ++ vs)
 fit_bits g [] ns vs fit = fit
 fit_bits g (f ∷ fs) ns vs fit = (bit_value-lt (g f), fit_bits g fs ns vs fit)
 
@@ -96,7 +100,8 @@ values-fit r h =
 -- a word of fields, segment by segment
 segments-word_of : (r : Record) → HasBytes r → segments 0 widths (word_of r) ≡ values r
 segments-word_of r h =
-    ap (segments 0 widths) (word_of-joined r ∙ omega arith) ∙ segments-joined 0 widths (values r) 0 (omega arith) (values-fit r h)
+    ap (segments 0 widths) (word_of-joined r ∙ omega arith)
+    ∙ segments-joined 0 widths (values r) 0 (omega arith) (values-fit r h)
 
 -- the record of the word of a record is that record
 pub raw-word_of : (r : Record) → HasBytes r → raw (word_of r) ≡ r
@@ -104,7 +109,8 @@ raw-word_of r h = ap from_values (segments-word_of r h) ∙ from_values-values r
 
 word_of-clean : (r : Record) → HasBytes r → IsClean (word_of r)
 word_of-clean r h =
-    let at : (k : ℕ) → get_or (segments 0 widths (word_of r)) k 0 ≡ get_or (values r) k 0 = λ k. ap (λ vs. get_or vs k 0) (segments-word_of r h) in
+    let at : (k : ℕ) → get_or (segments 0 widths (word_of r)) k 0 ≡ get_or (values r) k 0 =
+    λ k. ap (λ vs. get_or vs k 0) (segments-word_of r h) in
     record { below_separator_flags = at 18; below_separator = at 32; below_prefix = at 34 }
 
 word_of-lt : (r : Record) → HasBytes r → word_of r < 2 ^ 128
@@ -122,10 +128,12 @@ values-raw w clean =
 
 word_of-raw : (w : ℕ) → w < 2 ^ 128 → IsClean w → word_of (raw w) ≡ w
 word_of-raw w l clean =
-    word_of-joined (raw w) ∙ ap (joined 0 widths) (values-raw w clean) ∙ omega (arith, joined-segments 0 widths w, mod-eq_of_lt l)
+    word_of-joined (raw w) ∙ ap (joined 0 widths) (values-raw w clean)
+    ∙ omega (arith, joined-segments 0 widths w, mod-eq_of_lt l)
 
 -- the bytes of a record, by their names
-by_name : (r : Record) → r.digit_separator < 256 → r.base_prefix < 256 → r.base_suffix < 256 → r.mantissa_radix < 256 → r.exponent_base < 256 → r.exponent_radix < 256
+by_name : (r : Record) → r.digit_separator < 256 → r.base_prefix < 256 → r.base_suffix < 256 → r.mantissa_radix < 256
+    → r.exponent_base < 256 → r.exponent_radix < 256
     → (b : Byte) → byte_of r b < 256
 by_name r separator prefix suffix radix base exponent layout.digit_separator = separator
 by_name r separator prefix suffix radix base exponent layout.base_prefix = prefix
@@ -135,14 +143,17 @@ by_name r separator prefix suffix radix base exponent layout.exponent_base = bas
 by_name r separator prefix suffix radix base exponent layout.exponent_radix = exponent
 
 -- a record has bytes if each of the six is one
-pub HasBytes-by_name : (r : Record) → r.digit_separator < 256 → r.base_prefix < 256 → r.base_suffix < 256 → r.mantissa_radix < 256 → r.exponent_base < 256 → r.exponent_radix < 256
+pub HasBytes-by_name : (r : Record) → r.digit_separator < 256 → r.base_prefix < 256 → r.base_suffix < 256
+    → r.mantissa_radix < 256 → r.exponent_base < 256 → r.exponent_radix < 256
     → HasBytes r
-HasBytes-by_name r separator prefix suffix radix base exponent = record { each = by_name r separator prefix suffix radix base exponent }
+HasBytes-by_name r separator prefix suffix radix base exponent =
+    record { each = by_name r separator prefix suffix radix base exponent }
 
 -- the record of every word has bytes
 pub HasBytes-raw : (w : ℕ) → HasBytes (raw w)
 HasBytes-raw w =
-    HasBytes-by_name (raw w) (mod-lt _ (pow_pos 8)) (mod-lt _ (pow_pos 8)) (mod-lt _ (pow_pos 8)) (mod-lt _ (pow_pos 8)) (mod-lt _ (pow_pos 8)) (mod-lt _ (pow_pos 8))
+    HasBytes-by_name (raw w) (mod-lt _ (pow_pos 8)) (mod-lt _ (pow_pos 8)) (mod-lt _ (pow_pos 8)) (mod-lt _ (pow_pos 8))
+    (mod-lt _ (pow_pos 8)) (mod-lt _ (pow_pos 8))
 
 effective-lt : (own radix : ℕ) → own < 256 → radix < 256 → effective own radix < 256
 effective-lt own radix own_fits radix_fits = grind (arith, nat_tests)
@@ -164,7 +175,8 @@ kept-lt false n l = omega arith
 pub HasBytes-trim : (r : Record) → HasBytes r → HasBytes (trim r)
 HasBytes-trim r h =
     let byte = h.each in
-    HasBytes-by_name (trim r) (kept-lt (separator_on r) r.digit_separator (byte layout.digit_separator)) (byte layout.base_prefix)
+    HasBytes-by_name (trim r) (kept-lt (separator_on r) r.digit_separator (byte layout.digit_separator))
+    (byte layout.base_prefix)
     (byte layout.base_suffix) (byte layout.mantissa_radix) (byte layout.exponent_base) (byte layout.exponent_radix)
 
 -- what is packed is read back, without an unused separator
@@ -199,14 +211,16 @@ pack-raw w l = (
       let trimmed : raw w ≡ trim (raw w) = ap raw (sym e) ∙ raw-pack (raw w) (HasBytes-raw w) in
       record {
         clean = subst IsClean e (pack-clean (raw w) (HasBytes-raw w));
-        separator_used = trimmed_unused (separator_on (raw w)) (raw w).digit_separator (ap (λ (r : Record). r.digit_separator) trimmed);
+        separator_used = trimmed_unused (separator_on (raw w)) (raw w).digit_separator
+            (ap (λ (r : Record). r.digit_separator) trimmed);
       },
   λ built. ap word_of (trim-same (raw w) built.separator_used) ∙ word_of-raw w l built.clean,
 )
 
 -- two clean words with the same fields are one
 pub raw-injective : (v w : ℕ) → v < 2 ^ 128 → w < 2 ^ 128 → IsClean v → IsClean w → raw v ≡ raw w → v ≡ w
-raw-injective v w fits fits' clean clean' same = sym (word_of-raw v fits clean) ∙ ap word_of same ∙ word_of-raw w fits' clean'
+raw-injective v w fits fits' clean clean' same = sym (word_of-raw v fits clean) ∙ ap word_of same
+    ∙ word_of-raw w fits' clean'
 
 -- two records give one word exactly if they agree up to an unused separator
 pub pack-injective : (r s : Record) → HasBytes r → HasBytes s → (pack s ≡ pack r) ↔ (trim s ≡ trim r)

@@ -10,7 +10,8 @@ module _ {X : Type 0} (R : X → X → Type 0) where
   AllPairs-from_pairwise [] h i j d less inside = absurd (omega arith)
   AllPairs-from_pairwise (x ∷ xs) h i zero d less inside = absurd (omega arith)
   AllPairs-from_pairwise (x ∷ xs) h zero (suc j) d less inside = All-from_recursion (R x) xs h.0 j d (omega arith)
-  AllPairs-from_pairwise (x ∷ xs) h (suc i) (suc j) d less inside = AllPairs-from_pairwise xs h.1 i j d (omega arith) (omega arith)
+  AllPairs-from_pairwise (x ∷ xs) h (suc i) (suc j) d less inside =
+      AllPairs-from_pairwise xs h.1 i j d (omega arith) (omega arith)
 
   -- and the other way round
   pub ArePairwise-from_pairs : (xs : List X) → AllPairs R xs → ArePairwise R xs

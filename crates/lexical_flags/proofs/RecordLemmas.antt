@@ -19,5 +19,6 @@ pub flag_of-raw : (word : ℕ) (f : Flag) → flag_of (raw word) f ≡ (part wor
 flag_of-raw word f = flag_of-tabulate (λ g. part word (bit g) 1 == 1) (λ b. part word (shift b) 8) f
 
 -- records with the same flags and bytes are equal
-pub record_same : (r s : Record) → ((f : Flag) → flag_of r f ≡ flag_of s f) → ((b : Byte) → byte_of r b ≡ byte_of s b) → r ≡ s
+pub record_same : (r s : Record) → ((f : Flag) → flag_of r f ≡ flag_of s f) → ((b : Byte) → byte_of r b ≡ byte_of s b)
+    → r ≡ s
 record_same r s same_flags same_bytes = λ i. tabulate (λ f. same_flags f i) (λ b. same_bytes b i)

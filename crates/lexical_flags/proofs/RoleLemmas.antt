@@ -29,10 +29,12 @@ unfolding Disjoint cased
 not_in A counts own apart positive inside = apart own inside (grind (arith, nat_tests))
 
 -- digits and signs are apart from the role of a byte that is neither
-pub Disjoint-digits-cased : (r : Record) (counts : Bool) (own : ℕ) → (own ≢ 0 → IsTrue (digits r own) → ⊥) → Disjoint (digits r) (cased counts own)
+pub Disjoint-digits-cased : (r : Record) (counts : Bool) (own : ℕ) → (own ≢ 0 → IsTrue (digits r own) → ⊥)
+    → Disjoint (digits r) (cased counts own)
 Disjoint-digits-cased r = Disjoint-cased (digits r) (digits-other_case r)
 
-pub Disjoint-signs-cased : (counts : Bool) (own : ℕ) → (own ≢ 0 → IsTrue (signs own) → ⊥) → Disjoint signs (cased counts own)
+pub Disjoint-signs-cased : (counts : Bool) (own : ℕ) → (own ≢ 0 → IsTrue (signs own) → ⊥)
+    → Disjoint signs (cased counts own)
 Disjoint-signs-cased = Disjoint-cased signs signs-other_case
 
 -- a byte below the character 0 has the value of no digit

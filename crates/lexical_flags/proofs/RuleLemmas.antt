@@ -1,5 +1,6 @@
 -- A word is lawful exactly if it keeps every rule, and has one error.
-use Rattle.std.proofs.Common.{◌≡◌, ℕ, ◌≢◌, ◌↔◌, inl, inr, Bool, true, ◌&&◌, IsTrue, List, [], ◌∷◌, ◌++◌, refl, sym, ◌∙◌, subst, arith}
+use Rattle.std.proofs.Common.{◌≡◌, ℕ, ◌≢◌, ◌↔◌, inl, inr, Bool, true, ◌&&◌, IsTrue, List, [], ◌∷◌, ◌++◌, refl, sym, ◌∙◌}
+use Rattle.std.proofs.Common.{subst, arith}
 use Rattle.std.specs.List.{AllByRecursion}
 use Rattle.std.proofs.lemmas.Bool.{and_parts, cases_eq}
 use Rattle.std.proofs.lemmas.Bool.Decides.{nat_tests}
@@ -11,7 +12,8 @@ use Rattle.lexical_flags.specs.Pairs.{ArePairwise}
 use Rattle.lexical_flags.specs.Roles as roles
 use Rattle.lexical_flags.specs.Roles.{Disjoint, Role, cased, digits, signs, role_set, own_roles, five_roles}
 use Rattle.lexical_flags.specs.Rules as rules
-use Rattle.lexical_flags.specs.Rules.{Rule, IsRadix, IsFree, IsTextOrNone, IsPunctuation, Holds, IsFirstError, IsErrorOf, Lawful, error_of, flag_rules, rules_in_order}
+use Rattle.lexical_flags.specs.Rules.{Rule, IsRadix, IsFree, IsTextOrNone, IsPunctuation, Holds, IsFirstError}
+use Rattle.lexical_flags.specs.Rules.{IsErrorOf, Lawful, error_of, flag_rules, rules_in_order}
 use Rattle.lexical_flags.proofs.OneRole.{before, among, Disjoint-at}
 use Rattle.lexical_flags.proofs.RoleLemmas.{Disjoint-digits-cased, Disjoint-signs-cased, Disjoint-digits-signs, not_in}
 
@@ -31,14 +33,19 @@ unfolding IsPunctuation
 IsFree-text r byte (inl none) = inl none
 IsFree-text r byte (inr free) = inr free.0
 
-IsFree-from : (r : Record) (counts : Bool) (byte : ℕ) → IsTextOrNone byte → Disjoint (digits r) (cased counts byte) → Disjoint signs (cased counts byte) → IsFree r byte
+IsFree-from : (r : Record) (counts : Bool) (byte : ℕ) → IsTextOrNone byte → Disjoint (digits r) (cased counts byte)
+    → Disjoint signs (cased counts byte) → IsFree r byte
 unfolding IsPunctuation
 IsFree-from r counts byte text digits_apart signs_apart =
     elim (cases_eq byte 0) [
       | inl none ↦ inl none
       | inr positive ↦ elim text [
         | inl none ↦ inl none
-        | inr ascii ↦ inr (ascii, not_in (digits r) counts byte digits_apart positive, not_in signs counts byte signs_apart positive)
+        | inr ascii ↦ inr (
+          ascii,
+          not_in (digits r) counts byte digits_apart positive,
+          not_in signs counts byte signs_apart positive,
+        )
       ]
     ]
 
@@ -47,7 +54,8 @@ own_apart : (r : Record) → ArePairwise Disjoint (five_roles r) → ArePairwise
 own_apart r (digits_apart, (signs_apart, own)) = own
 
 -- two roles of a lawful word, beside any two bytes
-pub Disjoint-from_lawful : (word e p : ℕ) → Lawful word → (a b : Role) → before a b ≡ true → among 5 b ≡ true → Disjoint (role_set (raw word) e p a) (role_set (raw word) e p b)
+pub Disjoint-from_lawful : (word e p : ℕ) → Lawful word → (a b : Role) → before a b ≡ true → among 5 b ≡ true
+    → Disjoint (role_set (raw word) e p a) (role_set (raw word) e p b)
 unfolding Lawful
 Disjoint-from_lawful word e p h = Disjoint-at 5 (omega arith) (role_set (raw word) e p) h.roles
 
@@ -59,13 +67,16 @@ Holds-from_lawful rules.exponent_base_in_range word h = h.exponent_base
 Holds-from_lawful rules.exponent_radix_in_range word h = h.exponent_radix
 Holds-from_lawful rules.digit_separator_is_free word h =
     let apart = Disjoint-from_lawful word 0 0 h in
-    IsFree-from (raw word) true _ h.digit_separator (apart roles.digit roles.digit_separator refl refl) (apart roles.sign roles.digit_separator refl refl)
+    IsFree-from (raw word) true _ h.digit_separator (apart roles.digit roles.digit_separator refl refl)
+    (apart roles.sign roles.digit_separator refl refl)
 Holds-from_lawful rules.base_prefix_is_free word h =
     let apart = Disjoint-from_lawful word 0 0 h in
-    IsFree-from (raw word) _ _ h.base_prefix (apart roles.digit roles.base_prefix refl refl) (apart roles.sign roles.base_prefix refl refl)
+    IsFree-from (raw word) _ _ h.base_prefix (apart roles.digit roles.base_prefix refl refl)
+    (apart roles.sign roles.base_prefix refl refl)
 Holds-from_lawful rules.base_suffix_is_free word h =
     let apart = Disjoint-from_lawful word 0 0 h in
-    IsFree-from (raw word) _ _ h.base_suffix (apart roles.digit roles.base_suffix refl refl) (apart roles.sign roles.base_suffix refl refl)
+    IsFree-from (raw word) _ _ h.base_suffix (apart roles.digit roles.base_suffix refl refl)
+    (apart roles.sign roles.base_suffix refl refl)
 Holds-from_lawful rules.punctuation_differs word h = own_apart (raw word) h.roles
 Holds-from_lawful rules.reserved_bits_are_zero word h = h.clean
 Holds-from_lawful _ word h = let flags = h.flags in assumption flags
@@ -87,11 +98,22 @@ unfolding Lawful
 Lawful-exponent_radix word h some = own_radix _ (raw word).mantissa_radix some h.exponent_radix
 
 -- the five roles, if the bytes are free and differ
-five_apart : (r : Record) → IsFree r r.digit_separator → IsFree r r.base_prefix → IsFree r r.base_suffix → ArePairwise Disjoint (own_roles r) → ArePairwise Disjoint (five_roles r)
+five_apart : (r : Record) → IsFree r r.digit_separator → IsFree r r.base_prefix → IsFree r r.base_suffix
+    → ArePairwise Disjoint (own_roles r) → ArePairwise Disjoint (five_roles r)
 five_apart r separator prefix suffix own =
-    let digits_apart : (counts : Bool) (byte : ℕ) → IsFree r byte → Disjoint (digits r) (cased counts byte) = λ counts byte free. Disjoint-digits-cased r counts byte (IsFree-digit r byte free) in
-    let signs_apart : (counts : Bool) (byte : ℕ) → IsFree r byte → Disjoint signs (cased counts byte) = λ counts byte free. Disjoint-signs-cased counts byte (IsFree-sign r byte free) in (
-      (Disjoint-digits-signs r, (digits_apart true _ separator, (digits_apart _ _ prefix, (digits_apart _ _ suffix, tt)))),
+    let digits_apart : (counts : Bool) (byte : ℕ) → IsFree r byte
+    → Disjoint (digits r) (cased counts byte) = λ counts byte free. Disjoint-digits-cased r counts byte
+    (IsFree-digit r byte free) in
+    let signs_apart : (counts : Bool) (byte : ℕ) → IsFree r byte
+    → Disjoint signs (cased counts byte) = λ counts byte free. Disjoint-signs-cased counts byte
+    (IsFree-sign r byte free) in (
+      (
+        Disjoint-digits-signs r,
+        (
+          digits_apart true _ separator,
+          (digits_apart _ _ prefix, (digits_apart _ _ suffix, tt)),
+        ),
+      ),
       ((signs_apart true _ separator, (signs_apart _ _ prefix, (signs_apart _ _ suffix, tt))), own),
     )
 
@@ -120,14 +142,17 @@ Lawful-from_all word h =
     }
 
 -- tests joined by && tell whether all rules hold of which each tests one
-pub one_kept : (word : ℕ) (rule : Rule) {test : Bool} → IsTrue test ↔ Holds rule word → IsTrue test ↔ AllByRecursion (λ r. Holds r word) (rule ∷ [])
+pub one_kept : (word : ℕ) (rule : Rule) {test : Bool} → IsTrue test ↔ Holds rule word → IsTrue test
+    ↔ AllByRecursion (λ r. Holds r word) (rule ∷ [])
 one_kept word rule told = (λ h. (told.0 h, tt), λ all. told.1 all.0)
 
-join : (word : ℕ) (front : List Rule) (last : Rule) → AllByRecursion (λ r. Holds r word) front → Holds last word → AllByRecursion (λ r. Holds r word) (front ++ last ∷ [])
+join : (word : ℕ) (front : List Rule) (last : Rule) → AllByRecursion (λ r. Holds r word) front → Holds last word
+    → AllByRecursion (λ r. Holds r word) (front ++ last ∷ [])
 join word [] last all kept = (kept, tt)
 join word (rule ∷ front) last all kept = (all.0, join word front last all.1 kept)
 
-split : (word : ℕ) (front : List Rule) (last : Rule) → AllByRecursion (λ r. Holds r word) (front ++ last ∷ []) → AllByRecursion (λ r. Holds r word) front × Holds last word
+split : (word : ℕ) (front : List Rule) (last : Rule) → AllByRecursion (λ r. Holds r word) (front ++ last ∷ [])
+    → AllByRecursion (λ r. Holds r word) front × Holds last word
 split word [] last all = (tt, all.0)
 split word (rule ∷ front) last all = let rest = split word front last all.1 in ((all.0, rest.0), rest.1)
 
@@ -145,19 +170,22 @@ error_of-success rules.mantissa_radix_in_range e = cc
 error_of-success _ e = cc
 
 -- if no rule of a list is broken, each is kept
-all_from_success : (word : ℕ) (rules : List Rule) → IsFirstError rules word Success → AllByRecursion (λ rule. Holds rule word) rules
+all_from_success : (word : ℕ) (rules : List Rule) → IsFirstError rules word Success
+    → AllByRecursion (λ rule. Holds rule word) rules
 all_from_success word [] h = tt
 all_from_success word (rule ∷ rules) (inl broken) = absurd (error_of-success rule (sym broken.1))
 all_from_success word (rule ∷ rules) (inr kept) = (kept.0, all_from_success word rules kept.1)
 
 -- if every rule is kept, none is broken
-success_from_all : (word : ℕ) (error : Error) → ((rule : Rule) → Holds rule word) → (rules : List Rule) → IsFirstError rules word error → error ≡ Success
+success_from_all : (word : ℕ) (error : Error) → ((rule : Rule) → Holds rule word) → (rules : List Rule)
+    → IsFirstError rules word error → error ≡ Success
 success_from_all word error all [] h = h
 success_from_all word error all (rule ∷ rules) (inl broken) = absurd (broken.0 (all rule))
 success_from_all word error all (rule ∷ rules) (inr kept) = success_from_all word error all rules kept.1
 
 -- there is one error
-pub IsFirstError-unique : (word : ℕ) (a b : Error) (rules : List Rule) → IsFirstError rules word a → IsFirstError rules word b → a ≡ b
+pub IsFirstError-unique : (word : ℕ) (a b : Error) (rules : List Rule) → IsFirstError rules word a
+    → IsFirstError rules word b → a ≡ b
 IsFirstError-unique word a b [] h k = h ∙ sym k
 IsFirstError-unique word a b (rule ∷ rules) (inl h) (inl k) = h.1 ∙ sym k.1
 IsFirstError-unique word a b (rule ∷ rules) (inl h) (inr k) = absurd (h.0 k.0)
@@ -169,15 +197,21 @@ unfolding IsErrorOf
 IsErrorOf-unique word a b = IsFirstError-unique word a b rules_in_order
 
 -- words that keep the same rules have the same error
-IsFirstError-same : (v w : ℕ) → ((rule : Rule) → Holds rule v ↔ Holds rule w) → (rules : List Rule) (error : Error) → IsFirstError rules v error → IsFirstError rules w error
+IsFirstError-same : (v w : ℕ) → ((rule : Rule) → Holds rule v ↔ Holds rule w) → (rules : List Rule) (error : Error)
+    → IsFirstError rules v error → IsFirstError rules w error
 IsFirstError-same v w same [] error h = h
 IsFirstError-same v w same (rule ∷ rules) error (inl broken) = inl (λ kept. broken.0 ((same rule).1 kept), broken.1)
-IsFirstError-same v w same (rule ∷ rules) error (inr kept) = inr ((same rule).0 kept.0, IsFirstError-same v w same rules error kept.1)
+IsFirstError-same v w same (rule ∷ rules) error (inr kept) =
+    inr ((same rule).0 kept.0, IsFirstError-same v w same rules error kept.1)
 
-pub IsErrorOf-same : (v w : ℕ) → ((rule : Rule) → Holds rule v ↔ Holds rule w) → (error : Error) → IsErrorOf v error ↔ IsErrorOf w error
+pub IsErrorOf-same : (v w : ℕ) → ((rule : Rule) → Holds rule v ↔ Holds rule w) → (error : Error) → IsErrorOf v error
+    ↔ IsErrorOf w error
 unfolding IsErrorOf
-IsErrorOf-same v w same error =
-    (IsFirstError-same v w same rules_in_order error, IsFirstError-same w v (λ rule. ((same rule).1, (same rule).0)) rules_in_order error)
+IsErrorOf-same v w same error = (
+  IsFirstError-same v w same rules_in_order error,
+  IsFirstError-same w v
+      (λ rule. ((same rule).1, (same rule).0)) rules_in_order error,
+)
 
 -- a clean word keeps the rule whose error is InvalidFlags
 reserved-error : (rule : Rule) (word : ℕ) → error_of rule ≡ InvalidFlags → IsClean word → Holds rule word

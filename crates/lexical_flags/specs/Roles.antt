@@ -1,5 +1,6 @@
 -- The roles that bytes play in the numbers of a format, each as the set of the bytes that play it.
-use Rattle.std.specs.Prelude.{ℕ, ◌≡◌, ◌+◌, ◌-◌, Bool, true, IsTrue, if◌then◌else◌, ◌==◌, ◌&&◌, ◌||◌, not, List, [], ◌∷◌, map}
+use Rattle.std.specs.Prelude.{ℕ, ◌≡◌, ◌+◌, ◌-◌, Bool, true, IsTrue, if◌then◌else◌, ◌==◌, ◌&&◌, ◌||◌, not, List, [], ◌∷◌}
+use Rattle.std.specs.Prelude.{map}
 use Rattle.lexical_base.specs.Ascii.{ByteSet, between}
 use Rattle.lexical_base.specs.Digits.{digits_of}
 use Rattle.lexical_flags.specs.Record.{Record, effective_exponent_radix}
@@ -12,7 +13,8 @@ Disjoint A B = (byte : ℕ) → IsTrue (A byte) → IsTrue (B byte) → ⊥
 abbrev pub other_case : ℕ → ℕ
 other_case byte = if between 65 90 byte then byte + 32 else if between 97 122 byte then byte - 32 else byte
 
--- this byte, and if its case does not count also the letter in the other case; no byte if it is 0, which stands for none
+-- this byte, and if its case does not count also the letter in the other case; no byte if it is 0, which stands for
+-- none
 unfoldable pub cased : Bool → ℕ → ByteSet
 cased case_counts own byte = not (own == 0) && ((byte == own) || (not case_counts && (byte == other_case own)))
 

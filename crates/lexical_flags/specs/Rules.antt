@@ -134,7 +134,8 @@ IsFirstError (rule ∷ rules) word error =
 unfoldable pub IsErrorOf : ℕ → Error → Type 0
 IsErrorOf word error = IsFirstError rules_in_order word error
 
--- what makes a word lawful: its radixes are in range, its flags agree, its bytes are text, no byte plays two roles, and the reserved bits are 0
+-- what makes a word lawful: its radixes are in range, its flags agree, its bytes are text, no byte plays two roles, and
+-- the reserved bits are 0
 pub record LawfulParts (word : ℕ) : Type 0 where
   pub mantissa_radix : IsRadix (raw word).mantissa_radix
   pub exponent_base : IsRadix (effective_exponent_base (raw word))

@@ -104,9 +104,12 @@ fn other_outcomes() -> [(Error, &'static str); 30] {
         (Error::InvalidMantissaSign, "lexical number format error: 'disabled the `+` sign while requiring a sign for significant digits'"),
         (Error::InvalidExponentSign, "lexical number format error: 'disabled the `+` sign while requiring a sign for exponent digits'"),
         (Error::InvalidSpecial, "lexical number format error: 'special flags set while disabling special floats'"),
-        (Error::InvalidConsecutiveIntegerDigitSeparator, "lexical number format error: 'enabled consecutive digit separators in the integer without setting a valid location'"),
-        (Error::InvalidConsecutiveFractionDigitSeparator, "lexical number format error: 'enabled consecutive digit separators in the fraction without setting a valid location'"),
-        (Error::InvalidConsecutiveExponentDigitSeparator, "lexical number format error: 'enabled consecutive digit separators in the exponent without setting a valid location'"),
+        (Error::InvalidConsecutiveIntegerDigitSeparator, "lexical number format error: 'enabled consecutive digit separators \
+            in the integer without setting a valid location'"),
+        (Error::InvalidConsecutiveFractionDigitSeparator, "lexical number format error: 'enabled consecutive digit separators \
+            in the fraction without setting a valid location'"),
+        (Error::InvalidConsecutiveExponentDigitSeparator, "lexical number format error: 'enabled consecutive digit separators \
+            in the exponent without setting a valid location'"),
         (Error::InvalidFlags, "lexical number format error: 'invalid flags enabled without the format feature'"),
         (Error::InvalidNanString, "lexical options error: 'NaN string must started with `n`'"),
         (Error::NanStringTooLong, "lexical options error: 'NaN string is too long'"),

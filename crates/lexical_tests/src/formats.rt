@@ -25,8 +25,9 @@ fn each_constant_is_what_its_setter_calls_build(rt: HostRuntime) {
         .exponent_radix(NonZeroU8::new(10))
         .required_exponent_notation(true);
     assert_eq!(rt; hexadecimal.build_strict(), Ok(HEXADECIMAL_FLOAT));
-    let octal = NumberFormatBuilder::rebuild(NumberFormatBuilder::octal())
-        .base_suffix(NonZeroU8::new(b'o'));
+    let octal = NumberFormatBuilder::rebuild(NumberFormatBuilder::octal()).base_suffix(
+        NonZeroU8::new(b'o'),
+    );
     assert_eq!(rt; octal.build_strict(), Ok(OCTAL));
 }
 

@@ -6,7 +6,9 @@ use Rattle.lexical_util.specs.declared.edits.FlagSetter.TheVariants as setters
 use Rattle.lexical_util.specs.declared.edits.Edit.TheVariants as edits
 
 -- a setter of one flag changes a new record exactly if it sets the flag
-pub flag_change : (s : FlagSetter) (v : Bool) → (s ≡ setters.RequiredDigits → ⊥) → (s ≡ setters.RequiredExponentDigits → ⊥) → (s ≡ setters.RequiredMantissaDigits → ⊥) → changes_new (edits.Flag s v) ≡ v
+pub flag_change : (s : FlagSetter) (v : Bool) → (s ≡ setters.RequiredDigits → ⊥)
+    → (s ≡ setters.RequiredExponentDigits → ⊥) → (s ≡ setters.RequiredMantissaDigits → ⊥)
+    → changes_new (edits.Flag s v) ≡ v
 flag_change setters.RequiredDigits v a b c = absurd (a refl)
 flag_change setters.RequiredExponentDigits v a b c = absurd (b refl)
 flag_change setters.RequiredMantissaDigits v a b c = absurd (c refl)

@@ -1,5 +1,6 @@
 -- The writes of a list of edits, one edit after another.
-use Rattle.std.proofs.Common.{◌≡◌, ℕ, ◌+◌, ◌<◌, ◌≤◌, ◌^◌, List, [], ◌∷◌, ◌++◌, length, get_or, take, sym, ap, ◌∙◌, append-nil, take_all, All, arith}
+use Rattle.std.proofs.Common.{◌≡◌, ℕ, ◌+◌, ◌<◌, ◌≤◌, ◌^◌, List, [], ◌∷◌, ◌++◌, length, get_or, take, sym, ap, ◌∙◌}
+use Rattle.std.proofs.Common.{append-nil, take_all, All, arith}
 use Rattle.std.proofs.lemmas.List.{take_more}
 use Rattle.std.proofs.lemmas.List.Concat.{flat_map-append}
 use Rattle.std.proofs.lemmas.List.Elements.{All-append, All-same}
@@ -12,8 +13,11 @@ use Rattle.lexical_util.specs.Edits.{all_writes, writes_of, edited}
 use Rattle.lexical_util.specs.declared.edits.Edit.{Edit}
 
 -- the writes of one edit more
-pub all_writes-more : (edits : List Edit) (i : ℕ) (e : Edit) → i < length edits → all_writes (take (i + 1) edits) ≡ all_writes (take i edits) ++ writes_of (get_or edits i e)
-all_writes-more edits i e h = ap all_writes (take_more edits i e h) ∙ flat_map-append writes_of (take i edits) (get_or edits i e ∷ []) ∙ ap (λ L. all_writes (take i edits) ++ L) (append-nil (writes_of (get_or edits i e)))
+pub all_writes-more : (edits : List Edit) (i : ℕ) (e : Edit) → i < length edits
+    → all_writes (take (i + 1) edits) ≡ all_writes (take i edits) ++ writes_of (get_or edits i e)
+all_writes-more edits i e h = ap all_writes (take_more edits i e h)
+    ∙ flat_map-append writes_of (take i edits) (get_or edits i e ∷ [])
+    ∙ ap (λ L. all_writes (take i edits) ++ L) (append-nil (writes_of (get_or edits i e)))
 
 -- the first i edits are applied to a record
 pub record HasApplied (R : Record) (edits : List Edit) (i : ℕ) (b : Record) : Type 0 where
@@ -26,16 +30,20 @@ applied_none R edits = record { fields = sym (after_none R); legal = λ k d h. a
 
 -- one edit more
 pub applied_more : {R : Record} {edits : List Edit} {i : ℕ} {b next : Record} {e : Edit}
-    → HasApplied R edits i b → i < length edits → e ≡ get_or edits i e → next ≡ after b (writes_of e) → All IsLegal (writes_of e) → HasApplied R edits (i + 1) next
+    → HasApplied R edits i b → i < length edits → e ≡ get_or edits i e → next ≡ after b (writes_of e)
+    → All IsLegal (writes_of e) → HasApplied R edits (i + 1) next
 applied_more {R} {edits} {i} {b} {next} {e} h inside is applied legal =
-    let more : all_writes (take (i + 1) edits) ≡ all_writes (take i edits) ++ writes_of e = all_writes-more edits i e inside ∙ ap (λ x. all_writes (take i edits) ++ writes_of x) (sym is) in
+    let more : all_writes (take (i + 1) edits) ≡ all_writes (take i edits) ++ writes_of e =
+    all_writes-more edits i e inside ∙ ap (λ x. all_writes (take i edits) ++ writes_of x) (sym is) in
     record {
-      fields = applied ∙ ap (λ S. after S (writes_of e)) h.fields ∙ after-append R (all_writes (take i edits)) (writes_of e) ∙ ap (after R) (sym more);
+      fields = applied ∙ ap (λ S. after S (writes_of e)) h.fields
+          ∙ after-append R (all_writes (take i edits)) (writes_of e) ∙ ap (after R) (sym more);
       legal = All-same IsLegal _ _ more (All-append IsLegal (all_writes (take i edits)) (writes_of e) h.legal legal);
     }
 
 -- after the last edit
-pub applied_all : {R : Record} {edits : List Edit} {i : ℕ} {b : Record} → HasApplied R edits i b → length edits ≤ i → (b ≡ after R (all_writes edits)) × All IsLegal (all_writes edits)
+pub applied_all : {R : Record} {edits : List Edit} {i : ℕ} {b : Record} → HasApplied R edits i b → length edits ≤ i
+    → (b ≡ after R (all_writes edits)) × All IsLegal (all_writes edits)
 applied_all {R} {edits} {i} {b} h end =
     let all : take i edits ≡ edits = take_all i edits end in
     (h.fields ∙ ap (λ es. after R (all_writes es)) all, All-same IsLegal _ _ (ap all_writes (sym all)) h.legal)

@@ -1,5 +1,6 @@
 -- The words that a builder can pack, and the least number of writes to one.
-use Rattle.std.proofs.Common.{◌≡◌, ℕ, ◌<◌, ◌≤◌, ◌^◌, ◌⊎◌, inl, inr, IsTrue, length, List, sym, ap, ◌∙◌, subst, All, le_trans}
+use Rattle.std.proofs.Common.{◌≡◌, ℕ, ◌<◌, ◌≤◌, ◌^◌, ◌⊎◌, inl, inr, IsTrue, length, List, sym, ap, ◌∙◌, subst, All}
+use Rattle.std.proofs.Common.{le_trans}
 use Rattle.std.proofs.lemmas.Bool.{cases_Bool, cond-false}
 use Rattle.lexical_flags.specs.Record.{Record, raw, trim, pack, separator_on, HasBytes, IsBuilt}
 use Rattle.lexical_flags.proofs.Packing.{raw-pack, pack-clean, pack-raw, HasBytes-raw}
@@ -10,19 +11,27 @@ use Rattle.lexical_util.proofs.FieldWrites.{field_writes, after-field_writes, le
 use Rattle.lexical_util.specs.Listing.{IsBuiltByWrites}
 
 -- no fewer writes make the word
-pub fewest_writes : (w : ℕ) (L : List Write) → All IsLegal L → pack (after new_record L) ≡ w → distance new_record (raw w) ≤ length L
+pub fewest_writes : (w : ℕ) (L : List Write) → All IsLegal L → pack (after new_record L) ≡ w
+    → distance new_record (raw w) ≤ length L
 fewest_writes w L legal makes =
-    let fields : raw w ≡ trim (after new_record L) = ap raw (sym makes) ∙ raw-pack (after new_record L) (HasBytes-after new_record L HasBytes-new legal) in
-    subst (λ (R : Record). distance new_record R ≤ length L) (sym fields) (le_trans (distance-trim (after new_record L)) (distance-after new_record L))
+    let fields : raw w ≡ trim (after new_record L) = ap raw (sym makes)
+    ∙ raw-pack (after new_record L) (HasBytes-after new_record L HasBytes-new legal) in
+    subst (λ (R : Record). distance new_record R ≤ length L) (sym fields)
+    (le_trans (distance-trim (after new_record L)) (distance-after new_record L))
 
 trimmed : (R : Record) → IsTrue (separator_on (trim R)) ⊎ ((trim R).digit_separator ≡ 0)
-trimmed R = elim (cases_Bool (separator_on R)) [ inl t ↦ inl t | inr n ↦ inr (cond-false (separator_on R) R.digit_separator 0 n) ]
+trimmed R = elim (cases_Bool (separator_on R)) [
+  | inl t ↦ inl t
+  | inr n ↦ inr
+      (cond-false (separator_on R) R.digit_separator 0 n)
+]
 
 -- what is packed from a record can be packed
 IsBuilt-pack : (R : Record) → HasBytes R → IsBuilt (pack R)
 IsBuilt-pack R bytes = record {
   clean = pack-clean R bytes;
-  separator_used = subst (λ (S : Record). IsTrue (separator_on S) ⊎ (S.digit_separator ≡ 0)) (sym (raw-pack R bytes)) (trimmed R);
+  separator_used = subst (λ (S : Record). IsTrue (separator_on S) ⊎ (S.digit_separator ≡ 0)) (sym (raw-pack R bytes))
+      (trimmed R);
 }
 
 -- a word that packing gives back is built by some legal writes
@@ -35,4 +44,5 @@ IsBuiltByWrites-built w fits built = record {
 
 -- a word that is built by legal writes is given back by packing
 pub IsBuilt-by_writes : (w : ℕ) → IsBuiltByWrites w → IsBuilt w
-IsBuilt-by_writes w made = subst IsBuilt made.makes (IsBuilt-pack (after new_record made.writes) (HasBytes-after new_record made.writes HasBytes-new made.legal))
+IsBuilt-by_writes w made = subst IsBuilt made.makes (IsBuilt-pack (after new_record made.writes)
+    (HasBytes-after new_record made.writes HasBytes-new made.legal))

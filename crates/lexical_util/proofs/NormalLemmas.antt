@@ -1,10 +1,12 @@
 -- Normal forms: which words are their own, what one keeps of a word, and when two words have the same.
-use Rattle.std.proofs.Common.{◌≡◌, ℕ, ◌<◌, ◌^◌, ◌⊎◌, inl, inr, Bool, true, false, cond, eqb, eq-eqb, eqb-true, IsTrue, refl, sym, ap, ◌∙◌, subst, List, sum_by, if◌then◌else◌}
+use Rattle.std.proofs.Common.{◌≡◌, ℕ, ◌<◌, ◌^◌, ◌⊎◌, inl, inr, Bool, true, false, cond, eqb, eq-eqb, eqb-true, IsTrue}
+use Rattle.std.proofs.Common.{refl, sym, ap, ◌∙◌, subst, List, sum_by, if◌then◌else◌}
 use Rattle.std.specs.List.{list_any}
 use Rattle.std.proofs.lemmas.Bool.{cases_Bool, cond-true, cond-false, false≢true}
 use Rattle.lexical_flags.specs.Layout.{Flag, Byte, bit, digit_separator_flags, IsClean}
 use Rattle.lexical_flags.specs.Layout as layout
-use Rattle.lexical_flags.specs.Record.{Record, flag_of, byte_of, raw, trim, fill, pack, word_of, effective, separator_on}
+use Rattle.lexical_flags.specs.Record.{Record, flag_of, byte_of, raw, trim, fill, pack, word_of, effective}
+use Rattle.lexical_flags.specs.Record.{separator_on}
 use Rattle.lexical_flags.proofs.RecordLemmas.{record_same}
 use Rattle.lexical_flags.proofs.Packing.{raw-pack, pack-clean, pack-lt, raw-injective, HasBytes-raw, HasBytes-fill}
 use Rattle.lexical_builder.proofs.WriteLemmas.{after_none}
@@ -33,19 +35,22 @@ used_same p q x y e h t = sym (cond-true p x 0 t) ∙ h ∙ cond-true q y 0 (sym
 
 -- records of the same format are one when filled and trimmed
 pub trim-same_format : (R S : Record) → SameFormat R S → trim (fill R) ≡ trim (fill S)
-trim-same_format R S s = record_same _ _ (λ f. flag_of-trim-fill R f ∙ s.flags f ∙ sym (flag_of-trim-fill S f)) on_byte where
-  on_byte : (b : Byte) → byte_of (trim (fill R)) b ≡ byte_of (trim (fill S)) b
-  on_byte layout.digit_separator = use_same (separator_on R) (separator_on S) R.digit_separator S.digit_separator (list_any_same (flag_of R) (flag_of S) digit_separator_flags s.flags) s.digit_separator
-  on_byte layout.base_prefix = s.base_prefix
-  on_byte layout.base_suffix = s.base_suffix
-  on_byte layout.mantissa_radix = s.mantissa_radix
-  on_byte layout.exponent_base = s.exponent_base
-  on_byte layout.exponent_radix = s.exponent_radix
+trim-same_format R S s = record_same _ _ (λ f. flag_of-trim-fill R f ∙ s.flags f
+    ∙ sym (flag_of-trim-fill S f)) on_byte where
+      on_byte : (b : Byte) → byte_of (trim (fill R)) b ≡ byte_of (trim (fill S)) b
+      on_byte layout.digit_separator = use_same (separator_on R) (separator_on S) R.digit_separator S.digit_separator
+          (list_any_same (flag_of R) (flag_of S) digit_separator_flags s.flags) s.digit_separator
+      on_byte layout.base_prefix = s.base_prefix
+      on_byte layout.base_suffix = s.base_suffix
+      on_byte layout.mantissa_radix = s.mantissa_radix
+      on_byte layout.exponent_base = s.exponent_base
+      on_byte layout.exponent_radix = s.exponent_radix
 
 -- records that are one when filled and trimmed have the same format
 pub SameFormat-from_trim : (R S : Record) → trim (fill R) ≡ trim (fill S) → SameFormat R S
 SameFormat-from_trim R S e =
-    let flags_agree : (f : Flag) → flag_of R f ≡ flag_of S f = λ f. sym (flag_of-trim-fill R f) ∙ ap (λ (T : Record). flag_of T f) e ∙ flag_of-trim-fill S f in
+    let flags_agree : (f : Flag) → flag_of R f ≡ flag_of S f = λ f. sym (flag_of-trim-fill R f)
+    ∙ ap (λ (T : Record). flag_of T f) e ∙ flag_of-trim-fill S f in
     record {
       flags = flags_agree;
       base_prefix = ap (λ (T : Record). T.base_prefix) e;
@@ -53,7 +58,9 @@ SameFormat-from_trim R S e =
       mantissa_radix = ap (λ (T : Record). T.mantissa_radix) e;
       exponent_base = ap (λ (T : Record). T.exponent_base) e;
       exponent_radix = ap (λ (T : Record). T.exponent_radix) e;
-      digit_separator = used_same (separator_on R) (separator_on S) R.digit_separator S.digit_separator (list_any_same (flag_of R) (flag_of S) digit_separator_flags flags_agree) (ap (λ (T : Record). T.digit_separator) e);
+      digit_separator = used_same (separator_on R) (separator_on S) R.digit_separator S.digit_separator
+          (list_any_same (flag_of R) (flag_of S) digit_separator_flags flags_agree)
+          (ap (λ (T : Record). T.digit_separator) e);
     }
 
 -- the normal form packs the filled record
@@ -73,7 +80,8 @@ SameFormat-from_normal a b e = SameFormat-from_trim (raw a) (raw b)
 
 effective_again : (own radix : ℕ) → effective own radix ≡ effective (effective own radix) radix
 effective_again own radix = elim (cases_Bool (eqb own 0)) [
-  | inl t ↦ cond-true (eqb own 0) radix own t ∙ sym (ap (λ n. effective n radix) (cond-true (eqb own 0) radix own t) ∙ same (eqb radix 0))
+  | inl t ↦ cond-true (eqb own 0) radix own t ∙ sym (ap (λ n. effective n radix) (cond-true (eqb own 0) radix own t)
+      ∙ same (eqb radix 0))
   | inr n ↦ ap (λ n. effective n radix) (sym (cond-false (eqb own 0) radix own n))
 ] where
   same : (t : Bool) → cond t radix radix ≡ radix
@@ -119,10 +127,12 @@ module _ (w : ℕ) where
   raw_normal = ap raw (normal_form-is w) ∙ raw-pack (fill (raw w)) (HasBytes-fill (raw w) (HasBytes-raw w))
 
   pub clean_normal : IsClean (normal_form_of w)
-  clean_normal = subst IsClean (sym (normal_form-is w)) (pack-clean (fill (raw w)) (HasBytes-fill (raw w) (HasBytes-raw w)))
+  clean_normal = subst IsClean (sym (normal_form-is w))
+      (pack-clean (fill (raw w)) (HasBytes-fill (raw w) (HasBytes-raw w)))
 
   pub normal_fits : normal_form_of w < 2 ^ 128
-  normal_fits = subst (λ n. n < 2 ^ 128) (sym (normal_form-is w)) (pack-lt (fill (raw w)) (HasBytes-fill (raw w) (HasBytes-raw w)))
+  normal_fits = subst (λ n. n < 2 ^ 128) (sym (normal_form-is w))
+      (pack-lt (fill (raw w)) (HasBytes-fill (raw w) (HasBytes-raw w)))
 
   -- no other word has these fields
   pub normal_only : (u : ℕ) → u < 2 ^ 128 → IsClean u → raw u ≡ trim (fill (raw w)) → u ≡ normal_form_of w
@@ -142,19 +152,24 @@ module _ (w : ℕ) where
       let fields : trim (fill R) ≡ R = sym raw_normal ∙ ap raw e in
       record {
         clean = subst IsClean e clean_normal;
-        separator_used = elim (cases_Bool (separator_on R)) [ inl t ↦ inl t | inr n ↦ inr (sym (ap (λ (S : Record). S.digit_separator) fields) ∙ cond-false (separator_on R) R.digit_separator 0 n) ];
+        separator_used = elim (cases_Bool (separator_on R)) [
+          | inl t ↦ inl t
+          | inr n ↦ inr
+              (sym (ap (λ (S : Record). S.digit_separator) fields) ∙ cond-false (separator_on R) R.digit_separator 0 n)
+        ];
         exponent_base = unfilled R.exponent_base R.mantissa_radix (ap (λ (S : Record). S.exponent_base) fields);
         exponent_radix = unfilled R.exponent_radix R.mantissa_radix (ap (λ (S : Record). S.exponent_radix) fields);
       }
 
   pub fixed_from_normal : w < 2 ^ 128 → IsNormal w → normal_form_of w ≡ w
   unfolding IsNormal
-  fixed_from_normal fits n = raw-injective (normal_form_of w) w normal_fits fits clean_normal n.clean (raw_normal ∙ record_same (trim (fill (raw w))) (raw w) (λ f. flag_of-trim-fill (raw w) f) on_byte) where
-    on_byte : (b : Byte) → byte_of (trim (fill (raw w))) b ≡ byte_of (raw w) b
-    on_byte layout.digit_separator = kept (separator_on (raw w)) (raw w).digit_separator n.separator_used
-    on_byte layout.exponent_base = full (raw w).exponent_base (raw w).mantissa_radix n.exponent_base
-    on_byte layout.exponent_radix = full (raw w).exponent_radix (raw w).mantissa_radix n.exponent_radix
-    on_byte _ = refl
+  fixed_from_normal fits n = raw-injective (normal_form_of w) w normal_fits fits clean_normal n.clean
+      (raw_normal ∙ record_same (trim (fill (raw w))) (raw w) (λ f. flag_of-trim-fill (raw w) f) on_byte) where
+        on_byte : (b : Byte) → byte_of (trim (fill (raw w))) b ≡ byte_of (raw w) b
+        on_byte layout.digit_separator = kept (separator_on (raw w)) (raw w).digit_separator n.separator_used
+        on_byte layout.exponent_base = full (raw w).exponent_base (raw w).mantissa_radix n.exponent_base
+        on_byte layout.exponent_radix = full (raw w).exponent_radix (raw w).mantissa_radix n.exponent_radix
+        on_byte _ = refl
 
   pub groups_normal : (fs : List Flag) → any_flag w fs ≡ any_flag (normal_form_of w) fs
   unfolding any_flag

@@ -32,5 +32,9 @@ pub same_setter : (a b : FlagSetter) → setter_name a ≡ setter_name b → a �
 same_setter a b same = sym (at_place a a) ∙ ap (λ name. get_or SETTERS (place_of name) a) same ∙ at_place b a
 
 -- a setter that has the name is the only one
-pub some_named : (found : FlagSetter) (name : List ℕ) → setter_name found ≡ name → (setter : FlagSetter) → (Some found ≡ Some setter) ↔ (setter_name setter ≡ name)
-some_named found name is_named setter = ((λ same. let e : found ≡ setter = cc in ap setter_name (sym e) ∙ is_named), (λ named. ap Some (same_setter found setter (is_named ∙ sym named))))
+pub some_named : (found : FlagSetter) (name : List ℕ) → setter_name found ≡ name → (setter : FlagSetter)
+    → (Some found ≡ Some setter) ↔ (setter_name setter ≡ name)
+some_named found name is_named setter = (
+  (λ same. let e : found ≡ setter = cc in ap setter_name (sym e) ∙ is_named),
+  (λ named. ap Some (same_setter found setter (is_named ∙ sym named))),
+)

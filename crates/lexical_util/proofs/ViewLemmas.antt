@@ -1,5 +1,6 @@
 -- What a mask reads of a word, for a mask that is written as a number.
-use Rattle.std.proofs.Common.{ℕ, ◌≡◌, ◌*◌, ◌/◌, ◌%◌, ◌^◌, ◌<◌, ◌==◌, ◌≢◌, ◌⊎◌, nat_lt, IsTrue, inl, inr, Bool, true, false, not, zero, suc, if◌then◌else◌}
+use Rattle.std.proofs.Common.{ℕ, ◌≡◌, ◌*◌, ◌/◌, ◌%◌, ◌^◌, ◌<◌, ◌==◌, ◌≢◌, ◌⊎◌, nat_lt, IsTrue, inl, inr, Bool, true}
+use Rattle.std.proofs.Common.{false, not, zero, suc, if◌then◌else◌}
 use Rattle.std.proofs.Common.{List, [], ◌∷◌, sum_by, bit_and, refl, ap, sym, ◌∙◌, arith}
 use Rattle.std.specs.List.{list_any}
 use Rattle.std.proofs.Math.Nat.{mod-lt, zero-mul}
@@ -21,7 +22,8 @@ use Rattle.lexical_util.specs.Groups.{any_flag, bits_of}
 abbrev pub is_flag_mask : ℕ → Bool
 is_flag_mask mask = list_any (λ f. 2 ^ bit f == mask) flags
 
-at_flag : (fs : List Flag) (word mask : ℕ) → list_any (λ f. 2 ^ bit f == mask) fs ≡ true → not (bit_and word mask == 0) ≡ (word / mask % 2 == 1)
+at_flag : (fs : List Flag) (word mask : ℕ) → list_any (λ f. 2 ^ bit f == mask) fs ≡ true
+    → not (bit_and word mask == 0) ≡ (word / mask % 2 == 1)
 at_flag [] word mask h = cc
 at_flag (f ∷ fs) word mask h = elim (cases_eq (2 ^ bit f) mask) [
   | inl same ↦ rw (← same) (flag_test word (bit f))
@@ -37,7 +39,8 @@ not-not true = refl
 not-not false = refl
 
 -- whether any of several flags is set
-pub any_by_mask : (word mask : ℕ) (fs : List Flag) → mask ≡ mask_of fs → ascends bit 1 0 fs ≡ true → not (bit_and word mask == 0) ≡ any_flag word fs
+pub any_by_mask : (word mask : ℕ) (fs : List Flag) → mask ≡ mask_of fs → ascends bit 1 0 fs ≡ true
+    → not (bit_and word mask == 0) ≡ any_flag word fs
 unfolding any_flag
 any_by_mask word mask fs is up = rw is (ap not (mask_test fs word up) ∙ not-not (list_any (flag_of (raw word)) fs))
 
@@ -47,10 +50,12 @@ one_bit (suc zero) k small = omega arith
 one_bit (suc (suc n)) k small = absurd (omega arith)
 
 flag_bits-raw : (word : ℕ) (f : Flag) → part word (bit f) 1 * 2 ^ bit f ≡ flag_bits (raw word) f
-flag_bits-raw word f = one_bit (part word (bit f) 1) (bit f) (mod-lt _ (omega arith)) ∙ ap (λ set. if set then 2 ^ bit f else 0) (sym (flag_of-raw word f))
+flag_bits-raw word f = one_bit (part word (bit f) 1) (bit f) (mod-lt _ (omega arith))
+    ∙ ap (λ set. if set then 2 ^ bit f else 0) (sym (flag_of-raw word f))
 
 -- the bits of several flags
-pub bits_by_mask : (word mask : ℕ) (fs : List Flag) → mask ≡ mask_of fs → ascends bit 1 0 fs ≡ true → bit_and word mask ≡ bits_of word fs
+pub bits_by_mask : (word mask : ℕ) (fs : List Flag) → mask ≡ mask_of fs → ascends bit 1 0 fs ≡ true
+    → bit_and word mask ≡ bits_of word fs
 unfolding bits_of
 bits_by_mask word mask fs is up = rw is (and_all bit fs word up ∙ (λ i. sum_by (λ f. flag_bits-raw word f i) fs))
 
@@ -59,8 +64,11 @@ pub common_by_mask : (word mask : ℕ) → nat_lt mask (2 ^ 128) ≡ true → bi
 common_by_mask word mask fits = sym (common-bit_and word mask (grind (arith, nat_tests)))
 
 -- whether they have any bit in common
-pub some_by_mask : (word mask : ℕ) → nat_lt mask (2 ^ 128) ≡ true → (IsTrue (not (bit_and word mask == 0)) → common word mask ≢ 0) × (common word mask ≢ 0 → IsTrue (not (bit_and word mask == 0)))
-some_by_mask word mask fits = let same : bit_and word mask ≡ common word mask = common_by_mask word mask fits in grind (arith, nat_tests)
+pub some_by_mask : (word mask : ℕ) → nat_lt mask (2 ^ 128) ≡ true
+    → (IsTrue (not (bit_and word mask == 0)) → common word mask ≢ 0)
+    × (common word mask ≢ 0 → IsTrue (not (bit_and word mask == 0)))
+some_by_mask word mask fits = let same : bit_and word mask ≡ common word mask = common_by_mask word mask fits in
+    grind (arith, nat_tests)
 
 -- powers by squaring
 pub fourth_power : (n : ℕ) → n ^ 2 * n ^ 2 ≡ n ^ 4
@@ -72,14 +80,16 @@ eighth_power n = sym (pow-add n 4 4)
 
 -- the test of a byte under its mask
 abbrev pub ByteTells : ℕ → ℕ → ℕ → Type 0
-ByteTells word mask shift = ((bit_and word mask ≡ 0) × (part word shift 8 ≡ 0)) ⊎ ((bit_and word mask ≢ 0) × (part word shift 8 ≢ 0))
+ByteTells word mask shift = ((bit_and word mask ≡ 0) × (part word shift 8 ≡ 0)) ⊎
+    ((bit_and word mask ≢ 0) × (part word shift 8 ≢ 0))
 
 zero_factor : (n p : ℕ) → 0 < p → n * p ≡ 0 → n ≡ 0
 zero_factor zero p high e = refl
 zero_factor (suc n) p high e = absurd (omega (arith, e, high))
 
 -- a byte that is moved up is 0 exactly where it was
-byte_tells : (word mask shift : ℕ) → bit_and word mask ≡ part word shift 8 * 2 ^ shift → 0 < 2 ^ shift → ByteTells word mask shift
+byte_tells : (word mask shift : ℕ) → bit_and word mask ≡ part word shift 8 * 2 ^ shift → 0 < 2 ^ shift
+    → ByteTells word mask shift
 byte_tells word mask shift is high = elim (cases_eq (part word shift 8) 0) [
   | inl none ↦ inl (is ∙ rw none (zero-mul (2 ^ shift)), none)
   | inr some ↦ inr (rw is (λ e. some (zero_factor (part word shift 8) (2 ^ shift) high e)), some)
@@ -94,4 +104,15 @@ base_prefix_tells word = byte_tells word _ 88 (and_high word 8 88) (pow_pos 88)
 pub base_suffix_tells : (word : ℕ) → ByteTells word 0x000000FF_00000000_00000000_00000000 96
 base_suffix_tells word = byte_tells word _ 96 (and_high word 8 96) (pow_pos 96)
 
-pub ruleset masks_and_powers = (digit_separator_tells, base_prefix_tells, base_suffix_tells, flag_by_mask, any_by_mask, bits_by_mask, common_by_mask, some_by_mask, fourth_power, eighth_power)
+pub ruleset masks_and_powers = (
+  digit_separator_tells,
+  base_prefix_tells,
+  base_suffix_tells,
+  flag_by_mask,
+  any_by_mask,
+  bits_by_mask,
+  common_by_mask,
+  some_by_mask,
+  fourth_power,
+  eighth_power,
+)

@@ -18,11 +18,14 @@ LeavesByte writes b = last_byte writes b ≡ None
 -- flag allows, and the second fills the exponent bytes before it writes; each of these bytes is written again, or stays
 pub record Composes (word : ℕ) (first second : List Write) : Type 0 where
   -- the exponent base is not empty, or there is no mantissa radix to fill it from
-  pub exponent_base : LeavesByte second layout.exponent_base → (edited_fields word first).exponent_base ≡ 0 → (edited_fields word first).mantissa_radix ≡ 0
+  pub exponent_base : LeavesByte second layout.exponent_base → (edited_fields word first).exponent_base ≡ 0
+      → (edited_fields word first).mantissa_radix ≡ 0
   -- the same of the exponent radix
-  pub exponent_radix : LeavesByte second layout.exponent_radix → (edited_fields word first).exponent_radix ≡ 0 → (edited_fields word first).mantissa_radix ≡ 0
+  pub exponent_radix : LeavesByte second layout.exponent_radix → (edited_fields word first).exponent_radix ≡ 0
+      → (edited_fields word first).mantissa_radix ≡ 0
   -- if a flag allows the separator after both lists, one allows it after the first, or there is none
-  pub digit_separator : LeavesByte second layout.digit_separator → IsTrue (separator_on (edited_fields word (first ++ second))) → SeparatorIsUsed (edited_fields word first)
+  pub digit_separator : LeavesByte second layout.digit_separator
+      → IsTrue (separator_on (edited_fields word (first ++ second))) → SeparatorIsUsed (edited_fields word first)
 
 -- lists that compose on every word whose mantissa radix is not 0
 pub record AlwaysCompose (first second : List Write) : Type 0 where
@@ -30,4 +33,5 @@ pub record AlwaysCompose (first second : List Write) : Type 0 where
   pub exponent_base : last_byte first layout.exponent_base ≢ Some 0
   pub exponent_radix : last_byte first layout.exponent_radix ≢ Some 0
   -- the second sets no separator flag, unless it writes the separator too
-  pub digit_separator : LeavesByte second layout.digit_separator → AllByRecursion (λ f. last_flag second f ≢ Some true) digit_separator_flags
+  pub digit_separator : LeavesByte second layout.digit_separator
+      → AllByRecursion (λ f. last_flag second f ≢ Some true) digit_separator_flags

@@ -68,6 +68,7 @@ writes_of (edits.ExponentRadix radix) = write_byte layout.exponent_radix (byte_o
 abbrev pub all_writes : List Edit → List Write
 all_writes list = flat_map writes_of list
 
--- the word that writes make of a word: its empty exponent bytes are filled, then the fields are written, then they are packed
+-- the word that writes make of a word: its empty exponent bytes are filled, then the fields are written, then they are
+-- packed
 abbrev pub edited : ℕ → List Write → ℕ
 edited word writes = pack (after (fill (raw word)) writes)

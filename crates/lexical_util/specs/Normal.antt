@@ -1,14 +1,16 @@
 -- Normal forms, and the words that have the same one.
 use Rattle.std.specs.Prelude.{◌≡◌, ℕ, IsTrue, []}
 use Rattle.lexical_flags.specs.Layout.{Flag, IsClean}
-use Rattle.lexical_flags.specs.Record.{Record, flag_of, raw, separator_on, SeparatorIsUsed, effective_exponent_base, effective_exponent_radix}
+use Rattle.lexical_flags.specs.Record.{Record, flag_of, raw, separator_on, SeparatorIsUsed, effective_exponent_base}
+use Rattle.lexical_flags.specs.Record.{effective_exponent_radix}
 use Rattle.lexical_util.specs.Edits.{edited}
 
 -- the word that an empty list of writes makes of a word
 abbrev pub normal_form_of : ℕ → ℕ
 normal_form_of word = edited word []
 
--- two records that mean the same: all fields agree, the exponent bytes by their effective values, and the separator only if a flag allows one
+-- two records that mean the same: all fields agree, the exponent bytes by their effective values, and the separator
+-- only if a flag allows one
 pub record SameFormat (r s : Record) : Type 0 where
   pub flags : (f : Flag) → flag_of r f ≡ flag_of s f
   pub base_prefix : r.base_prefix ≡ s.base_prefix
@@ -18,7 +20,8 @@ pub record SameFormat (r s : Record) : Type 0 where
   pub exponent_radix : effective_exponent_radix r ≡ effective_exponent_radix s
   pub digit_separator : IsTrue (separator_on r) → r.digit_separator ≡ s.digit_separator
 
--- a word that is its own normal form: clean, with a separator only if a flag allows one, and with no empty exponent byte unless the mantissa radix is 0 too
+-- a word that is its own normal form: clean, with a separator only if a flag allows one, and with no empty exponent
+-- byte unless the mantissa radix is 0 too
 pub record NormalParts (word : ℕ) : Type 0 where
   pub clean : IsClean word
   pub separator_used : SeparatorIsUsed (raw word)

@@ -1,5 +1,6 @@
 -- What `word_text` has written so far, and that no other text has the same form and number.
-use Rattle.std.proofs.Common.{◌≡◌, ℕ, zero, suc, ◌+◌, ◌-◌, ◌*◌, ◌/◌, ◌%◌, ◌^◌, ◌<◌, ◌≤◌, true, List, [], ◌∷◌, ◌++◌, take, drop, length, codes, nat_lt, replicate, slice_index_or, refl, sym, ap, ◌∙◌, arith}
+use Rattle.std.proofs.Common.{◌≡◌, ℕ, zero, suc, ◌+◌, ◌-◌, ◌*◌, ◌/◌, ◌%◌, ◌^◌, ◌<◌, ◌≤◌, true, List, [], ◌∷◌, ◌++◌}
+use Rattle.std.proofs.Common.{take, drop, length, codes, nat_lt, replicate, slice_index_or, refl, sym, ap, ◌∙◌, arith}
 use Rattle.std.proofs.Math.ListN.{set}
 use Rattle.std.proofs.Math.Nat.{mul-le-mul_left, pow-suc, div-div-eq-div-mul}
 use Rattle.std.proofs.lemmas.Nat.{div-mul-add}
@@ -10,9 +11,11 @@ use Rattle.std.proofs.lemmas.List.Sums.{AllPass-from_list_all, list_all-from_All
 use Rattle.std.specs.List.{list_all}
 use Rattle.lexical_util.specs.Digits.{value}
 use Rattle.numfmt.specs.Numeral.{numeral, is_digit}
-use Rattle.numfmt.specs.WordText.{hex, hex_digits, uppercase_digits, is_uppercase_digit, IsWordText, IsPrintedForm, digit_at, last_digits, printed}
+use Rattle.numfmt.specs.WordText.{hex, hex_digits, uppercase_digits, is_uppercase_digit, IsWordText, IsPrintedForm}
+use Rattle.numfmt.specs.WordText.{digit_at, last_digits, printed}
 use Rattle.numfmt.proofs.NumeralLemmas.{power_next}
-use Rattle.numfmt.proofs.DigitLemmas.{uppercase_digit_from_value, is_digit-from_uppercase, value-uppercase_digit, is_uppercase-digit}
+use Rattle.numfmt.proofs.DigitLemmas.{uppercase_digit_from_value, is_digit-from_uppercase, value-uppercase_digit}
+use Rattle.numfmt.proofs.DigitLemmas.{is_uppercase-digit}
 
 -- the last `count` digits of the word are written at the end of the text, and `rest` is what is left of the word
 pub record HasWritten (word rest count : ℕ) (text : List ℕ) : Type 0 where
@@ -28,14 +31,16 @@ HasWritten-none word = record { long = refl; prefix = refl; left = omega arith; 
 
 -- one more digit is written
 pub HasWritten-next : (word rest count byte : ℕ) (text : List ℕ) → HasWritten word rest count text → count < 32
-    → byte ≡ slice_index_or uppercase_digits (rest % 16) 0 → HasWritten word (rest / 16) (count + 1) (set text (33 - count) byte)
+    → byte ≡ slice_index_or uppercase_digits (rest % 16) 0
+    → HasWritten word (rest / 16) (count + 1) (set text (33 - count) byte)
 unfolding last_digits
 HasWritten-next word rest count byte text before few digit =
     let inside : 33 - count < length text = omega (arith, before.long) in
     let at : 34 - (count + 1) ≡ 33 - count = omega arith in
     let behind : 33 - count + 1 ≡ 34 - count = omega arith in
     let more : count + 1 ≡ suc count = omega arith in
-    let split : drop (33 - count) (set text (33 - count) byte) ≡ byte ∷ drop (34 - count) text = drop-set text (33 - count) byte inside ∙ ap (λ i. byte ∷ drop i text) behind in
+    let split : drop (33 - count) (set text (33 - count) byte) ≡ byte ∷ drop (34 - count) text =
+    drop-set text (33 - count) byte inside ∙ ap (λ i. byte ∷ drop i text) behind in
     record {
       long = length-set text (33 - count) byte ∙ before.long;
       prefix = take-set-le 2 text (33 - count) byte (omega arith) ∙ before.prefix;
@@ -62,16 +67,21 @@ regroup : (quotient digit power : ℕ) → quotient * (power * 16) + digit * pow
 regroup quotient digit power = grind arith
 
 -- the number that the last digits write, and what is left
-last_digits-numeral : (count number : ℕ) → number / 16 ^ count * 16 ^ count + numeral 16 (last_digits count number) ≡ number
+last_digits-numeral : (count number : ℕ) → number / 16 ^ count * 16 ^ count + numeral 16
+    (last_digits count number) ≡ number
 unfolding last_digits
 last_digits-numeral zero number = omega arith
 last_digits-numeral (suc count) number =
     let power = 16 ^ count in
     let left : number / power / 16 ≡ number / (power * 16) = div-div-eq-div-mul number power 16 in
-    let digit : value (digit_at number count) ≡ number / power % 16 = value-uppercase_digit (number / power % 16) (omega arith) in
-    let parts : number / power / 16 * (power * 16) + number / power % 16 * power ≡ (16 * (number / power / 16) + number / power % 16) * power = regroup (number / power / 16) (number / power % 16) power in
+    let digit : value (digit_at number count) ≡ number / power % 16 =
+    value-uppercase_digit (number / power % 16) (omega arith) in
+    let parts : number / power / 16 * (power * 16) + number / power % 16 * power ≡
+    (16 * (number / power / 16) + number / power % 16) * power =
+    regroup (number / power / 16) (number / power % 16) power in
     let whole : 16 * (number / power / 16) + number / power % 16 ≡ number / power = omega arith in
-    rw (pow-suc 16 count, digit, last_digits-length count number, ← left) (omega (arith, parts, ap (λ n. n * power) whole, last_digits-numeral count number))
+    rw (pow-suc 16 count, digit, last_digits-length count number, ← left)
+    (omega (arith, parts, ap (λ n. n * power) whole, last_digits-numeral count number))
 
 -- what is printed of a word has the printed form
 pub IsPrintedForm-printed : (word : ℕ) → IsPrintedForm (printed word)
@@ -88,7 +98,8 @@ hex-printed word fits = omega (arith, fits, last_digits-numeral 32 word)
 all_digits : (bytes : List ℕ) → list_all is_uppercase_digit bytes ≡ true → list_all (is_digit 16) bytes ≡ true
 all_digits [] all = refl
 all_digits (byte ∷ bytes) all =
-    let both : (is_uppercase_digit byte ≡ true) × (list_all is_uppercase_digit bytes ≡ true) = and_parts (is_uppercase_digit byte) (list_all is_uppercase_digit bytes) all in
+    let both : (is_uppercase_digit byte ≡ true) × (list_all is_uppercase_digit bytes ≡ true) =
+    and_parts (is_uppercase_digit byte) (list_all is_uppercase_digit bytes) all in
     rw (is_digit-from_uppercase byte both.0) (all_digits bytes both.1)
 
 -- the printed form of a word is a text of a word
@@ -98,7 +109,8 @@ IsWordText-printed text printed = record {
   digits = record {
     some = omega (arith, printed.full);
     few = omega (arith, printed.full);
-    all_digits = AllPass-from_list_all (is_digit 16) (hex_digits text) (all_digits (hex_digits text) (list_all-from_AllPass is_uppercase_digit (hex_digits text) printed.uppercase));
+    all_digits = AllPass-from_list_all (is_digit 16) (hex_digits text)
+        (all_digits (hex_digits text) (list_all-from_AllPass is_uppercase_digit (hex_digits text) printed.uppercase));
   };
 }
 
@@ -106,9 +118,11 @@ IsWordText-printed text printed = record {
 numeral-lt : (digits : List ℕ) → list_all (is_digit 16) digits ≡ true → numeral 16 digits < 16 ^ length digits
 numeral-lt [] all = omega arith
 numeral-lt (digit ∷ digits) all =
-    let both : (is_digit 16 digit ≡ true) × (list_all (is_digit 16) digits ≡ true) = and_parts (is_digit 16 digit) (list_all (is_digit 16) digits) all in
+    let both : (is_digit 16 digit ≡ true) × (list_all (is_digit 16) digits ≡ true) =
+    and_parts (is_digit 16 digit) (list_all (is_digit 16) digits) all in
     let small : value digit + 1 ≤ 16 = below_sixteen (value digit) both.0 in
-    let room : 16 ^ length digits * (value digit + 1) ≤ 16 ^ length digits * 16 = mul-le-mul_left (16 ^ length digits) small in
+    let room : 16 ^ length digits * (value digit + 1) ≤ 16 ^ length digits * 16 =
+    mul-le-mul_left (16 ^ length digits) small in
     let rest : numeral 16 digits < 16 ^ length digits = numeral-lt digits both.1 in
     rw (pow-suc 16 (length digits)) (omega (arith, room, rest))
   where
@@ -116,14 +130,17 @@ numeral-lt (digit ∷ digits) all =
     below_sixteen v h = grind (arith, nat_tests)
 
 -- two numerals of the same length with uppercase letters that write the same number are one
-numeral-injective : (xs ys : List ℕ) → length xs ≡ length ys → list_all is_uppercase_digit xs ≡ true → list_all is_uppercase_digit ys ≡ true
+numeral-injective : (xs ys : List ℕ) → length xs ≡ length ys → list_all is_uppercase_digit xs ≡ true
+    → list_all is_uppercase_digit ys ≡ true
     → numeral 16 xs ≡ numeral 16 ys → xs ≡ ys
 numeral-injective [] [] long all all' same = refl
 numeral-injective [] (y ∷ ys) long all all' same = absurd (omega arith)
 numeral-injective (x ∷ xs) [] long all all' same = absurd (omega arith)
 numeral-injective (x ∷ xs) (y ∷ ys) long all all' same =
-    let first : (is_uppercase_digit x ≡ true) × (list_all is_uppercase_digit xs ≡ true) = and_parts (is_uppercase_digit x) (list_all is_uppercase_digit xs) all in
-    let second : (is_uppercase_digit y ≡ true) × (list_all is_uppercase_digit ys ≡ true) = and_parts (is_uppercase_digit y) (list_all is_uppercase_digit ys) all' in
+    let first : (is_uppercase_digit x ≡ true) × (list_all is_uppercase_digit xs ≡ true) =
+    and_parts (is_uppercase_digit x) (list_all is_uppercase_digit xs) all in
+    let second : (is_uppercase_digit y ≡ true) × (list_all is_uppercase_digit ys ≡ true) =
+    and_parts (is_uppercase_digit y) (list_all is_uppercase_digit ys) all' in
     let shorter : length xs ≡ length ys = omega arith in
     let power : 16 ^ length xs ≡ 16 ^ length ys = ap (λ n. 16 ^ n) shorter in
     let below : numeral 16 xs < 16 ^ length xs = numeral-lt xs (all_digits xs first.1) in
@@ -132,8 +149,14 @@ numeral-injective (x ∷ xs) (y ∷ ys) long all all' same =
     sym (div-mul-add (value x) (16 ^ length xs) (numeral 16 xs) below) ∙ (λ i. same i / power i)
     ∙ div-mul-add (value y) (16 ^ length ys) (numeral 16 ys) below' in
     let rest_same : numeral 16 xs ≡ numeral 16 ys =
-    omega (arith, same, (let moved : value x * 16 ^ length xs ≡ value y * 16 ^ length ys = λ i. value_same i * power i in moved)) in
-    let here : x ≡ y = sym (uppercase_digit_from_value x first.0) ∙ ap (λ v. slice_index_or uppercase_digits v 0) value_same ∙ uppercase_digit_from_value y second.0 in
+    omega (
+      arith,
+      same,
+      (let moved : value x * 16 ^ length xs ≡ value y * 16 ^ length ys =
+          λ i. value_same i * power i in moved),
+    ) in
+    let here : x ≡ y = sym (uppercase_digit_from_value x first.0)
+    ∙ ap (λ v. slice_index_or uppercase_digits v 0) value_same ∙ uppercase_digit_from_value y second.0 in
     λ i. here i ∷ numeral-injective xs ys shorter first.1 second.1 rest_same i
 
 -- one text has the printed form and writes a given number

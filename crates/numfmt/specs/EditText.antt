@@ -1,5 +1,6 @@
 -- The texts of edits: names of setters, `bool`s and bytes.
-use Rattle.std.specs.Prelude.{ℕ, ◌≡◌, ◌≤◌, ◌⊎◌, if◌then◌else◌, ◌==◌, Bool, true, false, Option, None, List, codes, bytes_eq}
+use Rattle.std.specs.Prelude.{ℕ, ◌≡◌, ◌≤◌, ◌⊎◌, if◌then◌else◌, ◌==◌, Bool, true, false, Option, None, List, codes}
+use Rattle.std.specs.Prelude.{bytes_eq}
 use Rattle.std.specs.List.{AllZip, before_first, after_first}
 use Rattle.lexical_util.specs.OptionByte.{option_of_byte}
 use Rattle.lexical_util.specs.SetterNames.{setter_name}

@@ -1,5 +1,6 @@
 -- The responses of the program: what each prints, and its exit status.
-use Rattle.std.specs.Prelude.{ℕ, ◌^◌, true, false, List, [], ◌∷◌, ◌++◌, flat_map, sum_by, codes, decimal, bit_and, Result, Ok, Err}
+use Rattle.std.specs.Prelude.{ℕ, ◌^◌, true, false, List, [], ◌∷◌, ◌++◌, flat_map, sum_by, codes, decimal, bit_and}
+use Rattle.std.specs.Prelude.{Result, Ok, Err}
 use Rattle.lexical_util.specs.Outcomes.{printed_text}
 use Rattle.lexical_util.specs.declared.error.Error.TheVariants.{Success}
 use Rattle.lexical_util.specs.Layout.{bit, flags}

@@ -1,5 +1,6 @@
 -- The text of a format word: `0x` and hexadecimal digits.
-use Rattle.std.specs.Prelude.{◌≡◌, ℕ, zero, suc, ◌==◌, ◌/◌, ◌%◌, ◌^◌, Bool, List, [], ◌∷◌, ◌++◌, length, take, drop, slice_index, codes}
+use Rattle.std.specs.Prelude.{◌≡◌, ℕ, zero, suc, ◌==◌, ◌/◌, ◌%◌, ◌^◌, Bool, List, [], ◌∷◌, ◌++◌, length, take, drop}
+use Rattle.std.specs.Prelude.{slice_index, codes}
 use Rattle.std.specs.List.{AllPass, list_any}
 use Rattle.numfmt.specs.Numeral.{numeral, IsNumeral}
 

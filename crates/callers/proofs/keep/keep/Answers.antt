@@ -20,6 +20,7 @@ pub returns-in_default-clause-refused : goal.returns-in_default-clause-refused
 returns-in_default-clause-refused c = (
   λ _ other same lawful.
       let kept = c.normal_form_facts.ensures.lawful_same c.args.word other same lawful in
-      c.in_default.not-Success (c.format_error.ensures.lawful.1 (subst Lawful (sym c.normal_form-kept.ensures.word) kept)),
+      c.in_default.not-Success (c.format_error.ensures.lawful.1
+      (subst Lawful (sym c.normal_form-kept.ensures.word) kept)),
   λ _. refl,
 )

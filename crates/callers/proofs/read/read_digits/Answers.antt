@@ -15,15 +15,18 @@ returns-in_default-clause-refusal c =
 
 pub returns-in_default-push-clause-refusal : goal.returns-in_default-push-clause-refusal
 returns-in_default-push-clause-refusal c =
-    too_large (raw c.args.format) c.args.text.now c.loop-index.index c.loop-index.number c.in-Some.digit c.loop-index-test.true
+    too_large (raw c.args.format) c.args.text.now c.loop-index.index c.loop-index.number c.in-Some.digit
+    c.loop-index-test.true
     c.in-Some.ensures.0 c.in-Some.ensures.1 c.loop-index.invariant c.in_default-push.ensures
 
 pub returns-in_default-push-clause-number : goal.returns-in_default-push-clause-number
-returns-in_default-push-clause-number c = no_numeral c.args.format c.args.text.now (errors.Overflow c.loop-index.index) c.requires (returns-in_default-push-clause-refusal c)
+returns-in_default-push-clause-number c = no_numeral c.args.format c.args.text.now
+    (errors.Overflow c.loop-index.index) c.requires (returns-in_default-push-clause-refusal c)
 
 pub returns-in_default-clause-only : goal.returns-in_default-clause-only
 returns-in_default-clause-only c error refused =
-    ap Err (IsRefusal-unique c.args.format c.args.text.now c.requires _ error (returns-in_default-clause-refusal c) refused)
+    ap Err (IsRefusal-unique c.args.format c.args.text.now c.requires _ error
+    (returns-in_default-clause-refusal c) refused)
 
 pub returns-in_default-push-clause-only : goal.returns-in_default-push-clause-only
 returns-in_default-push-clause-only c error refused =
@@ -34,12 +37,15 @@ pub loop-index-preserved : goal.loop-index-preserved
 loop-index-preserved c =
     elim c.if-not-is_skipped.branch [
       | then-not-is_skipped+in-Some+in-Some-push w ↦
-          let more = pushed (raw c.args.format) c.args.text.now c.loop-index.index c.loop-index.number w.in-Some.digit c.loop-index-test.true
+          let more = pushed (raw c.args.format) c.args.text.now c.loop-index.index c.loop-index.number w.in-Some.digit
+          c.loop-index-test.true
           w.in-Some.ensures.0 w.in-Some.ensures.1 c.loop-index.invariant w.in-Some-push.ensures.0 in
-          subst (HasRead (raw c.args.format) c.args.text.now (c.loop-index.index + 1)) (sym (w.number-is ∙ w.in-Some-push.ensures.1)) more
+          subst (HasRead (raw c.args.format) c.args.text.now (c.loop-index.index + 1))
+          (sym (w.number-is ∙ w.in-Some-push.ensures.1)) more
       | else-not-is_skipped w ↦
           subst (HasRead (raw c.args.format) c.args.text.now (c.loop-index.index + 1)) (sym w.number-is)
-          (skipped c.args.format c.args.text.now c.loop-index.index c.loop-index.number c.requires c.loop-index-test.true
+          (skipped c.args.format c.args.text.now c.loop-index.index c.loop-index.number c.requires
+          c.loop-index-test.true
           (sym c.is_skipped.ensures ∙ w.if-not-is_skipped.false) c.loop-index.invariant)
     ]
 

@@ -15,7 +15,9 @@ loop-chunk-preserved c =
     let i = c.loop-chunk.chunk-index in
     let within = c.loop-chunk-test.true in
     subst (Tells 32 _) (sym (list_all_more (list_all (in_either c.args.first c.args.second)) chunks i [] within))
-    (joined 32 c.args.first c.args.second (slice_index_or chunks i []) c.loop-chunk.joined _ (c.told-block i within) c.loop-chunk.invariant)
+    (joined 32 c.args.first c.args.second (slice_index_or chunks i []) c.loop-chunk.joined _
+    (c.told-block i within) c.loop-chunk.invariant)
 
 pub returns : goal.returns
-returns c = all_told 32 _ _ (omega arith) c.loop-chunk.invariant ∙ ap (list_all (list_all (in_either c.args.first c.args.second))) (take_all _ _ c.loop-chunk-test.false)
+returns c = all_told 32 _ _ (omega arith) c.loop-chunk.invariant
+    ∙ ap (list_all (list_all (in_either c.args.first c.args.second))) (take_all _ _ c.loop-chunk-test.false)

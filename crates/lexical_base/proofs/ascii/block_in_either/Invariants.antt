@@ -5,4 +5,5 @@ use Rattle.lexical_base.proofs.LaneLemmas.{Tells}
 use Rattle.lexical_base.proofs.ascii.block_in_either.Given as goal
 
 abbrev pub invariant-loop-chunk : goal.invariant-loop-chunk
-invariant-loop-chunk l = Tells 32 l.joined (list_all (list_all (in_either l.first l.second)) (take l.chunk-index l.block))
+invariant-loop-chunk l = Tells 32 l.joined (list_all (list_all (in_either l.first l.second))
+    (take l.chunk-index l.block))

@@ -15,7 +15,9 @@ loop-half-preserved c =
     let i = c.loop-half.half-index in
     let within = c.loop-half-test.true in
     subst (Tells 16 _) (sym (list_all_more (list_all (in_either c.args.first c.args.second)) chunks i [] within))
-    (joined 16 c.args.first c.args.second (slice_index_or chunks i []) c.loop-half.joined _ (c.told-halves i within) c.loop-half.invariant)
+    (joined 16 c.args.first c.args.second (slice_index_or chunks i []) c.loop-half.joined _
+    (c.told-halves i within) c.loop-half.invariant)
 
 pub returns : goal.returns
-returns c = all_told 16 _ _ (omega arith) c.loop-half.invariant ∙ ap (list_all (list_all (in_either c.args.first c.args.second))) (take_all _ _ c.loop-half-test.false)
+returns c = all_told 16 _ _ (omega arith) c.loop-half.invariant
+    ∙ ap (list_all (list_all (in_either c.args.first c.args.second))) (take_all _ _ c.loop-half-test.false)

@@ -1,4 +1,5 @@
-use Rattle.lexical_base.proofs.ValueLemmas.{value-digit_character, digit_character-get, digit_of-digit_character, digit_character-uppercase}
+use Rattle.lexical_base.proofs.ValueLemmas.{value-digit_character, digit_character-get, digit_of-digit_character}
+use Rattle.lexical_base.proofs.ValueLemmas.{digit_character-uppercase}
 use Rattle.lexical_base.proofs.digit.digit_to_char.Goals as goal
 
 pub returns-clause-character : goal.returns-clause-character

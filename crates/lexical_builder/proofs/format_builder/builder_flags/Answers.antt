@@ -6,4 +6,5 @@ pub returns-clause-value : goal.returns-clause-value
 returns-clause-value c = blocks_joined-builder c.args.format
 
 pub returns-clause-clear_top : goal.returns-clause-clear_top
-returns-clause-clear_top c = subst (λ n. n < 2 ^ 31) (sym (blocks_joined-builder c.args.format)) (flags_in-lt c.args.format)
+returns-clause-clear_top c = subst (λ n. n < 2 ^ 31) (sym (blocks_joined-builder c.args.format))
+    (flags_in-lt c.args.format)

@@ -21,9 +21,11 @@ returns-then-rank-lt19-clause-text c known =
     let before = c.write_after-end-then-rank-lt19.ensures.written _ _ second in
     record {
       outcome = error;
-      holds = (c.in-Some.ensures.index,
-          subst (λ xs. IsWritten xs c.write_decimal.result c.args.text.now c.write_decimal.new.out) text
-          (c.write_decimal.ensures.written _ _ before));
+      holds = (
+        c.in-Some.ensures.index,
+        subst (λ xs. IsWritten xs c.write_decimal.result c.args.text.now c.write_decimal.new.out) text
+            (c.write_decimal.ensures.written _ _ before),
+      );
       rank_is = c.in-Some.ensures.rank;
     }
 
@@ -34,9 +36,11 @@ returns-then-rank-lt36-clause-text c known =
     search rules in
     record {
       outcome = error;
-      holds = (c.in-Some.ensures.index,
-          subst (λ xs. IsWritten xs c.write_after.result c.args.text.now c.write_after.new.out) text
-          (c.write_after.ensures.written _ _ c.write_text-end-then-rank-lt36.ensures));
+      holds = (
+        c.in-Some.ensures.index,
+        subst (λ xs. IsWritten xs c.write_after.result c.args.text.now c.write_after.new.out) text
+            (c.write_after.ensures.written _ _ c.write_text-end-then-rank-lt36.ensures),
+      );
       rank_is = c.in-Some.ensures.rank;
     }
 
@@ -47,9 +51,11 @@ returns-then-rank-lt48-clause-text c known =
     search rules in
     record {
       outcome = error;
-      holds = (c.in-Some.ensures.index,
-          subst (λ xs. IsWritten xs c.write_after-then-rank-lt48.result c.args.text.now
-          c.write_after-then-rank-lt48.new.out) text
-          (c.write_after-then-rank-lt48.ensures.written _ _ c.write_text-end-then-rank-lt48.ensures));
+      holds = (
+        c.in-Some.ensures.index,
+        subst (λ xs. IsWritten xs c.write_after-then-rank-lt48.result c.args.text.now
+            c.write_after-then-rank-lt48.new.out) text
+            (c.write_after-then-rank-lt48.ensures.written _ _ c.write_text-end-then-rank-lt48.ensures),
+      );
       rank_is = c.in-Some.ensures.rank;
     }

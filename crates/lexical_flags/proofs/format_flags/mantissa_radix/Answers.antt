@@ -5,4 +5,5 @@ use Rattle.lexical_flags.proofs.RuleLemmas.{Lawful-mantissa_radix}
 use Rattle.lexical_flags.proofs.format_flags.mantissa_radix.Goals as goal
 
 pub returns-clause-lawful : goal.returns-clause-lawful
-returns-clause-lawful c lawful = subst IsRadix (sym (mantissa_radix_part c.args.format)) (Lawful-mantissa_radix c.args.format lawful)
+returns-clause-lawful c lawful = subst IsRadix (sym (mantissa_radix_part c.args.format))
+    (Lawful-mantissa_radix c.args.format lawful)

@@ -1,4 +1,5 @@
-use Rattle.lexical_flags.proofs.LawfulTest.{error_computed, lawful_computed, IsPunctuation-test, IsPunctuation-passes, Disjoint-test, Disjoint-passes}
+use Rattle.lexical_flags.proofs.LawfulTest.{error_computed, lawful_computed, IsPunctuation-test, IsPunctuation-passes}
+use Rattle.lexical_flags.proofs.LawfulTest.{Disjoint-test, Disjoint-passes}
 use Rattle.lexical_flags.proofs.OptionTest.{accepted_computed}
 use Rattle.lexical_flags.proofs.laws.literal_facts.Goals as goal
 

@@ -5,7 +5,8 @@ pub loop-edit-init : goal.loop-edit-init
 loop-edit-init c = applied_none c.args.builder c.args.edits.now
 
 pub loop-edit-preserved : goal.loop-edit-preserved
-loop-edit-preserved c = applied_more c.loop-edit.invariant c.loop-edit-test.true c.edit-item.is c.apply-builder.ensures.fields c.apply-builder.ensures.legal
+loop-edit-preserved c = applied_more c.loop-edit.invariant c.loop-edit-test.true c.edit-item.is
+    c.apply-builder.ensures.fields c.apply-builder.ensures.legal
 
 pub returns-clause-fields : goal.returns-clause-fields
 returns-clause-fields c = (applied_all c.loop-edit.invariant c.loop-edit-test.false).0

@@ -1,7 +1,9 @@
 use Rattle.std.proofs.Common.{ℕ, sym, subst}
 use Rattle.lexical_flags.specs.Rules.{Lawful}
 use Rattle.lexical_util.specs.Normal.{normal_form_of}
-use Rattle.lexical_util.proofs.NormalLemmas.{raw_normal, clean_normal, normal_fits, normal_only, normal_again, normal_from_fixed, fixed_from_normal, normal_keeps, normal_same, SameFormat-from_normal, groups_normal, flags_normal}
+use Rattle.lexical_util.proofs.NormalLemmas.{raw_normal, clean_normal, normal_fits, normal_only, normal_again}
+use Rattle.lexical_util.proofs.NormalLemmas.{normal_from_fixed, fixed_from_normal, normal_keeps, normal_same}
+use Rattle.lexical_util.proofs.NormalLemmas.{SameFormat-from_normal, groups_normal, flags_normal}
 use Rattle.lexical_util.proofs.ComposeLemmas.{edited-normal}
 use Rattle.lexical_util.proofs.laws.normal_form_facts.Goals as goal
 

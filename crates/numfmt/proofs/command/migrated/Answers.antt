@@ -10,7 +10,8 @@ pub returns-in-Ok : goal.returns-in-Ok
 unfolding GivesMigrated
 returns-in-Ok c =
     let lawful = c.in-Ok.ensures.lawful in
-    subst (λ word. IsOnly (GivesMigrated c.args.format) (Ok (answers.Word word))) (sym lawful.1) (IsOnly-met _ lawful.0 (IsOnly-given _))
+    subst (λ word. IsOnly (GivesMigrated c.args.format) (Ok (answers.Word word))) (sym lawful.1)
+    (IsOnly-met _ lawful.0 (IsOnly-given _))
 
 pub returns-in-Err : goal.returns-in-Err
 unfolding GivesMigrated

@@ -9,4 +9,8 @@ returns c =
     let exponent = c.in_ok-exponent.ensures.byte in
     let point = c.in_ok-point.ensures.byte in
     IsOnly-met _ word.0 (IsOnly-met _ exponent.0 (IsOnly-met _ point.0 (
-    IsOnly-told _ answers.Acceptance _ (rw (word.1, exponent.1, point.1) at c.is_valid_options_punctuation.ensures.accepted))))
+    IsOnly-told _ answers.Acceptance _ (rw (
+      word.1,
+      exponent.1,
+      point.1,
+    ) at c.is_valid_options_punctuation.ensures.accepted))))

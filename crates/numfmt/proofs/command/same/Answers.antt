@@ -11,7 +11,9 @@ returns-in-len2 c =
     (sym (two string_bytes c.args.args.now _ _ (omega arith) c.a-item.is c.b-item.is)) c.same_words.ensures
 
 pub returns-in_default : goal.returns-in_default
-returns-in_default c = SameCallsFor-other _ (λ count. absurd (omega (arith, length-map c.args.args.now string_bytes, count)))
+returns-in_default c = SameCallsFor-other _ (λ count. absurd
+    (omega (arith, length-map c.args.args.now string_bytes, count)))
 
 pub returns-in_default-2 : goal.returns-in_default-2
-returns-in_default-2 c = SameCallsFor-other _ (λ count. absurd (omega (arith, length-map c.args.args.now string_bytes, count)))
+returns-in_default-2 c = SameCallsFor-other _ (λ count. absurd
+    (omega (arith, length-map c.args.args.now string_bytes, count)))

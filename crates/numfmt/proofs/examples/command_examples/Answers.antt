@@ -34,11 +34,10 @@ returns c = record {
           λ is. absurd (differ (codes "shows") (codes "same") refl is),
           λ _. (
             λ is. absurd (differ (codes "shows") (codes "options") refl is),
-            λ _.
-              (
-                λ is. absurd (differ (codes "shows") (codes "migrate") refl is),
-                λ _. (λ is. absurd (differ (codes "shows") (codes "source") refl is), λ _. refl),
-              ),
+            λ _. (
+              λ is. absurd (differ (codes "shows") (codes "migrate") refl is),
+              λ _. (λ is. absurd (differ (codes "shows") (codes "source") refl is), λ _. refl),
+            ),
           ),
         ),
       ),

@@ -30,6 +30,8 @@ returns g c =
     let list = take edits.result.1 edits.result.0 in
     let fields = raw c.args.word in
     let is : list ≡ changing fields =
-    first_part edits.result.0 (changing fields) (unchanging fields) edits.result.1 edits.ensures.list edits.ensures.number in
-    all_written c.write_all-2.result _ _ _ _ (changing fields) _ (take_all c.loop-edit.edit-index list c.loop-edit-test.false ∙ is)
+    first_part edits.result.0 (changing fields) (unchanging fields) edits.result.1 edits.ensures.list
+    edits.ensures.number in
+    all_written c.write_all-2.result _ _ _ _ (changing fields) _
+    (take_all c.loop-edit.edit-index list c.loop-edit-test.false ∙ is)
     c.in_ok-write_all.ensures.bytes c.loop-edit.invariant c.write_all-2.ensures.bytes

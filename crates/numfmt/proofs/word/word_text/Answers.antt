@@ -2,7 +2,8 @@
 use Rattle.std.proofs.Common.{◌≡◌, ◌∙◌, sym, ap, subst, arith}
 use Rattle.numfmt.specs.WordText.{IsPrintedForm, hex}
 use Rattle.numfmt.proofs.DigitLemmas.{uppercase_digit-from_library}
-use Rattle.numfmt.proofs.TextLemmas.{HasWritten-none, HasWritten-next, printed-written, IsPrintedForm-printed, hex-printed, IsWordText-printed, IsPrintedForm-unique}
+use Rattle.numfmt.proofs.TextLemmas.{HasWritten-none, HasWritten-next, printed-written, IsPrintedForm-printed}
+use Rattle.numfmt.proofs.TextLemmas.{hex-printed, IsWordText-printed, IsPrintedForm-unique}
 use Rattle.numfmt.proofs.word.word_text.Goals as goal
 
 pub loop-count-init : goal.loop-count-init
@@ -10,7 +11,8 @@ loop-count-init c = HasWritten-none c.args.word
 
 pub loop-count-preserved : goal.loop-count-preserved
 loop-count-preserved c =
-    HasWritten-next _ _ _ _ _ c.loop-count.invariant c.loop-count-test.true (uppercase_digit-from_library _ _ (omega arith) c.digit_to_char.ensures.character)
+    HasWritten-next _ _ _ _ _ c.loop-count.invariant c.loop-count-test.true
+    (uppercase_digit-from_library _ _ (omega arith) c.digit_to_char.ensures.character)
 
 pub returns-clause-text : goal.returns-clause-text
 returns-clause-text c =
@@ -27,4 +29,5 @@ pub returns-clause-read_back : goal.returns-clause-read_back
 returns-clause-read_back c = IsWordText-printed _ (returns-clause-form c)
 
 pub returns-clause-only : goal.returns-clause-only
-returns-clause-only c text form same = IsPrintedForm-unique _ _ form (returns-clause-form c) (same ∙ sym (returns-clause-value c))
+returns-clause-only c text form same = IsPrintedForm-unique _ _ form (returns-clause-form c)
+    (same ∙ sym (returns-clause-value c))

@@ -15,4 +15,4 @@ returns-clause-lawful c =
     let lawful = c.literal_facts.ensures.lawful (pack (radix_record c.args.radix)) in
     let success = radix-success c.args.radix (omega arith) in
     subst (λ w. Lawful w ↔ IsRadix c.args.radix) (sym (returns-clause-word c))
-        (λ h. success.0 (lawful.1 h), λ h. lawful.0 (success.1 h))
+    (λ h. success.0 (lawful.1 h), λ h. lawful.0 (success.1 h))

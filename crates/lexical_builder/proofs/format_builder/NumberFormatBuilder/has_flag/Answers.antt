@@ -11,8 +11,10 @@ pub returns : goal.returns
 returns c =
     let f : Flag = flag_with c.args.mask in
     let held : ℕ = c.self.inside.flags in
-    let mask : c.builder_flags.result ≡ 2 ^ builder_bit f = c.builder_flags.ensures.value ∙ ap flags_in (sym c.requires) ∙ flags_in-mask f in
+    let mask : c.builder_flags.result ≡ 2 ^ builder_bit f = c.builder_flags.ensures.value ∙ ap flags_in (sym c.requires)
+    ∙ flags_in-mask f in
     ap (λ m. not (bit_and held m == 0)) mask
     ∙ flag_test held (builder_bit f)
-    ∙ sym (flag_of-tabulate (λ f. part held (builder_bit f) 1 == 1) (λ b. slice_index c.self.inside.bytes (index_of b)) f)
+    ∙ sym (flag_of-tabulate (λ f. part held (builder_bit f) 1 == 1)
+    (λ b. slice_index c.self.inside.bytes (index_of b)) f)
     ∙ ap (λ r. flag_of r f) c.self.view_is

@@ -1,4 +1,5 @@
-use Rattle.std.proofs.Common.{◌≡◌, ◌∙◌, ◌*◌, ◌^◌, ℕ, max, bit_or, if◌then◌else◌, ap, sym, subst, arith, sum_by, slice_index}
+use Rattle.std.proofs.Common.{◌≡◌, ◌∙◌, ◌*◌, ◌^◌, ℕ, max, bit_or, if◌then◌else◌, ap, sym, subst, arith, sum_by}
+use Rattle.std.proofs.Common.{slice_index}
 use Rattle.std.proofs.lemmas.Nat.{shl_whole}
 use Rattle.std.proofs.lemmas.Nat.Bits.{bit_at_or, same_from_bits}
 use Rattle.lexical_flags.specs.Layout.{Byte, part, flags}
@@ -16,11 +17,13 @@ bit-or_or : (a b s i : ℕ) → part (bit_or (bit_or a b) s) i 1 ≡ max (max (p
 bit-or_or a b s i = bit_at_or (bit_or a b) s i ∙ ap (λ n. max n (part s i 1)) (bit_at_or a b i)
 
 or_swapped : (a b s : ℕ) → bit_or (bit_or a b) s ≡ bit_or (bit_or a s) b
-or_swapped a b s = same_from_bits _ _ (λ i. bit-or_or a b s i ∙ max_swapped (part a i 1) (part b i 1) (part s i 1) ∙ sym (bit-or_or a s b i))
+or_swapped a b s = same_from_bits _ _ (λ i. bit-or_or a b s i ∙ max_swapped (part a i 1) (part b i 1) (part s i 1)
+    ∙ sym (bit-or_or a s b i))
 
 -- what is joined last may as well be joined first
 joined_first : (a b c d e f s : ℕ)
-    → bit_or (bit_or (bit_or (bit_or (bit_or (bit_or a b) c) d) e) f) s ≡ bit_or (bit_or (bit_or (bit_or (bit_or (bit_or a s) b) c) d) e) f
+    → bit_or (bit_or (bit_or (bit_or (bit_or (bit_or a b) c) d) e) f) s ≡ bit_or
+    (bit_or (bit_or (bit_or (bit_or (bit_or a s) b) c) d) e) f
 joined_first a b c d e f s =
     or_swapped (bit_or (bit_or (bit_or (bit_or a b) c) d) e) f s
     ∙ ap (λ n. bit_or n f) (or_swapped (bit_or (bit_or (bit_or a b) c) d) e s)
@@ -32,7 +35,8 @@ pub returns : goal.returns
 returns c =
     let r : Record = record_of c.self.inside in
     let byte : Byte → ℕ = λ b. slice_index c.self.inside.bytes (index_of b) in
-    let bytes : HasBytes r = HasBytes-by_name r (omega arith) (omega arith) (omega arith) (omega arith) (omega arith) (omega arith) in
+    let bytes : HasBytes r = HasBytes-by_name r (omega arith) (omega arith) (omega arith) (omega arith) (omega arith)
+    (omega arith) in
     let flags_joined : c.word_flags-flags.result ≡ sum_by (flag_bits r) flags = c.word_flags-flags.ensures in
     let used : separator_on (raw c.word_flags-flags.result) ≡ separator_on r =
     ap (λ word. separator_on (raw word)) flags_joined ∙ separator_on-flags r in
@@ -46,6 +50,8 @@ returns c =
     let radix = shl_whole (byte layout.mantissa_radix) 8 104 128 (omega arith) (omega arith) in
     let exponent_base = shl_whole (byte layout.exponent_base) 8 112 128 (omega arith) (omega arith) in
     let exponent_radix = shl_whole (byte layout.exponent_radix) 8 120 128 (omega arith) (omega arith) in
-    let order = joined_first c.word_flags-flags.result (byte layout.base_prefix * 2 ^ 88) (byte layout.base_suffix * 2 ^ 96) (byte layout.mantissa_radix * 2 ^ 104)
-    (byte layout.exponent_base * 2 ^ 112) (byte layout.exponent_radix * 2 ^ 120) (c.used_separator-separator.result * 2 ^ 64) in
+    let order = joined_first c.word_flags-flags.result (byte layout.base_prefix * 2 ^ 88)
+    (byte layout.base_suffix * 2 ^ 96) (byte layout.mantissa_radix * 2 ^ 104)
+    (byte layout.exponent_base * 2 ^ 112) (byte layout.exponent_radix * 2 ^ 120)
+    (c.used_separator-separator.result * 2 ^ 64) in
     record { word = cc; bytes = subst HasBytes c.self.view_is bytes }

@@ -29,6 +29,9 @@ returns c =
       base_prefix = (prefix ∙ part-upper format 24) i;
       base_suffix = (suffix ∙ part-upper format 32) i;
       mantissa_radix = (mantissa ∙ part-upper format 40) i;
-      exponent_base = (base ∙ c.fill_base.ensures.base ∙ (λ j. effective (part-upper format 48 j) (part-upper format 40 j))) i;
-      exponent_radix = (radix ∙ c.fill_radix-high.ensures.radix ∙ (λ j. effective ((c.fill_base.ensures.radix ∙ part-upper format 56) j) ((based_mantissa ∙ part-upper format 40) j))) i;
+      exponent_base = (base ∙ c.fill_base.ensures.base
+          ∙ (λ j. effective (part-upper format 48 j) (part-upper format 40 j))) i;
+      exponent_radix = (radix ∙ c.fill_radix-high.ensures.radix
+          ∙ (λ j. effective ((c.fill_base.ensures.radix ∙ part-upper format 56) j)
+          ((based_mantissa ∙ part-upper format 40) j))) i;
     }

@@ -14,9 +14,16 @@ returns-then-eq c = some_named _ _ (sym c.name.ensures ∙ (bytes_eq-Decides _ _
 
 pub loop-setter-preserved : goal.loop-setter-preserved
 loop-setter-preserved c =
-    let other = not_from_Decides _ (bytes_eq-Decides c.name.result.now c.args.name.now) (sym c.eq.ensures ∙ c.if-eq.false) in
-    AllWithin-more (λ setter. setter_name setter ≢ c.args.name.now) SETTERS 0 c.loop-setter.setter-index c.loop-setter.invariant
-    (λ default named. other (c.name.ensures ∙ ap setter_name (get_or_default SETTERS _ _ default c.loop-setter-test.true) ∙ named))
+    let other = not_from_Decides _ (bytes_eq-Decides c.name.result.now c.args.name.now)
+    (sym c.eq.ensures ∙ c.if-eq.false) in
+    AllWithin-more (λ setter. setter_name setter ≢ c.args.name.now) SETTERS 0 c.loop-setter.setter-index
+    c.loop-setter.invariant
+    (λ default named. other (c.name.ensures ∙ ap setter_name
+    (get_or_default SETTERS _ _ default c.loop-setter-test.true) ∙ named))
 
 pub returns : goal.returns
-returns c = λ setter. ((λ some. cc), (λ named. absurd (c.loop-setter.invariant (place_of (setter_name setter)) setter (omega arith) (omega (arith, place-below setter)) (ap setter_name (at_place setter setter) ∙ named))))
+returns c = λ setter. (
+  (λ some. cc),
+  (λ named. absurd (c.loop-setter.invariant (place_of (setter_name setter)) setter
+      (omega arith) (omega (arith, place-below setter)) (ap setter_name (at_place setter setter) ∙ named))),
+)

@@ -13,7 +13,8 @@ bounds-edits-place c =
       c.requires,
       c.loop-edit.invariant.place_is,
       c.loop-edit.auto.edits,
-      put_below (λ e. beq (changes_new e) c.args.changed) c.args.list.now c.loop-edit.edit-index c.edit-item.result c.loop-edit-test.true c.edit-item.is pass,
+      put_below (λ e. beq (changes_new e) c.args.changed) c.args.list.now c.loop-edit.edit-index c.edit-item.result
+          c.loop-edit-test.true c.edit-item.is pass,
     )
 
 pub loop-edit-init : goal.loop-edit-init
@@ -30,7 +31,8 @@ loop-edit-preserved c =
             c.requires,
             c.loop-edit.invariant.place_is,
             c.loop-edit.auto.edits,
-            put_below (λ e. beq (changes_new e) c.args.changed) c.args.list.now c.loop-edit.edit-index c.edit-item.result c.loop-edit-test.true c.edit-item.is pass,
+            put_below (λ e. beq (changes_new e) c.args.changed) c.args.list.now c.loop-edit.edit-index
+                c.edit-item.result c.loop-edit-test.true c.edit-item.is pass,
           ))
           c.edit-item.is pass)
       | else-is_change-changed w ↦

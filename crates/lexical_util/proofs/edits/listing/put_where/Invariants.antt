@@ -4,4 +4,5 @@ use Rattle.lexical_util.proofs.PutLemmas.{HasPut}
 use Rattle.lexical_util.proofs.edits.listing.put_where.Given as goal
 
 abbrev pub invariant-loop-edit : goal.invariant-loop-edit
-invariant-loop-edit l = HasPut (λ e. beq (changes_new e) l.changed) l.list l.from l.initial.edits l.edit-index l.place l.edits
+invariant-loop-edit l = HasPut (λ e. beq (changes_new e) l.changed) l.list l.from l.initial.edits l.edit-index l.place
+    l.edits
