@@ -1,13 +1,16 @@
 //! Formats of one's own: constants that are proved lawful when they are compiled.
 //!
-//! Each format has a constant and a law, a function with an empty body. A caller that calls the law may
+//! Each format has a constant and a law, a function that does nothing. A caller that calls the law may
 //! pass the constant where a lawful format is required, and nothing is tested when it runs.
 
-ghost use Rattle.std.specs.Prelude.{◌≡◌, IfErr, true, false};
+ghost use Rattle.std.specs.Prelude.{◌≡◌, [], ◌∷◌, IfErr, true, false};
 ghost use Rattle.std.specs.Result.{OkIff};
+ghost use Rattle.lexical_util.specs.Layout as layout;
 ghost use Rattle.lexical_util.specs.Record.{raw};
 ghost use Rattle.lexical_util.specs.Rules.{Lawful};
 ghost use Rattle.lexical_util.specs.Options.{AreAccepted};
+ghost use Rattle.lexical_util.specs.Writes.{write_byte, write_flag, write_flags};
+ghost use Rattle.lexical_util.specs.Edits.{edited};
 ghost use Rattle.callers.specs.Reading.{number_of, IsNumeral, IsRefusal};
 
 use crate::read::read_digits;
@@ -21,8 +24,8 @@ pub const DECIMAL: u128 = 0x0A0A0A00_0000005F_00000007_0000000C;
 /// several in a row, such as `1_000` and `1__0_`.
 pub const RUST_INTEGER: u128 = 0x0A0A0A00_0000005F_00000241_00000459;
 
-/// Hexadecimal floats: the prefix `x`, digits of radix 16, and always an exponent of 2 in decimal
-/// digits, such as `0x1.8p-3`.
+/// Hexadecimal floats, such as `0x1.8p-3`: the prefix `x`, digits of radix 16, and always an exponent,
+/// which is written in decimal digits and raises 2.
 pub const HEXADECIMAL_FLOAT: u128 = 0x0A021000_78000000_00000000_0000400C;
 
 /// Octal numbers with the suffix `o` or `O`, such as `17o`.
@@ -40,6 +43,9 @@ pub const HEXADECIMAL_EXPONENT: u8 = b'p';
 /// What is known of [`DECIMAL`].
 #[tactic(auto, unfolding(lexical_util::specs::Unfoldable::on_literals))]
 pub fn decimal_facts()
+    // The format of decimal numbers with two setter calls.
+    ensures word { edited 0x0A0A0A00_00000000_00000000_0000000C
+        (write_byte layout.digit_separator 0x5F ∷ write_flags layout.internal_digit_separator true) ≡ DECIMAL }
     ensures separator { (raw DECIMAL).digit_separator ≡ 0x5F }
     ensures radix { (raw DECIMAL).mantissa_radix ≡ 10 }
     ensures between_digits { (raw DECIMAL).integer_internal_digit_separator ≡ true }
@@ -53,6 +59,11 @@ pub fn decimal_facts()
 /// What is known of [`RUST_INTEGER`].
 #[tactic(auto, unfolding(lexical_util::specs::Unfoldable::on_literals))]
 pub fn rust_integer_facts()
+    ensures word { edited 0x0A0A0A00_00000000_00000000_0000000C
+        (write_byte layout.digit_separator 0x5F ∷ write_flag layout.required_exponent_digits false
+        ∷ write_flags (layout.required_integer_digits ∷ layout.no_positive_mantissa_sign ∷ layout.no_exponent_notation
+        ∷ layout.no_special ∷ layout.integer_internal_digit_separator ∷ layout.integer_trailing_digit_separator
+        ∷ layout.integer_consecutive_digit_separator ∷ []) true) ≡ RUST_INTEGER }
     ensures separator { (raw RUST_INTEGER).digit_separator ≡ 0x5F }
     ensures radix { (raw RUST_INTEGER).mantissa_radix ≡ 10 }
     ensures after_digits { (raw RUST_INTEGER).integer_trailing_digit_separator ≡ true }
@@ -67,6 +78,9 @@ pub fn rust_integer_facts()
 /// What is known of [`HEXADECIMAL_FLOAT`].
 #[tactic(auto, unfolding(lexical_util::specs::Unfoldable::on_literals))]
 pub fn hexadecimal_float_facts()
+    ensures word { edited 0x10101000_00000000_00000000_0000000C
+        (write_byte layout.base_prefix 0x78 ∷ write_byte layout.exponent_base 2 ∷ write_byte layout.exponent_radix 10
+        ∷ write_flag layout.required_exponent_notation true ∷ []) ≡ HEXADECIMAL_FLOAT }
     ensures prefix { (raw HEXADECIMAL_FLOAT).base_prefix ≡ 0x78 }
     ensures radix { (raw HEXADECIMAL_FLOAT).mantissa_radix ≡ 16 }
     ensures base { (raw HEXADECIMAL_FLOAT).exponent_base ≡ 2 }
@@ -82,6 +96,7 @@ pub fn hexadecimal_float_facts()
 /// What is known of [`OCTAL`].
 #[tactic(auto, unfolding(lexical_util::specs::Unfoldable::on_literals))]
 pub fn octal_facts()
+    ensures word { edited 0x08080800_00000000_00000000_0000000C (write_byte layout.base_suffix 0x6F ∷ []) ≡ OCTAL }
     ensures suffix { (raw OCTAL).base_suffix ≡ 0x6F }
     ensures radix { (raw OCTAL).mantissa_radix ≡ 8 }
     ensures both_cases { (raw OCTAL).case_sensitive_base_suffix ≡ false }
