@@ -8,6 +8,7 @@
 - PROVED.md names each file of definitions.
 - A format word outside of a block of code can be pasted: it has no `_`.
 - Flags, fields, rules, reserved bits and outcomes are as many as a page says.
+- No line of code or proof has over 160 columns, and at most 150 have over 120; no proof reaches a fact by two positions.
 """
 import pathlib
 import re
@@ -118,8 +119,10 @@ def format_page(text, found, files):
 
 def header():
     """Returns the lines of the C header that name setters and outcomes, by the tables of both."""
+    edits = (TOP / "crates/lexical_util/src/edits.rt").read_text()
+    variants = re.search(r"pub enum FlagSetter \{(.*?)^\}", edits, re.M | re.S)[1]
+    setters = [*enumerate(re.findall(r"^    (\w+),", variants, re.M))]
     changes = (TOP / "crates/lexical_c/src/changes.rt").read_text()
-    setters = [*enumerate(re.findall(r"^    FlagSetter::(\w+),", changes, re.M))]
     setters += re.findall(r"(\d+) => Some\(Edit::(\w+)\(", changes)
     table = (TOP / "crates/lexical_base/specs/Outcomes.antt").read_text()
     outcomes = re.findall(r"^rank_of \(?outcomes\.(\w+).*= (\d+)$", table, re.M)
@@ -127,6 +130,20 @@ def header():
     for name, number in names:
         upper = re.sub(r"(?<=[a-z])(?=[A-Z])", "_", name).upper()
         yield f"    PELTZIVAR_{upper} = {number},\n"
+
+
+def layout():
+    """Returns the lines of crates/ that are too wide, and the facts that are reached by two positions, as `h.0.1`."""
+    wide = 0
+    for path in sorted(path for kind in ("*.rt", "*.antt") for path in (TOP / "crates").rglob(kind) if "out" not in path.parts):
+        for number, line in enumerate(path.read_text().splitlines(), 1):
+            wide += len(line) > 120
+            if len(line) > 160:
+                yield f"{path.relative_to(TOP)}:{number}: {len(line)} columns"
+            if path.suffix == ".antt" and re.search(r"\w(\.[01]){2}", line):
+                yield f"{path.relative_to(TOP)}:{number}: a fact by its position: {line.strip()}"
+    if wide > 150:
+        yield f"crates: {wide} lines of over 120 columns"
 
 
 def main():
@@ -153,6 +170,9 @@ def main():
         for it in found:
             print(f"{page.relative_to(TOP)}: {it}")
         wrong += len(found)
+    for it in layout():
+        print(it)
+        wrong += 1
     return 1 if wrong else 0
 
 

@@ -8,11 +8,11 @@ use Rattle.lexical_util.specs.declared.edits.FlagSetter.TheVariants as setters
 use Rattle.lexical_util.specs.declared.edits.Edit.{Edit}
 use Rattle.lexical_util.specs.declared.edits.Edit.TheVariants as edits
 use Rattle.lexical_c.specs.declared.changes.Change.{Change}
-use Rattle.lexical_c.specs.declared.changes.TheConstants.{FLAG_SETTERS}
+use Rattle.lexical_util.specs.declared.edits.TheConstants.{SETTERS}
 
 -- the setter of flags with a number below 40
 abbrev pub flag_setter : ℕ → FlagSetter
-flag_setter number = get_or FLAG_SETTERS number setters.RequiredIntegerDigits
+flag_setter number = get_or SETTERS number setters.RequiredIntegerDigits
 
 -- the edit of a setter's number with a value, if there is such a setter: the 40 setters of flags and groups, for which
 -- any value but 0 is true, and then those of the bytes, for which 0 is none

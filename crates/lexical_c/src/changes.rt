@@ -4,7 +4,7 @@ ghost use Rattle.std.specs.Prelude.{◌≡◌, Some};
 ghost use Rattle.lexical_util.specs.OptionByte.{byte_of_option};
 ghost use Rattle.lexical_c.specs.Edits.{edit_of};
 
-use lexical_util::edits::{Edit, FlagSetter};
+use lexical_util::edits::{Edit, SETTERS};
 use lexical_util::format_builder::{NonZeroU8, OptionU8};
 
 /// An edit: the number of a setter, 0 to 46, and its argument.
@@ -14,50 +14,6 @@ pub struct Change {
     pub setter: u8,
     pub value: u8,
 }
-
-/// The setters of flags and of groups, each at its number.
-pub const FLAG_SETTERS: [FlagSetter; 40] = [
-    FlagSetter::RequiredIntegerDigits,
-    FlagSetter::RequiredFractionDigits,
-    FlagSetter::RequiredExponentDigits,
-    FlagSetter::RequiredMantissaDigits,
-    FlagSetter::NoPositiveMantissaSign,
-    FlagSetter::RequiredMantissaSign,
-    FlagSetter::NoExponentNotation,
-    FlagSetter::NoPositiveExponentSign,
-    FlagSetter::RequiredExponentSign,
-    FlagSetter::NoExponentWithoutFraction,
-    FlagSetter::NoSpecial,
-    FlagSetter::CaseSensitiveSpecial,
-    FlagSetter::NoIntegerLeadingZeros,
-    FlagSetter::NoFloatLeadingZeros,
-    FlagSetter::RequiredExponentNotation,
-    FlagSetter::CaseSensitiveExponent,
-    FlagSetter::CaseSensitiveBasePrefix,
-    FlagSetter::CaseSensitiveBaseSuffix,
-    FlagSetter::IntegerInternalDigitSeparator,
-    FlagSetter::FractionInternalDigitSeparator,
-    FlagSetter::ExponentInternalDigitSeparator,
-    FlagSetter::IntegerLeadingDigitSeparator,
-    FlagSetter::FractionLeadingDigitSeparator,
-    FlagSetter::ExponentLeadingDigitSeparator,
-    FlagSetter::IntegerTrailingDigitSeparator,
-    FlagSetter::FractionTrailingDigitSeparator,
-    FlagSetter::ExponentTrailingDigitSeparator,
-    FlagSetter::IntegerConsecutiveDigitSeparator,
-    FlagSetter::FractionConsecutiveDigitSeparator,
-    FlagSetter::ExponentConsecutiveDigitSeparator,
-    FlagSetter::SpecialDigitSeparator,
-    FlagSetter::RequiredDigits,
-    FlagSetter::InternalDigitSeparator,
-    FlagSetter::LeadingDigitSeparator,
-    FlagSetter::TrailingDigitSeparator,
-    FlagSetter::ConsecutiveDigitSeparator,
-    FlagSetter::DigitSeparatorFlags,
-    FlagSetter::IntegerDigitSeparatorFlags,
-    FlagSetter::FractionDigitSeparatorFlags,
-    FlagSetter::ExponentDigitSeparatorFlags,
-];
 
 impl Change {
     /// Returns the setter and the argument of an edit.
@@ -91,7 +47,7 @@ impl Change {
             44 => Some(Edit::Radix(self.value)),
             45 => Some(Edit::ExponentBase(byte)),
             46 => Some(Edit::ExponentRadix(byte)),
-            setter => Some(Edit::Flag(*FLAG_SETTERS.get(setter as usize)?, self.value != 0)),
+            setter => Some(Edit::Flag(*SETTERS.get(setter as usize)?, self.value != 0)),
         }
     }
 }

@@ -4,8 +4,8 @@ ghost use Rattle.std.specs.Prelude.{◌≡◌, ◌↔◌, ◌<◌, ℕ};
 ghost use Rattle.lexical_c.specs.Edits.{name_of_setter};
 ghost use Rattle.lexical_c.specs.Texts.{IsWritten};
 
-use crate::changes::FLAG_SETTERS;
 use crate::texts::write_text;
+use lexical_util::edits::SETTERS;
 
 /// Writes the front of a setter's name, as much as has room, and returns the length of the whole. Writes
 /// nothing and returns 0 if there is no such setter.
@@ -49,6 +49,6 @@ fn name(setter: u8) -> &'static str
         44 => "radix",
         45 => "exponent_base",
         46 => "exponent_radix",
-        setter => FLAG_SETTERS[setter as usize].name(),
+        setter => SETTERS[setter as usize].name(),
     }
 }

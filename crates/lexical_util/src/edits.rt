@@ -150,8 +150,8 @@ macro_rules! variants {
     };
 }
 
-// All setters.
-const SETTERS: [FlagSetter; 40] = with_setters!(variants());
+/// All setters, in the order of the variants.
+pub const SETTERS: [FlagSetter; 40] = with_setters!(variants());
 
 impl FlagSetter {
     /// Returns the name of the setter: the variant in snake case.
