@@ -31,6 +31,8 @@ mod format_page;
 #[cfg(test)]
 mod formats;
 #[cfg(test)]
+mod getters;
+#[cfg(test)]
 mod keep;
 #[cfg(test)]
 mod read;
