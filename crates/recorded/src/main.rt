@@ -47,6 +47,3 @@ fn replay(line: &str, alloc: Global) -> Result<bool, AllocError> {
         None => Ok(false),
     }
 }
-
-#[cfg(test)]
-mod tests;
