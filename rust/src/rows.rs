@@ -1,6 +1,7 @@
-//! The rows of setters and of outcomes, for macros that write what is wanted of each.
+//! The rows of setters and of outcomes, for macros that write what is wanted of each. `compare/` and `bench/` have
+//! this file as a module too.
 
-/// Calls a macro with three blocks of rows.
+/// Calls a macro with its arguments in parentheses, if there are any, and three blocks of rows.
 ///
 /// 1. The flags in the order of their bits: variant of `FlagSetter` and of `Edit`, setter of the builder and
 ///    getter of the view, getter of the builder, constant, bit in a word, what the flag does.
@@ -8,8 +9,9 @@
 /// 3. The bytes that may be absent: variant of `Edit`, setter and getter, getter of the builder, what the
 ///    setter does.
 macro_rules! with_setters {
-    ($then:ident) => {
+    ($then:ident $($args:tt)?) => {
         $then! {
+            $($args)?
             {
                 RequiredIntegerDigits required_integer_digits get_required_integer_digits REQUIRED_INTEGER_DIGITS 0
                     "If true, a parser rejects a float with no digits before its decimal point, such as `.5`. Default: false.";
@@ -110,11 +112,12 @@ macro_rules! with_setters {
     };
 }
 
-/// Calls a macro with two blocks of rows, in the order of their ranks: the outcomes that hold an index, and
-/// those that do not. A row has rank, variant, test, what was found.
+/// The same with two blocks of rows, in the order of their ranks: the outcomes that hold an index, and those
+/// that do not. A row has rank, variant, test, what was found.
 macro_rules! with_outcomes {
-    ($then:ident) => {
+    ($then:ident $($args:tt)?) => {
         $then! {
+            $($args)?
             {
                 0 Overflow is_overflow "The number is above the largest of its type.";
                 1 Underflow is_underflow "The number is below the smallest of its type.";

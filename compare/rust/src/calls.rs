@@ -1,199 +1,228 @@
-//! What is written alike over the calls of both sides, which have the same names: each side expands
-//! `common_calls!` under its own imports.
+// What is written alike over the calls of both sides, which have the same names: `ours.rs` and `theirs.rs` include
+// it, each under its own imports.
 
-/// What the calls on bytes, digits and outcomes return, and how a builder is set and read.
-macro_rules! common_calls {
-    () => {
-        pub fn byte(c: u8) -> Byte {
-            Byte { is_valid_ascii: is_valid_ascii(c), is_valid_letter: is_valid_letter(c) }
-        }
+use crate::inputs::SetterCall;
+use crate::results::*;
+use crate::rows::{with_outcomes, with_setters};
+use crate::rules;
+use std::cmp::Ordering;
+use std::num::NonZeroU8;
 
-        pub fn slice(bytes: &[u8]) -> Slice {
-            Slice {
-                is_valid_ascii_slice: is_valid_ascii_slice(bytes),
-                is_valid_letter_slice: is_valid_letter_slice(bytes),
-            }
-        }
+// BYTES AND DIGITS
 
-        pub fn digit(c: u8, radix: u32) -> Digit {
-            let number = |digit: Option<u32>| digit.map_or(u64::MAX, u64::from);
-            Digit {
-                char_to_valid_digit_const: char_to_valid_digit_const(c, radix),
-                char_to_digit_const: number(char_to_digit_const(c, radix)),
-                char_to_digit: number(char_to_digit(c, radix)),
-                char_is_digit_const: char_is_digit_const(c, radix),
-                char_is_digit: char_is_digit(c, radix),
-            }
-        }
+pub fn byte(c: u8) -> Byte {
+    Byte { is_valid_ascii: is_valid_ascii(c), is_valid_letter: is_valid_letter(c) }
+}
 
-        pub fn digit_char(digit: u32, radix: u32) -> DigitChar {
-            DigitChar {
-                digit_to_char: digit_to_char(digit),
-                digit_to_char_const: digit_to_char_const(digit, radix),
-            }
-        }
+pub fn slice(bytes: &[u8]) -> Slice {
+    Slice {
+        is_valid_ascii_slice: is_valid_ascii_slice(bytes),
+        is_valid_letter_slice: is_valid_letter_slice(bytes),
+    }
+}
 
-        pub fn is_valid_radix(radix: u32) -> bool {
-            flags::is_valid_radix(radix)
-        }
+pub fn digit(c: u8, radix: u32) -> Digit {
+    let number = |digit: Option<u32>| digit.map_or(u64::MAX, u64::from);
+    Digit {
+        char_to_valid_digit_const: char_to_valid_digit_const(c, radix),
+        char_to_digit_const: number(char_to_digit_const(c, radix)),
+        char_to_digit: number(char_to_digit(c, radix)),
+        char_is_digit_const: char_is_digit_const(c, radix),
+        char_is_digit: char_is_digit(c, radix),
+    }
+}
 
-        with_parse_errors!(parse_errors);
-        with_other_outcomes!(other_outcomes);
+pub fn digit_char(digit: u32, radix: u32) -> DigitChar {
+    DigitChar {
+        digit_to_char: digit_to_char(digit),
+        digit_to_char_const: digit_to_char_const(digit, radix),
+    }
+}
 
+pub fn is_valid_radix(radix: u32) -> bool {
+    flags::is_valid_radix(radix)
+}
+
+// OUTCOMES
+
+macro_rules! outcomes {
+    (
+        { $($index_rank:literal $Indexed:ident $is_indexed:ident $index_doc:literal;)* }
+        { $($rank:literal $Error:ident $is_error:ident $doc:literal;)* }
+    ) => {
         /// The outcome at a position of the enum, with an index if it holds one.
         fn error_at(position: u32, index: usize) -> Error {
-            parse_error(position, index).or(other_outcome(position)).expect("a position below 49")
+            match position {
+                $($index_rank => Error::$Indexed(index),)*
+                $($rank => Error::$Error,)*
+                _ => unreachable!("a position is below 49"),
+            }
         }
 
+        /// The position of an outcome. The Rust crate's enum may get more variants.
+        #[allow(unreachable_patterns)]
         fn position(error: Error) -> u32 {
-            other_position(error).or_else(|| parse_position(error)).expect("one of the 49 outcomes")
-        }
-
-        pub fn outcome(position: u32, index: usize) -> Outcome {
-            let error = error_at(position, index);
-            Outcome {
-                tests: parse_tests(error) | other_tests(error),
-                has_index: error.index().is_some(),
-                index: error.index().map_or(0, |index| *index as u64),
-                clone_is_equal: error.clone() == error,
-            }
-        }
-
-        pub fn order(a: (u32, usize), b: (u32, usize)) -> Order {
-            let (a, b) = (error_at(a.0, a.1), error_at(b.0, b.1));
-            let sign = |order: Ordering| order as i32;
-            Order {
-                cmp: sign(a.cmp(&b)),
-                partial_cmp: a.partial_cmp(&b).map_or(2, sign),
-                eq: a == b,
-                lt: a < b,
-            }
-        }
-
-        pub fn description(position: u32, index: usize) -> String {
-            error_at(position, index).description().to_string()
-        }
-
-        pub fn display(position: u32, index: usize, style: u32) -> String {
-            let error = error_at(position, index);
-            match style {
-                0 => format!("{error}"),
-                1 => format!("{error:200}"),
-                2 => format!("{error:*>150}"),
-                3 => format!("{error:#<3}"),
-                _ => format!("{error:0^99}"),
-            }
-        }
-
-        with_flags!(fields);
-
-        fn set(builder: NumberFormatBuilder, call: &SetterCall) -> NumberFormatBuilder {
-            let byte = NonZeroU8::new(call.value);
-            let flag = call.value % 2 == 1;
-            match call.setter {
-                0 => builder.required_integer_digits(flag),
-                1 => builder.required_fraction_digits(flag),
-                2 => builder.required_exponent_digits(flag),
-                3 => builder.required_mantissa_digits(flag),
-                4 => builder.no_positive_mantissa_sign(flag),
-                5 => builder.required_mantissa_sign(flag),
-                6 => builder.no_exponent_notation(flag),
-                7 => builder.no_positive_exponent_sign(flag),
-                8 => builder.required_exponent_sign(flag),
-                9 => builder.no_exponent_without_fraction(flag),
-                10 => builder.no_special(flag),
-                11 => builder.case_sensitive_special(flag),
-                12 => builder.no_integer_leading_zeros(flag),
-                13 => builder.no_float_leading_zeros(flag),
-                14 => builder.required_exponent_notation(flag),
-                15 => builder.case_sensitive_exponent(flag),
-                16 => builder.case_sensitive_base_prefix(flag),
-                17 => builder.case_sensitive_base_suffix(flag),
-                18 => builder.integer_internal_digit_separator(flag),
-                19 => builder.fraction_internal_digit_separator(flag),
-                20 => builder.exponent_internal_digit_separator(flag),
-                21 => builder.integer_leading_digit_separator(flag),
-                22 => builder.fraction_leading_digit_separator(flag),
-                23 => builder.exponent_leading_digit_separator(flag),
-                24 => builder.integer_trailing_digit_separator(flag),
-                25 => builder.fraction_trailing_digit_separator(flag),
-                26 => builder.exponent_trailing_digit_separator(flag),
-                27 => builder.integer_consecutive_digit_separator(flag),
-                28 => builder.fraction_consecutive_digit_separator(flag),
-                29 => builder.exponent_consecutive_digit_separator(flag),
-                30 => builder.special_digit_separator(flag),
-                31 => builder.required_digits(flag),
-                32 => builder.internal_digit_separator(flag),
-                33 => builder.leading_digit_separator(flag),
-                34 => builder.trailing_digit_separator(flag),
-                35 => builder.consecutive_digit_separator(flag),
-                36 => builder.digit_separator_flags(flag),
-                37 => builder.integer_digit_separator_flags(flag),
-                38 => builder.fraction_digit_separator_flags(flag),
-                39 => builder.exponent_digit_separator_flags(flag),
-                40 => builder.digit_separator(byte),
-                41 => builder.base_prefix(byte),
-                42 => builder.base_suffix(byte),
-                43 => builder.mantissa_radix(call.value),
-                44 => builder.radix(call.value),
-                45 => builder.exponent_base(byte),
-                46 => builder.exponent_radix(byte),
-                _ => unreachable!("a builder has 47 setters"),
-            }
-        }
-    };
-}
-
-macro_rules! parse_errors {
-    ($($position:literal $variant:ident $test:ident,)*) => {
-        fn parse_error(position: u32, index: usize) -> Option<Error> {
-            match position {
-                $($position => Some(Error::$variant(index)),)*
-                _ => None,
-            }
-        }
-
-        fn parse_tests(error: Error) -> u64 {
-            0 $(| (error.$test() as u64) << $position)*
-        }
-
-        fn parse_position(error: Error) -> Option<u32> {
             match error {
-                $(Error::$variant(_) => Some($position),)*
-                _ => None,
+                $(Error::$Indexed(_) => $index_rank,)*
+                $(Error::$Error => $rank,)*
+                _ => unreachable!("one of the 49 outcomes"),
             }
+        }
+
+        fn tests(error: Error) -> u64 {
+            0 $(| (error.$is_indexed() as u64) << $index_rank)* $(| (error.$is_error() as u64) << $rank)*
         }
     };
 }
 
-macro_rules! other_outcomes {
-    ($($position:literal $variant:ident $test:ident,)*) => {
-        fn other_outcome(position: u32) -> Option<Error> {
-            match position {
-                $($position => Some(Error::$variant),)*
-                _ => None,
-            }
-        }
+with_outcomes!(outcomes);
 
-        fn other_tests(error: Error) -> u64 {
-            0 $(| (error.$test() as u64) << $position)*
-        }
+pub fn outcome(position: u32, index: usize) -> Outcome {
+    let error = error_at(position, index);
+    Outcome {
+        tests: tests(error),
+        has_index: error.index().is_some(),
+        index: error.index().map_or(0, |index| *index as u64),
+        clone_is_equal: error.clone() == error,
+    }
+}
 
-        fn other_position(error: Error) -> Option<u32> {
-            match error {
-                $(Error::$variant => Some($position),)*
-                _ => None,
-            }
+pub fn order(a: (u32, usize), b: (u32, usize)) -> Order {
+    let (a, b) = (error_at(a.0, a.1), error_at(b.0, b.1));
+    let sign = |order: Ordering| order as i32;
+    Order {
+        cmp: sign(a.cmp(&b)),
+        partial_cmp: a.partial_cmp(&b).map_or(2, sign),
+        eq: a == b,
+        lt: a < b,
+    }
+}
+
+pub fn description(position: u32, index: usize) -> String {
+    error_at(position, index).description().to_string()
+}
+
+pub fn display(position: u32, index: usize, style: u32) -> String {
+    let error = error_at(position, index);
+    match style {
+        0 => format!("{error}"),
+        1 => format!("{error:200}"),
+        2 => format!("{error:*>150}"),
+        3 => format!("{error:#<3}"),
+        _ => format!("{error:0^99}"),
+    }
+}
+
+// WORDS
+
+/// The extractors and the rules of a word, by the outcomes of the checks that name one.
+fn word_of(word: u128, error: Error, radix_error: Error) -> Word {
+    let (error, radix_error) = (position(error), position(radix_error));
+    Word {
+        digit_separator: flags::digit_separator(word),
+        base_prefix: flags::base_prefix(word),
+        base_suffix: flags::base_suffix(word),
+        mantissa_radix: flags::mantissa_radix(word),
+        exponent_base: flags::exponent_base(word),
+        exponent_radix: flags::exponent_radix(word),
+        is_valid_exponent_flags: flags::is_valid_exponent_flags(word),
+        is_valid_digit_separator: flags::is_valid_digit_separator(word),
+        is_valid_base_prefix: flags::is_valid_base_prefix(word),
+        is_valid_base_suffix: flags::is_valid_base_suffix(word),
+        is_valid_punctuation: flags::is_valid_punctuation(word),
+        radix_error,
+        format_error_impl: error,
+        format_error: error,
+        format_is_valid: error == rules::SUCCESS,
+        view_error: error,
+        view_is_valid: error == rules::SUCCESS,
+        view_error_radix: radix_error,
+        view_is_valid_radix: radix_error == rules::SUCCESS,
+    }
+}
+
+pub fn options(word: u128, exponent: u8, decimal_point: u8) -> bool {
+    flags::is_valid_options_punctuation(word, exponent, decimal_point)
+}
+
+pub fn radix_from_flags(word: u128, mask: u128, shift: i32) -> u32 {
+    flags::radix_from_flags(word, mask, shift)
+}
+
+/// The getters of a view, which is of another type on each side.
+macro_rules! view_of {
+    (
+        ($view:expr)
+        { $($Flag:ident $flag:ident $get:ident $CONST:ident $bit:literal $doc:literal;)* }
+        $groups:tt
+        $bytes:tt
+    ) => {{
+        let view = $view;
+        View {
+            $($flag: view.$flag(),)*
+            required_digits: view.required_digits(),
+            internal_digit_separator: view.internal_digit_separator(),
+            leading_digit_separator: view.leading_digit_separator(),
+            trailing_digit_separator: view.trailing_digit_separator(),
+            consecutive_digit_separator: view.consecutive_digit_separator(),
+            digit_separator: view.digit_separator(),
+            base_prefix: view.base_prefix(),
+            base_suffix: view.base_suffix(),
+            has_digit_separator: view.has_digit_separator(),
+            has_base_prefix: view.has_base_prefix(),
+            has_base_suffix: view.has_base_suffix(),
+            mantissa_radix: view.mantissa_radix(),
+            radix: view.radix(),
+            exponent_base: view.exponent_base(),
+            exponent_radix: view.exponent_radix(),
+            radix2: view.radix2(),
+            radix4: view.radix4(),
+            radix8: view.radix8(),
+            flags: view.flags().into(),
+            interface_flags: view.interface_flags().into(),
+            digit_separator_flags: view.digit_separator_flags().into(),
+            exponent_flags: view.exponent_flags().into(),
+            integer_digit_separator_flags: view.integer_digit_separator_flags().into(),
+            fraction_digit_separator_flags: view.fraction_digit_separator_flags().into(),
+            exponent_digit_separator_flags: view.exponent_digit_separator_flags().into(),
         }
+    }};
+}
+
+// BUILDERS
+
+macro_rules! constants {
+    ($($name:ident)*) => {
+        /// The constants of the layout, and the standard format.
+        pub const CONSTANTS: &[(&str, u128)] =
+            &[$((stringify!($name), flags::$name as u128),)* ("STANDARD", STANDARD)];
     };
 }
 
-macro_rules! fields {
-    ($($flag:ident $constant:ident $getter:ident,)*) => {
+macro_rules! builders {
+    (
+        { $($Flag:ident $flag:ident $get:ident $CONST:ident $bit:literal $doc:literal;)* }
+        { $($Group:ident $group:ident $group_doc:literal;)* }
+        $bytes:tt
+    ) => {
+        constants! {
+            $($CONST)*
+            REQUIRED_DIGITS INTERNAL_DIGIT_SEPARATOR LEADING_DIGIT_SEPARATOR TRAILING_DIGIT_SEPARATOR
+            CONSECUTIVE_DIGIT_SEPARATOR DIGIT_SEPARATOR_FLAG_MASK FLAG_MASK INTERFACE_FLAG_MASK EXPONENT_FLAG_MASK
+            INTEGER_DIGIT_SEPARATOR_FLAG_MASK FRACTION_DIGIT_SEPARATOR_FLAG_MASK EXPONENT_DIGIT_SEPARATOR_FLAG_MASK
+            DIGIT_SEPARATOR BASE_PREFIX BASE_SUFFIX MANTISSA_RADIX RADIX EXPONENT_BASE EXPONENT_RADIX RADIX_MASK
+            DIGIT_SEPARATOR_SHIFT BASE_PREFIX_SHIFT BASE_SUFFIX_SHIFT MANTISSA_RADIX_SHIFT RADIX_SHIFT
+            EXPONENT_BASE_SHIFT EXPONENT_RADIX_SHIFT
+        }
+
+        /// The setters of flags and of groups, each at its position.
+        const SETTERS: [fn(NumberFormatBuilder, bool) -> NumberFormatBuilder; 40] =
+            [$(NumberFormatBuilder::$flag,)* $(NumberFormatBuilder::$group,)*];
+
         fn fields(builder: &NumberFormatBuilder) -> Fields {
             let byte = |byte: OptionU8| byte.map_or(0, NonZeroU8::get);
             Fields {
-                $($flag: builder.$getter(),)*
+                $($flag: builder.$get(),)*
                 mantissa_radix: builder.get_mantissa_radix(),
                 digit_separator: byte(builder.get_digit_separator()),
                 base_prefix: byte(builder.get_base_prefix()),
@@ -205,4 +234,53 @@ macro_rules! fields {
     };
 }
 
-pub(crate) use {common_calls, fields, other_outcomes, parse_errors};
+with_setters!(builders);
+
+fn set(builder: NumberFormatBuilder, call: &SetterCall) -> NumberFormatBuilder {
+    let byte = NonZeroU8::new(call.value);
+    match call.setter {
+        40 => builder.digit_separator(byte),
+        41 => builder.base_prefix(byte),
+        42 => builder.base_suffix(byte),
+        43 => builder.mantissa_radix(call.value),
+        44 => builder.radix(call.value),
+        45 => builder.exponent_base(byte),
+        46 => builder.exponent_radix(byte),
+        setter => SETTERS[setter as usize](builder, call.value % 2 == 1),
+    }
+}
+
+fn started(start: Option<u128>) -> NumberFormatBuilder {
+    start.map_or_else(NumberFormatBuilder::new, NumberFormatBuilder::rebuild)
+}
+
+#[allow(deprecated)]
+pub fn builder(start: Option<u128>, calls: &[SetterCall]) -> Built {
+    let builder = calls.iter().fold(started(start), set);
+    let (strict_word, strict_error) = strict(&builder);
+    Built {
+        fields: fields(&builder),
+        build_unchecked: builder.build_unchecked().into(),
+        build: builder.build().into(),
+        strict_word: strict_word.into(),
+        strict_error,
+    }
+}
+
+pub fn from_radix(radix: u8) -> u128 {
+    NumberFormatBuilder::from_radix(radix)
+}
+
+#[allow(deprecated)]
+pub fn standards() -> Standards {
+    let [builder, default_view] = builders_of_views();
+    Standards {
+        binary: NumberFormatBuilder::binary().into(),
+        octal: NumberFormatBuilder::octal().into(),
+        decimal: NumberFormatBuilder::decimal().into(),
+        hexadecimal: NumberFormatBuilder::hexadecimal().into(),
+        builder: builder.build_unchecked().into(),
+        default_view: default_view.build_unchecked().into(),
+        default_builder: NumberFormatBuilder::default().build_unchecked().into(),
+    }
+}

@@ -1,7 +1,7 @@
 //! What the calls are compared on. All of it follows from one seed.
 
 use crate::random::Random;
-use crate::tables::with_flags;
+use crate::rows::with_setters;
 use std::fmt::{self, Debug, Formatter};
 
 /// A setter of a builder, by its position: the 31 flags in the order of their bits, the nine groups,
@@ -15,37 +15,30 @@ pub struct SetterCall {
 
 const SETTERS: u32 = 47;
 
-macro_rules! flag_names {
-    ($($flag:ident $constant:ident $getter:ident,)*) => {
-        [$(stringify!($flag)),*]
+macro_rules! setter_names {
+    (
+        { $($Flag:ident $flag:ident $get:ident $CONST:ident $bit:literal $doc:literal;)* }
+        { $($Group:ident $group:ident $group_doc:literal;)* }
+        $bytes:tt
+    ) => {
+        [
+            $(stringify!($flag),)*
+            $(stringify!($group),)*
+            "digit_separator",
+            "base_prefix",
+            "base_suffix",
+            "mantissa_radix",
+            "radix",
+            "exponent_base",
+            "exponent_radix",
+        ]
     };
 }
 
 /// The name of the setter at a position.
 fn setter_name(position: u32) -> &'static str {
-    const FLAGS: [&str; 31] = with_flags!(flag_names);
-    const OTHERS: [&str; 16] = [
-        "required_digits",
-        "internal_digit_separator",
-        "leading_digit_separator",
-        "trailing_digit_separator",
-        "consecutive_digit_separator",
-        "digit_separator_flags",
-        "integer_digit_separator_flags",
-        "fraction_digit_separator_flags",
-        "exponent_digit_separator_flags",
-        "digit_separator",
-        "base_prefix",
-        "base_suffix",
-        "mantissa_radix",
-        "radix",
-        "exponent_base",
-        "exponent_radix",
-    ];
-    match position as usize {
-        position @ 0..31 => FLAGS[position],
-        position => OTHERS[position - 31],
-    }
+    const NAMES: [&str; SETTERS as usize] = with_setters!(setter_names);
+    NAMES[position as usize]
 }
 
 /// The position of the setter with a name.

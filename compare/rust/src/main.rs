@@ -2,16 +2,16 @@
 //!
 //!     driver [--seed N] [--scale N] [--threads N] [--only WORD] [--record FILE]
 
-mod calls;
 mod inputs;
 mod ours;
 mod random;
 mod record;
 mod results;
+#[path = "../../../rust/src/rows.rs"]
+mod rows;
 mod rules;
 mod sections;
 mod source;
-mod tables;
 mod tally;
 mod theirs;
 

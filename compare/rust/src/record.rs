@@ -6,23 +6,19 @@
 
 use crate::inputs::{single_calls, SetterCall, BASES};
 use crate::random::Random;
-use crate::tables::{with_other_outcomes, with_parse_errors};
+use crate::rows::with_outcomes;
 use crate::{rules, theirs};
 
 macro_rules! names {
-    ($($position:literal $variant:ident $test:ident,)*) => {
-        [$(stringify!($variant)),*]
+    ($({ $($rank:literal $Error:ident $is_error:ident $doc:literal;)* })*) => {
+        [$($(stringify!($Error),)*)*]
     };
 }
 
 /// The name of the outcome at a position.
 fn name(position: u32) -> &'static str {
-    const PARSE_ERRORS: [&str; 19] = with_parse_errors!(names);
-    const OTHERS: [&str; 30] = with_other_outcomes!(names);
-    match position as usize {
-        position @ 0..19 => PARSE_ERRORS[position],
-        position => OTHERS[position - 19],
-    }
+    const NAMES: [&str; 49] = with_outcomes!(names);
+    NAMES[position as usize]
 }
 
 /// Setter calls as text, each after a space.

@@ -1,5 +1,6 @@
 //! What the exported calls return, in the layout of C, and how two of them differ.
 
+use crate::rows::with_setters;
 use std::fmt::Debug;
 
 /// What some calls return of one input.
@@ -167,67 +168,56 @@ results! {
     }
 }
 
-results! {
-    /// The getters of the view of a word.
-    View {
-        required_integer_digits: bool,
-        required_fraction_digits: bool,
-        required_exponent_digits: bool,
-        required_mantissa_digits: bool,
-        no_positive_mantissa_sign: bool,
-        required_mantissa_sign: bool,
-        no_exponent_notation: bool,
-        no_positive_exponent_sign: bool,
-        required_exponent_sign: bool,
-        no_exponent_without_fraction: bool,
-        no_special: bool,
-        case_sensitive_special: bool,
-        no_integer_leading_zeros: bool,
-        no_float_leading_zeros: bool,
-        required_exponent_notation: bool,
-        case_sensitive_exponent: bool,
-        case_sensitive_base_prefix: bool,
-        case_sensitive_base_suffix: bool,
-        integer_internal_digit_separator: bool,
-        fraction_internal_digit_separator: bool,
-        exponent_internal_digit_separator: bool,
-        integer_leading_digit_separator: bool,
-        fraction_leading_digit_separator: bool,
-        exponent_leading_digit_separator: bool,
-        integer_trailing_digit_separator: bool,
-        fraction_trailing_digit_separator: bool,
-        exponent_trailing_digit_separator: bool,
-        integer_consecutive_digit_separator: bool,
-        fraction_consecutive_digit_separator: bool,
-        exponent_consecutive_digit_separator: bool,
-        special_digit_separator: bool,
-        required_digits: bool,
-        internal_digit_separator: bool,
-        leading_digit_separator: bool,
-        trailing_digit_separator: bool,
-        consecutive_digit_separator: bool,
-        digit_separator: u8,
-        base_prefix: u8,
-        base_suffix: u8,
-        has_digit_separator: bool,
-        has_base_prefix: bool,
-        has_base_suffix: bool,
-        mantissa_radix: u32,
-        radix: u32,
-        exponent_base: u32,
-        exponent_radix: u32,
-        radix2: u32,
-        radix4: u32,
-        radix8: u32,
-        flags: Wide,
-        interface_flags: Wide,
-        digit_separator_flags: Wide,
-        exponent_flags: Wide,
-        integer_digit_separator_flags: Wide,
-        fraction_digit_separator_flags: Wide,
-        exponent_digit_separator_flags: Wide,
-    }
+macro_rules! results_with_flags {
+    ({ $($Flag:ident $flag:ident $get:ident $CONST:ident $bit:literal $doc:literal;)* } $groups:tt $bytes:tt) => {
+        results! {
+            /// The getters of the view of a word.
+            View {
+                $($flag: bool,)*
+                required_digits: bool,
+                internal_digit_separator: bool,
+                leading_digit_separator: bool,
+                trailing_digit_separator: bool,
+                consecutive_digit_separator: bool,
+                digit_separator: u8,
+                base_prefix: u8,
+                base_suffix: u8,
+                has_digit_separator: bool,
+                has_base_prefix: bool,
+                has_base_suffix: bool,
+                mantissa_radix: u32,
+                radix: u32,
+                exponent_base: u32,
+                exponent_radix: u32,
+                radix2: u32,
+                radix4: u32,
+                radix8: u32,
+                flags: Wide,
+                interface_flags: Wide,
+                digit_separator_flags: Wide,
+                exponent_flags: Wide,
+                integer_digit_separator_flags: Wide,
+                fraction_digit_separator_flags: Wide,
+                exponent_digit_separator_flags: Wide,
+            }
+        }
+
+        results! {
+            /// The getters of a builder; an absent byte is 0.
+            Fields {
+                $($flag: bool,)*
+                mantissa_radix: u8,
+                digit_separator: u8,
+                base_prefix: u8,
+                base_suffix: u8,
+                exponent_base: u8,
+                exponent_radix: u8,
+            }
+        }
+    };
 }
+
+with_setters!(results_with_flags);
 
 results! {
     /// The calls that take no word, as words.
@@ -239,49 +229,6 @@ results! {
         builder: Wide,
         default_view: Wide,
         default_builder: Wide,
-    }
-}
-
-results! {
-    /// The getters of a builder; an absent byte is 0.
-    Fields {
-        required_integer_digits: bool,
-        required_fraction_digits: bool,
-        required_exponent_digits: bool,
-        required_mantissa_digits: bool,
-        no_positive_mantissa_sign: bool,
-        required_mantissa_sign: bool,
-        no_exponent_notation: bool,
-        no_positive_exponent_sign: bool,
-        required_exponent_sign: bool,
-        no_exponent_without_fraction: bool,
-        no_special: bool,
-        case_sensitive_special: bool,
-        no_integer_leading_zeros: bool,
-        no_float_leading_zeros: bool,
-        required_exponent_notation: bool,
-        case_sensitive_exponent: bool,
-        case_sensitive_base_prefix: bool,
-        case_sensitive_base_suffix: bool,
-        integer_internal_digit_separator: bool,
-        fraction_internal_digit_separator: bool,
-        exponent_internal_digit_separator: bool,
-        integer_leading_digit_separator: bool,
-        fraction_leading_digit_separator: bool,
-        exponent_leading_digit_separator: bool,
-        integer_trailing_digit_separator: bool,
-        fraction_trailing_digit_separator: bool,
-        exponent_trailing_digit_separator: bool,
-        integer_consecutive_digit_separator: bool,
-        fraction_consecutive_digit_separator: bool,
-        exponent_consecutive_digit_separator: bool,
-        special_digit_separator: bool,
-        mantissa_radix: u8,
-        digit_separator: u8,
-        base_prefix: u8,
-        base_suffix: u8,
-        exponent_base: u8,
-        exponent_radix: u8,
     }
 }
 

@@ -128,8 +128,8 @@ fn outcomes(tally: &mut Tally) {
 }
 
 fn constants(tally: &mut Tally) {
-    for (position, (name, constant)) in theirs::CONSTANTS.iter().enumerate() {
-        tally.same(name, ours::constant(position).into(), Wide::from(*constant));
+    for ((name, ours), (_, theirs)) in ours::CONSTANTS.iter().zip(theirs::CONSTANTS) {
+        tally.same(name, Wide::from(*ours), Wide::from(*theirs));
     }
     tally.same("no input", ours::standards(), theirs::standards());
     for radix in 0..=255 {

@@ -1,13 +1,6 @@
 //! The same calls of the Rust crate. What it has only for a word that is known when it is compiled, or
 //! not at all, is written over the calls that it has.
 
-use crate::calls::{common_calls, fields, other_outcomes, parse_errors};
-use crate::inputs::SetterCall;
-use crate::results::*;
-use crate::rules;
-use crate::tables::{with_constants, with_flags, with_other_outcomes, with_parse_errors};
-use std::cmp::Ordering;
-use std::num::NonZeroU8;
 use std::panic::{catch_unwind, AssertUnwindSafe};
 use upstream::ascii::*;
 use upstream::checks;
@@ -18,41 +11,10 @@ use upstream::format::{self, STANDARD};
 use upstream::format_builder::{NumberFormatBuilder, OptionU8};
 use upstream::format_flags as flags;
 
-common_calls!();
-
-macro_rules! constants {
-    ($($name:ident)*) => {
-        pub const CONSTANTS: &[(&str, u128)] =
-            &[$((stringify!($name), flags::$name as u128),)* ("STANDARD", STANDARD)];
-    };
-}
-
-with_constants!(constants);
+include!("calls.rs");
 
 pub fn word(word: u128) -> Word {
-    let error = position(checks::format_error(word));
-    let radix_error = position(checks::radix_error(word));
-    Word {
-        digit_separator: flags::digit_separator(word),
-        base_prefix: flags::base_prefix(word),
-        base_suffix: flags::base_suffix(word),
-        mantissa_radix: flags::mantissa_radix(word),
-        exponent_base: flags::exponent_base(word),
-        exponent_radix: flags::exponent_radix(word),
-        is_valid_exponent_flags: flags::is_valid_exponent_flags(word),
-        is_valid_digit_separator: flags::is_valid_digit_separator(word),
-        is_valid_base_prefix: flags::is_valid_base_prefix(word),
-        is_valid_base_suffix: flags::is_valid_base_suffix(word),
-        is_valid_punctuation: flags::is_valid_punctuation(word),
-        radix_error,
-        format_error_impl: error,
-        format_error: error,
-        format_is_valid: error == rules::SUCCESS,
-        view_error: error,
-        view_is_valid: error == rules::SUCCESS,
-        view_error_radix: radix_error,
-        view_is_valid_radix: radix_error == rules::SUCCESS,
-    }
+    word_of(word, checks::format_error(word), checks::radix_error(word))
 }
 
 /// The same through the crate's calls for a word that is known when this is compiled.
@@ -69,23 +31,15 @@ pub fn const_word<const WORD: u128>() -> Word {
     }
 }
 
-pub fn options(word: u128, exponent: u8, decimal_point: u8) -> bool {
-    flags::is_valid_options_punctuation(word, exponent, decimal_point)
-}
-
-pub fn radix_from_flags(word: u128, mask: u128, shift: i32) -> u32 {
-    flags::radix_from_flags(word, mask, shift)
-}
-
 macro_rules! views {
-    ($($flag:ident $constant:ident $getter:ident,)*) => {
+    ({ $($Flag:ident $flag:ident $get:ident $CONST:ident $bit:literal $doc:literal;)* } $groups:tt $bytes:tt) => {
         /// The view of any word, by the constants and extractors through which the crate's reads.
         pub fn view(word: u128) -> View {
             let any = |mask: u128| word & mask != 0;
             let bits = |mask: u128| (word & mask).into();
             let radix = flags::mantissa_radix(word);
             View {
-                $($flag: any(flags::$constant),)*
+                $($flag: any(flags::$CONST),)*
                 required_digits: any(flags::REQUIRED_DIGITS),
                 internal_digit_separator: any(flags::INTERNAL_DIGIT_SEPARATOR),
                 leading_digit_separator: any(flags::LEADING_DIGIT_SEPARATOR),
@@ -114,44 +68,11 @@ macro_rules! views {
             }
         }
 
-        /// The view itself, of a word that is known when this is compiled.
-        pub fn const_view<const WORD: u128>() -> View {
-            let view = NumberFormat::<WORD>::new();
-            View {
-                $($flag: view.$flag(),)*
-                required_digits: view.required_digits(),
-                internal_digit_separator: view.internal_digit_separator(),
-                leading_digit_separator: view.leading_digit_separator(),
-                trailing_digit_separator: view.trailing_digit_separator(),
-                consecutive_digit_separator: view.consecutive_digit_separator(),
-                digit_separator: view.digit_separator(),
-                base_prefix: view.base_prefix(),
-                base_suffix: view.base_suffix(),
-                has_digit_separator: view.has_digit_separator(),
-                has_base_prefix: view.has_base_prefix(),
-                has_base_suffix: view.has_base_suffix(),
-                mantissa_radix: view.mantissa_radix(),
-                radix: view.radix(),
-                exponent_base: view.exponent_base(),
-                exponent_radix: view.exponent_radix(),
-                radix2: view.radix2(),
-                radix4: view.radix4(),
-                radix8: view.radix8(),
-                flags: view.flags().into(),
-                interface_flags: view.interface_flags().into(),
-                digit_separator_flags: view.digit_separator_flags().into(),
-                exponent_flags: view.exponent_flags().into(),
-                integer_digit_separator_flags: view.integer_digit_separator_flags().into(),
-                fraction_digit_separator_flags: view.fraction_digit_separator_flags().into(),
-                exponent_digit_separator_flags: view.exponent_digit_separator_flags().into(),
-            }
-        }
-
         /// A new builder after the setter calls that give it the fields of a word as they stand.
         fn raw_builder(word: u128) -> NumberFormatBuilder {
             let byte = |shift: i32| (word >> shift) as u8;
             NumberFormatBuilder::new()
-                $(.$flag(word & flags::$constant != 0))*
+                $(.$flag(word & flags::$CONST != 0))*
                 .mantissa_radix(byte(flags::MANTISSA_RADIX_SHIFT))
                 .digit_separator(NonZeroU8::new(byte(flags::DIGIT_SEPARATOR_SHIFT)))
                 .base_prefix(NonZeroU8::new(byte(flags::BASE_PREFIX_SHIFT)))
@@ -162,7 +83,12 @@ macro_rules! views {
     };
 }
 
-with_flags!(views);
+with_setters!(views);
+
+/// The view itself, of a word that is known when this is compiled.
+pub fn const_view<const WORD: u128>() -> View {
+    with_setters!(view_of(NumberFormat::<WORD>::new()))
+}
 
 pub fn rebuild(word: u128) -> Fields {
     fields(&NumberFormatBuilder::rebuild(word))
@@ -172,22 +98,9 @@ pub fn const_rebuild<const WORD: u128>() -> Fields {
     fields(&NumberFormat::<WORD>::rebuild())
 }
 
-#[allow(deprecated)]
-pub fn standards() -> Standards {
-    Standards {
-        binary: NumberFormatBuilder::binary().into(),
-        octal: NumberFormatBuilder::octal().into(),
-        decimal: NumberFormatBuilder::decimal().into(),
-        hexadecimal: NumberFormatBuilder::hexadecimal().into(),
-        builder: NumberFormat::<0>::builder().build_unchecked().into(),
-        // The port's default view is that of the standard format.
-        default_view: NumberFormat::<STANDARD>::rebuild().build_unchecked().into(),
-        default_builder: NumberFormatBuilder::default().build_unchecked().into(),
-    }
-}
-
-pub fn from_radix(radix: u8) -> u128 {
-    NumberFormatBuilder::from_radix(radix)
+fn builders_of_views() -> [NumberFormatBuilder; 2] {
+    // The port's default view is that of the standard format.
+    [NumberFormat::<0>::builder(), NumberFormat::<STANDARD>::rebuild()]
 }
 
 /// The word of the strict build, or 0 and the error whose description it panics with.
@@ -199,26 +112,6 @@ fn strict(builder: &NumberFormatBuilder) -> (u128, u32) {
             let said = |position: &u32| error_at(*position, 0).description() == text;
             (0, (0..49).find(said).expect("a panic with a description"))
         }
-    }
-}
-
-pub fn builder(start: Option<u128>, calls: &[SetterCall]) -> Built {
-    built(&calls.iter().fold(started(start), set))
-}
-
-fn started(start: Option<u128>) -> NumberFormatBuilder {
-    start.map_or_else(NumberFormatBuilder::new, NumberFormatBuilder::rebuild)
-}
-
-#[allow(deprecated)]
-fn built(builder: &NumberFormatBuilder) -> Built {
-    let (strict_word, strict_error) = strict(builder);
-    Built {
-        fields: fields(builder),
-        build_unchecked: builder.build_unchecked().into(),
-        build: builder.build().into(),
-        strict_word: strict_word.into(),
-        strict_error,
     }
 }
 
