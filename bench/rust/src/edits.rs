@@ -1,53 +1,34 @@
 //! Lists of edits over the Rust crate's builder, which has none: the same type as the library's, so
 //! that both sides do the same work.
 
+use crate::rows::with_setters;
 use upstream::format_builder::{NumberFormatBuilder, OptionU8};
 
-/// A setter of a flag or of a group.
-#[derive(Clone, Copy)]
-#[allow(dead_code)]
-pub enum FlagSetter {
-    RequiredIntegerDigits,
-    RequiredFractionDigits,
-    RequiredExponentDigits,
-    RequiredMantissaDigits,
-    NoPositiveMantissaSign,
-    RequiredMantissaSign,
-    NoExponentNotation,
-    NoPositiveExponentSign,
-    RequiredExponentSign,
-    NoExponentWithoutFraction,
-    NoSpecial,
-    CaseSensitiveSpecial,
-    NoIntegerLeadingZeros,
-    NoFloatLeadingZeros,
-    RequiredExponentNotation,
-    CaseSensitiveExponent,
-    CaseSensitiveBasePrefix,
-    CaseSensitiveBaseSuffix,
-    IntegerInternalDigitSeparator,
-    FractionInternalDigitSeparator,
-    ExponentInternalDigitSeparator,
-    IntegerLeadingDigitSeparator,
-    FractionLeadingDigitSeparator,
-    ExponentLeadingDigitSeparator,
-    IntegerTrailingDigitSeparator,
-    FractionTrailingDigitSeparator,
-    ExponentTrailingDigitSeparator,
-    IntegerConsecutiveDigitSeparator,
-    FractionConsecutiveDigitSeparator,
-    ExponentConsecutiveDigitSeparator,
-    SpecialDigitSeparator,
-    RequiredDigits,
-    InternalDigitSeparator,
-    LeadingDigitSeparator,
-    TrailingDigitSeparator,
-    ConsecutiveDigitSeparator,
-    DigitSeparatorFlags,
-    IntegerDigitSeparatorFlags,
-    FractionDigitSeparatorFlags,
-    ExponentDigitSeparatorFlags,
+macro_rules! setters {
+    (
+        { $($Flag:ident $flag:ident $get:ident $CONST:ident $bit:literal $doc:literal;)* }
+        { $($Group:ident $group:ident $group_doc:literal;)* }
+        $bytes:tt
+    ) => {
+        /// A setter of a flag or of a group.
+        #[derive(Clone, Copy)]
+        #[allow(dead_code)]
+        pub enum FlagSetter {
+            $($Flag,)*
+            $($Group,)*
+        }
+
+        #[inline(always)]
+        fn apply_flag(builder: NumberFormatBuilder, setter: FlagSetter, on: bool) -> NumberFormatBuilder {
+            match setter {
+                $(FlagSetter::$Flag => builder.$flag(on),)*
+                $(FlagSetter::$Group => builder.$group(on),)*
+            }
+        }
+    };
 }
+
+with_setters!(setters);
 
 /// A setter call with its value.
 #[derive(Clone, Copy)]
@@ -62,6 +43,13 @@ pub enum Edit {
     ExponentRadix(OptionU8),
 }
 
+impl Edit {
+    #[inline(always)]
+    pub fn flag(setter: FlagSetter, on: bool) -> Edit {
+        Edit::Flag(setter, on)
+    }
+}
+
 #[inline(always)]
 fn apply(builder: NumberFormatBuilder, edit: Edit) -> NumberFormatBuilder {
     match edit {
@@ -73,53 +61,6 @@ fn apply(builder: NumberFormatBuilder, edit: Edit) -> NumberFormatBuilder {
         Edit::Radix(radix) => builder.radix(radix),
         Edit::ExponentBase(byte) => builder.exponent_base(byte),
         Edit::ExponentRadix(byte) => builder.exponent_radix(byte),
-    }
-}
-
-#[inline(always)]
-fn apply_flag(builder: NumberFormatBuilder, setter: FlagSetter, on: bool) -> NumberFormatBuilder {
-    use FlagSetter::*;
-    match setter {
-        RequiredIntegerDigits => builder.required_integer_digits(on),
-        RequiredFractionDigits => builder.required_fraction_digits(on),
-        RequiredExponentDigits => builder.required_exponent_digits(on),
-        RequiredMantissaDigits => builder.required_mantissa_digits(on),
-        NoPositiveMantissaSign => builder.no_positive_mantissa_sign(on),
-        RequiredMantissaSign => builder.required_mantissa_sign(on),
-        NoExponentNotation => builder.no_exponent_notation(on),
-        NoPositiveExponentSign => builder.no_positive_exponent_sign(on),
-        RequiredExponentSign => builder.required_exponent_sign(on),
-        NoExponentWithoutFraction => builder.no_exponent_without_fraction(on),
-        NoSpecial => builder.no_special(on),
-        CaseSensitiveSpecial => builder.case_sensitive_special(on),
-        NoIntegerLeadingZeros => builder.no_integer_leading_zeros(on),
-        NoFloatLeadingZeros => builder.no_float_leading_zeros(on),
-        RequiredExponentNotation => builder.required_exponent_notation(on),
-        CaseSensitiveExponent => builder.case_sensitive_exponent(on),
-        CaseSensitiveBasePrefix => builder.case_sensitive_base_prefix(on),
-        CaseSensitiveBaseSuffix => builder.case_sensitive_base_suffix(on),
-        IntegerInternalDigitSeparator => builder.integer_internal_digit_separator(on),
-        FractionInternalDigitSeparator => builder.fraction_internal_digit_separator(on),
-        ExponentInternalDigitSeparator => builder.exponent_internal_digit_separator(on),
-        IntegerLeadingDigitSeparator => builder.integer_leading_digit_separator(on),
-        FractionLeadingDigitSeparator => builder.fraction_leading_digit_separator(on),
-        ExponentLeadingDigitSeparator => builder.exponent_leading_digit_separator(on),
-        IntegerTrailingDigitSeparator => builder.integer_trailing_digit_separator(on),
-        FractionTrailingDigitSeparator => builder.fraction_trailing_digit_separator(on),
-        ExponentTrailingDigitSeparator => builder.exponent_trailing_digit_separator(on),
-        IntegerConsecutiveDigitSeparator => builder.integer_consecutive_digit_separator(on),
-        FractionConsecutiveDigitSeparator => builder.fraction_consecutive_digit_separator(on),
-        ExponentConsecutiveDigitSeparator => builder.exponent_consecutive_digit_separator(on),
-        SpecialDigitSeparator => builder.special_digit_separator(on),
-        RequiredDigits => builder.required_digits(on),
-        InternalDigitSeparator => builder.internal_digit_separator(on),
-        LeadingDigitSeparator => builder.leading_digit_separator(on),
-        TrailingDigitSeparator => builder.trailing_digit_separator(on),
-        ConsecutiveDigitSeparator => builder.consecutive_digit_separator(on),
-        DigitSeparatorFlags => builder.digit_separator_flags(on),
-        IntegerDigitSeparatorFlags => builder.integer_digit_separator_flags(on),
-        FractionDigitSeparatorFlags => builder.fraction_digit_separator_flags(on),
-        ExponentDigitSeparatorFlags => builder.exponent_digit_separator_flags(on),
     }
 }
 

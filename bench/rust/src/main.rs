@@ -10,6 +10,8 @@ mod measure;
 mod ours;
 #[path = "../../../compare/rust/src/random.rs"]
 mod random;
+#[path = "../../../rust/src/rows.rs"]
+mod rows;
 mod theirs;
 
 use data::Words;
@@ -195,8 +197,8 @@ fn number_rows(data: &Data) -> Vec<Row<'_>> {
         row("rebuild, 3 setters, build", any, ours::setters, theirs::setters),
         row("rebuild, 37 getters", any, ours::builder_getters, theirs::builder_getters),
         row("rebuild, build_strict, lawful", lawful, ours::build_strict, theirs::build_strict),
-        row("normal_form", any, ours::normal_form, theirs::normal_form),
-        row("same_format", any, ours::same_format, theirs::same_format),
+        row("normal_form", any, ours::normal_form, theirs::normal_forms),
+        row("same_format", any, ours::same_format, theirs::same_formats),
         row("edit_word, 3 known edits", any, ours::known_edits, theirs::known_edits),
         row("edit_word, 3 of any kind, 1024 words", few, ours::any_edits, theirs::any_edits),
         row("edit_word, 3 of any kind, 4096 words", any, ours::any_edits, theirs::any_edits),

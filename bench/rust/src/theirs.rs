@@ -2,6 +2,7 @@
 //! known only at run time, is written as a Rust programmer would write it over the crate's calls.
 
 use crate::edits::{edit_word, Edit, FlagSetter};
+use crate::rows::{with_outcomes, with_setters};
 use std::cmp::Ordering;
 use std::fmt::Write;
 use std::num::NonZeroU8;
@@ -45,17 +46,9 @@ pub fn over(cases: &[u64], mut with: impl FnMut(Fold, u128, u64) -> Fold) -> u64
     fold.sum
 }
 
-// BYTES AND DIGITS
+include!("both.rs");
 
-pub fn digit_sum(bytes: &[u8], radix: u32) -> u64 {
-    let mut sum = 0u64;
-    for c in bytes {
-        if let Some(digit) = char_to_digit(*c, radix) {
-            sum = sum.wrapping_add(digit as u64);
-        }
-    }
-    sum
-}
+// BYTES AND DIGITS
 
 pub fn digit_read(bytes: &[u8], radix: u32) -> u64 {
     let mut number = 0u64;
@@ -93,10 +86,6 @@ pub fn ascii(bytes: &[u8]) -> u64 {
     count
 }
 
-pub fn ascii_slices(bytes: &[u8], size: usize) -> u64 {
-    bytes.chunks_exact(size).map(|piece| is_valid_ascii_slice(piece) as u64).sum()
-}
-
 pub fn letter_slices(bytes: &[u8], size: usize) -> u64 {
     bytes.chunks_exact(size).map(|piece| is_valid_letter_slice(piece) as u64).sum()
 }
@@ -115,60 +104,23 @@ pub fn short_slices(bytes: &[u8]) -> u64 {
 /// How often each outcome is asked, so that making it does not count.
 pub const TIMES: usize = 32;
 
+macro_rules! outcome {
+    (
+        ($number:expr, $index:expr)
+        { $($index_rank:literal $Indexed:ident $is_indexed:ident $index_doc:literal;)* }
+        { $($rank:literal $Error:ident $is_error:ident $doc:literal;)* }
+    ) => {
+        match $number {
+            $($index_rank => Error::$Indexed($index),)*
+            $($rank => Error::$Error,)*
+            _ => Error::Success,
+        }
+    };
+}
+
 /// The outcome that a number stands for: any of the 49, a parse error with an index.
 fn outcome_of(bits: u64) -> Error {
-    let index = (bits >> 8) as usize;
-    match bits % 49 {
-        0 => Error::Overflow(index),
-        1 => Error::Underflow(index),
-        2 => Error::InvalidDigit(index),
-        3 => Error::Empty(index),
-        4 => Error::EmptyMantissa(index),
-        5 => Error::EmptyExponent(index),
-        6 => Error::EmptyInteger(index),
-        7 => Error::EmptyFraction(index),
-        8 => Error::InvalidPositiveMantissaSign(index),
-        9 => Error::MissingMantissaSign(index),
-        10 => Error::InvalidExponent(index),
-        11 => Error::InvalidPositiveExponentSign(index),
-        12 => Error::MissingExponentSign(index),
-        13 => Error::ExponentWithoutFraction(index),
-        14 => Error::InvalidLeadingZeros(index),
-        15 => Error::MissingExponent(index),
-        16 => Error::MissingSign(index),
-        17 => Error::InvalidPositiveSign(index),
-        18 => Error::InvalidNegativeSign(index),
-        19 => Error::InvalidMantissaRadix,
-        20 => Error::InvalidExponentBase,
-        21 => Error::InvalidExponentRadix,
-        22 => Error::InvalidDigitSeparator,
-        23 => Error::InvalidDecimalPoint,
-        24 => Error::InvalidExponentSymbol,
-        25 => Error::InvalidBasePrefix,
-        26 => Error::InvalidBaseSuffix,
-        27 => Error::InvalidPunctuation,
-        28 => Error::InvalidExponentFlags,
-        29 => Error::InvalidMantissaSign,
-        30 => Error::InvalidExponentSign,
-        31 => Error::InvalidSpecial,
-        32 => Error::InvalidConsecutiveIntegerDigitSeparator,
-        33 => Error::InvalidConsecutiveFractionDigitSeparator,
-        34 => Error::InvalidConsecutiveExponentDigitSeparator,
-        35 => Error::InvalidFlags,
-        36 => Error::InvalidNanString,
-        37 => Error::NanStringTooLong,
-        38 => Error::InvalidInfString,
-        39 => Error::InfStringTooLong,
-        40 => Error::InvalidInfinityString,
-        41 => Error::InfinityStringTooLong,
-        42 => Error::InfinityStringTooShort,
-        43 => Error::InvalidFloatParseAlgorithm,
-        44 => Error::InvalidRadix,
-        45 => Error::InvalidFloatPrecision,
-        46 => Error::InvalidNegativeExponentBreak,
-        47 => Error::InvalidPositiveExponentBreak,
-        _ => Error::Success,
-    }
+    with_outcomes!(outcome(bits % 49, (bits >> 8) as usize))
 }
 
 /// The outcomes of 64 numbers. It is not inlined, so that no loop is compiled for some outcomes alone.
@@ -299,13 +251,6 @@ pub fn validators(cases: &[u64]) -> u64 {
     })
 }
 
-pub fn options(cases: &[u64]) -> u64 {
-    over(cases, |fold, word, bits| {
-        let (exponent, point) = (bits as u8, (bits >> 8) as u8);
-        fold.with(flags::is_valid_options_punctuation(word, exponent, point) as u64)
-    })
-}
-
 pub fn view(cases: &[u64]) -> u64 {
     over(cases, |fold, word, _| {
         let radix = flags::mantissa_radix(word);
@@ -322,49 +267,31 @@ pub fn view(cases: &[u64]) -> u64 {
     })
 }
 
-fn truths(word: u128) -> u64 {
-    let mut bits = 0u64;
-    bits = bits << 1 | (word & flags::REQUIRED_INTEGER_DIGITS != 0) as u64;
-    bits = bits << 1 | (word & flags::REQUIRED_FRACTION_DIGITS != 0) as u64;
-    bits = bits << 1 | (word & flags::REQUIRED_EXPONENT_DIGITS != 0) as u64;
-    bits = bits << 1 | (word & flags::REQUIRED_MANTISSA_DIGITS != 0) as u64;
-    bits = bits << 1 | (word & flags::NO_POSITIVE_MANTISSA_SIGN != 0) as u64;
-    bits = bits << 1 | (word & flags::REQUIRED_MANTISSA_SIGN != 0) as u64;
-    bits = bits << 1 | (word & flags::NO_EXPONENT_NOTATION != 0) as u64;
-    bits = bits << 1 | (word & flags::NO_POSITIVE_EXPONENT_SIGN != 0) as u64;
-    bits = bits << 1 | (word & flags::REQUIRED_EXPONENT_SIGN != 0) as u64;
-    bits = bits << 1 | (word & flags::NO_EXPONENT_WITHOUT_FRACTION != 0) as u64;
-    bits = bits << 1 | (word & flags::NO_SPECIAL != 0) as u64;
-    bits = bits << 1 | (word & flags::CASE_SENSITIVE_SPECIAL != 0) as u64;
-    bits = bits << 1 | (word & flags::NO_INTEGER_LEADING_ZEROS != 0) as u64;
-    bits = bits << 1 | (word & flags::NO_FLOAT_LEADING_ZEROS != 0) as u64;
-    bits = bits << 1 | (word & flags::REQUIRED_EXPONENT_NOTATION != 0) as u64;
-    bits = bits << 1 | (word & flags::CASE_SENSITIVE_EXPONENT != 0) as u64;
-    bits = bits << 1 | (word & flags::CASE_SENSITIVE_BASE_PREFIX != 0) as u64;
-    bits = bits << 1 | (word & flags::CASE_SENSITIVE_BASE_SUFFIX != 0) as u64;
-    bits = bits << 1 | (word & flags::INTEGER_INTERNAL_DIGIT_SEPARATOR != 0) as u64;
-    bits = bits << 1 | (word & flags::FRACTION_INTERNAL_DIGIT_SEPARATOR != 0) as u64;
-    bits = bits << 1 | (word & flags::EXPONENT_INTERNAL_DIGIT_SEPARATOR != 0) as u64;
-    bits = bits << 1 | (word & flags::INTEGER_LEADING_DIGIT_SEPARATOR != 0) as u64;
-    bits = bits << 1 | (word & flags::FRACTION_LEADING_DIGIT_SEPARATOR != 0) as u64;
-    bits = bits << 1 | (word & flags::EXPONENT_LEADING_DIGIT_SEPARATOR != 0) as u64;
-    bits = bits << 1 | (word & flags::INTEGER_TRAILING_DIGIT_SEPARATOR != 0) as u64;
-    bits = bits << 1 | (word & flags::FRACTION_TRAILING_DIGIT_SEPARATOR != 0) as u64;
-    bits = bits << 1 | (word & flags::EXPONENT_TRAILING_DIGIT_SEPARATOR != 0) as u64;
-    bits = bits << 1 | (word & flags::INTEGER_CONSECUTIVE_DIGIT_SEPARATOR != 0) as u64;
-    bits = bits << 1 | (word & flags::FRACTION_CONSECUTIVE_DIGIT_SEPARATOR != 0) as u64;
-    bits = bits << 1 | (word & flags::EXPONENT_CONSECUTIVE_DIGIT_SEPARATOR != 0) as u64;
-    bits = bits << 1 | (word & flags::SPECIAL_DIGIT_SEPARATOR != 0) as u64;
-    bits = bits << 1 | (word & flags::REQUIRED_DIGITS != 0) as u64;
-    bits = bits << 1 | (word & flags::INTERNAL_DIGIT_SEPARATOR != 0) as u64;
-    bits = bits << 1 | (word & flags::LEADING_DIGIT_SEPARATOR != 0) as u64;
-    bits = bits << 1 | (word & flags::TRAILING_DIGIT_SEPARATOR != 0) as u64;
-    bits = bits << 1 | (word & flags::CONSECUTIVE_DIGIT_SEPARATOR != 0) as u64;
-    bits = bits << 1 | (flags::digit_separator(word) != 0) as u64;
-    bits = bits << 1 | (flags::base_prefix(word) != 0) as u64;
-    bits = bits << 1 | (flags::base_suffix(word) != 0) as u64;
-    bits
+macro_rules! truths {
+    ({ $($Flag:ident $flag:ident $get:ident $CONST:ident $bit:literal $doc:literal;)* } $groups:tt $bytes:tt) => {
+        fn truths(word: u128) -> u64 {
+            let mut bits = 0u64;
+            $(bits = bits << 1 | (word & flags::$CONST != 0) as u64;)*
+            bits = bits << 1 | (word & flags::REQUIRED_DIGITS != 0) as u64;
+            bits = bits << 1 | (word & flags::INTERNAL_DIGIT_SEPARATOR != 0) as u64;
+            bits = bits << 1 | (word & flags::LEADING_DIGIT_SEPARATOR != 0) as u64;
+            bits = bits << 1 | (word & flags::TRAILING_DIGIT_SEPARATOR != 0) as u64;
+            bits = bits << 1 | (word & flags::CONSECUTIVE_DIGIT_SEPARATOR != 0) as u64;
+            bits = bits << 1 | (flags::digit_separator(word) != 0) as u64;
+            bits = bits << 1 | (flags::base_prefix(word) != 0) as u64;
+            bits = bits << 1 | (flags::base_suffix(word) != 0) as u64;
+            bits
+        }
+
+        fn builder_truths(builder: &NumberFormatBuilder) -> u64 {
+            let mut bits = 0u64;
+            $(bits = bits << 1 | builder.$get() as u64;)*
+            bits
+        }
+    };
 }
+
+with_setters!(truths);
 
 pub fn few_getters(cases: &[u64]) -> u64 {
     over(cases, |fold, word, _| {
@@ -393,30 +320,6 @@ pub fn masks(cases: &[u64]) -> u64 {
 
 // BUILDERS
 
-pub fn setters(cases: &[u64]) -> u64 {
-    over(cases, |fold, word, bits| {
-        let word = NumberFormatBuilder::rebuild(word)
-            .no_special(bits % 2 == 1)
-            .digit_separator(NonZeroU8::new((bits >> 16) as u8))
-            .mantissa_radix((bits >> 24) as u8)
-            .build_unchecked();
-        fold.with_word(word)
-    })
-}
-
-pub fn new_builders(cases: &[u64]) -> u64 {
-    over(cases, |fold, _, bits| {
-        let word = NumberFormatBuilder::new()
-            .digit_separator(NonZeroU8::new(b'_'))
-            .internal_digit_separator(bits % 2 == 1)
-            .required_digits(bits % 4 < 2)
-            .radix((bits >> 24) as u8)
-            .base_prefix(NonZeroU8::new((bits >> 16) as u8))
-            .build_unchecked();
-        fold.with_word(word)
-    })
-}
-
 pub fn build_strict(cases: &[u64]) -> u64 {
     over(cases, |fold, word, _| fold.with_word(NumberFormatBuilder::rebuild(word).build_strict()))
 }
@@ -443,99 +346,12 @@ pub fn builder_getters(cases: &[u64]) -> u64 {
     })
 }
 
-fn builder_truths(builder: &NumberFormatBuilder) -> u64 {
-    let mut bits = 0u64;
-    bits = bits << 1 | builder.get_required_integer_digits() as u64;
-    bits = bits << 1 | builder.get_required_fraction_digits() as u64;
-    bits = bits << 1 | builder.get_required_exponent_digits() as u64;
-    bits = bits << 1 | builder.get_required_mantissa_digits() as u64;
-    bits = bits << 1 | builder.get_no_positive_mantissa_sign() as u64;
-    bits = bits << 1 | builder.get_required_mantissa_sign() as u64;
-    bits = bits << 1 | builder.get_no_exponent_notation() as u64;
-    bits = bits << 1 | builder.get_no_positive_exponent_sign() as u64;
-    bits = bits << 1 | builder.get_required_exponent_sign() as u64;
-    bits = bits << 1 | builder.get_no_exponent_without_fraction() as u64;
-    bits = bits << 1 | builder.get_no_special() as u64;
-    bits = bits << 1 | builder.get_case_sensitive_special() as u64;
-    bits = bits << 1 | builder.get_no_integer_leading_zeros() as u64;
-    bits = bits << 1 | builder.get_no_float_leading_zeros() as u64;
-    bits = bits << 1 | builder.get_required_exponent_notation() as u64;
-    bits = bits << 1 | builder.get_case_sensitive_exponent() as u64;
-    bits = bits << 1 | builder.get_case_sensitive_base_prefix() as u64;
-    bits = bits << 1 | builder.get_case_sensitive_base_suffix() as u64;
-    bits = bits << 1 | builder.get_integer_internal_digit_separator() as u64;
-    bits = bits << 1 | builder.get_fraction_internal_digit_separator() as u64;
-    bits = bits << 1 | builder.get_exponent_internal_digit_separator() as u64;
-    bits = bits << 1 | builder.get_integer_leading_digit_separator() as u64;
-    bits = bits << 1 | builder.get_fraction_leading_digit_separator() as u64;
-    bits = bits << 1 | builder.get_exponent_leading_digit_separator() as u64;
-    bits = bits << 1 | builder.get_integer_trailing_digit_separator() as u64;
-    bits = bits << 1 | builder.get_fraction_trailing_digit_separator() as u64;
-    bits = bits << 1 | builder.get_exponent_trailing_digit_separator() as u64;
-    bits = bits << 1 | builder.get_integer_consecutive_digit_separator() as u64;
-    bits = bits << 1 | builder.get_fraction_consecutive_digit_separator() as u64;
-    bits = bits << 1 | builder.get_exponent_consecutive_digit_separator() as u64;
-    bits = bits << 1 | builder.get_special_digit_separator() as u64;
-    bits
-}
-
 // EDITS
 
-pub fn known_edits(cases: &[u64]) -> u64 {
-    over(cases, |fold, word, bits| {
-        let edits = [
-            Edit::Flag(FlagSetter::NoSpecial, bits % 2 == 1),
-            Edit::DigitSeparator(NonZeroU8::new((bits >> 16) as u8)),
-            Edit::MantissaRadix((bits >> 24) as u8),
-        ];
-        fold.with_word(edit_word(word, &edits))
-    })
-}
-
-pub fn any_edits(cases: &[u64]) -> u64 {
-    over(cases, |fold, word, bits| {
-        let edits = [edit_of(bits), edit_of(bits >> 16), edit_of(bits >> 32)];
-        fold.with_word(edit_word(word, &edits))
-    })
-}
-
-fn edit_of(bits: u64) -> Edit {
-    let flag = (bits >> 7) % 2 == 1;
-    let value = (bits >> 8) as u8;
-    let byte = NonZeroU8::new(value);
-    match bits % 16 {
-        0 => Edit::Flag(FlagSetter::RequiredIntegerDigits, flag),
-        1 => Edit::Flag(FlagSetter::NoSpecial, flag),
-        2 => Edit::Flag(FlagSetter::CaseSensitiveBaseSuffix, flag),
-        3 => Edit::Flag(FlagSetter::ExponentTrailingDigitSeparator, flag),
-        4 => Edit::Flag(FlagSetter::SpecialDigitSeparator, flag),
-        5 => Edit::Flag(FlagSetter::RequiredDigits, flag),
-        6 => Edit::Flag(FlagSetter::LeadingDigitSeparator, flag),
-        7 => Edit::Flag(FlagSetter::DigitSeparatorFlags, flag),
-        8 => Edit::Flag(FlagSetter::FractionDigitSeparatorFlags, flag),
-        9 => Edit::DigitSeparator(byte),
-        10 => Edit::BasePrefix(byte),
-        11 => Edit::BaseSuffix(byte),
-        12 => Edit::MantissaRadix(value),
-        13 => Edit::Radix(value),
-        14 => Edit::ExponentBase(byte),
-        _ => Edit::ExponentRadix(byte),
-    }
-}
-
-fn normal_form_of(word: u128) -> u128 {
+fn normal_form(word: u128) -> u128 {
     NumberFormatBuilder::rebuild(word).build_unchecked()
 }
 
-pub fn normal_form(cases: &[u64]) -> u64 {
-    over(cases, |fold, word, _| fold.with_word(normal_form_of(word)))
-}
-
-pub fn same_format(cases: &[u64]) -> u64 {
-    let mut last = 0;
-    over(cases, |fold, word, _| {
-        let same = normal_form_of(last) == normal_form_of(word);
-        last = word;
-        fold.with(same as u64)
-    })
+fn same_format(a: u128, b: u128) -> bool {
+    normal_form(a) == normal_form(b)
 }
