@@ -3,7 +3,7 @@
 
 use crate::measure::Row;
 use crate::theirs::over;
-use crate::{over_bytes, over_numbers, size_name, theirs, Data};
+use crate::{byte_row, over_numbers, size_name, theirs, Data};
 use peltzivar::ascii::is_valid_ascii_slice;
 use peltzivar::digit::char_to_digit;
 use peltzivar::edits::{edit_word, migrate, normal_form, same_format, Edit, FlagSetter};
@@ -34,22 +34,12 @@ fn migrations(cases: &[u64]) -> u64 {
 pub fn rows(data: &Data) -> Vec<Row<'_>> {
     let mut rows = vec![];
     let (radix, digits) = (data.digits[2].0, &data.digits[2].1);
-    rows.push(over_bytes(
-        format!("call: char_to_digit, summed, radix {radix}"),
-        digits,
-        digits.len(),
-        move |bytes| digit_sum(bytes, radix),
-        move |bytes| theirs::digit_sum(bytes, radix),
-    ));
+    let name = format!("call: char_to_digit, summed, radix {radix}");
+    rows.push(byte_row!(name, digits, digits.len(), calls::digit_sum(radix)));
     for size in [16, 64, 64 * 1024] {
-        let whole = size.max(16 * 1024);
-        rows.push(over_bytes(
-            format!("call: is_valid_ascii_slice, {}", size_name(size)),
-            &data.text[..whole],
-            whole / size,
-            move |bytes| ascii_slices(bytes, size),
-            move |bytes| theirs::ascii_slices(bytes, size),
-        ));
+        let text = &data.text[..size.max(16 * 1024)];
+        let name = format!("call: is_valid_ascii_slice, {}", size_name(size));
+        rows.push(byte_row!(name, text, text.len() / size, calls::ascii_slices(size)));
     }
     let [lawful, broken, few, any] =
         [&data.lawful, &data.broken, &data.few, &data.any].map(|cases| (&cases[..], 3));

@@ -53,7 +53,7 @@ impl Data {
     }
 }
 
-/// A row over bytes, with one call a byte unless `calls` says otherwise.
+/// A row over bytes, in which so many calls are made.
 fn over_bytes<'a>(
     name: impl Into<String>,
     bytes: &'a [u8],
@@ -65,6 +65,21 @@ fn over_bytes<'a>(
     let theirs = Box::new(move || theirs(black_box(bytes)));
     Row { name: name.into(), calls, ours, theirs }
 }
+
+/// A row over bytes, of the loop in the module and that of the same name over the Rust crate.
+macro_rules! byte_row {
+    ($name:expr, $bytes:expr, $calls:expr, $module:ident::$pass:ident($($argument:expr)?)) => {
+        crate::over_bytes(
+            $name,
+            $bytes,
+            $calls,
+            move |bytes| crate::$module::$pass(bytes $(, $argument)?),
+            move |bytes| crate::theirs::$pass(bytes $(, $argument)?),
+        )
+    };
+}
+
+use byte_row;
 
 type OverNumbers = fn(&[u64]) -> u64;
 
@@ -103,75 +118,34 @@ fn byte_rows(data: &Data) -> Vec<Row<'_>> {
     let mut rows = vec![];
     for (radix, bytes) in &data.digits {
         let (radix, calls) = (*radix, bytes.len());
-        rows.push(over_bytes(
-            format!("char_to_digit, summed, radix {radix}"),
-            bytes,
-            calls,
-            move |bytes| ours::digit_sum(bytes, radix),
-            move |bytes| theirs::digit_sum(bytes, radix),
-        ));
-        rows.push(over_bytes(
-            format!("char_to_digit, read, radix {radix}"),
-            bytes,
-            calls,
-            move |bytes| ours::digit_read(bytes, radix),
-            move |bytes| theirs::digit_read(bytes, radix),
-        ));
+        let name = format!("char_to_digit, summed, radix {radix}");
+        rows.push(byte_row!(name, bytes, calls, ours::digit_sum(radix)));
+        let name = format!("char_to_digit, read, radix {radix}");
+        rows.push(byte_row!(name, bytes, calls, ours::digit_read(radix)));
     }
     let (decimal, any) = (&data.digits[0].1, &data.any_bytes);
-    rows.push(over_bytes(
-        "char_to_digit, any bytes, radix 36",
-        any,
-        any.len(),
-        |bytes| ours::digit_sum(bytes, 36),
-        |bytes| theirs::digit_sum(bytes, 36),
-    ));
-    rows.push(over_bytes(
-        "char_is_digit, any bytes, radix 16",
-        any,
-        any.len(),
-        |bytes| ours::is_digit(bytes, 16),
-        |bytes| theirs::is_digit(bytes, 16),
-    ));
-    let calls = decimal.len();
-    let name = "char_to_digit_const, read, radix 10";
-    rows.push(over_bytes(name, decimal, calls, ours::decimal_read, theirs::decimal_read));
-    rows.push(over_bytes(
-        "digit_to_char",
-        any,
-        calls,
-        ours::digits_to_char,
-        theirs::digits_to_char,
-    ));
-    rows.push(over_bytes("is_valid_ascii", any, calls, ours::ascii, theirs::ascii));
-    rows.push(over_bytes("from_radix", any, calls, ours::from_radix, theirs::from_radix));
-    rows.extend(slice_rows(data));
-    rows
-}
-
-fn slice_rows(data: &Data) -> Vec<Row<'_>> {
-    let mut rows = vec![];
+    let calls = any.len();
+    rows.extend([
+        byte_row!("char_to_digit, any bytes, radix 36", any, calls, ours::digit_sum(36)),
+        byte_row!("char_is_digit, any bytes, radix 16", any, calls, ours::is_digit(16)),
+        byte_row!("char_to_digit_const, read, radix 10", decimal, calls, ours::decimal_read()),
+        byte_row!("digit_to_char", any, calls, ours::digits_to_char()),
+        byte_row!("is_valid_ascii", any, calls, ours::ascii()),
+        byte_row!("from_radix", any, calls, ours::from_radix()),
+    ]);
     for size in [16, 64, KIB, 64 * KIB, 16 * KIB * KIB] {
         // At least 16 KiB, so that a pass takes some time.
         let whole = size.max(16 * KIB);
-        rows.push(over_bytes(
-            format!("is_valid_ascii_slice, {}", size_name(size)),
-            &data.text[..whole],
-            whole / size,
-            move |bytes| ours::ascii_slices(bytes, size),
-            move |bytes| theirs::ascii_slices(bytes, size),
-        ));
-        rows.push(over_bytes(
-            format!("is_valid_letter_slice, {}", size_name(size)),
-            &data.letters[..whole],
-            whole / size,
-            move |bytes| ours::letter_slices(bytes, size),
-            move |bytes| theirs::letter_slices(bytes, size),
-        ));
+        let (name, calls) = (size_name(size), whole / size);
+        let (text, letters) = (&data.text[..whole], &data.letters[..whole]);
+        let ascii = format!("is_valid_ascii_slice, {name}");
+        rows.push(byte_row!(ascii, text, calls, ours::ascii_slices(size)));
+        let letter = format!("is_valid_letter_slice, {name}");
+        rows.push(byte_row!(letter, letters, calls, ours::letter_slices(size)));
     }
     let name = "is_valid_ascii_slice, 0 to 63 B, spoiled";
-    let (bytes, calls) = (&data.spoiled, data.spoiled.len() / 64);
-    rows.push(over_bytes(name, bytes, calls, ours::short_slices, theirs::short_slices));
+    let calls = data.spoiled.len() / 64;
+    rows.push(byte_row!(name, &data.spoiled, calls, ours::short_slices()));
     rows
 }
 
