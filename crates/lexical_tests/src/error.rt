@@ -158,20 +158,14 @@ fn prints_the_text_of_each_outcome(rt: HostRuntime) -> Result<(), Fail> {
         for (error, description) in &parse_errors(index) {
             let text = format!(in alloc; "{error}")?;
             let want = format!(in alloc; "lexical parse error: {description} at index {index}")?;
-            assert!(rt;
-                text == want && error.description() == *description,
-                "{error}"
-            );
-            assert!(rt; error.index() == Some(&index), "{error}");
+            let holds_it = error.description() == *description && error.index() == Some(&index);
+            assert!(rt; text == want && holds_it);
         }
     }
     for (error, printed) in &other_outcomes() {
         let text = format!(in alloc; "{error}")?;
-        assert!(rt;
-            text.as_str() == *printed && error.index().is_none(),
-            "{error}"
-        );
-        assert!(rt; printed.ends_with(error.description()), "{error}");
+        let holds_it = printed.ends_with(error.description()) && error.index().is_none();
+        assert!(rt; text.as_str() == *printed && holds_it);
     }
     Ok(())
 }
@@ -179,35 +173,14 @@ fn prints_the_text_of_each_outcome(rt: HostRuntime) -> Result<(), Fail> {
 #[test]
 fn prints_the_same_at_any_width(rt: HostRuntime) -> Result<(), Fail> {
     let alloc = rt.alloc();
-    let printed = [
-        (
-            format!(in alloc; "{:80}", Error::InvalidDigit(3))?,
-            "lexical parse error: 'invalid digit found' at index 3",
-        ),
-        (
-            format!(in alloc; "{}", Error::InvalidDigit(3))?,
-            "lexical parse error: 'invalid digit found' at index 3",
-        ),
-        (
-            format!(in alloc; "{:080}", Error::MissingSign(0))?,
-            "lexical parse error: 'missing required `+/-` sign for integer' at index 0",
-        ),
-        (
-            format!(in alloc; "{:->80}", Error::InvalidFlags)?,
-            "lexical number format error: 'invalid flags enabled without the format feature'",
-        ),
-        (
-            format!(in alloc; "{:+.3}", Error::InvalidRadix)?,
-            "lexical options error: 'invalid radix for significant digits'",
-        ),
-        (
-            format!(in alloc; "{:#^80}", Error::Success)?,
-            "'not actually an error'",
-        ),
-    ];
-    for (text, want) in &printed {
-        assert_eq!(rt; text.as_str(), *want);
-    }
+    let error = Error::InvalidDigit(3);
+    let wide = format!(in alloc; "{error:80}")?;
+    let padded = format!(in alloc; "{error:->080}")?;
+    let short = format!(in alloc; "{error:+.3}")?;
+    let want = "lexical parse error: 'invalid digit found' at index 3";
+    assert!(rt; wide.as_str() == want && padded.as_str() == want && short.as_str() == want);
+    let wide = format!(in alloc; "{:#^80}", Error::Success)?;
+    assert_eq!(rt; wide.as_str(), "'not actually an error'");
     Ok(())
 }
 
@@ -217,11 +190,11 @@ fn fails_only_if_its_formatter_fails(rt: HostRuntime) -> Result<(), Fail> {
     for index in INDEXES {
         for (error, _) in &parse_errors(index) {
             let len = format!(in alloc; "{error}")?.len();
-            assert!(rt; fails_exactly_below(len, error), "{error}");
+            assert!(rt; fails_exactly_below(len, error));
         }
     }
     for (error, printed) in &other_outcomes() {
-        assert!(rt; fails_exactly_below(printed.len(), error), "{error}");
+        assert!(rt; fails_exactly_below(printed.len(), error));
     }
     Ok(())
 }
@@ -248,9 +221,9 @@ fn exactly_one_test_is_true_of_each_outcome(rt: HostRuntime) {
             other_outcomes[rank - 19].0
         };
         for (tested, result) in tests_of(&error).iter().enumerate() {
-            assert_eq!(rt; *result, tested == rank, "test {tested} of {error}");
+            assert!(rt; *result == (tested == rank));
         }
-        assert_eq!(rt; error < Error::Success, rank < 48, "{error}");
+        assert!(rt; (error < Error::Success) == (rank < 48));
     }
 }
 
@@ -267,11 +240,8 @@ fn orders_by_rank_and_then_by_index(rt: HostRuntime) -> Result<(), Fail> {
     for (i, low) in ascending.iter().enumerate() {
         for (j, high) in ascending.iter().enumerate() {
             let order = i.cmp(&j);
-            assert!(rt;
-                low.cmp(high) == order && low.partial_cmp(high) == Some(order),
-                "{i} {j}"
-            );
-            assert!(rt; (low == high) == (i == j), "{i} {j}");
+            let is_right = low.cmp(high) == order && low.partial_cmp(high) == Some(order);
+            assert!(rt; is_right && (low == high) == (i == j));
         }
     }
     assert_eq!(rt; Error::Success.clone()?, Error::Success);
