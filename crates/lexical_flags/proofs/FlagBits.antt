@@ -1,13 +1,12 @@
 -- The flags of a word under a mask, and the fields of a record joined by `|`.
-use Rattle.std.proofs.Common.{ℕ, ◌≡◌, ◌≢◌, ◌+◌, ◌*◌, ◌^◌, ◌<◌, ◌==◌, Bool, true, false, not, ◌||◌, ◌&&◌, inl, inr, List}
-use Rattle.std.proofs.Common.{[], ◌∷◌, sum_by, bit_and, bit_or, refl, ap, sym, ◌∙◌, arith}
-use mathlib.Core.Bool.{not-not}
+use Rattle.std.proofs.Common.{ℕ, ◌≡◌, ◌≢◌, ◌+◌, ◌*◌, ◌/◌, ◌%◌, ◌^◌, ◌<◌, ◌==◌, Bool, true, false, not, ◌||◌, inl, inr}
+use Rattle.std.proofs.Common.{List, [], ◌∷◌, sum_by, bit_and, bit_or, refl, ap, sym, ◌∙◌, arith}
 use Rattle.std.specs.List.{fold, list_any}
 use Rattle.std.proofs.Math.Nat.{mod-lt, zero-mul}
 use Rattle.std.proofs.lemmas.List.Sums.{sum_by-cons, sum_by_from}
 use Rattle.std.proofs.lemmas.Nat.{pow_pos}
 use Rattle.std.proofs.lemmas.Nat.Bits.{and_pow}
-use Rattle.std.proofs.lemmas.Bool.{cases_lt, ne_eqb, eq-eqb}
+use Rattle.std.proofs.lemmas.Bool.{cases_lt, cases_eq, ne_eqb, eq-eqb}
 use Rattle.std.proofs.lemmas.Bool.Decides.{nat_tests}
 use Rattle.lexical_flags.specs.Layout.{part, Flag, bit, shift, flags, bytes, digit_separator_flags}
 use Rattle.lexical_flags.specs.Record.{Record, tabulate, flag_of, byte_of, raw, word_of, flag_bits, byte_bits}
@@ -18,8 +17,8 @@ use Rattle.lexical_flags.proofs.Packing.{bit_value, bit_value-lt, flag_bits-valu
 use Rattle.lexical_flags.proofs.Masks.{ascends, and_all, or_all, sum-below}
 
 -- a bit times a power of two is 0 exactly if the bit is
-moved_bit-zero : (n p : ℕ) → n < 2 → 0 < p → (n * p == 0) ≡ not (n == 1)
-moved_bit-zero n p small high = elim (cases_lt n 1) [
+moved_bit-set : (n p : ℕ) → n < 2 → 0 < p → not (n * p == 0) ≡ (n == 1)
+moved_bit-set n p small high = elim (cases_lt n 1) [
   | inl l ↦ let none : n ≡ 0 = omega arith in rw none (rw (zero-mul p) refl)
   | inr l ↦ let one : n ≡ 1 = omega arith in rw one (grind (arith, nat_tests))
 ]
@@ -28,57 +27,50 @@ moved_bit-zero n p small high = elim (cases_lt n 1) [
 pub flag_test : (word k : ℕ) → not (bit_and word (2 ^ k) == 0) ≡ (part word k 1 == 1)
 flag_test word k =
     ap (λ n. not (n == 0)) (and_pow word k)
-    ∙ ap not (moved_bit-zero (part word k 1) (2 ^ k) (mod-lt _ (omega arith)) (pow_pos k))
-    ∙ not-not (part word k 1 == 1)
+    ∙ moved_bit-set (part word k 1) (2 ^ k) (mod-lt _ (omega arith)) (pow_pos k)
 
-sum-zero : (m n : ℕ) → (m + n == 0) ≡ ((m == 0) && (n == 0))
-sum-zero m n = grind (arith, nat_tests)
+-- whether a number is the mask of one flag
+abbrev pub is_flag_mask : ℕ → Bool
+is_flag_mask mask = list_any (λ f. 2 ^ bit f == mask) flags
 
-not_either : (a b : Bool) → (not a && not b) ≡ not (a || b)
-not_either true b = refl
-not_either false b = refl
+at_flag : (fs : List Flag) (word mask : ℕ) → list_any (λ f. 2 ^ bit f == mask) fs ≡ true
+    → not (bit_and word mask == 0) ≡ (word / mask % 2 == 1)
+at_flag [] word mask h = cc
+at_flag (f ∷ fs) word mask h = elim (cases_eq (2 ^ bit f) mask) [
+  | inl same ↦ rw (← same) (flag_test word (bit f))
+  | inr differ ↦ at_flag fs word mask (rw (let other : (2 ^ bit f == mask) ≡ false = ne_eqb _ _ differ in other) at h)
+]
 
--- the bits of some flags add up to 0 exactly if none of the flags is set
-sum_by-zero : (fs : List Flag) (word : ℕ) → (sum_by (λ f. part word (bit f) 1 * 2 ^ bit f) fs == 0) ≡ not
-    (list_any (flag_of (raw word)) fs)
-sum_by-zero [] word = refl
-sum_by-zero (f ∷ fs) word =
-    let here : (part word (bit f) 1 * 2 ^ bit f == 0) ≡ not (flag_of (raw word) f) =
-    moved_bit-zero (part word (bit f) 1) (2 ^ bit f) (mod-lt _ (omega arith)) (pow_pos (bit f))
-    ∙ ap not (sym (flag_of-raw word f)) in
-    ap (λ n. n == 0) (sum_by-cons (λ f. part word (bit f) 1 * 2 ^ bit f) f fs)
-    ∙ sum-zero (part word (bit f) 1 * 2 ^ bit f) (sum_by (λ f. part word (bit f) 1 * 2 ^ bit f) fs)
-    ∙ (λ i. here i && sum_by-zero fs word i)
-    ∙ not_either (flag_of (raw word) f) (list_any (flag_of (raw word)) fs)
+-- the same for a mask that is written as a number
+pub flag_by_mask : (word mask : ℕ) → is_flag_mask mask ≡ true → not (bit_and word mask == 0) ≡ (word / mask % 2 == 1)
+flag_by_mask word mask is = at_flag flags word mask is
 
--- a word has no bit in common with the mask of some flags exactly if none of them is set
+sum-set : (m n : ℕ) → not (m + n == 0) ≡ (not (m == 0) || not (n == 0))
+sum-set m n = grind (arith, nat_tests)
+
+-- the bits of some flags do not add up to 0 exactly if one of the flags is set
+sum_by-set : (fs : List Flag) (word : ℕ) → not (sum_by (λ f. part word (bit f) 1 * 2 ^ bit f) fs == 0)
+    ≡ list_any (flag_of (raw word)) fs
+sum_by-set [] word = refl
+sum_by-set (f ∷ fs) word =
+    let here : not (part word (bit f) 1 * 2 ^ bit f == 0) ≡ flag_of (raw word) f =
+    moved_bit-set (part word (bit f) 1) (2 ^ bit f) (mod-lt _ (omega arith)) (pow_pos (bit f))
+    ∙ sym (flag_of-raw word f) in
+    ap (λ n. not (n == 0)) (sum_by-cons (λ f. part word (bit f) 1 * 2 ^ bit f) f fs)
+    ∙ sum-set (part word (bit f) 1 * 2 ^ bit f) (sum_by (λ f. part word (bit f) 1 * 2 ^ bit f) fs)
+    ∙ (λ i. here i || sum_by-set fs word i)
+
+-- a word has a bit in common with the mask of some flags exactly if one of them is set
 pub mask_test : (fs : List Flag) (word : ℕ) → ascends bit 1 0 fs ≡ true
-    → (bit_and word (mask_of fs) == 0) ≡ not (list_any (flag_of (raw word)) fs)
-mask_test fs word up = ap (λ n. n == 0) (and_all bit fs word up) ∙ sum_by-zero fs word
-
-negated : (a b : Bool) → a ≡ not b → b ≡ not a
-negated a b e = sym (not-not b) ∙ ap not (sym e)
-
--- if it has one, one of them is set
-pub any_set : (fs : List Flag) (word : ℕ) → ascends bit 1 0 fs ≡ true → bit_and word (mask_of fs) ≢ 0
-    → list_any (flag_of (raw word)) fs ≡ true
-any_set fs word up some =
-    let test : (bit_and word (mask_of fs) == 0) ≡ false = ne_eqb _ _ some in
-    negated _ _ (mask_test fs word up) ∙ ap not test
-
--- if it has none, none of them is
-pub none_set : (fs : List Flag) (word : ℕ) → ascends bit 1 0 fs ≡ true → bit_and word (mask_of fs) ≡ 0
-    → list_any (flag_of (raw word)) fs ≡ false
-none_set fs word up none =
-    let test : (bit_and word (mask_of fs) == 0) ≡ true = eq-eqb _ _ none in
-    negated _ _ (mask_test fs word up) ∙ ap not test
+    → not (bit_and word (mask_of fs) == 0) ≡ list_any (flag_of (raw word)) fs
+mask_test fs word up = ap (λ n. not (n == 0)) (and_all bit fs word up) ∙ sum_by-set fs word
 
 -- whether some flag allows a digit separator, as the code tests it
 pub separator_flag_set : (word : ℕ) → bit_and word 0x1FFF_0000_0000 ≢ 0 → separator_on (raw word) ≡ true
-separator_flag_set word = any_set digit_separator_flags word refl
+separator_flag_set word some = sym (mask_test digit_separator_flags word refl) ∙ ap not (ne_eqb _ _ some)
 
 pub no_separator_flag_set : (word : ℕ) → bit_and word 0x1FFF_0000_0000 ≡ 0 → separator_on (raw word) ≡ false
-no_separator_flag_set word = none_set digit_separator_flags word refl
+no_separator_flag_set word none = sym (mask_test digit_separator_flags word refl) ∙ ap not (eq-eqb _ _ none)
 
 -- the flags of a record joined by `|`
 pub flags_joined : (r : Record) → fold (λ bits f. bit_or bits (flag_bits r f)) 0 flags ≡ sum_by (flag_bits r) flags

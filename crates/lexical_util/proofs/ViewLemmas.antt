@@ -1,48 +1,27 @@
 -- What a mask reads of a word, for a mask that is written as a number.
-use Rattle.std.proofs.Common.{ℕ, ◌≡◌, ◌*◌, ◌/◌, ◌%◌, ◌^◌, ◌<◌, ◌==◌, ◌≢◌, ◌⊎◌, nat_lt, IsTrue, inl, inr, Bool, true}
-use Rattle.std.proofs.Common.{false, not, zero, suc, if◌then◌else◌}
-use Rattle.std.proofs.Common.{List, [], ◌∷◌, sum_by, bit_and, refl, ap, sym, ◌∙◌, arith}
-use Rattle.std.specs.List.{list_any}
+use Rattle.std.proofs.Common.{ℕ, ◌≡◌, ◌*◌, ◌^◌, ◌<◌, ◌==◌, ◌≢◌, ◌⊎◌, nat_lt, IsTrue, inl, inr, true}
+use Rattle.std.proofs.Common.{not, zero, suc, if◌then◌else◌}
+use Rattle.std.proofs.Common.{List, sum_by, bit_and, refl, ap, sym, ◌∙◌, arith}
 use Rattle.std.proofs.Math.Nat.{mod-lt, zero-mul}
-use Rattle.std.proofs.lemmas.Bool.{cases_eq, ne_eqb}
+use Rattle.std.proofs.lemmas.Bool.{cases_eq}
 use Rattle.std.proofs.lemmas.Bool.Decides.{nat_tests}
 use Rattle.std.proofs.lemmas.Nat.{pow-add, pow_pos}
 use Rattle.std.proofs.lemmas.Nat.Bits.{and_high}
-use Rattle.lexical_flags.specs.Layout.{part, Flag, bit, flags}
-use Rattle.lexical_flags.specs.Record.{flag_of, raw, flag_bits}
+use Rattle.lexical_flags.specs.Layout.{part, Flag, bit}
+use Rattle.lexical_flags.specs.Record.{raw, flag_bits}
 use Rattle.lexical_flags.specs.Constants.{mask_of}
 use Rattle.lexical_flags.proofs.RecordLemmas.{flag_of-raw}
 use Rattle.lexical_flags.proofs.Masks.{ascends, and_all}
-use Rattle.lexical_flags.proofs.FlagBits.{flag_test, mask_test}
+use Rattle.lexical_flags.proofs.FlagBits.{flag_by_mask, mask_test}
 use Rattle.lexical_flags.specs.Common.{common}
 use Rattle.lexical_flags.proofs.CommonLemmas.{common-bit_and}
 use Rattle.lexical_util.specs.Groups.{any_flag, bits_of}
-
--- whether a number is the mask of one flag
-abbrev pub is_flag_mask : ℕ → Bool
-is_flag_mask mask = list_any (λ f. 2 ^ bit f == mask) flags
-
-at_flag : (fs : List Flag) (word mask : ℕ) → list_any (λ f. 2 ^ bit f == mask) fs ≡ true
-    → not (bit_and word mask == 0) ≡ (word / mask % 2 == 1)
-at_flag [] word mask h = cc
-at_flag (f ∷ fs) word mask h = elim (cases_eq (2 ^ bit f) mask) [
-  | inl same ↦ rw (← same) (flag_test word (bit f))
-  | inr differ ↦ at_flag fs word mask (rw (let other : (2 ^ bit f == mask) ≡ false = ne_eqb _ _ differ in other) at h)
-]
-
--- one flag
-pub flag_by_mask : (word mask : ℕ) → is_flag_mask mask ≡ true → not (bit_and word mask == 0) ≡ (word / mask % 2 == 1)
-flag_by_mask word mask is = at_flag flags word mask is
-
-not-not : (a : Bool) → not (not a) ≡ a
-not-not true = refl
-not-not false = refl
 
 -- whether any of several flags is set
 pub any_by_mask : (word mask : ℕ) (fs : List Flag) → mask ≡ mask_of fs → ascends bit 1 0 fs ≡ true
     → not (bit_and word mask == 0) ≡ any_flag word fs
 unfolding any_flag
-any_by_mask word mask fs is up = rw is (ap not (mask_test fs word up) ∙ not-not (list_any (flag_of (raw word)) fs))
+any_by_mask word mask fs is up = rw is (mask_test fs word up)
 
 one_bit : (n k : ℕ) → n < 2 → n * 2 ^ k ≡ (if n == 1 then 2 ^ k else 0)
 one_bit zero k small = omega arith
