@@ -1,12 +1,12 @@
 -- The error of a word, and whether it accepts two options, by tests that compute.
 -- Nothing here has to be believed: the law `literal_facts` says that the tests decide what the rules say.
-use Rattle.std.specs.Prelude.{ℕ, Bool, true, not, nat_le, ◌||◌, ◌&&◌, ◌==◌, if◌then◌else◌, List, [], ◌∷◌, ⊤}
+use Rattle.std.specs.Prelude.{ℕ, Bool, true, not, nat_le, ◌||◌, ◌&&◌, ◌==◌, if◌then◌else◌, List, [], ◌∷◌, bit_and, ⊤}
 use Rattle.lexical_base.specs.Ascii.{allowed_ascii}
 use Rattle.lexical_base.specs.Digits.{value}
 use Rattle.lexical_base.specs.declared.error.Error.{Error}
 use Rattle.lexical_base.specs.declared.error.Error.TheVariants.{Success}
 use Rattle.lexical_flags.specs.Common.{common}
-use Rattle.lexical_flags.specs.Layout.{part}
+use Rattle.lexical_flags.specs.declared.format_flags.TheConstants.{RESERVED_MASK}
 use Rattle.lexical_flags.specs.Record.{Record, raw, word_of, effective_exponent_base, effective_exponent_radix}
 use Rattle.lexical_flags.specs.Roles.{other_case, digits, signs}
 use Rattle.lexical_flags.specs.Rules as rules
@@ -62,7 +62,7 @@ passes rules.reserved_bits_are_zero r = true
 
 -- whether a word keeps a rule
 abbrev pub keeps : Rule → ℕ → Bool
-keeps rules.reserved_bits_are_zero word = (part word 18 14 == 0) && ((part word 45 19 == 0) && (part word 72 16 == 0))
+keeps rules.reserved_bits_are_zero word = bit_and word RESERVED_MASK == 0
 keeps rule word = passes rule (raw word)
 
 -- the error of the first of these rules that a word does not keep

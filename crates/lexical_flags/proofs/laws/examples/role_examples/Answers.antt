@@ -26,7 +26,7 @@ clash one =
 pub returns : goal.returns
 unfolding value Disjoint cased
 returns c = record {
-  two_letters = Disjoint-test true 0x65 true 0x45 refl;
+  two_letters = (Disjoint-test true 0x65 true 0x45).0 refl;
   both_cases = λ apart. apart 0x45 refl refl;
   sign = λ apart. apart 0x2D refl refl;
   one_role =
