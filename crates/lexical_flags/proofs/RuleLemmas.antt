@@ -1,9 +1,10 @@
 -- A word is lawful exactly if it keeps every rule, and has one error.
-use Rattle.std.proofs.Common.{◌≡◌, ℕ, ◌≢◌, ◌↔◌, inl, inr, Bool, true, ◌&&◌, IsTrue, List, [], ◌∷◌, ◌++◌, refl, sym, ◌∙◌}
+use Rattle.std.proofs.Common.{◌≡◌, ℕ, ◌≢◌, ◌↔◌, inl, inr, Bool, true, IsTrue, List, [], ◌∷◌, refl, sym, ◌∙◌}
 use Rattle.std.proofs.Common.{subst, arith}
 use Rattle.std.specs.List.{AllByRecursion}
-use Rattle.std.proofs.lemmas.Bool.{and_parts, cases_eq}
+use Rattle.std.proofs.lemmas.Bool.{cases_eq}
 use Rattle.std.proofs.lemmas.Bool.Decides.{nat_tests}
+use Rattle.std.proofs.lemmas.List.Elements.{recursion_from_All}
 use Rattle.lexical_base.specs.declared.error.Error.{Error}
 use Rattle.lexical_base.specs.declared.error.Error.TheVariants.{InvalidFlags, Success}
 use Rattle.lexical_flags.specs.Layout.{IsClean}
@@ -117,10 +118,6 @@ five_apart r separator prefix suffix own =
       ((signs_apart true _ separator, (signs_apart _ _ prefix, (signs_apart _ _ suffix, tt))), own),
     )
 
-every : {X : Type 0} (P : X → Type 0) → ((x : X) → P x) → (xs : List X) → AllByRecursion P xs
-every P all [] = tt
-every P all (x ∷ xs) = (all x, every P all xs)
-
 -- a word that keeps every rule is lawful
 pub Lawful-from_all : (word : ℕ) → ((rule : Rule) → Holds rule word) → Lawful word
 unfolding Holds Lawful
@@ -133,36 +130,13 @@ Lawful-from_all word h =
       mantissa_radix = h rules.mantissa_radix_in_range;
       exponent_base = h rules.exponent_base_in_range;
       exponent_radix = h rules.exponent_radix_in_range;
-      flags = every (λ rule. Holds rule word) h flag_rules;
+      flags = recursion_from_All (λ rule. Holds rule word) flag_rules (λ i d inside. h _);
       digit_separator = IsFree-text r _ separator;
       base_prefix = IsFree-text r _ prefix;
       base_suffix = IsFree-text r _ suffix;
       roles = five_apart r separator prefix suffix (h rules.punctuation_differs);
       clean = h rules.reserved_bits_are_zero;
     }
-
--- tests joined by && tell whether all rules hold of which each tests one
-pub one_kept : (word : ℕ) (rule : Rule) {test : Bool} → IsTrue test ↔ Holds rule word → IsTrue test
-    ↔ AllByRecursion (λ r. Holds r word) (rule ∷ [])
-one_kept word rule told = (λ h. (told.0 h, tt), λ all. told.1 all.0)
-
-join : (word : ℕ) (front : List Rule) (last : Rule) → AllByRecursion (λ r. Holds r word) front → Holds last word
-    → AllByRecursion (λ r. Holds r word) (front ++ last ∷ [])
-join word [] last all kept = (kept, tt)
-join word (rule ∷ front) last all kept = (all.0, join word front last all.1 kept)
-
-split : (word : ℕ) (front : List Rule) (last : Rule) → AllByRecursion (λ r. Holds r word) (front ++ last ∷ [])
-    → AllByRecursion (λ r. Holds r word) front × Holds last word
-split word [] last all = (tt, all.0)
-split word (rule ∷ front) last all = let rest = split word front last all.1 in ((all.0, rest.0), rest.1)
-
-pub more_kept : (word : ℕ) (front : List Rule) (last : Rule) {some more : Bool}
-    → IsTrue some ↔ AllByRecursion (λ r. Holds r word) front → IsTrue more ↔ Holds last word
-    → IsTrue (some && more) ↔ AllByRecursion (λ r. Holds r word) (front ++ last ∷ [])
-more_kept word front last {some} {more} some_told more_told = (
-  λ both. let parts = and_parts some more both in join word front last (some_told.0 parts.0) (more_told.0 parts.1),
-  λ all. let parts = split word front last all in rw (some_told.1 parts.0, more_told.1 parts.1) refl,
-)
 
 -- no rule has the error Success
 error_of-success : (rule : Rule) → error_of rule ≢ Success
