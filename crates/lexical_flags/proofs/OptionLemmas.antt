@@ -1,8 +1,7 @@
 -- An exponent character and a decimal point beside the five roles of a word.
-use Rattle.std.proofs.Common.{ℕ, zero, suc, ◌≡◌, ◌+◌, ◌≤◌, ◌<◌, ◌≢◌, ◌⊎◌, ◌==◌, inl, inr, if◌then◌else◌, Bool, true}
-use Rattle.std.proofs.Common.{false, not, IsTrue, List, [], ◌∷◌, length, refl, sym, ◌∙◌, eqb-true, arith}
-use Rattle.std.specs.List.{AllByRecursion, filter}
-use Rattle.std.proofs.lemmas.Bool.{eqb-false}
+use Rattle.std.proofs.Common.{ℕ, ◌≡◌, ◌+◌, ◌≤◌, ◌≢◌, ◌⊎◌, ◌==◌, ◌||◌, not, if◌then◌else◌, Bool, true, false, IsTrue}
+use Rattle.std.proofs.Common.{refl, arith}
+use Rattle.std.specs.List.{AllByRecursion}
 use Rattle.std.proofs.lemmas.Bool.Decides.{nat_tests}
 use Rattle.lexical_base.specs.Ascii.{ByteSet, allowed_ascii}
 use Rattle.lexical_flags.specs.Record.{Record, raw}
@@ -110,58 +109,28 @@ HaveOneRole-from_accepted word e p lawful h = record {
   apart a roles.base_prefix first last = Disjoint-from_lawful word e p lawful a roles.base_prefix first refl
   apart a roles.base_suffix first last = Disjoint-from_lawful word e p lawful a roles.base_suffix first refl
 
--- the numbers of a list but one
-abbrev without : ℕ → List ℕ → List ℕ
-without x taken = filter (λ t. not (t == x)) taken
+-- the first of four bytes in a row that is none of three
+is_other : ℕ → ℕ → ℕ → ℕ → Bool
+is_other n a b c = not ((n == a) || (n == b) || (n == c))
 
--- what is none of these, and not that one, is none of all
-none_of-without : (a x : ℕ) (taken : List ℕ) → a ≢ x → AllByRecursion (λ t. a ≢ t) (without x taken)
-    → AllByRecursion (λ t. a ≢ t) taken
-none_of-without a x [] differ h = tt
-none_of-without a x (t ∷ taken) differ h = by (t == x) refl h (none_of-without a x taken differ) where
-  by : (same : Bool) → (t == x) ≡ same → AllByRecursion (λ t. a ≢ t)
-      (if not same then t ∷ without x taken else without x taken)
-      → (AllByRecursion (λ t. a ≢ t) (without x taken) → AllByRecursion (λ t. a ≢ t) taken)
-      → a ≢ t × AllByRecursion (λ t. a ≢ t) taken
-  by true is rest others = (λ e. differ (e ∙ eqb-true t x is), others rest)
-  by false is rest others = (rest.0, others rest.1)
+is_other-told : (n a b c : ℕ) → ((is_other n a b c ≡ true) × (n ≢ a) × (n ≢ b) × (n ≢ c))
+    ⊎ ((is_other n a b c ≡ false) × ((n ≡ a) ⊎ ((n ≡ b) ⊎ (n ≡ c))))
+unfolding is_other
+is_other-told n a b c = grind (arith, nat_tests)
 
-shorter : (x : ℕ) (taken : List ℕ) → length (without x taken) ≤ length taken
-shorter x [] = omega arith
-shorter x (t ∷ taken) = by (t == x) (shorter x taken) where
-  by : (same : Bool) → length (without x taken) ≤ length taken
-      → length (if not same then t ∷ without x taken else without x taken) ≤ suc (length taken)
-  by true less = omega arith
-  by false less = omega arith
+free_from : ℕ → ℕ → ℕ → ℕ → ℕ
+free_from low a b c =
+    if is_other low a b c then low
+    else if is_other (low + 1) a b c then low + 1
+    else if is_other (low + 2) a b c then low + 2 else low + 3
 
--- a number is none of a list, or the list is shorter without it
-taken_or_not : (x : ℕ) (taken : List ℕ) → AllByRecursion (λ t. x ≢ t) taken ⊎ (length (without x taken) < length taken)
-taken_or_not x [] = inl tt
-taken_or_not x (t ∷ taken) = by (t == x) refl (taken_or_not x taken) where
-  by : (same : Bool) → (t == x) ≡ same → AllByRecursion (λ t. x ≢ t) taken ⊎ (length (without x taken) < length taken)
-      → (x ≢ t × AllByRecursion (λ t. x ≢ t) taken) ⊎ (length
-      (if not same then t ∷ without x taken else without x taken) < suc (length taken))
-  by true is found = let less = shorter x taken in inr (omega arith)
-  by false is (inl none) = inl (λ e. eqb-false t x is (sym e), none)
-  by false is (inr less) = inr (omega arith)
+free_from-is : (low a b c : ℕ) → (low ≤ free_from low a b c) × (free_from low a b c ≤ low + 3)
+    × (free_from low a b c ≢ a) × (free_from low a b c ≢ b) × (free_from low a b c ≢ c)
+unfolding free_from
+free_from-is low a b c = grind (arith, is_other-told)
 
--- a number from low on that is none of a list, no further up than the list is long
-abbrev Fresh : ℕ → ℕ → List ℕ → Type 0
-Fresh low n taken = (a : ℕ) × (low ≤ a) × (a ≤ low + n) × AllByRecursion (λ t. a ≢ t) taken
-
-fresh_from : (n low : ℕ) (taken : List ℕ) → length taken ≤ n → Fresh low n taken
-fresh_from zero low [] few = (low, omega arith, omega arith, tt)
-fresh_from zero low (t ∷ taken) few = absurd (omega arith)
-fresh_from (suc n) low taken few =
-    elim (taken_or_not low taken) [
-      | inl none ↦ (low, omega arith, omega arith, none)
-      | inr less ↦
-          let next = fresh_from n (low + 1) (without low taken) (omega arith) in
-          (next.0, omega arith, omega arith, none_of-without next.0 low taken (omega arith) next.3)
-    ]
-
--- the bytes ! " # $ % have no part in numbers
-IsPunctuation-mark : (r : Record) (byte : ℕ) → 33 ≤ byte → byte ≤ 37 → IsPunctuation r byte
+-- the bytes from ! to ( have no part in numbers
+IsPunctuation-mark : (r : Record) (byte : ℕ) → 33 ≤ byte → byte ≤ 40 → IsPunctuation r byte
 unfolding IsPunctuation
 IsPunctuation-mark r byte low high = (
   grind (arith, nat_tests),
@@ -170,16 +139,16 @@ IsPunctuation-mark r byte low high = (
 )
 
 -- the roles of such a byte and of one that differs
-Disjoint-mark : (a : ℕ) (a_counts : Bool) (b : ℕ) (b_counts : Bool) → 33 ≤ a → a ≤ 37 → a ≢ b
+Disjoint-mark : (a : ℕ) (a_counts : Bool) (b : ℕ) (b_counts : Bool) → 33 ≤ a → a ≤ 40 → a ≢ b
     → Disjoint (cased a_counts a) (cased b_counts b)
 unfolding Disjoint cased
 Disjoint-mark a a_counts b b_counts low high differ byte is_a is_b = grind (arith, nat_tests)
 
 -- such a byte that differs from the three of a format has none of their roles
-is_new : (r : Record) (byte : ℕ) (counts : Bool) → 33 ≤ byte → byte ≤ 37
-    → AllByRecursion (λ t. byte ≢ t) (r.digit_separator ∷ r.base_prefix ∷ r.base_suffix ∷ [])
+is_new : (r : Record) (byte : ℕ) (counts : Bool) → 33 ≤ byte → byte ≤ 40
+    → byte ≢ r.digit_separator → byte ≢ r.base_prefix → byte ≢ r.base_suffix
     → AllByRecursion (Disjoint (cased counts byte)) (own_roles r)
-is_new r byte counts low high (separator, (prefix, (suffix, _))) = (
+is_new r byte counts low high separator prefix suffix = (
   Disjoint-mark byte counts _ true low high separator,
   (
     Disjoint-mark byte counts _ r.case_sensitive_base_prefix low high prefix,
@@ -187,19 +156,19 @@ is_new r byte counts low high (separator, (prefix, (suffix, _))) = (
   ),
 )
 
--- of the five marks two are left
+-- of each four such bytes one is left
 pub LeavesRoom-from_lawful : (word : ℕ) → Lawful word → LeavesRoom word
 LeavesRoom-from_lawful word lawful =
     let r : Record = raw word in
-    let taken : List ℕ = r.digit_separator ∷ r.base_prefix ∷ r.base_suffix ∷ [] in
-    let e = fresh_from 3 33 taken (omega arith) in
-    let p = fresh_from 4 33 (e.0 ∷ taken) (omega arith) in
-    let high : e.0 ≤ 37 = omega arith in
-    let accepted : AreAccepted word e.0 p.0 = record {
-      exponent_is_punctuation = IsPunctuation-mark r e.0 e.1 high;
-      point_is_punctuation = IsPunctuation-mark r p.0 p.1 p.2;
-      apart = Disjoint-mark e.0 r.case_sensitive_exponent p.0 true e.1 high (λ same. p.3.0 (sym same));
-      exponent_is_new = is_new r e.0 r.case_sensitive_exponent e.1 high e.3;
-      point_is_new = is_new r p.0 true p.1 p.2 p.3.1;
+    let e : ℕ = free_from 33 r.digit_separator r.base_prefix r.base_suffix in
+    let p : ℕ = free_from 37 r.digit_separator r.base_prefix r.base_suffix in
+    let e_free = free_from-is 33 r.digit_separator r.base_prefix r.base_suffix in
+    let p_free = free_from-is 37 r.digit_separator r.base_prefix r.base_suffix in
+    let accepted : AreAccepted word e p = record {
+      exponent_is_punctuation = IsPunctuation-mark r e e_free.0 (omega arith);
+      point_is_punctuation = IsPunctuation-mark r p (omega arith) p_free.1;
+      apart = Disjoint-mark e r.case_sensitive_exponent p true e_free.0 (omega arith) (omega arith);
+      exponent_is_new = is_new r e r.case_sensitive_exponent e_free.0 (omega arith) e_free.2 e_free.3 e_free.4;
+      point_is_new = is_new r p true (omega arith) p_free.1 p_free.2 p_free.3 p_free.4;
     } in
-    record { exponent_byte = e.0; point_byte = p.0; fit = HaveOneRole-from_accepted word e.0 p.0 lawful accepted }
+    record { exponent_byte = e; point_byte = p; fit = HaveOneRole-from_accepted word e p lawful accepted }
