@@ -7,7 +7,6 @@ use Rattle.std.proofs.Math.Nat.{mul-le-mul_left, mod-eq_of_lt, mod-lt, pow-le-po
 use Rattle.std.proofs.lemmas.Bool.{leb-true, and_parts}
 use Rattle.std.proofs.lemmas.Nat.{pow-add, pow_pos, shr_split, and_block, and_mask, and_mod, and_le_r, or_comm}
 use Rattle.std.proofs.lemmas.Nat.{or_shifted}
-use Rattle.std.proofs.lemmas.Nat.Bits.{shr_and_one}
 use Rattle.lexical_flags.specs.Layout.{part}
 
 -- each field starts at the end of the one before or above it, the first at bit s or above
@@ -19,21 +18,6 @@ ascends start width s (x ∷ xs) = leb s (start x) && ascends start width (start
 abbrev pub above : {X : Type 0} → (X → ℕ) → ℕ → ℕ → List X → ℕ
 above start width s [] = s
 above start width s (x ∷ xs) = above start width (start x + width) xs
-
--- one more bit of a mask
-and_more : (w a k : ℕ) → a < 2 ^ k → bit_and w (a + 2 ^ k) ≡ bit_and w a + part w k 1 * 2 ^ k
-and_more w a k l =
-    let split : (w / 2 ^ k) * 2 ^ k + w % 2 ^ k ≡ w = shr_split w k in
-    let blocks : bit_and ((w / 2 ^ k) * 2 ^ k + w % 2 ^ k) (1 * 2 ^ k + a) ≡ bit_and (w / 2 ^ k) 1 * 2 ^ k + bit_and
-    (w % 2 ^ k) a =
-    and_block k (w / 2 ^ k) 1 (w % 2 ^ k) a (mod-lt w (pow_pos k)) l in
-    let low : bit_and (w % 2 ^ k) a ≡ bit_and w a =
-    ap (λ x. bit_and (w % 2 ^ k) x) (sym (mod-eq_of_lt l)) ∙ sym (and_mod w a k)
-    ∙ mod-eq_of_lt (lt_of_le_of_lt (and_le_r w a) l) in
-    let mask : a + 2 ^ k ≡ 1 * 2 ^ k + a = omega arith in
-    ap (λ x. bit_and w x) mask
-    ∙ ap (λ x. bit_and x (1 * 2 ^ k + a)) (sym split)
-    ∙ blocks ∙ (λ i. shr_and_one w k i * 2 ^ k + low i) ∙ omega arith
 
 -- one more block of n bits of a mask
 pub and_block_more : (w a k n : ℕ) → a < 2 ^ k → bit_and w ((2 ^ n - 1) * 2 ^ k + a) ≡ bit_and w a + part w k n * 2 ^ k
@@ -47,6 +31,11 @@ and_block_more w a k n l =
     ∙ mod-eq_of_lt (lt_of_le_of_lt (and_le_r w a) l) in
     ap (λ x. bit_and x ((2 ^ n - 1) * 2 ^ k + a)) (sym split)
     ∙ blocks ∙ (λ i. and_mask (w / 2 ^ k) n i * 2 ^ k + low i) ∙ omega arith
+
+-- one more bit of a mask
+and_more : (w a k : ℕ) → a < 2 ^ k → bit_and w (a + 2 ^ k) ≡ bit_and w a + part w k 1 * 2 ^ k
+and_more w a k l = let mask : a + 2 ^ k ≡ (2 ^ 1 - 1) * 2 ^ k + a = omega arith in
+    ap (bit_and w) mask ∙ and_block_more w a k 1 l
 
 -- one more field
 or_more : (low s k n v : ℕ) → low < 2 ^ s → s ≤ k → v < 2 ^ n

@@ -1,9 +1,10 @@
 -- A packed record, and the record that a word holds.
-use Rattle.std.proofs.Common.{ℕ, zero, suc, ◌≡◌, ◌+◌, ◌*◌, ◌^◌, ◌<◌, ◌==◌, ◌⊎◌, ◌↔◌, ◌-◌, nat_lt, Bool, true, false}
+use Rattle.std.proofs.Common.{ℕ, zero, suc, ◌≡◌, ◌+◌, ◌*◌, ◌^◌, ◌<◌, ◌==◌, ◌⊎◌, ◌↔◌, Bool, true, false}
 use Rattle.std.proofs.Common.{IsTrue, if◌then◌else◌, List, [], ◌∷◌}
-use Rattle.std.proofs.Common.{◌++◌, map, drop, get_or, sum_by, refl, ap, sym, ◌∙◌, subst, inl, inr, arith}
+use Rattle.std.proofs.Common.{◌++◌, map, sum_by, refl, ap, sym, ◌∙◌, subst, inl, inr, arith}
 use Rattle.std.proofs.Math.Nat.{mod-eq_of_lt, mod-lt}
 use Rattle.std.proofs.lemmas.Nat.{pow_pos}
+use Rattle.std.proofs.lemmas.Bool.{cond_both}
 use Rattle.std.proofs.lemmas.Bool.Decides.{nat_tests}
 use Rattle.lexical_flags.specs.Layout.{part, Flag, Byte, bit, flags, bytes, base_flags, digit_separator_flags, shift}
 use Rattle.lexical_flags.specs.Layout.{IsClean}
@@ -23,18 +24,11 @@ laid flag byte low middle high =
     ∷ byte layout.base_prefix ∷ byte layout.base_suffix ∷ byte layout.mantissa_radix
     ∷ byte layout.exponent_base ∷ byte layout.exponent_radix ∷ [])
 
--- the index of the segment of a flag
-abbrev flag_index : Flag → ℕ
-flag_index f = if nat_lt (bit f) 32 then bit f else bit f - 13
-
--- the index of the segment of a byte
-abbrev byte_index : Byte → ℕ
-byte_index layout.digit_separator = 33
-byte_index layout.base_prefix = 35
-byte_index layout.base_suffix = 36
-byte_index layout.mantissa_radix = 37
-byte_index layout.exponent_base = 38
-byte_index layout.exponent_radix = 39
+-- the value of the segment that starts at bit k, if the first starts at bit s
+abbrev value_at : ℕ → ℕ → List ℕ → List ℕ → ℕ
+value_at k s [] vs = 0
+value_at k s (n ∷ ns) [] = 0
+value_at k s (n ∷ ns) (v ∷ vs) = if s == k then v else value_at k (s + n) ns vs
 
 -- a `bool` as a bit
 abbrev pub bit_value : Bool → ℕ
@@ -46,7 +40,7 @@ values r = laid (λ f. bit_value (flag_of r f)) (byte_of r) 0 0 0
 
 -- the record with these values
 abbrev from_values : List ℕ → Record
-from_values vs = tabulate (λ f. get_or vs (flag_index f) 0 == 1) (λ b. get_or vs (byte_index b) 0)
+from_values vs = tabulate (λ f. value_at (bit f) 0 widths vs == 1) (λ b. value_at (shift b) 0 widths vs)
 
 bit_value-one : (b : Bool) → (bit_value b == 1) ≡ b
 bit_value-one true = refl
@@ -70,32 +64,8 @@ pub bit_value-lt : (b : Bool) → bit_value b < 2
 bit_value-lt true = omega arith
 bit_value-lt false = omega arith
 
-fit_bits : (g : Flag → Bool) (fs : List Flag) (ns vs : List ℕ) → Fit ns vs
-    → Fit (map (λ _. 1) fs ++ ns) (map (λ f. bit_value (g f)) fs ++ vs)
-fit_bits g [] ns vs fit = fit
-fit_bits g (f ∷ fs) ns vs fit = (bit_value-lt (g f), fit_bits g fs ns vs fit)
-
 values-fit : (r : Record) → HasBytes r → Fit widths (values r)
-values-fit r h =
-    let byte = h.each in
-    let bytes_fit : Fit (drop 32 widths) (drop 32 (values r)) = (
-      omega arith,
-      (
-        byte layout.digit_separator,
-        (
-          omega arith,
-          (
-            byte layout.base_prefix,
-            (
-              byte layout.base_suffix,
-              (byte layout.mantissa_radix, (byte layout.exponent_base, (byte layout.exponent_radix, tt))),
-            ),
-          ),
-        ),
-      ),
-    ) in
-    let higher = fit_bits (flag_of r) digit_separator_flags (drop 32 widths) (drop 32 (values r)) bytes_fit in
-    fit_bits (flag_of r) base_flags (drop 18 widths) (drop 18 (values r)) (omega arith, higher)
+values-fit r h = let byte = h.each in search (arith, bit_value-lt, byte)
 
 -- a word of fields, segment by segment
 segments-word_of : (r : Record) → HasBytes r → segments 0 widths (word_of r) ≡ values r
@@ -109,9 +79,9 @@ raw-word_of r h = ap from_values (segments-word_of r h) ∙ from_values-values r
 
 word_of-clean : (r : Record) → HasBytes r → IsClean (word_of r)
 word_of-clean r h =
-    let at : (k : ℕ) → get_or (segments 0 widths (word_of r)) k 0 ≡ get_or (values r) k 0 =
-    λ k. ap (λ vs. get_or vs k 0) (segments-word_of r h) in
-    record { below_separator_flags = at 18; below_separator = at 32; below_prefix = at 34 }
+    let at : (k : ℕ) → value_at k 0 widths (segments 0 widths (word_of r)) ≡ value_at k 0 widths (values r) =
+    λ k. ap (value_at k 0 widths) (segments-word_of r h) in
+    record { below_separator_flags = at 18; below_separator = at 45; below_prefix = at 72 }
 
 word_of-lt : (r : Record) → HasBytes r → word_of r < 2 ^ 128
 word_of-lt r h = omega (arith, word_of-joined r, joined-below 0 widths (values r) 0 (omega arith) (values-fit r h))
@@ -167,15 +137,12 @@ HasBytes-fill r h =
     (effective-lt r.exponent_base r.mantissa_radix (byte layout.exponent_base) radix)
     (effective-lt r.exponent_radix r.mantissa_radix (byte layout.exponent_radix) radix)
 
-kept-lt : (b : Bool) (n : ℕ) → n < 256 → (if b then n else 0) < 256
-kept-lt true n l = l
-kept-lt false n l = omega arith
-
 -- dropping the separator leaves bytes
 pub HasBytes-trim : (r : Record) → HasBytes r → HasBytes (trim r)
 HasBytes-trim r h =
     let byte = h.each in
-    HasBytes-by_name (trim r) (kept-lt (separator_on r) r.digit_separator (byte layout.digit_separator))
+    HasBytes-by_name (trim r)
+    (cond_both (separator_on r) r.digit_separator 0 (λ n. n < 256) (λ _. byte layout.digit_separator) (λ _. omega arith))
     (byte layout.base_prefix)
     (byte layout.base_suffix) (byte layout.mantissa_radix) (byte layout.exponent_base) (byte layout.exponent_radix)
 
