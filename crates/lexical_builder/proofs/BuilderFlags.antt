@@ -1,10 +1,9 @@
 -- The flags of a builder: each at its bit, moved to and from a word, and written under a mask.
 use Rattle.std.proofs.Common.{ℕ, zero, suc, ◌≡◌, ◌+◌, ◌-◌, ◌*◌, ◌/◌, ◌%◌, ◌^◌, ◌<◌, ◌==◌, min, max, Bool, true, false}
 use Rattle.std.proofs.Common.{if◌then◌else◌, map, sum_by, bit_and, bit_or, w32, refl, ap, ◌∙◌, arith}
-use Rattle.std.specs.Int.Bits.{or_zero_r}
 use Rattle.std.proofs.Math.Nat.{mod-lt}
 use Rattle.std.proofs.lemmas.Nat.{shr-shr, mod-pow-add, and_mask, or_comm, or_shifted, pow_pos}
-use Rattle.std.proofs.lemmas.Nat.Bits.{and_high, bit_at_or, bit_at_and, bit_at_not}
+use Rattle.std.proofs.lemmas.Nat.Bits.{and_high, bit_at-zero, bit_at_or, bit_at_and, bit_at_not}
 use Rattle.std.proofs.lemmas.Bool.Decides.{nat_tests}
 use Rattle.lexical_flags.specs.Layout.{part, Flag, bit, flags, base_flags, digit_separator_flags}
 use Rattle.lexical_flags.specs.Layout as layout
@@ -28,10 +27,6 @@ part-flags_in word _ = omega arith
 pub flags_in-mask : (f : Flag) → flags_in (2 ^ bit f) ≡ 2 ^ builder_bit f
 flags_in-mask layout.required_integer_digits = refl
 flags_in-mask _ = refl
-
--- the flags of a word fit a builder
-pub flags_in-lt : (word : ℕ) → flags_in word < 2 ^ 31
-flags_in-lt word = omega arith
 
 -- two blocks of a word, moved together and joined by `|`
 pub blocks_joined-builder : (word : ℕ) → bit_or (bit_and word 0x3FFFF)
@@ -68,35 +63,22 @@ blocks_joined-word n l =
     (λ i. bit_or (low i) (high i)) ∙ or_comm (part n 0 18) (part n 18 13 * 2 ^ 32)
     ∙ or_shifted (part n 18 13) 32 (part n 0 18) below ∙ omega arith
 
-max_test : (a m : ℕ) → a < 2 → m < 2 → (max a m == 1) ≡ (if m == 1 then true else (a == 1))
-max_test a m l k = grind (arith, nat_tests)
+-- a bit that is cleared where a mask has one, and then set or not
+set_bit : (a m : ℕ) (value : Bool) → a < 2 → m < 2 → (max (min a (1 - m)) (if value then m else 0) == 1)
+    ≡ (if m == 1 then value else (a == 1))
+set_bit a m true l k = grind (arith, nat_tests)
+set_bit a m false l k = grind (arith, nat_tests)
 
-min_test : (a m : ℕ) → a < 2 → m < 2 → (min a (1 - m) == 1) ≡ (if m == 1 then false else (a == 1))
-min_test a m l k = grind (arith, nat_tests)
-
-or_test : (a m i : ℕ) → (part (bit_or a m) i 1 == 1) ≡ (if part m i 1 == 1 then true else (part a i 1 == 1))
-or_test a m i = ap (λ n. n == 1) (bit_at_or a m i) ∙ max_test _ _ (bit-lt a i) (bit-lt m i)
-
-and_not_test : (a m i : ℕ) → m < 2 ^ 32 → i < 32 → (part (bit_and a (2 ^ 32 - 1 - m)) i 1 == 1) ≡
-    (if part m i 1 == 1 then false else (part a i 1 == 1))
-and_not_test a m i l k =
-    ap (λ n. n == 1) (bit_at_and a (2 ^ 32 - 1 - m) i ∙ ap (λ n. min (part a i 1) n) (bit_at_not w32 m i l k))
-    ∙ min_test _ _ (bit-lt a i) (bit-lt m i)
-
-set_over : (t u : Bool) → (if t then true else (if t then false else u)) ≡ (if t then true else u)
-set_over true u = refl
-set_over false u = refl
+part-if : (value : Bool) (m i : ℕ) → part (if value then m else 0) i 1 ≡ (if value then part m i 1 else 0)
+part-if true m i = refl
+part-if false m i = bit_at-zero i
 
 -- the bits of a mask, cleared and then set or not
 pub replaced_test : (a m i : ℕ) (value : Bool) → m < 2 ^ 32 → i < 32
     → (part (bit_or (bit_and a (2 ^ 32 - 1 - m)) (if value then m else 0)) i 1 == 1) ≡
     (if part m i 1 == 1 then value else (part a i 1 == 1))
-replaced_test a m i true l k =
-    or_test (bit_and a (2 ^ 32 - 1 - m)) m i ∙ ap (λ b. if part m i 1 == 1 then true else b) (and_not_test a m i l k)
-    ∙ set_over (part m i 1 == 1) (part a i 1 == 1)
-replaced_test a m i false l k = ap (λ n. part n i 1 == 1) (or_zero_r (bit_and a (2 ^ 32 - 1 - m)))
-    ∙ and_not_test a m i l k
-
-pub bits_if-lt : (value : Bool) (m : ℕ) → m < 2 ^ 31 → (if value then m else 0) < 2 ^ 31
-bits_if-lt true m l = l
-bits_if-lt false m l = omega arith
+replaced_test a m i value l k =
+    let cleared = bit_at_and a (2 ^ 32 - 1 - m) i ∙ ap (λ n. min (part a i 1) n) (bit_at_not w32 m i l k) in
+    ap (λ n. n == 1) (bit_at_or (bit_and a (2 ^ 32 - 1 - m)) (if value then m else 0) i
+    ∙ (λ j. max (cleared j) (part-if value m i j)))
+    ∙ set_bit (part a i 1) (part m i 1) value (bit-lt a i) (bit-lt m i)

@@ -1,7 +1,7 @@
 -- The format of one radix passes the tests of the rules exactly if numbers can be written in that radix.
-use Rattle.std.proofs.Common.{ℕ, ◌≡◌, ◌↔◌, ◌<◌, Bool, true, false, refl, sym, ap, ◌∙◌, arith}
-use Rattle.std.proofs.lemmas.Bool.{false≢true, agree_below_at}
-use Rattle.std.proofs.lemmas.Bool.Decides.{nat_tests}
+use Rattle.std.proofs.Common.{ℕ, ◌≡◌, ◌↔◌, ◌<◌, Bool, true, false, Decides, refl, sym, ap, ◌∙◌}
+use Rattle.std.proofs.lemmas.Bool.{false≢true, leb-true, le-leb, agree_below_at}
+use Rattle.std.proofs.lemmas.Bool.Decides.{Decides-and}
 use Rattle.lexical_base.specs.declared.error.Error.{Error}
 use Rattle.lexical_base.specs.declared.error.Error.TheVariants.{Success}
 use Rattle.lexical_flags.specs.Computed.{is_radix, error_at, on_literals}
@@ -23,15 +23,12 @@ tried : (radix : ℕ) → radix < 256 → is_success (error_at (pack (radix_reco
 unfolding on_literals
 tried radix fits = agree_below_at (λ n. is_success (error_at (pack (radix_record n)))) is_radix 256 radix refl fits
 
-is_radix-from : (radix : ℕ) → IsRadix radix → is_radix radix ≡ true
-is_radix-from radix h = let low = h.0 in let high = h.1 in grind (arith, nat_tests)
-
-IsRadix-from : (radix : ℕ) → is_radix radix ≡ true → IsRadix radix
-IsRadix-from radix test = grind (arith, nat_tests)
+IsRadix-test : (radix : ℕ) → Decides (is_radix radix) (IsRadix radix)
+IsRadix-test radix = Decides-and _ _ (leb-true 2 radix, le-leb 2 radix) (leb-true radix 36, le-leb radix 36)
 
 -- so the error of the format is Success exactly for a radix
 pub radix-success : (radix : ℕ) → radix < 256 → (error_at (pack (radix_record radix)) ≡ Success) ↔ IsRadix radix
 radix-success radix fits = (
-  λ e. IsRadix-from radix (sym (tried radix fits) ∙ ap is_success e),
-  λ h. success_from _ (tried radix fits ∙ is_radix-from radix h),
+  λ e. (IsRadix-test radix).0 (sym (tried radix fits) ∙ ap is_success e),
+  λ h. success_from _ (tried radix fits ∙ (IsRadix-test radix).1 h),
 )

@@ -47,6 +47,17 @@ const EXPONENT_BASE: usize = 4;
 
 const EXPONENT_RADIX: usize = 5;
 
+// The lowest bit of each byte but the separator in the upper half of a format word.
+const PREFIX_SHIFT: i32 = flags::BASE_PREFIX_SHIFT - 64;
+
+const SUFFIX_SHIFT: i32 = flags::BASE_SUFFIX_SHIFT - 64;
+
+const MANTISSA_SHIFT: i32 = flags::MANTISSA_RADIX_SHIFT - 64;
+
+const BASE_SHIFT: i32 = flags::EXPONENT_BASE_SHIFT - 64;
+
+const RADIX_SHIFT: i32 = flags::EXPONENT_RADIX_SHIFT - 64;
+
 /// A byte that may be absent.
 pub type OptionU8 = Option<NonZeroU8>;
 
@@ -219,11 +230,11 @@ impl NumberFormatBuilder {
             flags: builder_flags(format),
             bytes: [
                 (high % 256) as u8,
-                ((high >> 24) % 256) as u8,
-                ((high >> 32) % 256) as u8,
-                ((high >> 40) % 256) as u8,
-                ((high >> 48) % 256) as u8,
-                (high >> 56) as u8,
+                ((high >> PREFIX_SHIFT) % 256) as u8,
+                ((high >> SUFFIX_SHIFT) % 256) as u8,
+                ((high >> MANTISSA_SHIFT) % 256) as u8,
+                ((high >> BASE_SHIFT) % 256) as u8,
+                (high >> RADIX_SHIFT) as u8,
             ],
         }
     }
@@ -314,8 +325,8 @@ fn fill_base(high: u64) -> u64
     ensures base { part result 48 8 ≡ effective (part high 48 8) (part high 40 8) }
     ensures radix { part result 56 8 ≡ part high 56 8 }
 {
-    if high & (0xFF << 48) == 0 {
-        high | (high & (0xFF << 40)) << 8
+    if high & (0xFF << BASE_SHIFT) == 0 {
+        high | (high & (0xFF << MANTISSA_SHIFT)) << (BASE_SHIFT - MANTISSA_SHIFT)
     } else {
         high
     }
@@ -328,8 +339,8 @@ fn fill_radix(high: u64) -> u64
     ensures low { result % 2 ^ 56 ≡ high % 2 ^ 56 }
     ensures radix { part result 56 8 ≡ effective (part high 56 8) (part high 40 8) }
 {
-    if high < 1 << 56 {
-        high | (high & (0xFF << 40)) << 16
+    if high < 1 << RADIX_SHIFT {
+        high | (high & (0xFF << MANTISSA_SHIFT)) << (RADIX_SHIFT - MANTISSA_SHIFT)
     } else {
         high
     }
@@ -338,8 +349,7 @@ fn fill_radix(high: u64) -> u64
 // The flags of a format word, at the bits of a builder.
 #[inline(always)]
 fn builder_flags(format: u128) -> u32
-    ensures value { result ≡ flags_in format }
-    ensures clear_top { result < 2 ^ 31 }
+    ensures { result ≡ flags_in format }
 {
     (format & (LOW_FLAGS as u128) | (format >> 14) & (SEPARATOR_FLAGS as u128)) as u32
 }
@@ -356,11 +366,9 @@ fn word_flags(flags: u32) -> u128
 // The bits with all bits of a mask set to one value.
 #[inline(always)]
 fn replace_bits(bits: u32, mask: u32, value: bool) -> u32
-    requires bits { bits < 2 ^ 31 }
-    requires mask { mask < 2 ^ 31 }
     ensures each { (i : ℕ) → i < 32 → (part result i 1 == 1)
         ≡ (if part mask i 1 == 1 then value else (part bits i 1 == 1)) }
-    ensures clear_top { result < 2 ^ 31 }
+    ensures below { (n : ℕ) → bits < 2 ^ n → mask < 2 ^ n → result < 2 ^ n }
 {
     (bits & !mask) | bits_if(value, mask)
 }
@@ -375,6 +383,7 @@ fn bits_if(condition: bool, bits: u32) -> u32
 
 // The digit separator, or 0 if none of these flags of a format word allows one.
 #[inline(always)]
+#[tactic(auto, using(lexical_flags::proofs::FlagBits::separator_flag_set, lexical_flags::proofs::FlagBits::no_separator_flag_set))]
 fn used_separator(flags: u128, separator: u8) -> u8
     ensures { result ≡ (if separator_on (raw flags) then separator else 0) }
 {

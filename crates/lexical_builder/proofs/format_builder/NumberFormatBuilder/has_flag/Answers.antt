@@ -11,7 +11,7 @@ pub returns : goal.returns
 returns c =
     let f : Flag = flag_with c.args.mask in
     let held : ℕ = c.self.inside.flags in
-    let mask : c.builder_flags.result ≡ 2 ^ builder_bit f = c.builder_flags.ensures.value ∙ ap flags_in (sym c.requires)
+    let mask : c.builder_flags.result ≡ 2 ^ builder_bit f = c.builder_flags.ensures ∙ ap flags_in (sym c.requires)
     ∙ flags_in-mask f in
     ap (λ m. not (bit_and held m == 0)) mask
     ∙ flag_test held (builder_bit f)

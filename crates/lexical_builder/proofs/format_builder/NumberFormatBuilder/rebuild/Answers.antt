@@ -23,7 +23,7 @@ returns c =
     let base : part filled 48 8 ≡ part based 48 8 = omega (arith, below_radix) in
     let radix : filled / 2 ^ 56 ≡ part filled 56 8 = omega arith in
     let flag : (f : Flag) → part c.builder_flags.result (builder_bit f) 1 ≡ part format (bit f) 1 =
-    λ f. ap (λ n. part n (builder_bit f) 1) c.builder_flags.ensures.value ∙ part-flags_in format f in
+    λ f. ap (λ n. part n (builder_bit f) 1) c.builder_flags.ensures ∙ part-flags_in format f in
     λ i. record (tabulate (λ f. flag f i == 1) (byte_of (raw format))) {
       digit_separator = (separator ∙ part-upper format 0) i;
       base_prefix = (prefix ∙ part-upper format 24) i;
