@@ -83,7 +83,7 @@ fn are_cases(a: u8, b: u8) -> bool
 fn are_disjoint(a: u8, a_case_counts: bool, b: u8, b_case_counts: bool) -> bool
     ensures { IsTrue result ↔ Disjoint (cased a_case_counts a) (cased b_case_counts b) }
 {
-    a == 0 || (a != b && (!are_cases(a, b) || (a_case_counts && b_case_counts)))
+    a == 0 || (a != b && (!are_cases(a, b) || (a_case_counts & b_case_counts)))
 }
 
 // The same, quicker: the two cases of a letter differ in the bit 0x20 alone, and most bytes differ
@@ -448,15 +448,18 @@ fn first_broken(format: u128) -> Error
     ensures { IsErrorOf format result }
 {
     match first_broken_radix(format) {
-        Error::Success => match first_broken_punctuation(format) {
-            Error::Success => match first_broken_flags(format) {
-                Error::Success => first_broken_reserved(format),
-                error => error,
-            },
-            error => error,
-        },
-        error => error,
+        Error::Success => {}
+        error => return error,
     }
+    match first_broken_punctuation(format) {
+        Error::Success => {}
+        error => return error,
+    }
+    match first_broken_flags(format) {
+        Error::Success => {}
+        error => return error,
+    }
+    first_broken_reserved(format)
 }
 
 /// Returns the error of the first of mantissa radix, exponent base and exponent radix that is not
