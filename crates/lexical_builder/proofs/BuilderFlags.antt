@@ -1,6 +1,6 @@
 -- The flags of a builder: each at its bit, moved to and from a word, and written under a mask.
 use Rattle.std.proofs.Common.{ℕ, zero, suc, ◌≡◌, ◌+◌, ◌-◌, ◌*◌, ◌/◌, ◌%◌, ◌^◌, ◌<◌, ◌==◌, min, max, Bool, true, false}
-use Rattle.std.proofs.Common.{if◌then◌else◌, map, sum_by, bit_and, bit_or, w32, refl, ap, ◌∙◌, arith}
+use Rattle.std.proofs.Common.{if◌then◌else◌, length, map, sum_by, bit_and, bit_or, w32, refl, ap, ◌∙◌, arith}
 use Rattle.std.proofs.Math.Nat.{mod-lt}
 use Rattle.std.proofs.lemmas.Nat.{shr-shr, mod-pow-add, and_mask, or_comm, or_shifted, pow_pos}
 use Rattle.std.proofs.lemmas.Nat.Bits.{and_high, bit_at-zero, bit_at_or, bit_at_and, bit_at_not}
@@ -13,8 +13,15 @@ use Rattle.lexical_builder.specs.Fields.{builder_bit, flags_in}
 bit-lt : (n k : ℕ) → part n k 1 < 2
 bit-lt n k = mod-lt _ (omega arith)
 
--- bit 31 is no flag's
-pub builder_bit-lt : (f : Flag) → builder_bit f < 31
+-- how many flags there are below the digit separator flags, and how many of these
+abbrev low : ℕ
+low = length base_flags
+
+abbrev high : ℕ
+high = length digit_separator_flags
+
+-- each flag has a bit
+pub builder_bit-lt : (f : Flag) → builder_bit f < 32
 builder_bit-lt layout.required_integer_digits = omega arith
 builder_bit-lt _ = omega arith
 
@@ -29,14 +36,14 @@ flags_in-mask layout.required_integer_digits = refl
 flags_in-mask _ = refl
 
 -- two blocks of a word, moved together and joined by `|`
-pub blocks_joined-builder : (word : ℕ) → bit_or (bit_and word 0x3FFFF)
-    (bit_and (word / 2 ^ 14) 0x7FFC0000) ≡ flags_in word
+pub blocks_joined-builder : (word : ℕ) → bit_or (bit_and word (2 ^ low - 1))
+    (bit_and (word / 2 ^ (32 - low)) ((2 ^ high - 1) * 2 ^ low)) ≡ flags_in word
 blocks_joined-builder word =
-    let low : bit_and word 0x3FFFF ≡ part word 0 18 = and_mask word 18 ∙ omega arith in
-    let high : bit_and (word / 2 ^ 14) 0x7FFC0000 ≡ part word 32 13 * 2 ^ 18 =
-    and_high (word / 2 ^ 14) 13 18 ∙ ap (λ n. n % 2 ^ 13 * 2 ^ 18) (shr-shr word 14 18) in
-    (λ i. bit_or (low i) (high i)) ∙ or_comm (part word 0 18) (part word 32 13 * 2 ^ 18)
-    ∙ or_shifted (part word 32 13) 18 (part word 0 18) (mod-lt _ (pow_pos 18)) ∙ omega arith
+    let first : bit_and word (2 ^ low - 1) ≡ part word 0 low = and_mask word low ∙ omega arith in
+    let second : bit_and (word / 2 ^ (32 - low)) ((2 ^ high - 1) * 2 ^ low) ≡ part word 32 high * 2 ^ low =
+    and_high (word / 2 ^ (32 - low)) high low ∙ ap (λ n. n % 2 ^ high * 2 ^ low) (shr-shr word (32 - low) low) in
+    (λ i. bit_or (first i) (second i)) ∙ or_comm (part word 0 low) (part word 32 high * 2 ^ low)
+    ∙ or_shifted (part word 32 high) low (part word 0 low) (mod-lt _ (pow_pos low)) ∙ omega arith
 
 -- a bit times its value
 bit_value : (n value : ℕ) → n < 2 → (if n == 1 then value else 0) ≡ n * value
@@ -44,24 +51,24 @@ bit_value zero value l = omega arith
 bit_value (suc n) value l = let none : n ≡ 0 = omega arith in rw none (omega arith)
 
 -- the flags of a builder as the bits of a word
-pub flags_as_blocks : (n : ℕ) → sum_by (λ f. if part n (builder_bit f) 1 == 1 then 2 ^ bit f else 0) flags ≡ part n 0 18
-    + part n 18 13 * 2 ^ 32
+pub flags_as_blocks : (n : ℕ) → sum_by (λ f. if part n (builder_bit f) 1 == 1 then 2 ^ bit f else 0) flags
+    ≡ part n 0 low + part n low high * 2 ^ 32
 flags_as_blocks n =
-    let low = joined-segments 0 (map (λ _. 1) base_flags) n in
-    let both = joined-segments 18 (map (λ _. 1) digit_separator_flags) n in
-    let high = mod-pow-add n 13 18 in
+    let first = joined-segments 0 (map (λ _. 1) base_flags) n in
+    let both = joined-segments low (map (λ _. 1) digit_separator_flags) n in
+    let second = mod-pow-add n high low in
     (λ i. sum_by (λ f. bit_value (part n (builder_bit f) 1) (2 ^ bit f) (bit-lt n (builder_bit f)) i) flags)
     ∙ omega arith
 
 -- two blocks of a builder, moved apart and joined by `|`
-pub blocks_joined-word : (n : ℕ) → n < 2 ^ 31 → bit_or (bit_and n 0x3FFFF)
-    (n / 2 ^ 18 * 2 ^ 32 % 2 ^ 128) ≡ part n 0 18 + part n 18 13 * 2 ^ 32
+pub blocks_joined-word : (n : ℕ) → n < 2 ^ length flags → bit_or (bit_and n (2 ^ low - 1))
+    (n / 2 ^ low * 2 ^ 32 % 2 ^ 128) ≡ part n 0 low + part n low high * 2 ^ 32
 blocks_joined-word n l =
-    let low : bit_and n 0x3FFFF ≡ part n 0 18 = and_mask n 18 ∙ omega arith in
-    let high : n / 2 ^ 18 * 2 ^ 32 % 2 ^ 128 ≡ part n 18 13 * 2 ^ 32 = omega arith in
-    let below : part n 0 18 < 2 ^ 32 = omega arith in
-    (λ i. bit_or (low i) (high i)) ∙ or_comm (part n 0 18) (part n 18 13 * 2 ^ 32)
-    ∙ or_shifted (part n 18 13) 32 (part n 0 18) below ∙ omega arith
+    let first : bit_and n (2 ^ low - 1) ≡ part n 0 low = and_mask n low ∙ omega arith in
+    let second : n / 2 ^ low * 2 ^ 32 % 2 ^ 128 ≡ part n low high * 2 ^ 32 = omega arith in
+    let below : part n 0 low < 2 ^ 32 = omega arith in
+    (λ i. bit_or (first i) (second i)) ∙ or_comm (part n 0 low) (part n low high * 2 ^ 32)
+    ∙ or_shifted (part n low high) 32 (part n 0 low) below ∙ omega arith
 
 -- a bit that is cleared where a mask has one, and then set or not
 set_bit : (a m : ℕ) (value : Bool) → a < 2 → m < 2 → (max (min a (1 - m)) (if value then m else 0) == 1)

@@ -1,18 +1,18 @@
 -- Where a builder keeps each field, and the record that it stands for.
 use Rattle.std.specs.Prelude.{ℕ, ◌+◌, ◌-◌, ◌*◌, ◌^◌, ◌<◌, ◌==◌, nat_lt, if◌then◌else◌, List, find, unwrap_or}
-use Rattle.std.specs.Prelude.{slice_index}
-use Rattle.lexical_flags.specs.Layout.{part, Flag, Byte, bit, flags}
+use Rattle.std.specs.Prelude.{length, slice_index}
+use Rattle.lexical_flags.specs.Layout.{part, Flag, Byte, bit, flags, base_flags, digit_separator_flags}
 use Rattle.lexical_flags.specs.Layout as layout
 use Rattle.lexical_flags.specs.Record.{Record, tabulate}
 use Rattle.lexical_builder.specs.declared.format_builder.NumberFormatBuilder.TheInside.{Inside}
 
--- the bit of a flag in a builder: that in a word, or 14 lower for a digit separator flag
+-- the bit of a flag in a builder: that in a word, but the digit separator flags follow the others at once
 abbrev pub builder_bit : Flag → ℕ
-builder_bit f = if nat_lt (bit f) 18 then bit f else bit f - 14
+builder_bit f = if nat_lt (bit f) 32 then bit f else bit f - 32 + length base_flags
 
 -- the flags of a word, at the bits of a builder
 abbrev pub flags_in : ℕ → ℕ
-flags_in word = part word 0 18 + part word 32 13 * 2 ^ 18
+flags_in word = part word 0 (length base_flags) + part word 32 (length digit_separator_flags) * 2 ^ length base_flags
 
 -- the index of a byte in a builder
 abbrev pub index_of : Byte → ℕ
@@ -35,6 +35,6 @@ record_of_parts flags bytes = tabulate (λ f. part flags (builder_bit f) 1 == 1)
 abbrev pub record_of : Inside → Record
 record_of inside = record_of_parts inside.flags inside.bytes
 
--- bit 31 is 0
+-- the bits that no flag has are 0
 abbrev pub HasClearTop : Inside → Type 0
-HasClearTop inside = inside.flags < 2 ^ 31
+HasClearTop inside = inside.flags < 2 ^ length flags

@@ -1,6 +1,6 @@
 //! Builds number formats field by field.
 
-ghost use Rattle.std.specs.Prelude.{◌≡◌, ◌≢◌, ◌↔◌, ◌<◌, ◌%◌, ◌^◌, ◌==◌, ℕ, IfErr, IfOk, sum_by, if◌then◌else◌};
+ghost use Rattle.std.specs.Prelude.{◌≡◌, ◌≢◌, ◌↔◌, ◌<◌, ◌%◌, ◌^◌, ◌==◌, ℕ, IfErr, IfOk, length, sum_by, if◌then◌else◌};
 ghost use Rattle.std.specs.Result.{OkIff};
 ghost use Rattle.lexical_flags.specs.Layout as layout;
 ghost use Rattle.lexical_flags.specs.Layout.{IsClean, bit, part};
@@ -22,11 +22,13 @@ mod setters;
 
 pub use non_zero::NonZeroU8;
 
-// The flags at bits 0 to 17 of a builder, which are at the same bits of a format word, and the
-// digit separator flags at bits 18 to 30, which are 14 bits higher there.
-const LOW_FLAGS: u32 = 0x3_FFFF;
+// The bit at which the digit separator flags of a builder start; those of a format word start at bit 32.
+const FIRST_SEPARATOR: u32 = 18;
 
-const SEPARATOR_FLAGS: u32 = 0x7FFC_0000;
+// The flags below them, which are at the same bits of a format word, and the digit separator flags.
+const LOW_FLAGS: u32 = (1 << FIRST_SEPARATOR) - 1;
+
+const SEPARATOR_FLAGS: u32 = (flags::DIGIT_SEPARATOR_FLAG_MASK >> (32 - FIRST_SEPARATOR)) as u32;
 
 // The flags of a new builder, at the bits of a format word.
 const NEW_FLAGS: u128 = 0xC;
@@ -351,16 +353,17 @@ fn fill_radix(high: u64) -> u64
 fn builder_flags(format: u128) -> u32
     ensures { result ≡ flags_in format }
 {
-    (format & (LOW_FLAGS as u128) | (format >> 14) & (SEPARATOR_FLAGS as u128)) as u32
+    (format & (LOW_FLAGS as u128)
+        | (format >> (32 - FIRST_SEPARATOR)) & (SEPARATOR_FLAGS as u128)) as u32
 }
 
 // The flags of a builder, at the bits of a format word.
 #[inline(always)]
 fn word_flags(flags: u32) -> u128
-    requires { flags < 2 ^ 31 }
+    requires { flags < 2 ^ length layout.flags }
     ensures { result ≡ sum_by (λ f. if part flags (builder_bit f) 1 == 1 then 2 ^ bit f else 0) layout.flags }
 {
-    (flags & LOW_FLAGS) as u128 | ((flags >> 18) as u128) << 32
+    (flags & LOW_FLAGS) as u128 | ((flags >> FIRST_SEPARATOR) as u128) << 32
 }
 
 // The bits with all bits of a mask set to one value.

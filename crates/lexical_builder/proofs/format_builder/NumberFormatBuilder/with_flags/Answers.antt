@@ -1,5 +1,5 @@
-use Rattle.std.proofs.Common.{ℕ, arith, ◌∙◌, ◌≡◌, ap, ◌==◌, if◌then◌else◌, slice_index}
-use Rattle.lexical_flags.specs.Layout.{Flag, Byte, part, bit}
+use Rattle.std.proofs.Common.{ℕ, arith, ◌∙◌, ◌≡◌, ap, ◌==◌, if◌then◌else◌, length, slice_index}
+use Rattle.lexical_flags.specs.Layout.{Flag, Byte, part, bit, flags}
 use Rattle.lexical_flags.specs.Record.{tabulate, flag_of, byte_of}
 use Rattle.lexical_builder.specs.Fields.{builder_bit, index_of}
 use Rattle.lexical_builder.proofs.BuilderFlags.{builder_bit-lt, part-flags_in}
@@ -17,4 +17,4 @@ returns c =
     c.self.view_is
 
 pub invariant_of-self : goal.invariant_of-self
-invariant_of-self c = c.replace_bits.ensures.below 31 c.self.invariant (omega arith)
+invariant_of-self c = c.replace_bits.ensures.below (length flags) c.self.invariant (omega arith)
