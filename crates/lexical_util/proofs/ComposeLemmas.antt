@@ -1,10 +1,10 @@
--- Two edits one after the other are one edit exactly if what is packed and filled between them is undone, or is
--- nothing.
+-- Two edits one after the other are one edit exactly if nothing that is packed and filled between them is still wanted.
 use Rattle.std.proofs.Common.{◌≡◌, ◌≢◌, ℕ, ◌↔◌, ◌||◌, inl, Bool, true, false, IsTrue, Option, Some, None, unwrap_or}
 use Rattle.std.proofs.Common.{refl, sym, ap, ◌∙◌, subst, List, [], ◌∷◌, ◌++◌, All, arith}
 use Rattle.std.specs.List.{list_any, AllByRecursion}
 use Rattle.std.proofs.lemmas.Bool.{false≢true}
 use Rattle.std.proofs.lemmas.Bool.Decides.{nat_tests}
+use Rattle.std.proofs.lemmas.List.Elements.{All-nil}
 use Rattle.lexical_flags.specs.Layout.{Flag, Byte, digit_separator_flags}
 use Rattle.lexical_flags.specs.Layout as layout
 use Rattle.lexical_flags.specs.Record.{Record, flag_of, byte_of, raw, trim, fill, pack, effective, separator_on}
@@ -16,9 +16,8 @@ use Rattle.lexical_builder.proofs.WriteLemmas.{left_by, flag_of-after, byte_of-a
 use Rattle.lexical_builder.proofs.WriteLemmas.{HasBytes-after}
 use Rattle.lexical_util.specs.Edits.{edited}
 use Rattle.lexical_util.specs.Normal.{normal_form_of}
-use Rattle.lexical_util.specs.Compose.{edited_fields, Composes, AlwaysCompose}
-use Rattle.lexical_util.proofs.NormalLemmas.{flag_of-trim-fill, list_any_same, use_same, used_same, unfilled, full}
-use Rattle.lexical_util.proofs.NormalLemmas.{unused, kept}
+use Rattle.lexical_util.specs.Compose.{LeavesByte, Counts, WantedStay, Composes, AlwaysCompose}
+use Rattle.lexical_util.proofs.NormalLemmas.{flag_of-trim-fill, list_any_same, use_same, used_same, full, kept}
 
 -- what is written is the same over both values; what is not is each value
 over_both : {T : Type 0} (o : Option T) (d e : T) → (o ≡ None → d ≡ e) → unwrap_or o d ≡ unwrap_or o e
@@ -40,25 +39,18 @@ module _ (R : Record) (L : List Write) where
   same_on : separator_on (after back L) ≡ separator_on (after R L)
   same_on = list_any_same (flag_of (after back L)) (flag_of (after R L)) digit_separator_flags same_flags
 
-  same_byte : (b : Byte) → (last_byte L b ≡ None → byte_of back b ≡ byte_of R b)
+  same_byte : (b : Byte) → (LeavesByte L b → byte_of back b ≡ byte_of R b)
       → byte_of (after back L) b ≡ byte_of (after R L) b
   same_byte b h = byte_of-after back L b ∙ over_both (last_byte L b) (byte_of back b) (byte_of R b) h
       ∙ sym (byte_of-after R L b)
 
-  byte_back : (b : Byte) → byte_of (after back L) b ≡ byte_of (after R L) b → last_byte L b ≡ None
+  byte_back : (b : Byte) → byte_of (after back L) b ≡ byte_of (after R L) b → LeavesByte L b
       → byte_of back b ≡ byte_of R b
   byte_back b e = from_both (last_byte L b) (byte_of back b) (byte_of R b)
       (sym (byte_of-after back L b) ∙ e ∙ byte_of-after R L b)
 
-  -- the parts that composing asks for, of two records
-  abbrev HasComposed : Type 0
-  HasComposed =
-      (last_byte L layout.exponent_base ≡ None → R.exponent_base ≡ 0 → R.mantissa_radix ≡ 0)
-      × (last_byte L layout.exponent_radix ≡ None → R.exponent_radix ≡ 0 → R.mantissa_radix ≡ 0)
-      × (last_byte L layout.digit_separator ≡ None → IsTrue (separator_on (after R L)) → SeparatorIsUsed R)
-
-  same_from_composed : HasComposed → trim (after back L) ≡ trim (after R L)
-  same_from_composed h = record_same _ _ (λ f. flag_of-trim (after back L) f ∙ same_flags f
+  same_from_stay : WantedStay R L → trim (after back L) ≡ trim (after R L)
+  same_from_stay stay = record_same _ _ (λ f. flag_of-trim (after back L) f ∙ same_flags f
       ∙ sym (flag_of-trim (after R L) f)) on_byte where
         flag_of-trim : (S : Record) (f : Flag) → flag_of (trim S) f ≡ flag_of S f
         flag_of-trim S layout.required_integer_digits = refl
@@ -67,51 +59,30 @@ module _ (R : Record) (L : List Write) where
         on_byte : (b : Byte) → byte_of (trim (after back L)) b ≡ byte_of (trim (after R L)) b
         on_byte layout.digit_separator = use_same (separator_on (after back L)) (separator_on (after R L))
             (after back L).digit_separator (after R L).digit_separator same_on
-            (λ on. same_byte layout.digit_separator (λ left. kept (separator_on R) R.digit_separator
-            (h.2 left (sym same_on ∙ on))))
-        on_byte layout.base_prefix = same_byte layout.base_prefix (λ left. refl)
-        on_byte layout.base_suffix = same_byte layout.base_suffix (λ left. refl)
-        on_byte layout.mantissa_radix = same_byte layout.mantissa_radix (λ left. refl)
-        on_byte layout.exponent_base = same_byte layout.exponent_base
-            (λ left. full R.exponent_base R.mantissa_radix (h.0 left))
-        on_byte layout.exponent_radix = same_byte layout.exponent_radix
-            (λ left. full R.exponent_radix R.mantissa_radix (h.1 left))
+            (λ on. same_byte layout.digit_separator (λ left. stay.byte layout.digit_separator left (sym same_on ∙ on)))
+        on_byte b = same_byte b (λ left. stay.byte b left tt)
 
-  composed_from_same : trim (after back L) ≡ trim (after R L) → HasComposed
-  composed_from_same e = (
-    λ left. unfilled R.exponent_base R.mantissa_radix (byte_back layout.exponent_base
-        (ap (λ (S : Record). S.exponent_base) e) left),
-    λ left. unfilled R.exponent_radix R.mantissa_radix
-        (byte_back layout.exponent_radix (ap (λ (S : Record). S.exponent_radix) e) left),
-    λ left on. unused (separator_on R) R.digit_separator (byte_back layout.digit_separator
+  stay_from_same : trim (after back L) ≡ trim (after R L) → WantedStay R L
+  stay_from_same e = record { byte = on_byte } where
+    on_byte : (b : Byte) → LeavesByte L b → Counts (after R L) b → byte_of back b ≡ byte_of R b
+    on_byte layout.digit_separator left on = byte_back layout.digit_separator
         (used_same (separator_on (after back L)) (separator_on (after R L)) (after back L).digit_separator
-        (after R L).digit_separator same_on (ap (λ (S : Record). S.digit_separator) e) (same_on ∙ on)) left),
-  )
+        (after R L).digit_separator same_on (ap (λ (S : Record). S.digit_separator) e) (same_on ∙ on)) left
+    on_byte b left counts = byte_back b (ap (λ S. byte_of S b) e) left
 
 -- two edits are one exactly if they compose
 pub edited-again : (w : ℕ) (K L : List Write) → All IsLegal K → All IsLegal L
     → (edited (edited w K) L ≡ edited w (K ++ L)) ↔ Composes w K L
 edited-again w K L legal_first legal =
-    let R : Record = edited_fields w K in
+    let R : Record = after (fill (raw w)) K in
     let bytes : HasBytes R = HasBytes-after (fill (raw w)) K (HasBytes-fill (raw w) (HasBytes-raw w)) legal_first in
     let twice : edited (edited w K) L ≡ pack (after (back R L) L) =
     ap (λ S. pack (after (fill S) L)) (raw-pack R bytes) in
-    let both : after R L ≡ edited_fields w (K ++ L) = after-append (fill (raw w)) K L in
-    let once : edited w (K ++ L) ≡ pack (after R L) = ap pack (sym both) in
+    let once : pack (after R L) ≡ edited w (K ++ L) = ap pack (after-append (fill (raw w)) K L) in
     let alike = pack-injective (after R L) (after (back R L) L) (HasBytes-after R L bytes legal)
     (HasBytes-after (back R L) L (HasBytes-fill (trim R) (HasBytes-trim R bytes)) legal) in (
-      λ e.
-          let h = composed_from_same R L (alike.0 (sym twice ∙ e ∙ once)) in
-          record {
-            exponent_base = h.0;
-            exponent_radix = h.1;
-            digit_separator = λ left on. h.2 left (subst (λ (S : Record). IsTrue (separator_on S)) (sym both) on);
-          },
-      λ c. twice ∙ alike.1 (same_from_composed R L (
-        c.exponent_base,
-        c.exponent_radix,
-        λ left on. c.digit_separator left (subst (λ (S : Record). IsTrue (separator_on S)) both on),
-      )) ∙ sym once,
+      λ e. stay_from_same R L (alike.0 (sym twice ∙ e ∙ sym once)),
+      λ stay. twice ∙ alike.1 (same_from_stay R L stay) ∙ once,
     )
 
 -- what an empty exponent byte was filled from
@@ -142,32 +113,36 @@ any_before R L (f ∷ fs) unset on = or_first (flag_of R f) (list_any (flag_of R
       or_first false ps true qs one rest h = absurd (false≢true (one refl))
       or_first false ps false qs one rest h = rest h
 
+-- an exponent byte is not empty after writes that do not empty it for good
+not_empty : (w : ℕ) (K : List Write) (b : Byte) (own : ℕ)
+    → byte_of (fill (raw w)) b ≡ effective own (raw w).mantissa_radix → (raw w).mantissa_radix ≢ 0
+    → last_byte K b ≢ Some 0 → byte_of (after (fill (raw w)) K) b ≢ 0
+not_empty w K b own filled radix kept empty = stays_full (last_byte K b) (byte_of (fill (raw w)) b) kept
+    (λ e. radix (filled_once own (raw w).mantissa_radix (sym filled ∙ e)))
+    (sym (byte_of-after (fill (raw w)) K b) ∙ empty)
+
+-- what is wanted stays if the separator is used or not wanted, and no exponent byte is empty beside a mantissa radix
+pub wanted_stay : (R : Record) (L : List Write)
+    → (LeavesByte L layout.digit_separator → IsTrue (separator_on (after R L)) → SeparatorIsUsed R)
+    → (R.exponent_base ≡ 0 → R.mantissa_radix ≡ 0) → (R.exponent_radix ≡ 0 → R.mantissa_radix ≡ 0) → WantedStay R L
+wanted_stay R L used base radix = record { byte = on_byte } where
+  on_byte : (b : Byte) → LeavesByte L b → Counts (after R L) b → byte_of (fill (trim R)) b ≡ byte_of R b
+  on_byte layout.digit_separator left on = kept (separator_on R) R.digit_separator (used left on)
+  on_byte layout.exponent_base left counts = full R.exponent_base R.mantissa_radix base
+  on_byte layout.exponent_radix left counts = full R.exponent_radix R.mantissa_radix radix
+  on_byte _ left counts = refl
+
 -- lists that compose on every word with a mantissa radix
 pub Composes-always : (w : ℕ) (K L : List Write) → (raw w).mantissa_radix ≢ 0 → AlwaysCompose K L → Composes w K L
-Composes-always w K L radix always =
-    let R : Record = edited_fields w K in
-    record {
-      exponent_base = λ left empty. absurd (stays_full (last_byte K layout.exponent_base)
-          (effective (raw w).exponent_base (raw w).mantissa_radix) always.exponent_base
-          (λ e. radix (filled_once (raw w).exponent_base (raw w).mantissa_radix e))
-          (sym (byte_of-after (fill (raw w)) K layout.exponent_base) ∙ empty));
-      exponent_radix = λ left empty. absurd (stays_full (last_byte K layout.exponent_radix)
-          (effective (raw w).exponent_radix (raw w).mantissa_radix) always.exponent_radix
-          (λ e. radix (filled_once (raw w).exponent_radix (raw w).mantissa_radix e))
-          (sym (byte_of-after (fill (raw w)) K layout.exponent_radix) ∙ empty));
-      digit_separator = λ left on. inl (any_before R L digit_separator_flags (always.digit_separator left)
-          (subst (λ (S : Record). IsTrue (separator_on S)) (sym (after-append (fill (raw w)) K L)) on));
-    }
+Composes-always w K L radix always = wanted_stay (after (fill (raw w)) K) L
+    (λ left on. inl (any_before (after (fill (raw w)) K) L digit_separator_flags (always.digit_separator left) on))
+    (λ e. absurd (not_empty w K layout.exponent_base (raw w).exponent_base refl radix always.exponent_base e))
+    (λ e. absurd (not_empty w K layout.exponent_radix (raw w).exponent_radix refl radix always.exponent_radix e))
 
 -- if no separator is dropped, editing the normal form is editing the word
 pub edited-normal : (w : ℕ) (L : List Write) → SeparatorIsUsed (raw w) → All IsLegal L
     → edited (normal_form_of w) L ≡ edited w L
-edited-normal w L used legal =
-    let none : fill (raw w) ≡ edited_fields w [] = sym (after_none (fill (raw w))) in
-    (edited-again w [] L (λ k d h. absurd (omega arith)) legal).1 (record {
-      exponent_base = λ left. subst (λ (S : Record). S.exponent_base ≡ 0 → S.mantissa_radix ≡ 0) none
-          (filled_once (raw w).exponent_base (raw w).mantissa_radix);
-      exponent_radix = λ left. subst (λ (S : Record). S.exponent_radix ≡ 0 → S.mantissa_radix ≡ 0) none
-          (filled_once (raw w).exponent_radix (raw w).mantissa_radix);
-      digit_separator = λ left on. subst SeparatorIsUsed none used;
-    })
+edited-normal w L used legal = (edited-again w [] L (All-nil IsLegal) legal).1
+    (subst (λ R. WantedStay R L) (sym (after_none (fill (raw w)))) (wanted_stay (fill (raw w)) L (λ left on. used)
+    (filled_once (raw w).exponent_base (raw w).mantissa_radix)
+    (filled_once (raw w).exponent_radix (raw w).mantissa_radix)))

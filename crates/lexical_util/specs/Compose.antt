@@ -1,31 +1,28 @@
 -- When two calls with a list of writes each are one call with both lists.
-use Rattle.std.specs.Prelude.{◌≡◌, ◌≢◌, ℕ, ◌++◌, IsTrue, true, List, Some, None}
+use Rattle.std.specs.Prelude.{◌≡◌, ◌≢◌, ℕ, IsTrue, true, List, Some, None, ⊤}
 use Rattle.std.specs.List.{AllByRecursion}
 use Rattle.lexical_flags.specs.Layout.{Byte, digit_separator_flags}
 use Rattle.lexical_flags.specs.Layout as layout
-use Rattle.lexical_flags.specs.Record.{Record, raw, fill, separator_on, SeparatorIsUsed}
+use Rattle.lexical_flags.specs.Record.{Record, byte_of, raw, fill, trim, separator_on}
 use Rattle.lexical_builder.specs.Writes.{Write, last_flag, last_byte, after}
-
--- the fields that writes make of a word's, before they are packed
-abbrev pub edited_fields : ℕ → List Write → Record
-edited_fields word writes = after (fill (raw word)) writes
 
 -- no write is to this byte
 abbrev pub LeavesByte : List Write → Byte → Type 0
 LeavesByte writes b = last_byte writes b ≡ None
 
--- what happens between the two lists is undone by the second, or is nothing: the first call drops a separator that no
--- flag allows, and the second fills the exponent bytes before it writes; each of these bytes is written again, or stays
-pub record Composes (word : ℕ) (first second : List Write) : Type 0 where
-  -- the exponent base is not empty, or there is no mantissa radix to fill it from
-  pub exponent_base : LeavesByte second layout.exponent_base → (edited_fields word first).exponent_base ≡ 0
-      → (edited_fields word first).mantissa_radix ≡ 0
-  -- the same of the exponent radix
-  pub exponent_radix : LeavesByte second layout.exponent_radix → (edited_fields word first).exponent_radix ≡ 0
-      → (edited_fields word first).mantissa_radix ≡ 0
-  -- if a flag allows the separator after both lists, one allows it after the first, or there is none
-  pub digit_separator : LeavesByte second layout.digit_separator
-      → IsTrue (separator_on (edited_fields word (first ++ second))) → SeparatorIsUsed (edited_fields word first)
+-- the byte counts in a record: a digit separator does only if a flag allows one
+abbrev pub Counts : Record → Byte → Type 0
+Counts r layout.digit_separator = IsTrue (separator_on r)
+Counts r _ = ⊤
+
+-- nothing that packing drops or filling restores is still wanted: each byte of the record that the writes leave, and
+-- that counts after them, is the same when the record is packed and filled before them
+pub record WantedStay (r : Record) (writes : List Write) : Type 0 where
+  pub byte : (b : Byte) → LeavesByte writes b → Counts (after r writes) b → byte_of (fill (trim r)) b ≡ byte_of r b
+
+-- of the fields that the first list makes of a word's, all that is still wanted under the second stays
+abbrev pub Composes : ℕ → List Write → List Write → Type 0
+Composes word first second = WantedStay (after (fill (raw word)) first) second
 
 -- lists that compose on every word whose mantissa radix is not 0
 pub record AlwaysCompose (first second : List Write) : Type 0 where
