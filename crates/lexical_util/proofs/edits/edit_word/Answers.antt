@@ -1,31 +1,25 @@
 -- The result is the edited word, and each clause what the laws say of that.
-use Rattle.std.proofs.Common.{◌∙◌, ap}
+use Rattle.std.proofs.Common.{◌∙◌, refl, ap}
 use Rattle.lexical_flags.specs.Record.{pack}
 use Rattle.lexical_builder.specs.Writes.{after}
 use Rattle.lexical_util.specs.Edits.{all_writes}
 use Rattle.lexical_util.proofs.edits.edit_word.Goals as goal
 
-pub returns-clause-word : goal.returns-clause-word
-returns-clause-word c =
-    c.build_unchecked.ensures.word
-    ∙ ap pack (c.apply_all.ensures.fields ∙ ap (λ r. after r (all_writes c.args.edits.now)) c.rebuild.ensures)
-
-pub returns-clause-fields : goal.returns-clause-fields
-returns-clause-fields c =
-    rw (returns-clause-word c) (c.edit_facts.ensures.fields c.args.format _ c.apply_all.ensures.legal)
-
-pub returns-clause-only : goal.returns-clause-only
-returns-clause-only c =
-    rw (returns-clause-word c) (c.edit_facts.ensures.only c.args.format _ c.apply_all.ensures.legal)
-
-pub returns-clause-same_writes : goal.returns-clause-same_writes
-returns-clause-same_writes c writes legal same =
-    rw (returns-clause-word c) (c.edit_facts.ensures.same_writes c.args.format writes _ same)
-
-pub returns-clause-again : goal.returns-clause-again
-returns-clause-again c more =
-    rw (returns-clause-word c) (c.edit_facts.ensures.again c.args.format _ more c.apply_all.ensures.legal)
-
-pub returns-clause-always : goal.returns-clause-always
-returns-clause-always c radix more legal compose =
-    (returns-clause-again c more legal).1 (c.edit_facts.ensures.always c.args.format _ more radix compose)
+pub returns : goal.returns
+returns c =
+    let format = c.args.format in
+    let writes = all_writes c.args.edits.now in
+    let legal = c.apply_all.ensures.legal in
+    let facts = c.edit_facts.ensures in
+    rw (c.build_unchecked.ensures.word
+    ∙ ap pack (c.apply_all.ensures.fields ∙ ap (λ r. after r writes) c.rebuild.ensures)) (record {
+      word = refl;
+      fields = facts.fields format writes legal;
+      clean = facts.clean format writes legal;
+      only = facts.only format writes legal;
+      same_writes = λ others other_legal same. facts.same_writes format others writes same;
+      again = λ more more_legal. facts.again format writes more legal more_legal;
+      always = λ radix more more_legal compose.
+          (facts.again format writes more legal more_legal).1 (facts.always format writes more radix compose);
+      legal = legal;
+    })
