@@ -1,180 +1,120 @@
 -- In how many fields two records differ. A write changes at most one field, and trimming adds no difference to a new
 -- record.
-use Rattle.std.proofs.Common.{◌≡◌, ℕ, ◌+◌, ◌≤◌, ◌==◌, Bool, true, false, not, if◌then◌else◌, List, [], ◌∷◌, length}
-use Rattle.std.proofs.Common.{Some, None, unwrap_or, refl, sym, ap, ◌∙◌, subst, sum_by, count_by, arith, le_trans}
-use Rattle.std.proofs.Common.{le_refl}
+use Rattle.std.proofs.Common.{◌≡◌, ℕ, ◌+◌, ◌≤◌, ◌==◌, Bool, true, false, not, cond, if◌then◌else◌, List, [], ◌∷◌, ◌++◌}
+use Rattle.std.proofs.Common.{map, drop, length, Option, Some, None, unwrap_or, is_some, refl, ap, subst}
+use Rattle.std.proofs.Common.{count_by, filter, arith, le_refl, All}
 use Rattle.std.proofs.Math.Bool.{beq}
-use Rattle.std.proofs.lemmas.List.Sums.{sum_by-cons, sum_by-le-sum_by}
+use Rattle.std.proofs.lemmas.List.Elements.{All-head, All-tail}
+use Rattle.std.proofs.lemmas.List.Sums.{sum_by-cons, length-filter}
 use Rattle.std.proofs.lemmas.Bool.Decides.{nat_tests}
-use Rattle.lexical_flags.specs.Layout.{Flag, Byte, bit, shift, flags, bytes}
+use Rattle.lexical_flags.specs.Layout.{flags, bytes}
 use Rattle.lexical_flags.specs.Layout as layout
 use Rattle.lexical_flags.specs.Record.{Record, flag_of, byte_of, trim, separator_on}
-use Rattle.lexical_builder.specs.Writes.{Write, write_flag, write_byte, new_record, flag_in, byte_in, after}
-use Rattle.lexical_builder.proofs.WriteLemmas.{flag_of-after, byte_of-after, after-append, left_by-cons}
+use Rattle.lexical_builder.specs.Writes.{Write, write_flag, write_byte, new_record, flag_in, byte_in, after, changes}
+use Rattle.lexical_builder.proofs.WriteLemmas.{after_none, after-append}
+use Rattle.lexical_util.proofs.FieldWrites.{field_writes, Leaves, Leaves-field_writes, flag_after, byte_after}
 
-abbrev pub flag_differs : Record → Record → Flag → Bool
-flag_differs r s f = not (beq (flag_of r f) (flag_of s f))
-
-abbrev pub byte_differs : Record → Record → Byte → Bool
-byte_differs r s b = not (byte_of r b == byte_of s b)
-
+-- how many fields of the second record change the first
 unfoldable pub distance : Record → Record → ℕ
-distance r s = count_by (flag_differs r s) flags + count_by (byte_differs r s) bytes
+distance r s = count_by (changes r) (field_writes s)
 
-sum_by-add : {X : Type 0} (f g : X → ℕ) (xs : List X) → sum_by (λ x. f x + g x) xs ≡ sum_by f xs + sum_by g xs
-sum_by-add f g [] = refl
-sum_by-add f g (x ∷ xs) = omega (
-  arith,
-  sum_by-cons (λ x. f x + g x) x xs,
-  sum_by-cons f x xs,
-  sum_by-cons g x xs,
-  sum_by-add f g xs,
-)
-
-count_by-none : {X : Type 0} (p : X → Bool) (xs : List X) → ((x : X) → p x ≡ false) → count_by p xs ≡ 0
-count_by-none p [] none = refl
-count_by-none p (x ∷ xs) none =
-    omega (
-      arith,
-      sum_by-cons (λ x. if p x then 1 else 0) x xs,
-      count_by-none p xs none,
-      ap {B = ℕ} (λ t. if t then 1 else 0) (none x),
-    )
-
--- what differs from r to t differs from r to s or from s to t
-bool_between : (a b c : Bool) → (if not (beq a c) then 1 else 0) ≤ (if not (beq a b) then 1 else 0) +
-    (if not (beq b c) then 1 else 0)
-bool_between true true true = omega arith
-bool_between true true false = omega arith
-bool_between true false true = omega arith
-bool_between true false false = omega arith
-bool_between false true true = omega arith
-bool_between false true false = omega arith
-bool_between false false true = omega arith
-bool_between false false false = omega arith
-
-nat_between : (a b c : ℕ) → (if not (a == c) then 1 else 0) ≤ (if not (a == b) then 1 else 0) +
-    (if not (b == c) then 1 else 0)
-nat_between a b c = grind (arith, nat_tests)
-
-count_between : {X : Type 0} (p q r : X → Bool) (xs : List X)
-    → ((x : X) → (if p x then 1 else 0) ≤ (if q x then 1 else 0) + (if r x then 1 else 0))
-    → count_by p xs ≤ count_by q xs + count_by r xs
-count_between p q r xs h = omega (
-  arith,
-  sum_by-le-sum_by (λ x. if p x then 1 else 0) (λ x. (if q x then 1 else 0) + (if r x then 1 else 0)) xs h,
-  sum_by-add (λ x. if q x then 1 else 0) (λ x. if r x then 1 else 0) xs,
-)
-
--- going by way of a third record is no shorter
-distance_between : (r s t : Record) → distance r t ≤ distance r s + distance s t
+-- they are as many as their writes
+pub distance-is : (r s : Record) → length (filter (changes r) (field_writes s)) ≡ distance r s
 unfolding distance
-distance_between r s t = omega (
+distance-is r s = length-filter (changes r) (field_writes s)
+
+-- whether a write is to the field of another
+abbrev overwrites : Write → Write → Bool
+overwrites x (write_flag f v) = is_some (flag_in x f)
+overwrites x (write_byte b v) = is_some (byte_in x b)
+
+-- it is to one field
+overwrites_one : (x : Write) (s : Record) → count_by (overwrites x) (field_writes s) ≡ 1
+overwrites_one (write_flag layout.required_integer_digits v) s = refl
+overwrites_one (write_flag _ v) s = refl
+overwrites_one (write_byte layout.digit_separator v) s = refl
+overwrites_one (write_byte _ v) s = refl
+
+-- a value that is not written over passes a test as before
+one_more : {T : Type 0} (p : T → Bool) (o : Option T) (d : T) → (if p d then 1 else 0) ≤
+    (if p (unwrap_or o d) then 1 else 0) + (if is_some o then 1 else 0)
+one_more p None d = omega arith
+one_more p (Some v) d = grind (arith, nat_tests)
+
+write_one : (r : Record) (x y : Write) → (if changes r y then 1 else 0) ≤
+    (if changes (after r (x ∷ [])) y then 1 else 0) + (if overwrites x y then 1 else 0)
+write_one r x (write_flag f v) = rw (flag_after r x f) (one_more (λ d. not (beq d v)) (flag_in x f) (flag_of r f))
+write_one r x (write_byte b v) = rw (byte_after r x b) (one_more (λ d. not (d == v)) (byte_in x b) (byte_of r b))
+
+count_one : (r : Record) (x : Write) (writes : List Write)
+    → count_by (changes r) writes ≤ count_by (changes (after r (x ∷ []))) writes + count_by (overwrites x) writes
+count_one r x [] = omega arith
+count_one r x (y ∷ writes) = omega (
   arith,
-  count_between (flag_differs r t) (flag_differs r s) (flag_differs s t) flags
-      (λ f. bool_between (flag_of r f) (flag_of s f) (flag_of t f)),
-  count_between (byte_differs r t) (byte_differs r s) (byte_differs s t) bytes
-      (λ b. nat_between (byte_of r b) (byte_of s b) (byte_of t b)),
+  sum_by-cons (λ z. cond (changes r z) 1 0) y writes,
+  sum_by-cons (λ z. cond (changes (after r (x ∷ [])) z) 1 0) y writes,
+  sum_by-cons (λ z. cond (overwrites x z) 1 0) y writes,
+  write_one r x y,
+  count_one r x writes,
 )
 
-count_flag : (g : Flag) → count_by (λ f. bit g == bit f) flags ≡ 1
-count_flag layout.required_integer_digits = refl
-count_flag _ = refl
-
-count_byte : (c : Byte) → count_by (λ b. shift c == shift b) bytes ≡ 1
-count_byte layout.digit_separator = refl
-count_byte _ = refl
-
-flag_write_one : (at u v : Bool) → (if not (beq u (unwrap_or (if at then Some v else None) u)) then 1 else 0) ≤
-    (if at then 1 else 0)
-flag_write_one true true true = omega arith
-flag_write_one true true false = omega arith
-flag_write_one true false true = omega arith
-flag_write_one true false false = omega arith
-flag_write_one false true v = omega arith
-flag_write_one false false v = omega arith
-
-byte_write_one : (at : Bool) (u v : ℕ) → (if not (u == unwrap_or (if at then Some v else None) u) then 1 else 0) ≤
-    (if at then 1 else 0)
-byte_write_one true u v = grind (arith, nat_tests)
-byte_write_one false u v = grind (arith, nat_tests)
-
-same_flag : (u v : Bool) → u ≡ v → not (beq u v) ≡ false
-same_flag true true e = refl
-same_flag true false e = cc
-same_flag false true e = cc
-same_flag false false e = refl
-
-same_byte : (u v : ℕ) → u ≡ v → not (u == v) ≡ false
-same_byte u v e = grind (arith, nat_tests)
-
--- one write changes at most one field
-distance_write : (r : Record) (x : Write) → distance r (after r (x ∷ [])) ≤ 1
+-- so one write comes nearer by one at most
+nearer : (r s : Record) (x : Write) → distance r s ≤ distance (after r (x ∷ [])) s + 1
 unfolding distance
-distance_write r (write_flag g v) =
-    let s : Record = after r (write_flag g v ∷ []) in
-    let written : (f : Flag) → flag_of s f ≡ unwrap_or (if bit g == bit f then Some v else None) (flag_of r f) =
-    λ f. flag_of-after r (write_flag g v ∷ []) f ∙ left_by-cons (λ x. flag_in x f) (write_flag g v) [] (flag_of r f) in
-    omega (
-      arith,
-      sum_by-le-sum_by (λ f. if flag_differs r s f then 1 else 0) (λ f. if bit g == bit f then 1 else 0) flags
-          (λ f. subst (λ u. (if not (beq (flag_of r f) u) then 1 else 0) ≤ (if bit g == bit f then 1 else 0))
-          (sym (written f)) (flag_write_one (bit g == bit f) (flag_of r f) v)),
-      count_flag g,
-      count_by-none (byte_differs r s) bytes (λ b. same_byte (byte_of r b) (byte_of s b)
-          (sym (byte_of-after r (write_flag g v ∷ []) b))),
-    )
-distance_write r (write_byte c v) =
-    let s : Record = after r (write_byte c v ∷ []) in
-    let written : (b : Byte) → byte_of s b ≡ unwrap_or (if shift c == shift b then Some v else None) (byte_of r b) =
-    λ b. byte_of-after r (write_byte c v ∷ []) b ∙ left_by-cons (λ x. byte_in x b) (write_byte c v) [] (byte_of r b) in
-    omega (
-      arith,
-      sum_by-le-sum_by (λ b. if byte_differs r s b then 1 else 0) (λ b. if shift c == shift b then 1 else 0) bytes
-          (λ b. subst (λ u. (if not (byte_of r b == u) then 1 else 0) ≤ (if shift c == shift b then 1 else 0))
-          (sym (written b)) (byte_write_one (shift c == shift b) (byte_of r b) v)),
-      count_byte c,
-      count_by-none (flag_differs r s) flags (λ f. same_flag (flag_of r f) (flag_of s f)
-          (sym (flag_of-after r (write_byte c v ∷ []) f))),
-    )
+nearer r s x = subst (λ n. count_by (changes r) (field_writes s) ≤
+    count_by (changes (after r (x ∷ []))) (field_writes s) + n) (overwrites_one x s) (count_one r x (field_writes s))
+
+-- and a list of writes by its length
+nearer_all : (r s : Record) (writes : List Write) → distance r s ≤ distance (after r writes) s + length writes
+nearer_all r s [] = omega (arith, ap (λ t. distance t s) (after_none r))
+nearer_all r s (x ∷ writes) = omega (
+  arith,
+  nearer r s x,
+  nearer_all (after r (x ∷ [])) s writes,
+  ap (λ t. distance t s) (after-append r (x ∷ []) writes),
+)
+
+-- a record differs in no field from itself
+distance_none : (r : Record) → distance r r ≡ 0
+unfolding distance
+distance_none r = count_none (field_writes r) (Leaves-field_writes r) where
+  count_none : (writes : List Write) → All (Leaves r) writes → count_by (changes r) writes ≡ 0
+  count_none [] all = refl
+  count_none (x ∷ writes) all = omega (
+    arith,
+    sum_by-cons (λ z. cond (changes r z) 1 0) x writes,
+    ap {B = ℕ} (λ t. cond t 1 0) (All-head (Leaves r) x writes all),
+    count_none writes (All-tail (Leaves r) x writes all),
+  )
 
 -- a list of writes makes at most as many changes as it is long
 pub distance-after : (r : Record) (writes : List Write) → distance r (after r writes) ≤ length writes
-unfolding distance
-distance-after r [] = omega (
+distance-after r writes = omega (arith, nearer_all r (after r writes) writes, distance_none (after r writes))
+
+-- a write that changes nothing, in the place of any other
+count_fewer : (p : Write → Bool) (xs ys : List Write) (x y : Write) → p x ≡ false
+    → count_by p (xs ++ x ∷ ys) ≤ count_by p (xs ++ y ∷ ys)
+count_fewer p [] ys x y e = omega (
   arith,
-  count_by-none (flag_differs r (after r [])) flags (λ f. same_flag (flag_of r f) (flag_of (after r []) f)
-      (sym (flag_of-after r [] f))),
-  count_by-none (byte_differs r (after r [])) bytes (λ b. same_byte (byte_of r b) (byte_of (after r []) b)
-      (sym (byte_of-after r [] b))),
+  sum_by-cons (λ z. cond (p z) 1 0) x ys,
+  sum_by-cons (λ z. cond (p z) 1 0) y ys,
+  ap {B = ℕ} (λ t. cond t 1 0) e,
 )
-distance-after r (x ∷ writes) =
-    let s : Record = after r (x ∷ []) in
-    let e = after-append r (x ∷ []) writes in
-    le_trans (subst (λ t. distance r t ≤ distance r s + distance s t) e (distance_between r s (after s writes)))
-    (omega (arith, distance_write r x, subst (λ t. distance s t ≤ length writes) e (distance-after s writes)))
+count_fewer p (z ∷ xs) ys x y e = omega (
+  arith,
+  sum_by-cons (λ z. cond (p z) 1 0) z (xs ++ x ∷ ys),
+  sum_by-cons (λ z. cond (p z) 1 0) z (xs ++ y ∷ ys),
+  count_fewer p xs ys x y e,
+)
 
 -- a separator that is dropped becomes that of a new builder
 pub distance-trim : (r : Record) → distance new_record (trim r) ≤ distance new_record r
 unfolding distance
-distance-trim r = omega (
-  arith,
-  sum_by-le-sum_by (λ f. if flag_differs new_record (trim r) f then 1 else 0)
-      (λ f. if flag_differs new_record r f then 1 else 0) flags on_flag,
-  sum_by-le-sum_by (λ b. if byte_differs new_record (trim r) b then 1 else 0)
-      (λ b. if byte_differs new_record r b then 1 else 0) bytes on_byte,
-) where
-  on_flag : (f : Flag) → (if flag_differs new_record (trim r) f then 1 else 0) ≤
-      (if flag_differs new_record r f then 1 else 0)
-  on_flag layout.required_integer_digits = le_refl _
-  on_flag _ = le_refl _
-
-  separator : (on : Bool) (n : ℕ) → (if not (0 == (if on then n else 0)) then 1 else 0) ≤
-      (if not (0 == n) then 1 else 0)
-  separator true n = le_refl _
-  separator false n = omega arith
-
-  on_byte : (b : Byte) → (if byte_differs new_record (trim r) b then 1 else 0) ≤
-      (if byte_differs new_record r b then 1 else 0)
-  on_byte layout.digit_separator = separator (separator_on r) r.digit_separator
-  on_byte _ = le_refl _
+distance-trim r = by_use (separator_on r) where
+  by_use : (on : Bool) → count_by (changes new_record)
+      (field_writes (record r { digit_separator = if on then r.digit_separator else 0 }))
+      ≤ count_by (changes new_record) (field_writes r)
+  by_use true = le_refl _
+  by_use false = count_fewer (changes new_record) (map (λ f. write_flag f (flag_of r f)) flags)
+      (map (λ b. write_byte b (byte_of r b)) (drop 1 bytes)) (write_byte layout.digit_separator 0)
+      (write_byte layout.digit_separator r.digit_separator) refl

@@ -2,8 +2,6 @@ mod EditLemmas
 mod NormalLemmas
 mod ViewLemmas
 mod ListingLemmas
-mod ListingParts
-mod PutLemmas
 mod ChangeLemmas
 mod ImageLemmas
 mod ComposeLemmas

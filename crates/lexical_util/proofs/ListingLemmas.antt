@@ -1,130 +1,102 @@
 -- The edits of all fields of a record make it from a new builder, and so do those of them alone that change one.
-use Rattle.std.proofs.Common.{◌≡◌, suc, Bool, true, false, not, cond, List, [], ◌∷◌, ◌++◌, map, length, filter, refl}
-use Rattle.std.proofs.Common.{sym, ap, ◌∙◌, All}
+use Rattle.std.proofs.Common.{◌≡◌, Bool, true, false, not, cond, List, [], ◌∷◌, ◌++◌, map, length, filter, refl, sym}
+use Rattle.std.proofs.Common.{ap, ◌∙◌, subst, All}
 use Rattle.std.specs.List.{list_any}
 use Rattle.std.proofs.Math.Bool.{or-false}
+use Rattle.std.proofs.lemmas.List.{length-map}
 use Rattle.std.proofs.lemmas.List.Concat.{flat_map-append}
-use Rattle.std.proofs.lemmas.List.Elements.{All-append, All-same, All-filter}
-use Rattle.lexical_flags.specs.Layout.{Flag, flags}
+use Rattle.std.proofs.lemmas.List.Elements.{All-append, All-filter}
 use Rattle.lexical_flags.specs.Layout as layout
-use Rattle.lexical_flags.specs.Record.{Record, flag_of, HasBytes}
-use Rattle.lexical_builder.specs.Writes.{Write, write_flag, IsLegal, new_record, after, changes}
+use Rattle.lexical_flags.specs.Record.{Record, HasBytes}
+use Rattle.lexical_builder.specs.OptionByte.{option_of_byte}
+use Rattle.lexical_builder.specs.Writes.{Write, write_flag, write_byte, IsLegal, new_record, after, changes}
 use Rattle.lexical_builder.proofs.OptionByteLemmas.{byte_of_option_back}
 use Rattle.lexical_builder.proofs.WriteLemmas.{after-append}
-use Rattle.lexical_util.proofs.Distance.{distance}
-use Rattle.lexical_util.proofs.FieldWrites.{field_writes, after-field_writes, legal-field_writes, after-filter}
-use Rattle.lexical_util.proofs.FieldWrites.{after-NoChange, NoChange-filter, NoChange-field_writes, length-changes}
+use Rattle.lexical_util.proofs.Distance.{distance, distance-is}
+use Rattle.lexical_util.proofs.FieldWrites.{field_writes, legal-field_writes, Leaves, Leaves-field_writes, after-leaves}
+use Rattle.lexical_util.proofs.FieldWrites.{after-changes}
 use Rattle.lexical_util.specs.Edits.{writes_of, all_writes}
-use Rattle.lexical_util.specs.Listing.{flag_edits, byte_edits, field_edits, setter_of, changes_new, changing}
-use Rattle.lexical_util.specs.Listing.{unchanging}
+use Rattle.lexical_util.specs.Listing.{setter_of, changes_new, changing, unchanging}
 use Rattle.lexical_util.specs.declared.edits.Edit.{Edit}
 use Rattle.lexical_util.specs.declared.edits.Edit.TheVariants as edits
 
--- each edit of the list is one write
-abbrev pub AllSingle : List Edit → Type 0
-AllSingle [] = Unit {0}
-AllSingle (e ∷ es) = ((x : Write) × (writes_of e ≡ x ∷ [])) × AllSingle es
+-- the edit that does a write
+abbrev edit_of : Write → Edit
+edit_of (write_flag f value) = edits.Flag (setter_of f) value
+edit_of (write_byte layout.digit_separator value) = edits.DigitSeparator (option_of_byte value)
+edit_of (write_byte layout.base_prefix value) = edits.BasePrefix (option_of_byte value)
+edit_of (write_byte layout.base_suffix value) = edits.BaseSuffix (option_of_byte value)
+edit_of (write_byte layout.mantissa_radix value) = edits.MantissaRadix value
+edit_of (write_byte layout.exponent_base value) = edits.ExponentBase (option_of_byte value)
+edit_of (write_byte layout.exponent_radix value) = edits.ExponentRadix (option_of_byte value)
 
--- two lists of single edits are one
-pub AllSingle-append : (es fs : List Edit) → AllSingle es → AllSingle fs → AllSingle (es ++ fs)
-AllSingle-append [] fs h k = k
-AllSingle-append (e ∷ es) fs h k = (h.0, AllSingle-append es fs h.1 k)
+-- it does no other
+writes_of-edit : (x : Write) → writes_of (edit_of x) ≡ x ∷ []
+writes_of-edit (write_flag layout.required_integer_digits value) = refl
+writes_of-edit (write_flag _ value) = refl
+writes_of-edit (write_byte layout.mantissa_radix value) = refl
+writes_of-edit (write_byte b value) = ap (λ n. write_byte b n ∷ []) (byte_of_option_back value)
 
-flag_edit-is : (f : Flag) (v : Bool) → writes_of (edits.Flag (setter_of f) v) ≡ write_flag f v ∷ []
-flag_edit-is layout.required_integer_digits v = refl
-flag_edit-is _ v = refl
+all_writes-edits : (writes : List Write) → all_writes (map edit_of writes) ≡ writes
+all_writes-edits [] = refl
+all_writes-edits (x ∷ writes) = ap (λ xs. xs ++ all_writes (map edit_of writes)) (writes_of-edit x)
+    ∙ ap (λ xs. x ∷ xs) (all_writes-edits writes)
 
--- each edit of a field is single
-pub AllSingle-field_edits : (R : Record) → AllSingle (field_edits R)
-AllSingle-field_edits R = AllSingle-append (flag_edits R) (byte_edits R) (on_flags flags)
-    ((_, refl), ((_, refl), ((_, refl), ((_, refl), ((_, refl), ((_, refl), tt)))))) where
-      on_flags : (fs : List Flag) → AllSingle (map (λ f. edits.Flag (setter_of f) (flag_of R f)) fs)
-      on_flags [] = tt
-      on_flags (f ∷ fs) = ((write_flag f (flag_of R f), flag_edit-is f (flag_of R f)), on_flags fs)
+-- to keep some edits is to keep their writes
+filter-edits : (p : Edit → Bool) (q : Write → Bool) → ((x : Write) → p (edit_of x) ≡ q x) → (writes : List Write)
+    → filter p (map edit_of writes) ≡ map edit_of (filter q writes)
+filter-edits p q agree [] = refl
+filter-edits p q agree (x ∷ writes) =
+    let rest = filter p (map edit_of writes) in
+    ap (λ t. cond t (edit_of x ∷ rest) rest) (agree x) ∙ either (q x) rest (filter-edits p q agree writes) where
+      either : (t : Bool) (es : List Edit) → es ≡ map edit_of (filter q writes)
+          → cond t (edit_of x ∷ es) es ≡ map edit_of (cond t (x ∷ filter q writes) (filter q writes))
+      either true es same = ap (λ es. edit_of x ∷ es) same
+      either false es same = same
 
--- the edits of the fields write the fields
-pub all_writes-field_edits : (R : Record) → all_writes (field_edits R) ≡ field_writes R
-all_writes-field_edits R = flat_map-append writes_of (flag_edits R) (byte_edits R) ∙ simp byte_of_option_back
+changes_new-edit : (x : Write) → changes_new (edit_of x) ≡ changes new_record x
+changes_new-edit x = ap (list_any (changes new_record)) (writes_of-edit x) ∙ or-false (changes new_record x)
 
--- a test of edits that is a test of their writes
-filter_cond : (t : Bool) (e : Edit) (x : Write) (es : List Edit) (L : List Write) → writes_of e ≡ x ∷ []
-    → all_writes es ≡ L → all_writes (cond t (e ∷ es) es) ≡ cond t (x ∷ L) L
-filter_cond true e x es L h k = ap (λ M. M ++ all_writes es) h ∙ ap (λ M. x ∷ M) k
-filter_cond false e x es L h k = k
+-- the writes of the fields that differ from those of a new record, and of the others
+abbrev changed : Record → List Write
+changed R = filter (changes new_record) (field_writes R)
 
--- to keep some single edits is to keep their writes
-pub all_writes-filter : (p : Edit → Bool) (q : Write → Bool)
-    → ((e : Edit) (x : Write) → writes_of e ≡ x ∷ [] → p e ≡ q x) → (es : List Edit) → AllSingle es
-    → all_writes (filter p es) ≡ filter q (all_writes es)
-all_writes-filter p q agree [] h = refl
-all_writes-filter p q agree (e ∷ es) h =
-    let single = h.0 in
-    let x = single.0 in
-    let only : writes_of e ≡ x ∷ [] = single.1 in
-    filter_cond (p e) e x (filter p es) (filter q (all_writes es)) only (all_writes-filter p q agree es h.1)
-    ∙ ap (λ t. cond t (x ∷ filter q (all_writes es)) (filter q (all_writes es))) (agree e x only)
-    ∙ ap (λ L. filter q (L ++ all_writes es)) (sym only)
+abbrev unchanged : Record → List Write
+unchanged R = filter (λ x. not (changes new_record x)) (field_writes R)
 
--- single edits make as many writes as they are
-pub length-all_writes : (es : List Edit) → AllSingle es → length (all_writes es) ≡ length es
-length-all_writes [] h = refl
-length-all_writes (e ∷ es) h =
-    let single = h.0 in
-    ap (λ L. length (L ++ all_writes es)) single.1 ∙ ap suc (length-all_writes es h.1)
+-- the edits that change a new record write the first, and the other edits the second
+changing-is : (R : Record) → changing R ≡ map edit_of (changed R)
+changing-is R = filter-edits changes_new (changes new_record) changes_new-edit (field_writes R)
 
--- what is kept of single edits is single
-pub AllSingle-filter : (p : Edit → Bool) (es : List Edit) → AllSingle es → AllSingle (filter p es)
-AllSingle-filter p [] h = tt
-AllSingle-filter p (e ∷ es) h = single_cond (p e) e (filter p es) h.0 (AllSingle-filter p es h.1) where
-  single_cond : (t : Bool) (e : Edit) (es : List Edit) → (x : Write) × (writes_of e ≡ x ∷ []) → AllSingle es
-      → AllSingle (cond t (e ∷ es) es)
-  single_cond true e es h k = (h, k)
-  single_cond false e es h k = k
+unchanging-is : (R : Record) → unchanging R ≡ map edit_of (unchanged R)
+unchanging-is R = filter-edits (λ e. not (changes_new e)) (λ x. not (changes new_record x))
+    (λ x. ap not (changes_new-edit x)) (field_writes R)
 
-changes_new-is : (e : Edit) (x : Write) → writes_of e ≡ x ∷ [] → changes_new e ≡ changes new_record x
-changes_new-is e x h = ap (list_any (changes new_record)) h ∙ or-false (changes new_record x)
+all_writes-changing : (R : Record) → all_writes (changing R) ≡ changed R
+all_writes-changing R = ap all_writes (changing-is R) ∙ all_writes-edits (changed R)
 
--- the edits that change a new record write what differs from it
-pub all_writes-changing : (R : Record) → all_writes (changing R) ≡ filter (changes new_record) (field_writes R)
-all_writes-changing R = all_writes-filter changes_new (changes new_record) changes_new-is (field_edits R)
-    (AllSingle-field_edits R) ∙ ap (filter (changes new_record)) (all_writes-field_edits R)
+all_writes-both : (R : Record) → all_writes (changing R ++ unchanging R) ≡ changed R ++ unchanged R
+all_writes-both R = flat_map-append writes_of (changing R) (unchanging R)
+    ∙ (λ i. all_writes-changing R i ++ (ap all_writes (unchanging-is R) ∙ all_writes-edits (unchanged R)) i)
 
--- the other edits write what agrees with a new record
-pub all_writes-unchanging : (R : Record) → all_writes (unchanging R) ≡ filter (λ x. not (changes new_record x))
-    (field_writes R)
-all_writes-unchanging R = all_writes-filter (λ e. not (changes_new e)) (λ x. not (changes new_record x))
-    (λ e x h. ap not (changes_new-is e x h)) (field_edits R) (AllSingle-field_edits R)
-    ∙ ap (filter (λ x. not (changes new_record x))) (all_writes-field_edits R)
-
--- the first part alone makes the record, and so do both
+-- the first part alone makes the record
 pub after-changing : (R : Record) → after new_record (all_writes (changing R)) ≡ R
-after-changing R = ap (after new_record) (all_writes-changing R)
-    ∙ after-filter new_record R (field_writes R) (NoChange-field_writes R) ∙ after-field_writes new_record R
+after-changing R = ap (after new_record) (all_writes-changing R) ∙ after-changes new_record R
 
 -- both lists of edits together make the record
 pub after-both : (R : Record) → after new_record (all_writes (changing R ++ unchanging R)) ≡ R
-after-both R = ap (after new_record) (flat_map-append writes_of (changing R) (unchanging R))
-    ∙ sym (after-append new_record (all_writes (changing R)) (all_writes (unchanging R)))
-    ∙ ap (λ S. after S (all_writes (unchanging R))) (after-changing R)
-    ∙ ap (after R) (all_writes-unchanging R)
-    ∙ after-NoChange R _ (NoChange-filter R (λ x. not (changes new_record x)) (field_writes R)
-    (NoChange-field_writes R))
+after-both R = ap (after new_record) (all_writes-both R) ∙ sym (after-append new_record (changed R) (unchanged R))
+    ∙ ap (λ S. after S (unchanged R)) (after-changes new_record R) ∙ after-leaves R (unchanged R)
+    (All-filter (λ x. not (changes new_record x)) (Leaves R) (field_writes R) (Leaves-field_writes R))
 
 -- both lists of edits together are legal
 pub legal-both : (R : Record) → HasBytes R → All IsLegal (all_writes (changing R ++ unchanging R))
-legal-both R h = All-same IsLegal _ _ (flat_map-append writes_of (changing R) (unchanging R))
-    (All-append IsLegal (all_writes (changing R)) (all_writes (unchanging R))
-    (All-same IsLegal _ _ (all_writes-changing R) (All-filter (changes new_record) IsLegal (field_writes R)
-    (legal-field_writes R h)))
-    (All-same IsLegal _ _ (all_writes-unchanging R) (All-filter (λ x. not (changes new_record x)) IsLegal
-    (field_writes R) (legal-field_writes R h))))
+legal-both R h =
+    let legal = legal-field_writes R h in
+    subst (All IsLegal) (sym (all_writes-both R)) (All-append IsLegal (changed R) (unchanged R)
+    (All-filter (changes new_record) IsLegal (field_writes R) legal)
+    (All-filter (λ x. not (changes new_record x)) IsLegal (field_writes R) legal))
 
 -- the edits that change a new record are as many as the fields that differ
 pub length-changing : (R : Record) → length (changing R) ≡ distance new_record R
-length-changing R = sym (length-all_writes (changing R)
-    (AllSingle-filter changes_new (field_edits R) (AllSingle-field_edits R)))
-    ∙ ap length (all_writes-changing R) ∙ length-changes new_record R
-
--- there are thirty-seven fields
-pub length-field_edits : (R : Record) → length (field_edits R) ≡ 37
-length-field_edits R = refl
+length-changing R = ap length (changing-is R) ∙ length-map (changed R) edit_of ∙ distance-is new_record R

@@ -1,7 +1,6 @@
 //! Which words a builder packs, and the setter calls that make a word.
 
-ghost use Rattle.std.specs.Prelude.{◌≡◌, ℕ, ◌+◌, ◌≤◌, ◌↔◌, ◌++◌, IsTrue, List, All, length, filter, take};
-ghost use Rattle.std.specs.Bool.{beq};
+ghost use Rattle.std.specs.Prelude.{◌≡◌, ◌≤◌, ◌↔◌, ◌++◌, IsTrue, List, All, length, filter, take, not, if◌then◌else◌};
 ghost use Rattle.lexical_flags.specs.Layout.{IsClean};
 ghost use Rattle.lexical_flags.specs.Record.{raw, pack, SeparatorIsUsed, IsBuilt};
 ghost use Rattle.lexical_builder.specs.Writes.{Write, IsLegal, new_record, after};
@@ -58,10 +57,13 @@ pub fn edits_of(format: u128) -> ([Edit; 37], usize)
     ensures fewest { (writes : List Write) → All IsLegal writes
         → pack (after new_record writes) ≡ format → result.1 ≤ length writes }
 {
-    let list = field_edits_of(format);
-    let mut edits = [Edit::MantissaRadix(10); 37];
-    let count = put_where(&list, true, &mut edits, 0);
-    put_where(&list, false, &mut edits, count);
+    // The first array keeps the needed edits, and then takes the others from the second.
+    let mut edits = field_edits_of(format);
+    let mut others = field_edits_of(format);
+    let count = keep_where(&mut edits, true);
+    let rest = keep_where(&mut others, false);
+    let (all, others) = (&mut edits[..], &others[..]);
+    all[count..].copy_from_slice(&others[..rest]);
     (edits, count)
 }
 
@@ -109,20 +111,19 @@ fn is_change(edit: Edit) -> bool
     }
 }
 
-// Copies those edits of `list` that change a new builder, or those that do not, into `edits` from
-// index `from` on, and returns the index after the last.
-fn put_where(list: &[Edit], changed: bool, edits: &mut [Edit], from: usize) -> usize
-    requires { from + length (filter (λ e. beq (changes_new e) changed) list.now) ≤ length edits.old }
-    ensures place { result ≡ from + length (filter (λ e. beq (changes_new e) changed) list.now) }
-    ensures written { take result edits.new
-        ≡ take from edits.old ++ filter (λ e. beq (changes_new e) changed) list.now }
+// Moves those edits that change a new builder, or those that do not, to the front in their order, and
+// returns how many there are.
+fn keep_where(edits: &mut [Edit], changed: bool) -> usize
+    ensures count { result ≡ length (filter (λ e. if changed then changes_new e else not (changes_new e)) edits.old) }
+    ensures kept { take result edits.new
+        ≡ filter (λ e. if changed then changes_new e else not (changes_new e)) edits.old }
 {
-    let mut place = from;
-    for edit in list {
-        if is_change(*edit) == changed {
-            edits[place] = *edit;
-            place += 1;
+    let mut count = 0;
+    for index in 0..edits.len() {
+        if is_change(edits[index]) == changed {
+            edits.swap(count, index);
+            count += 1;
         }
     }
-    place
+    count
 }

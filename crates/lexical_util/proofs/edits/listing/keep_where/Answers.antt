@@ -1,0 +1,29 @@
+use Rattle.std.proofs.Common.{◌≡◌, length, Bool, true, false, not, if◌then◌else◌, refl, sym, ap, ◌∙◌, arith}
+use Rattle.std.proofs.Math.Bool.{beq}
+use Rattle.std.proofs.lemmas.List.{length-take-le}
+use Rattle.std.proofs.lemmas.List.Filters.{FiltersInPlace-all, FiltersInPlace-more_no, FiltersInPlace-more_swap}
+use Rattle.lexical_util.proofs.edits.listing.keep_where.Goals as goal
+
+-- whether a test comes out as it should
+passes : (changed t : Bool) → (if changed then t else not t) ≡ beq t changed
+passes true true = refl
+passes true false = refl
+passes false true = refl
+passes false false = refl
+
+pub loop-index-preserved : goal.loop-index-preserved
+loop-index-preserved c =
+    let test = passes c.args.changed _ ∙ ap (λ t. beq t c.args.changed) (sym c.is_change.ensures) in
+    elim c.if-is_change-changed.branch [
+      | goal.then-is_change-changed w ↦ rw (w.edits-is, w.count-is) (FiltersInPlace-more_swap c.loop-index.invariant
+          (omega arith) (test ∙ w.if-is_change-changed.true) c.index-edits-index.is w.swap.ensures.by_index)
+      | goal.else-is_change-changed w ↦ rw (w.edits-is, w.count-is) (FiltersInPlace-more_no c.loop-index.invariant
+          (omega arith) (test ∙ w.if-is_change-changed.false) c.index-edits-index.is)
+    ]
+
+pub returns-clause-count : goal.returns-clause-count
+returns-clause-count c = sym (length-take-le c.loop-index.count c.loop-index.edits (omega arith))
+    ∙ ap length (FiltersInPlace-all c.loop-index.invariant (omega arith))
+
+pub returns-clause-kept : goal.returns-clause-kept
+returns-clause-kept c = FiltersInPlace-all c.loop-index.invariant (omega arith)
