@@ -24,36 +24,8 @@ fn underscore() -> Edit {
 
 #[test]
 fn edits_a_word_once_with_all_edits(rt: HostRuntime) {
-    let cases: [(u128, &[Edit], u128); 9] = [
-        (STANDARD, &[], DECIMAL),
-        (
-            STANDARD,
-            &[Edit::Radix(16)],
-            0x0A0A1000_00000000_00000000_0000000C,
-        ),
-        (
-            DECIMAL,
-            &[Edit::ExponentBase(None)],
-            0x0A000A00_00000000_00000000_0000000C,
-        ),
-        (
-            UNUSED_SEPARATOR,
-            &[BETWEEN],
-            0x0A0A0A00_0000005F_00000001_0000000C,
-        ),
-        (
-            normal_form(UNUSED_SEPARATOR),
-            &[BETWEEN],
-            0x0A0A0A00_00000000_00000001_0000000C,
-        ),
-        (
-            DECIMAL,
-            &[
-                Edit::Flag(FlagSetter::RequiredDigits, false),
-                Edit::Flag(FlagSetter::RequiredExponentDigits, true),
-            ],
-            0x0A0A0A00_00000000_00000000_00000004,
-        ),
+    let zero = 0x00000000_00000000_00000000_0000000C;
+    let cases: [(u128, &[Edit], u128); 3] = [
         (
             DECIMAL,
             &[
@@ -64,12 +36,12 @@ fn edits_a_word_once_with_all_edits(rt: HostRuntime) {
             DECIMAL,
         ),
         (
-            0x00000000_00000000_00000000_0000000C,
+            zero,
             &[Edit::MantissaRadix(8)],
             0x00000800_00000000_00000000_0000000C,
         ),
         (
-            0x00000000_00000000_00000000_0000000C,
+            zero,
             &[
                 Edit::Radix(16),
                 underscore(),
@@ -154,20 +126,15 @@ fn of_ten_thousand_groups_the_last_counts(rt: HostRuntime) {
 }
 
 #[test]
-fn normal_forms(rt: HostRuntime) {
-    let cases = [
-        (STANDARD, DECIMAL),
-        (DECIMAL, DECIMAL),
-        (UNUSED_SEPARATOR, DECIMAL),
-        (0x00000A00_00000000_00000000_8000000C, DECIMAL),
-        (0, 0),
-        (ALL_ONES, 0xFFFFFFFF_FF0000FF_00001FFF_0003FFFF),
-    ];
-    for (format, want) in cases {
-        assert_eq!(rt; normal_form(format), want, "of {format:x}");
-        assert!(rt; same_format(format, want), "{format:x}");
+fn words_mean_the_same_if_they_have_one_normal_form(rt: HostRuntime) {
+    for (format, other, same) in [(STANDARD, UNUSED_SEPARATOR, true), (0, 12, false)] {
+        assert_eq!(rt; same_format(format, other), same, "{format:x}");
+        assert_eq!(rt;
+            normal_form(format) == normal_form(other),
+            same,
+            "{format:x}"
+        );
     }
-    assert!(rt; !same_format(0, 12));
 }
 
 // There are 14, 19 and 16 of them.

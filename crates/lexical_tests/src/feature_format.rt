@@ -75,14 +75,6 @@ fn reads_each_byte(rt: HostRuntime) {
 }
 
 #[test]
-fn a_flag_of_separators_in_a_row_is_no_other_flag(rt: HostRuntime) {
-    let view = NumberFormat::new(0x00000A00_00000000_00000200_0000000C);
-    assert!(rt; view.consecutive_digit_separator());
-    assert!(rt; !view.internal_digit_separator());
-    assert!(rt; !view.has_digit_separator());
-}
-
-#[test]
 fn digits_are_those_of_both_radixes(rt: HostRuntime) {
     let decimal = NumberFormat::new(0x00000A00_00000000_00000000_0000000C);
     assert!(rt; decimal.is_digit(b'9') && !decimal.is_digit(b'A') && !decimal.is_digit(b'.'));

@@ -5,17 +5,6 @@ const STANDARD: u128 = 0x00000A00_00000000_00000000_0000000C;
 const DECIMAL: u128 = 0x0A0A0A00_00000000_00000000_0000000C;
 
 #[test]
-fn reads_each_byte(rt: HostRuntime) {
-    let word = 0x06050403_02000001_00000000_0000000C;
-    assert_eq!(rt; digit_separator(word), 1);
-    assert_eq!(rt; base_prefix(word), 2);
-    assert_eq!(rt; base_suffix(word), 3);
-    assert_eq!(rt; mantissa_radix(word), 4);
-    assert_eq!(rt; exponent_base(word), 5);
-    assert_eq!(rt; exponent_radix(word), 6);
-}
-
-#[test]
 fn an_empty_exponent_byte_is_the_mantissa_radix(rt: HostRuntime) {
     for (word, base, radix) in [
         (DECIMAL, 10, 10),

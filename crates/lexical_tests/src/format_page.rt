@@ -4,49 +4,126 @@ use lexical_util::edits::Edit::{DigitSeparator, Flag, MantissaRadix};
 use lexical_util::edits::FlagSetter::*;
 use lexical_util::edits::{FlagSetter, edit_word};
 use lexical_util::error::Error;
-use lexical_util::format::{NonZeroU8, NumberFormatBuilder, STANDARD, format_error};
+use lexical_util::format::*;
+
+// Calls `$rows!` with `$args` and a row for each flag: its bit, its name, which the getter of a view
+// has too, its setter and its default; the getter of a builder, and the constant.
+macro_rules! with_flags {
+    ($rows:ident $args:tt) => {
+        $rows! {
+            $args
+            0 required_integer_digits RequiredIntegerDigits false
+                get_required_integer_digits REQUIRED_INTEGER_DIGITS;
+            1 required_fraction_digits RequiredFractionDigits false
+                get_required_fraction_digits REQUIRED_FRACTION_DIGITS;
+            2 required_exponent_digits RequiredExponentDigits true
+                get_required_exponent_digits REQUIRED_EXPONENT_DIGITS;
+            3 required_mantissa_digits RequiredMantissaDigits true
+                get_required_mantissa_digits REQUIRED_MANTISSA_DIGITS;
+            4 no_positive_mantissa_sign NoPositiveMantissaSign false
+                get_no_positive_mantissa_sign NO_POSITIVE_MANTISSA_SIGN;
+            5 required_mantissa_sign RequiredMantissaSign false
+                get_required_mantissa_sign REQUIRED_MANTISSA_SIGN;
+            6 no_exponent_notation NoExponentNotation false
+                get_no_exponent_notation NO_EXPONENT_NOTATION;
+            7 no_positive_exponent_sign NoPositiveExponentSign false
+                get_no_positive_exponent_sign NO_POSITIVE_EXPONENT_SIGN;
+            8 required_exponent_sign RequiredExponentSign false
+                get_required_exponent_sign REQUIRED_EXPONENT_SIGN;
+            9 no_exponent_without_fraction NoExponentWithoutFraction false
+                get_no_exponent_without_fraction NO_EXPONENT_WITHOUT_FRACTION;
+            10 no_special NoSpecial false
+                get_no_special NO_SPECIAL;
+            11 case_sensitive_special CaseSensitiveSpecial false
+                get_case_sensitive_special CASE_SENSITIVE_SPECIAL;
+            12 no_integer_leading_zeros NoIntegerLeadingZeros false
+                get_no_integer_leading_zeros NO_INTEGER_LEADING_ZEROS;
+            13 no_float_leading_zeros NoFloatLeadingZeros false
+                get_no_float_leading_zeros NO_FLOAT_LEADING_ZEROS;
+            14 required_exponent_notation RequiredExponentNotation false
+                get_required_exponent_notation REQUIRED_EXPONENT_NOTATION;
+            15 case_sensitive_exponent CaseSensitiveExponent false
+                get_case_sensitive_exponent CASE_SENSITIVE_EXPONENT;
+            16 case_sensitive_base_prefix CaseSensitiveBasePrefix false
+                get_case_sensitive_base_prefix CASE_SENSITIVE_BASE_PREFIX;
+            17 case_sensitive_base_suffix CaseSensitiveBaseSuffix false
+                get_case_sensitive_base_suffix CASE_SENSITIVE_BASE_SUFFIX;
+            32 integer_internal_digit_separator IntegerInternalDigitSeparator false
+                get_integer_internal_digit_separator INTEGER_INTERNAL_DIGIT_SEPARATOR;
+            33 fraction_internal_digit_separator FractionInternalDigitSeparator false
+                get_fraction_internal_digit_separator FRACTION_INTERNAL_DIGIT_SEPARATOR;
+            34 exponent_internal_digit_separator ExponentInternalDigitSeparator false
+                get_exponent_internal_digit_separator EXPONENT_INTERNAL_DIGIT_SEPARATOR;
+            35 integer_leading_digit_separator IntegerLeadingDigitSeparator false
+                get_integer_leading_digit_separator INTEGER_LEADING_DIGIT_SEPARATOR;
+            36 fraction_leading_digit_separator FractionLeadingDigitSeparator false
+                get_fraction_leading_digit_separator FRACTION_LEADING_DIGIT_SEPARATOR;
+            37 exponent_leading_digit_separator ExponentLeadingDigitSeparator false
+                get_exponent_leading_digit_separator EXPONENT_LEADING_DIGIT_SEPARATOR;
+            38 integer_trailing_digit_separator IntegerTrailingDigitSeparator false
+                get_integer_trailing_digit_separator INTEGER_TRAILING_DIGIT_SEPARATOR;
+            39 fraction_trailing_digit_separator FractionTrailingDigitSeparator false
+                get_fraction_trailing_digit_separator FRACTION_TRAILING_DIGIT_SEPARATOR;
+            40 exponent_trailing_digit_separator ExponentTrailingDigitSeparator false
+                get_exponent_trailing_digit_separator EXPONENT_TRAILING_DIGIT_SEPARATOR;
+            41 integer_consecutive_digit_separator IntegerConsecutiveDigitSeparator false
+                get_integer_consecutive_digit_separator INTEGER_CONSECUTIVE_DIGIT_SEPARATOR;
+            42 fraction_consecutive_digit_separator FractionConsecutiveDigitSeparator false
+                get_fraction_consecutive_digit_separator FRACTION_CONSECUTIVE_DIGIT_SEPARATOR;
+            43 exponent_consecutive_digit_separator ExponentConsecutiveDigitSeparator false
+                get_exponent_consecutive_digit_separator EXPONENT_CONSECUTIVE_DIGIT_SEPARATOR;
+            44 special_digit_separator SpecialDigitSeparator false
+                get_special_digit_separator SPECIAL_DIGIT_SEPARATOR;
+        }
+    };
+}
+
+// The rows, with the name as text and without getters.
+macro_rules! flag_rows {
+    (() $($bit:literal $flag:ident $Flag:ident $default:literal $getter:ident $MASK:ident;)*) => {
+        [$(($bit, stringify!($flag), $MASK, $Flag, $default),)*]
+    };
+}
+
+fn seen_by_a_view(view: &NumberFormat) -> [bool; 31] {
+    macro_rules! getters {
+        (($view:ident) $($bit:literal $flag:ident $Flag:ident $default:literal $getter:ident $MASK:ident;)*) => {
+            [$($view.$flag(),)*]
+        };
+    }
+    with_flags!(getters(view))
+}
+
+fn seen_by_a_builder(builder: &NumberFormatBuilder) -> [bool; 31] {
+    macro_rules! getters {
+        (($builder:ident) $($bit:literal $flag:ident $Flag:ident $default:literal $getter:ident $MASK:ident;)*) => {
+            [$($builder.$getter(),)*]
+        };
+    }
+    with_flags!(getters(builder))
+}
 
 #[test]
-#[rattlefmt::skip]
 fn each_flag_has_its_bit_name_and_default(rt: HostRuntime) {
-    let rows: [(u32, &[u8], FlagSetter, bool); 31] = [
-        (0, b"required_integer_digits", RequiredIntegerDigits, false),
-        (1, b"required_fraction_digits", RequiredFractionDigits, false),
-        (2, b"required_exponent_digits", RequiredExponentDigits, true),
-        (3, b"required_mantissa_digits", RequiredMantissaDigits, true),
-        (4, b"no_positive_mantissa_sign", NoPositiveMantissaSign, false),
-        (5, b"required_mantissa_sign", RequiredMantissaSign, false),
-        (6, b"no_exponent_notation", NoExponentNotation, false),
-        (7, b"no_positive_exponent_sign", NoPositiveExponentSign, false),
-        (8, b"required_exponent_sign", RequiredExponentSign, false),
-        (9, b"no_exponent_without_fraction", NoExponentWithoutFraction, false),
-        (10, b"no_special", NoSpecial, false),
-        (11, b"case_sensitive_special", CaseSensitiveSpecial, false),
-        (12, b"no_integer_leading_zeros", NoIntegerLeadingZeros, false),
-        (13, b"no_float_leading_zeros", NoFloatLeadingZeros, false),
-        (14, b"required_exponent_notation", RequiredExponentNotation, false),
-        (15, b"case_sensitive_exponent", CaseSensitiveExponent, false),
-        (16, b"case_sensitive_base_prefix", CaseSensitiveBasePrefix, false),
-        (17, b"case_sensitive_base_suffix", CaseSensitiveBaseSuffix, false),
-        (32, b"integer_internal_digit_separator", IntegerInternalDigitSeparator, false),
-        (33, b"fraction_internal_digit_separator", FractionInternalDigitSeparator, false),
-        (34, b"exponent_internal_digit_separator", ExponentInternalDigitSeparator, false),
-        (35, b"integer_leading_digit_separator", IntegerLeadingDigitSeparator, false),
-        (36, b"fraction_leading_digit_separator", FractionLeadingDigitSeparator, false),
-        (37, b"exponent_leading_digit_separator", ExponentLeadingDigitSeparator, false),
-        (38, b"integer_trailing_digit_separator", IntegerTrailingDigitSeparator, false),
-        (39, b"fraction_trailing_digit_separator", FractionTrailingDigitSeparator, false),
-        (40, b"exponent_trailing_digit_separator", ExponentTrailingDigitSeparator, false),
-        (41, b"integer_consecutive_digit_separator", IntegerConsecutiveDigitSeparator, false),
-        (42, b"fraction_consecutive_digit_separator", FractionConsecutiveDigitSeparator, false),
-        (43, b"exponent_consecutive_digit_separator", ExponentConsecutiveDigitSeparator, false),
-        (44, b"special_digit_separator", SpecialDigitSeparator, false),
-    ];
-    for (bit, name, setter, default) in rows {
-        let mask = 1u128.wrapping_shl(bit);
-        assert!(rt; setter.name().as_bytes() == name, "{bit}");
+    let rows: [(u32, &str, u128, FlagSetter, bool); 31] = with_flags!(flag_rows());
+    for (bit, name, mask, setter, default) in rows {
+        assert_eq!(rt; mask, 1u128.wrapping_shl(bit), "{bit}");
+        assert_eq!(rt; setter.name(), name, "{bit}");
         assert_eq!(rt; edit_word(0, &[Flag(setter, true)]), mask, "{bit}");
         assert_eq!(rt; STANDARD & mask != 0, default, "{bit}");
+    }
+}
+
+#[test]
+fn each_getter_sees_its_bit_alone(rt: HostRuntime) {
+    let rows: [(u32, &str, u128, FlagSetter, bool); 31] = with_flags!(flag_rows());
+    for (index, (_, name, mask, _, _)) in rows.iter().enumerate() {
+        let view = seen_by_a_view(&NumberFormat::new(*mask));
+        let builder = seen_by_a_builder(&NumberFormatBuilder::rebuild(*mask));
+        for (other, seen) in view.iter().enumerate() {
+            assert_eq!(rt; *seen, other == index, "{name} {other}");
+            assert_eq!(rt; builder[other], other == index, "{name} {other}");
+        }
     }
 }
 

@@ -31,8 +31,6 @@ mod format_page;
 #[cfg(test)]
 mod formats;
 #[cfg(test)]
-mod getters;
-#[cfg(test)]
 mod keep;
 #[cfg(test)]
 mod read;
