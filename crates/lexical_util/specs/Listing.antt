@@ -1,50 +1,21 @@
 -- The edits that write all fields of a record, and which of them a new builder needs.
-use Rattle.std.specs.Prelude.{◌≡◌, ℕ, Bool, not, List, [], ◌∷◌, ◌++◌, map, filter, All}
+use Rattle.std.specs.Prelude.{◌≡◌, ℕ, Bool, not, List, [], ◌∷◌, ◌++◌, map, filter, find, unwrap_or, All}
 use Rattle.std.specs.List.{list_any}
-use Rattle.lexical_flags.specs.Layout.{Flag, flags}
-use Rattle.lexical_flags.specs.Layout as layout
+use Rattle.std.specs.Str.{bytes_eq}
+use Rattle.lexical_flags.specs.Layout.{Flag, bit, flags}
 use Rattle.lexical_flags.specs.Record.{Record, flag_of, pack}
 use Rattle.lexical_builder.specs.OptionByte.{option_of_byte}
 use Rattle.lexical_builder.specs.Writes.{Write, IsLegal, new_record, after, changes}
-use Rattle.lexical_util.specs.Edits.{writes_of}
+use Rattle.lexical_util.specs.Edits.{flags_of, writes_of}
 use Rattle.lexical_util.specs.declared.edits.FlagSetter.{FlagSetter}
 use Rattle.lexical_util.specs.declared.edits.FlagSetter.TheVariants as setters
+use Rattle.lexical_util.specs.declared.edits.TheConstants.{SETTERS}
 use Rattle.lexical_util.specs.declared.edits.Edit.{Edit}
 use Rattle.lexical_util.specs.declared.edits.Edit.TheVariants as edits
 
--- the setter of one flag
+-- the setter that writes this flag and no other
 abbrev pub setter_of : Flag → FlagSetter
-setter_of layout.required_integer_digits = setters.RequiredIntegerDigits
-setter_of layout.required_fraction_digits = setters.RequiredFractionDigits
-setter_of layout.required_exponent_digits = setters.RequiredExponentDigits
-setter_of layout.required_mantissa_digits = setters.RequiredMantissaDigits
-setter_of layout.no_positive_mantissa_sign = setters.NoPositiveMantissaSign
-setter_of layout.required_mantissa_sign = setters.RequiredMantissaSign
-setter_of layout.no_exponent_notation = setters.NoExponentNotation
-setter_of layout.no_positive_exponent_sign = setters.NoPositiveExponentSign
-setter_of layout.required_exponent_sign = setters.RequiredExponentSign
-setter_of layout.no_exponent_without_fraction = setters.NoExponentWithoutFraction
-setter_of layout.no_special = setters.NoSpecial
-setter_of layout.case_sensitive_special = setters.CaseSensitiveSpecial
-setter_of layout.no_integer_leading_zeros = setters.NoIntegerLeadingZeros
-setter_of layout.no_float_leading_zeros = setters.NoFloatLeadingZeros
-setter_of layout.required_exponent_notation = setters.RequiredExponentNotation
-setter_of layout.case_sensitive_exponent = setters.CaseSensitiveExponent
-setter_of layout.case_sensitive_base_prefix = setters.CaseSensitiveBasePrefix
-setter_of layout.case_sensitive_base_suffix = setters.CaseSensitiveBaseSuffix
-setter_of layout.integer_internal_digit_separator = setters.IntegerInternalDigitSeparator
-setter_of layout.fraction_internal_digit_separator = setters.FractionInternalDigitSeparator
-setter_of layout.exponent_internal_digit_separator = setters.ExponentInternalDigitSeparator
-setter_of layout.integer_leading_digit_separator = setters.IntegerLeadingDigitSeparator
-setter_of layout.fraction_leading_digit_separator = setters.FractionLeadingDigitSeparator
-setter_of layout.exponent_leading_digit_separator = setters.ExponentLeadingDigitSeparator
-setter_of layout.integer_trailing_digit_separator = setters.IntegerTrailingDigitSeparator
-setter_of layout.fraction_trailing_digit_separator = setters.FractionTrailingDigitSeparator
-setter_of layout.exponent_trailing_digit_separator = setters.ExponentTrailingDigitSeparator
-setter_of layout.integer_consecutive_digit_separator = setters.IntegerConsecutiveDigitSeparator
-setter_of layout.fraction_consecutive_digit_separator = setters.FractionConsecutiveDigitSeparator
-setter_of layout.exponent_consecutive_digit_separator = setters.ExponentConsecutiveDigitSeparator
-setter_of layout.special_digit_separator = setters.SpecialDigitSeparator
+setter_of f = unwrap_or (find (λ setter. bytes_eq (map bit (flags_of setter)) (bit f ∷ [])) SETTERS) setters.NoSpecial
 
 -- the edits that write the flags of a record
 abbrev pub flag_edits : Record → List Edit
