@@ -1,8 +1,8 @@
 -- Two edits one after the other are one edit exactly if nothing that is packed and filled between them is still wanted.
-use Rattle.std.proofs.Common.{◌≡◌, ◌≢◌, ℕ, ◌↔◌, ◌||◌, inl, Bool, true, false, IsTrue, Option, Some, None, unwrap_or}
+use Rattle.std.proofs.Common.{◌≡◌, ◌≢◌, ℕ, ◌↔◌, inl, inr, Bool, true, IsTrue, Option, Some, None, unwrap_or}
 use Rattle.std.proofs.Common.{refl, sym, ap, ◌∙◌, subst, List, [], ◌∷◌, ◌++◌, All, arith}
 use Rattle.std.specs.List.{list_any, AllByRecursion}
-use Rattle.std.proofs.lemmas.Bool.{false≢true}
+use Rattle.std.proofs.lemmas.Bool.{or_cases, or_left, or_right}
 use Rattle.std.proofs.lemmas.Bool.Decides.{nat_tests}
 use Rattle.std.proofs.lemmas.List.Elements.{All-nil}
 use Rattle.lexical_flags.specs.Layout.{Flag, Byte, digit_separator_flags}
@@ -103,15 +103,10 @@ set_before (Some v) d unset e = absurd (unset (ap Some e))
 any_before : (R : Record) (L : List Write) (fs : List Flag) → AllByRecursion (λ f. last_flag L f ≢ Some true) fs
     → IsTrue (list_any (flag_of (after R L)) fs) → IsTrue (list_any (flag_of R) fs)
 any_before R L [] unset on = on
-any_before R L (f ∷ fs) unset on = or_first (flag_of R f) (list_any (flag_of R) fs) (flag_of (after R L) f)
-    (list_any (flag_of (after R L)) fs)
-    (λ set. set_before (last_flag L f) (flag_of R f) unset.0 (sym (flag_of-after R L f) ∙ set))
-    (any_before R L fs unset.1) on where
-      or_first : (p ps q qs : Bool) → (IsTrue q → IsTrue p) → (IsTrue qs → IsTrue ps) → IsTrue (q || qs)
-          → IsTrue (p || ps)
-      or_first true ps q qs one rest h = refl
-      or_first false ps true qs one rest h = absurd (false≢true (one refl))
-      or_first false ps false qs one rest h = rest h
+any_before R L (f ∷ fs) unset on = elim (or_cases _ _ on) [
+  | inl set ↦ or_left _ _ (set_before (last_flag L f) (flag_of R f) unset.0 (sym (flag_of-after R L f) ∙ set))
+  | inr rest ↦ or_right _ _ (any_before R L fs unset.1 rest)
+]
 
 -- an exponent byte is not empty after writes that do not empty it for good
 not_empty : (w : ℕ) (K : List Write) (b : Byte) (own : ℕ)

@@ -1,7 +1,6 @@
 -- The words that a builder can pack, and the least number of writes to one.
-use Rattle.std.proofs.Common.{◌≡◌, ℕ, ◌<◌, ◌≤◌, ◌^◌, ◌⊎◌, inl, inr, IsTrue, length, List, sym, ap, ◌∙◌, subst, All}
-use Rattle.std.proofs.Common.{le_trans}
-use Rattle.std.proofs.lemmas.Bool.{cases_Bool, cond-false}
+use Rattle.std.proofs.Common.{◌≡◌, ℕ, ◌<◌, ◌≤◌, ◌^◌, ◌⊎◌, inl, inr, Bool, true, false, if◌then◌else◌, IsTrue}
+use Rattle.std.proofs.Common.{length, List, refl, sym, ap, ◌∙◌, subst, All, le_trans}
 use Rattle.lexical_flags.specs.Record.{Record, raw, trim, pack, separator_on, HasBytes, IsBuilt}
 use Rattle.lexical_flags.proofs.Packing.{raw-pack, pack-clean, pack-raw, HasBytes-raw}
 use Rattle.lexical_builder.specs.Writes.{Write, IsLegal, new_record, after}
@@ -19,19 +18,16 @@ fewest_writes w L legal makes =
     subst (λ (R : Record). distance new_record R ≤ length L) (sym fields)
     (le_trans (distance-trim (after new_record L)) (distance-after new_record L))
 
-trimmed : (R : Record) → IsTrue (separator_on (trim R)) ⊎ ((trim R).digit_separator ≡ 0)
-trimmed R = elim (cases_Bool (separator_on R)) [
-  | inl t ↦ inl t
-  | inr n ↦ inr
-      (cond-false (separator_on R) R.digit_separator 0 n)
-]
+used_or_none : (on : Bool) (n : ℕ) → IsTrue on ⊎ ((if on then n else 0) ≡ 0)
+used_or_none true n = inl refl
+used_or_none false n = inr refl
 
 -- what is packed from a record can be packed
 IsBuilt-pack : (R : Record) → HasBytes R → IsBuilt (pack R)
 IsBuilt-pack R bytes = record {
   clean = pack-clean R bytes;
   separator_used = subst (λ (S : Record). IsTrue (separator_on S) ⊎ (S.digit_separator ≡ 0)) (sym (raw-pack R bytes))
-      (trimmed R);
+      (used_or_none (separator_on R) R.digit_separator);
 }
 
 -- a word that packing gives back is built by some legal writes

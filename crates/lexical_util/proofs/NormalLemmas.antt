@@ -1,8 +1,9 @@
 -- Normal forms: which words are their own, what one keeps of a word, and when two words have the same.
-use Rattle.std.proofs.Common.{◌≡◌, ℕ, ◌<◌, ◌^◌, ◌⊎◌, inl, inr, Bool, true, false, cond, eqb, eq-eqb, eqb-true, IsTrue}
-use Rattle.std.proofs.Common.{refl, sym, ap, ◌∙◌, subst, List, sum_by, if◌then◌else◌}
+use Rattle.std.proofs.Common.{◌≡◌, ℕ, ◌<◌, ◌^◌, ◌⊎◌, inl, inr, Bool, true, false, cond, IsTrue}
+use Rattle.std.proofs.Common.{arith, refl, sym, ap, ◌∙◌, subst, List, sum_by, if◌then◌else◌}
 use Rattle.std.specs.List.{list_any}
-use Rattle.std.proofs.lemmas.Bool.{cases_Bool, cond-true, cond-false, false≢true}
+use Rattle.std.proofs.lemmas.Bool.{cond-true, false≢true}
+use Rattle.std.proofs.lemmas.Bool.Decides.{nat_tests}
 use Rattle.lexical_flags.specs.Layout.{Flag, Byte, bit, digit_separator_flags, IsClean}
 use Rattle.lexical_flags.specs.Layout as layout
 use Rattle.lexical_flags.specs.Record.{Record, flag_of, byte_of, raw, trim, fill, pack, word_of, effective}
@@ -79,25 +80,15 @@ SameFormat-from_normal a b e = SameFormat-from_trim (raw a) (raw b)
     ∙ raw-pack (fill (raw b)) (HasBytes-fill (raw b) (HasBytes-raw b)))
 
 effective_again : (own radix : ℕ) → effective own radix ≡ effective (effective own radix) radix
-effective_again own radix = elim (cases_Bool (eqb own 0)) [
-  | inl t ↦ cond-true (eqb own 0) radix own t ∙ sym (ap (λ n. effective n radix) (cond-true (eqb own 0) radix own t)
-      ∙ same (eqb radix 0))
-  | inr n ↦ ap (λ n. effective n radix) (sym (cond-false (eqb own 0) radix own n))
-] where
-  same : (t : Bool) → cond t radix radix ≡ radix
-  same true = refl
-  same false = refl
+effective_again own radix = grind (arith, nat_tests)
 
 -- if filling changes nothing, there is nothing to fill with
 pub unfilled : (own radix : ℕ) → effective own radix ≡ own → own ≡ 0 → radix ≡ 0
-unfilled own radix e z = sym (cond-true (eqb own 0) radix own (eq-eqb own 0 z)) ∙ e ∙ z
+unfilled own radix e z = grind (arith, nat_tests)
 
 -- and the other way round
 pub full : (own radix : ℕ) → (own ≡ 0 → radix ≡ 0) → effective own radix ≡ own
-full own radix h = elim (cases_Bool (eqb own 0)) [
-  | inl t ↦ cond-true (eqb own 0) radix own t ∙ h (eqb-true own 0 t) ∙ sym (eqb-true own 0 t)
-  | inr n ↦ cond-false (eqb own 0) radix own n
-]
+full own radix h = grind (arith, nat_tests)
 
 -- if trimming changes nothing, the separator is used or absent
 pub unused : (t : Bool) (n : ℕ) → cond t n 0 ≡ n → IsTrue t ⊎ (n ≡ 0)
@@ -152,11 +143,7 @@ module _ (w : ℕ) where
       let fields : trim (fill R) ≡ R = sym raw_normal ∙ ap raw e in
       record {
         clean = subst IsClean e clean_normal;
-        separator_used = elim (cases_Bool (separator_on R)) [
-          | inl t ↦ inl t
-          | inr n ↦ inr
-              (sym (ap (λ (S : Record). S.digit_separator) fields) ∙ cond-false (separator_on R) R.digit_separator 0 n)
-        ];
+        separator_used = unused (separator_on R) R.digit_separator (ap (λ (S : Record). S.digit_separator) fields);
         exponent_base = unfilled R.exponent_base R.mantissa_radix (ap (λ (S : Record). S.exponent_base) fields);
         exponent_radix = unfilled R.exponent_radix R.mantissa_radix (ap (λ (S : Record). S.exponent_radix) fields);
       }

@@ -1,5 +1,5 @@
 -- The table of setters has each setter, and no two have the same name.
-use Rattle.std.proofs.Common.{ℕ, ◌≡◌, ◌<◌, ◌∙◌, ◌↔◌, List, Some, refl, sym, ap, get_or, true}
+use Rattle.std.proofs.Common.{ℕ, ◌≡◌, ◌<◌, ◌∙◌, ◌↔◌, List, Some, refl, sym, ap, get_or, length, true}
 use Rattle.std.specs.Bool.{nat_lt}
 use Rattle.std.proofs.lemmas.Bool.Decides.{Decides-ltb}
 use Rattle.std.specs.Str.{bytes_eq}
@@ -13,18 +13,18 @@ use Rattle.lexical_util.specs.SetterNames.{setter_name}
 pub place_of : List ℕ → ℕ
 place_of name = position_or_len (λ setter. bytes_eq (setter_name setter) name) SETTERS
 
--- it is that setter's place: the 40 cases are computed
+-- it is that setter's place: each case is computed
 pub at_place : (setter default : FlagSetter) → get_or SETTERS (place_of (setter_name setter)) default ≡ setter
 unfolding place_of
 at_place setters.RequiredIntegerDigits default = refl
 at_place _ default = refl
 
-place-below-test : (setter : FlagSetter) → nat_lt (place_of (setter_name setter)) 40 ≡ true
+place-below-test : (setter : FlagSetter) → nat_lt (place_of (setter_name setter)) (length SETTERS) ≡ true
 unfolding place_of
 place-below-test setters.RequiredIntegerDigits = refl
 place-below-test _ = refl
 
-pub place-below : (setter : FlagSetter) → place_of (setter_name setter) < 40
+pub place-below : (setter : FlagSetter) → place_of (setter_name setter) < length SETTERS
 place-below setter = (Decides-ltb _ _).0 (place-below-test setter)
 
 -- no two setters have the same name

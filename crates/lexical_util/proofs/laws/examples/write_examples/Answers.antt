@@ -1,26 +1,12 @@
 use Rattle.std.proofs.Common.{ℕ, ◌≡◌, Option, Some, None, [], ◌∷◌, true, false, unwrap_or, refl, ap, arith}
 use Rattle.lexical_flags.specs.Layout.{Flag, Byte}
 use Rattle.lexical_flags.specs.Layout as layout
-use Rattle.lexical_builder.specs.Writes.{write_flag, write_byte, last_flag, last_byte, SameWrites}
+use Rattle.lexical_builder.specs.Writes.{write_byte, last_byte, SameWrites}
 use Rattle.lexical_util.proofs.laws.examples.write_examples.Goals as goal
 
 -- the numbers of equal options
 number : (a b : Option ℕ) → a ≡ b → unwrap_or a 0 ≡ unwrap_or b 0
 number a b same = ap (λ o. unwrap_or o 0) same
-
-in_another_order : SameWrites
-    (write_flag layout.no_special true ∷ write_byte layout.mantissa_radix 16 ∷ [])
-    (write_byte layout.mantissa_radix 16 ∷ write_flag layout.no_special true ∷ [])
-in_another_order = record { same_flags = on_flag; same_bytes = on_byte } where
-  on_flag : (f : Flag) → last_flag (write_flag layout.no_special true ∷ write_byte layout.mantissa_radix 16 ∷ []) f
-      ≡ last_flag (write_byte layout.mantissa_radix 16 ∷ write_flag layout.no_special true ∷ []) f
-  on_flag layout.no_special = refl
-  on_flag _ = refl
-
-  on_byte : (b : Byte) → last_byte (write_flag layout.no_special true ∷ write_byte layout.mantissa_radix 16 ∷ []) b
-      ≡ last_byte (write_byte layout.mantissa_radix 16 ∷ write_flag layout.no_special true ∷ []) b
-  on_byte layout.mantissa_radix = refl
-  on_byte _ = refl
 
 written_twice : SameWrites
     (write_byte layout.mantissa_radix 8 ∷ write_byte layout.mantissa_radix 16 ∷ [])
@@ -36,7 +22,7 @@ returns c = record {
   flag = tt;
   byte = omega arith;
   too_large = λ legal. omega (arith, legal);
-  order = in_another_order;
+  order = record { same_flags = λ f. refl; same_bytes = λ b. refl };
   twice = written_twice;
   other_last = λ same.
       let value : 16 ≡ 8 = number (Some 16) (Some 8) (same.same_bytes layout.mantissa_radix) in
