@@ -1,16 +1,19 @@
 -- Normal forms: which words are their own, what one keeps of a word, and when two words have the same.
 use Rattle.std.proofs.Common.{◌≡◌, ℕ, ◌<◌, ◌^◌, ◌⊎◌, inl, inr, Bool, true, false, cond, IsTrue}
-use Rattle.std.proofs.Common.{arith, refl, sym, ap, ◌∙◌, subst, List, sum_by, if◌then◌else◌}
+use Rattle.std.proofs.Common.{arith, refl, sym, ap, ◌∙◌, subst, List, [], sum_by, if◌then◌else◌}
 use Rattle.std.specs.List.{list_any}
-use Rattle.std.proofs.lemmas.Bool.{cond-true, false≢true}
+use Rattle.std.proofs.lemmas.Bool.{cond-true}
 use Rattle.std.proofs.lemmas.Bool.Decides.{nat_tests}
+use Rattle.std.proofs.lemmas.List.Elements.{All-nil}
 use Rattle.lexical_flags.specs.Layout.{Flag, Byte, bit, digit_separator_flags, IsClean}
 use Rattle.lexical_flags.specs.Layout as layout
 use Rattle.lexical_flags.specs.Record.{Record, flag_of, byte_of, raw, trim, fill, pack, word_of, effective}
 use Rattle.lexical_flags.specs.Record.{separator_on}
 use Rattle.lexical_flags.proofs.RecordLemmas.{record_same}
-use Rattle.lexical_flags.proofs.Packing.{raw-pack, pack-clean, pack-lt, raw-injective, HasBytes-raw, HasBytes-fill}
+use Rattle.lexical_flags.proofs.Packing.{raw-injective}
+use Rattle.lexical_builder.specs.Writes.{IsLegal}
 use Rattle.lexical_builder.proofs.WriteLemmas.{after_none}
+use Rattle.lexical_util.proofs.EditLemmas.{edited-fields, edited-clean, edited-fits}
 use Rattle.lexical_util.specs.Groups.{any_flag, bits_of}
 use Rattle.lexical_util.specs.Normal.{normal_form_of, SameFormat, IsNormal}
 
@@ -25,14 +28,11 @@ list_any_same p q fs h = λ i. list_any (λ f. h f i) fs
 
 -- the separator with its condition
 pub use_same : (p q : Bool) (x y : ℕ) → p ≡ q → (IsTrue p → x ≡ y) → cond p x 0 ≡ cond q y 0
-use_same true true x y e h = h refl
-use_same true false x y e h = absurd (false≢true (sym e))
-use_same false true x y e h = absurd (false≢true e)
-use_same false false x y e h = refl
+use_same p q x y e h = grind (arith, nat_tests)
 
 -- a separator that may stand is the one that is kept
 pub used_same : (p q : Bool) (x y : ℕ) → p ≡ q → cond p x 0 ≡ cond q y 0 → IsTrue p → x ≡ y
-used_same p q x y e h t = sym (cond-true p x 0 t) ∙ h ∙ cond-true q y 0 (sym e ∙ t)
+used_same p q x y e h t = grind (arith, nat_tests)
 
 -- records of the same format are one when filled and trimmed
 pub trim-same_format : (R S : Record) → SameFormat R S → trim (fill R) ≡ trim (fill S)
@@ -72,12 +72,13 @@ normal_form-is w = ap pack (after_none (fill (raw w)))
 pub normal_same : (a b : ℕ) → SameFormat (raw a) (raw b) → normal_form_of a ≡ normal_form_of b
 normal_same a b s = normal_form-is a ∙ ap word_of (trim-same_format (raw a) (raw b) s) ∙ sym (normal_form-is b)
 
+-- a normal form has the fields of the word, filled and trimmed
+pub raw_normal : (w : ℕ) → raw (normal_form_of w) ≡ trim (fill (raw w))
+raw_normal w = edited-fields w [] (All-nil IsLegal) ∙ ap trim (after_none (fill (raw w)))
+
 -- words with one normal form have the same format
 pub SameFormat-from_normal : (a b : ℕ) → normal_form_of a ≡ normal_form_of b → SameFormat (raw a) (raw b)
-SameFormat-from_normal a b e = SameFormat-from_trim (raw a) (raw b)
-    (sym (raw-pack (fill (raw a)) (HasBytes-fill (raw a) (HasBytes-raw a)))
-    ∙ ap raw (sym (normal_form-is a) ∙ e ∙ normal_form-is b)
-    ∙ raw-pack (fill (raw b)) (HasBytes-fill (raw b) (HasBytes-raw b)))
+SameFormat-from_normal a b e = SameFormat-from_trim (raw a) (raw b) (sym (raw_normal a) ∙ ap raw e ∙ raw_normal b)
 
 effective_again : (own radix : ℕ) → effective own radix ≡ effective (effective own radix) radix
 effective_again own radix = grind (arith, nat_tests)
@@ -114,24 +115,19 @@ SameFormat-normal R = record {
 }
 
 module _ (w : ℕ) where
-  pub raw_normal : raw (normal_form_of w) ≡ trim (fill (raw w))
-  raw_normal = ap raw (normal_form-is w) ∙ raw-pack (fill (raw w)) (HasBytes-fill (raw w) (HasBytes-raw w))
-
   pub clean_normal : IsClean (normal_form_of w)
-  clean_normal = subst IsClean (sym (normal_form-is w))
-      (pack-clean (fill (raw w)) (HasBytes-fill (raw w) (HasBytes-raw w)))
+  clean_normal = edited-clean w [] (All-nil IsLegal)
 
   pub normal_fits : normal_form_of w < 2 ^ 128
-  normal_fits = subst (λ n. n < 2 ^ 128) (sym (normal_form-is w))
-      (pack-lt (fill (raw w)) (HasBytes-fill (raw w) (HasBytes-raw w)))
+  normal_fits = edited-fits w [] (All-nil IsLegal)
 
   -- no other word has these fields
   pub normal_only : (u : ℕ) → u < 2 ^ 128 → IsClean u → raw u ≡ trim (fill (raw w)) → u ≡ normal_form_of w
   normal_only u fits clean same =
-      raw-injective u (normal_form_of w) fits normal_fits clean clean_normal (same ∙ sym raw_normal)
+      raw-injective u (normal_form_of w) fits normal_fits clean clean_normal (same ∙ sym (raw_normal w))
 
   pub normal_keeps : SameFormat (raw w) (raw (normal_form_of w))
-  normal_keeps = subst (λ (S : Record). SameFormat (raw w) S) (sym raw_normal) (SameFormat-normal (raw w))
+  normal_keeps = subst (λ (S : Record). SameFormat (raw w) S) (sym (raw_normal w)) (SameFormat-normal (raw w))
 
   pub normal_again : normal_form_of (normal_form_of w) ≡ normal_form_of w
   normal_again = sym (normal_same w (normal_form_of w) normal_keeps)
@@ -140,7 +136,7 @@ module _ (w : ℕ) where
   unfolding IsNormal
   normal_from_fixed e =
       let R : Record = raw w in
-      let fields : trim (fill R) ≡ R = sym raw_normal ∙ ap raw e in
+      let fields : trim (fill R) ≡ R = sym (raw_normal w) ∙ ap raw e in
       record {
         clean = subst IsClean e clean_normal;
         separator_used = unused (separator_on R) R.digit_separator (ap (λ (S : Record). S.digit_separator) fields);
@@ -151,7 +147,7 @@ module _ (w : ℕ) where
   pub fixed_from_normal : w < 2 ^ 128 → IsNormal w → normal_form_of w ≡ w
   unfolding IsNormal
   fixed_from_normal fits n = raw-injective (normal_form_of w) w normal_fits fits clean_normal n.clean
-      (raw_normal ∙ record_same (trim (fill (raw w))) (raw w) (λ f. flag_of-trim-fill (raw w) f) on_byte) where
+      (raw_normal w ∙ record_same (trim (fill (raw w))) (raw w) (λ f. flag_of-trim-fill (raw w) f) on_byte) where
         on_byte : (b : Byte) → byte_of (trim (fill (raw w))) b ≡ byte_of (raw w) b
         on_byte layout.digit_separator = kept (separator_on (raw w)) (raw w).digit_separator n.separator_used
         on_byte layout.exponent_base = full (raw w).exponent_base (raw w).mantissa_radix n.exponent_base
