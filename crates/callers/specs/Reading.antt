@@ -1,8 +1,8 @@
 -- The number that a text writes in the mantissa radix of a format, and which byte is refused if it writes none.
-use Rattle.std.specs.Prelude.{ℕ, zero, suc, ◌≡◌, ◌+◌, ◌*◌, ◌^◌, ◌<◌, ◌≤◌, ◌&&◌, ◌||◌, nat_lt}
-use Rattle.std.specs.Prelude.{IsTrue, IsFalse, Bool, List, [], ◌∷◌, length, take, filter, get_or}
+use Rattle.std.specs.Prelude.{ℕ, zero, suc, ◌≡◌, ◌+◌, ◌^◌, ◌<◌, ◌≤◌, ◌&&◌, ◌||◌, nat_lt}
+use Rattle.std.specs.Prelude.{IsTrue, IsFalse, Bool, List, length, take, filter, get_or}
 use Rattle.lexical_util.specs.Ascii.{ByteSet}
-use Rattle.lexical_util.specs.Digits.{value}
+use Rattle.lexical_util.specs.Digits.{value, numeral}
 use Rattle.lexical_util.specs.Record.{Record}
 use Rattle.lexical_util.specs.Roles.{separator}
 use Rattle.lexical_util.specs.declared.error.Error.{Error}
@@ -38,14 +38,9 @@ is_skipped r text i = separator r (byte_at text i) && may_stand r text i
 abbrev pub is_read : Record → List ℕ → ℕ → Bool
 is_read r text i = is_skipped r text i || is_digit r (byte_at text i)
 
--- the sum of each digit's value times the radix to the power of the number of digits after it
-abbrev pub sum_of : ℕ → List ℕ → ℕ
-sum_of radix [] = 0
-sum_of radix (digit ∷ digits) = value digit * radix ^ length digits + sum_of radix digits
-
 -- the number that the digits of a text write
 abbrev pub number_of : Record → List ℕ → ℕ
-number_of r text = sum_of r.mantissa_radix (filter (is_digit r) text)
+number_of r text = numeral r.mantissa_radix (filter (is_digit r) text)
 
 -- a text that writes a number of 64 bits
 pub record IsNumeral (r : Record) (text : List ℕ) : Type 0 where

@@ -32,14 +32,13 @@ pub fn read_digits(format: u128, text: &[u8]) -> Result<u64, Error>
 {
     let mut number: u64 = 0;
     for (index, byte) in text.iter().enumerate() {
-        if !is_skipped(format, text, index) {
-            let Some(digit) = digit_value(format, *byte) else {
-                return Err(Error::InvalidDigit(index));
-            };
+        if let Some(digit) = digit_value(format, *byte) {
             let Some(longer) = push(format, number, digit) else {
                 return Err(Error::Overflow(index));
             };
             number = longer;
+        } else if !is_skipped(format, text, index) {
+            return Err(Error::InvalidDigit(index));
         }
     }
     if text.is_empty() {

@@ -1,11 +1,12 @@
 //! The role of a byte: what it stands for in the numbers of a format.
 
-ghost use Rattle.std.specs.Prelude.{◌≡◌, ◌↔◌, ◌⊎◌, IsTrue, IsOk, IfOk, IfErr};
+ghost use Rattle.std.specs.Prelude.{◌≡◌, ◌↔◌, ◌⊎◌, IsTrue, IsOk, IfOk, IfErr, Some};
 ghost use Rattle.lexical_util.specs.Record.{raw};
-ghost use Rattle.lexical_util.specs.Roles.{cased, exponent as exponent_set, prefix, signs, suffix};
+ghost use Rattle.lexical_util.specs.Roles.{cased, exponent as exponent_set, prefix, role_set, signs, suffix};
 ghost use Rattle.lexical_util.specs.Rules.{Lawful, IsErrorOf};
 ghost use Rattle.lexical_util.specs.Options.{AreAccepted};
-ghost use Rattle.callers.specs.Playing.{IsRoleOf};
+ghost use Rattle.callers.specs.Playing.{IsRoleOf, named};
+ghost use Rattle.callers.specs.declared.roles.Role as roles;
 
 use crate::read::is_separator;
 use lexical_util::error::Error;
@@ -39,7 +40,7 @@ pub fn role_of(format: u128, exponent: u8, decimal_point: u8, byte: u8) -> Optio
     requires accepted { AreAccepted format exponent decimal_point }
     ensures { IsRoleOf format exponent decimal_point byte result }
 {
-    laws::flags::role_facts();
+    one_role(format, exponent, decimal_point, byte);
     if is_digit(format, byte) {
         Some(Role::Digit)
     } else if is_sign(byte) {
@@ -80,6 +81,17 @@ pub fn checked_role_of(
     } else {
         Err(Error::InvalidPunctuation)
     }
+}
+
+// The role of a byte in whose set it is, in a lawful format with options that it accepts.
+#[inline(always)]
+fn one_role(format: u128, exponent: u8, decimal_point: u8, byte: u8)
+    requires lawful { Lawful format }
+    requires accepted { AreAccepted format exponent decimal_point }
+    ensures { (role : roles.Role) → IsTrue (role_set (raw format) exponent decimal_point (named role) byte)
+        → IsRoleOf format exponent decimal_point byte (Some role) }
+{
+    laws::flags::role_facts();
 }
 
 // Whether `byte` is a sign.

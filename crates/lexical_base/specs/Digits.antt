@@ -1,6 +1,7 @@
 -- Digits and their values.
 use Rattle.std.specs.Prelude.{ℕ, ◌-◌, List, Option, Some, None, codes, position, unwrap_or, ◌==◌, nat_lt, if◌then◌else◌}
-use Rattle.std.specs.Prelude.{min}
+use Rattle.std.specs.Prelude.{min, map}
+use Rattle.std.specs.Int.Digits.{number_from_digits}
 use Rattle.lexical_base.specs.Ascii.{ByteSet, between}
 
 -- the 36 digit characters, each at the index of its value
@@ -27,3 +28,7 @@ digit_of byte radix = if nat_lt (value byte) radix then Some (value byte) else N
 -- the bytes that are digits of a radix; no radix above 36 has more than radix 36
 abbrev pub digits_of : ℕ → ByteSet
 digits_of radix byte = nat_lt (value byte) (min radix 36)
+
+-- the number that digits write in a radix, the highest digit first
+abbrev pub numeral : ℕ → List ℕ → ℕ
+numeral radix digits = number_from_digits radix (map value digits)

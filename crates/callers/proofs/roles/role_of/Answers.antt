@@ -4,57 +4,30 @@ use Rattle.std.proofs.lemmas.Bool.{false≢true}
 use Rattle.lexical_util.specs.Record.{raw}
 use Rattle.lexical_util.specs.Roles.{Role, role_set}
 use Rattle.lexical_util.specs.Roles as library
-use Rattle.callers.proofs.RoleLemmas.{one_role, no_role}
+use Rattle.callers.specs.declared.roles.Role.TheVariants as roles
+use Rattle.callers.proofs.RoleLemmas.{no_role}
 use Rattle.callers.proofs.roles.role_of.Goals as goal
 
 pub returns-then-is_digit : goal.returns-then-is_digit
-returns-then-is_digit c =
-    let law = c.role_facts.ensures.lawful c.args.format c.args.exponent c.args.decimal_point c.requires.lawful
-    c.requires.accepted in
-    one_role (raw c.args.format) c.args.exponent c.args.decimal_point c.args.byte law library.digit
-    (c.is_digit.ensures.0 c.if-is_digit.true)
+returns-then-is_digit c = c.one_role.ensures roles.Digit (c.is_digit.ensures.0 c.if-is_digit.true)
 
 pub returns-then-is_sign : goal.returns-then-is_sign
-returns-then-is_sign c =
-    let law = c.role_facts.ensures.lawful c.args.format c.args.exponent c.args.decimal_point c.requires.lawful
-    c.requires.accepted in
-    one_role (raw c.args.format) c.args.exponent c.args.decimal_point c.args.byte law library.sign
-    (sym c.is_sign.ensures ∙ c.if-is_sign.true)
+returns-then-is_sign c = c.one_role.ensures roles.Sign (sym c.is_sign.ensures ∙ c.if-is_sign.true)
 
 pub returns-then-is_separator : goal.returns-then-is_separator
-returns-then-is_separator c =
-    let law = c.role_facts.ensures.lawful c.args.format c.args.exponent c.args.decimal_point c.requires.lawful
-    c.requires.accepted in
-    one_role (raw c.args.format) c.args.exponent c.args.decimal_point c.args.byte law library.digit_separator
-    (sym c.is_separator.ensures ∙ c.if-is_separator.true)
+returns-then-is_separator c = c.one_role.ensures roles.Separator (sym c.is_separator.ensures ∙ c.if-is_separator.true)
 
 pub returns-then-is_prefix : goal.returns-then-is_prefix
-returns-then-is_prefix c =
-    let law = c.role_facts.ensures.lawful c.args.format c.args.exponent c.args.decimal_point c.requires.lawful
-    c.requires.accepted in
-    one_role (raw c.args.format) c.args.exponent c.args.decimal_point c.args.byte law library.base_prefix
-    (sym c.is_prefix.ensures ∙ c.if-is_prefix.true)
+returns-then-is_prefix c = c.one_role.ensures roles.Prefix (sym c.is_prefix.ensures ∙ c.if-is_prefix.true)
 
 pub returns-then-is_suffix : goal.returns-then-is_suffix
-returns-then-is_suffix c =
-    let law = c.role_facts.ensures.lawful c.args.format c.args.exponent c.args.decimal_point c.requires.lawful
-    c.requires.accepted in
-    one_role (raw c.args.format) c.args.exponent c.args.decimal_point c.args.byte law library.base_suffix
-    (sym c.is_suffix.ensures ∙ c.if-is_suffix.true)
+returns-then-is_suffix c = c.one_role.ensures roles.Suffix (sym c.is_suffix.ensures ∙ c.if-is_suffix.true)
 
 pub returns-then-is_exponent : goal.returns-then-is_exponent
-returns-then-is_exponent c =
-    let law = c.role_facts.ensures.lawful c.args.format c.args.exponent c.args.decimal_point c.requires.lawful
-    c.requires.accepted in
-    one_role (raw c.args.format) c.args.exponent c.args.decimal_point c.args.byte law library.exponent_character
-    (sym c.is_exponent.ensures ∙ c.if-is_exponent.true)
+returns-then-is_exponent c = c.one_role.ensures roles.Exponent (sym c.is_exponent.ensures ∙ c.if-is_exponent.true)
 
 pub returns-then-is_byte : goal.returns-then-is_byte
-returns-then-is_byte c =
-    let law = c.role_facts.ensures.lawful c.args.format c.args.exponent c.args.decimal_point c.requires.lawful
-    c.requires.accepted in
-    one_role (raw c.args.format) c.args.exponent c.args.decimal_point c.args.byte law library.decimal_point
-    (sym c.is_byte.ensures ∙ c.if-is_byte.true)
+returns-then-is_byte c = c.one_role.ensures roles.Point (sym c.is_byte.ensures ∙ c.if-is_byte.true)
 
 pub returns-else-is_byte : goal.returns-else-is_byte
 returns-else-is_byte c = no_role (raw c.args.format) c.args.exponent c.args.decimal_point c.args.byte in_no_set where
