@@ -41,47 +41,41 @@ IsOnly-told condition answer true told = IsOnly-met _ (told.0 refl) (IsOnly-give
 IsOnly-told condition answer false told = IsOnly-unmet _ (λ holds. let h : IsTrue false = told.1 holds in cc)
     (IsOnly-given (answer false))
 
-abbrev outcome_response : Error → Response
-outcome_response error = Ok (answers.Outcome error)
-
-abbrev word_response : ℕ → Response
-word_response word = Ok (answers.Word word)
-
 -- the word that the only edits of these texts make
 pub IsOnly-edited : (word : ℕ) (texts : List (List ℕ)) (read : List Edit) (made : ℕ)
     → ((list : List Edit) → AreTextsOf list texts ↔ (list ≡ read))
     → made ≡ edited word (all_writes read) → IsOnly (EditsGive word texts) (Ok (answers.Word made))
 IsOnly-edited word texts read made exact is other = (
-  λ h. h.2 ∙ ap (λ list. word_response (edited word (all_writes list))) ((exact h.0).0 h.1) ∙ sym (ap word_response is),
-  λ e. (read, (exact read).1 refl, e ∙ ap word_response is),
+  λ h. cc (h.2, (exact h.0).0 h.1),
+  λ e. (read, (exact read).1 refl, (cc)),
 )
 
 -- the first rule that a word breaks is the only one that is given
 pub IsOnly-error : (word : ℕ) (error : Error) → IsErrorOf word error
     → ((other : Error) → IsErrorOf word other → other ≡ error)
     → IsOnly (GivesErrorOf word) (Ok (answers.Outcome error))
-IsOnly-error word error is only other = (λ h. h.2 ∙ ap outcome_response (only h.0 h.1), λ e. (error, is, e))
+IsOnly-error word error is only other = (λ h. cc (h.2, only h.0 h.1), λ e. (error, is, e))
 
 -- a refusal is the only response
 pub IsOnly-refused : (refusal : Refusal) → IsOnly (Refuses refusal) (Err refusal)
 IsOnly-refused refusal other = (λ e. e, λ e. e)
 
 -- `same` takes two arguments
-pub SameCallsFor-other : (args : List (List ℕ)) → length args ≢ 2
-    → IsOnly (SameCallsFor args) (Err refusals.WrongNumberOfArguments)
-SameCallsFor-other [] other = IsOnly-refused _
-SameCallsFor-other (a ∷ []) other = IsOnly-refused _
-SameCallsFor-other (a ∷ b ∷ []) other = absurd (other refl)
-SameCallsFor-other (a ∷ b ∷ c ∷ rest) other = IsOnly-refused _
+pub SameCallsFor-other : {X : Type 0} (f : X → List ℕ) (xs : List X) → length xs ≢ 2
+    → IsOnly (SameCallsFor (map f xs)) (Err refusals.WrongNumberOfArguments)
+SameCallsFor-other f [] other = IsOnly-refused _
+SameCallsFor-other f (a ∷ []) other = IsOnly-refused _
+SameCallsFor-other f (a ∷ b ∷ []) other = absurd (other refl)
+SameCallsFor-other f (a ∷ b ∷ c ∷ xs) other = IsOnly-refused _
 
 -- `options` takes three
-pub OptionsCallsFor-other : (args : List (List ℕ)) → length args ≢ 3
-    → IsOnly (OptionsCallsFor args) (Err refusals.WrongNumberOfArguments)
-OptionsCallsFor-other [] other = IsOnly-refused _
-OptionsCallsFor-other (a ∷ []) other = IsOnly-refused _
-OptionsCallsFor-other (a ∷ b ∷ []) other = IsOnly-refused _
-OptionsCallsFor-other (a ∷ b ∷ c ∷ []) other = absurd (other refl)
-OptionsCallsFor-other (a ∷ b ∷ c ∷ d ∷ rest) other = IsOnly-refused _
+pub OptionsCallsFor-other : {X : Type 0} (f : X → List ℕ) (xs : List X) → length xs ≢ 3
+    → IsOnly (OptionsCallsFor (map f xs)) (Err refusals.WrongNumberOfArguments)
+OptionsCallsFor-other f [] other = IsOnly-refused _
+OptionsCallsFor-other f (a ∷ []) other = IsOnly-refused _
+OptionsCallsFor-other f (a ∷ b ∷ []) other = IsOnly-refused _
+OptionsCallsFor-other f (a ∷ b ∷ c ∷ []) other = absurd (other refl)
+OptionsCallsFor-other f (a ∷ b ∷ c ∷ d ∷ xs) other = IsOnly-refused _
 
 -- a list of two elements
 pub two : {X Y : Type 0} (f : X → Y) (xs : List X) (a b : X) → length xs ≡ 2 → a ≡ get_or xs 0 a → b ≡ get_or xs 1 b

@@ -1,15 +1,12 @@
 -- The sixteen hexadecimal digits with uppercase letters.
-use Rattle.std.proofs.Common.{◌≡◌, ℕ, ◌<◌, ◌==◌, ◌||◌, Bool, true, false, List, [], ◌∷◌, Some, unwrap_or, slice_get}
-use Rattle.std.proofs.Common.{slice_index_or, inl, inr, refl, arith}
+use Rattle.std.proofs.Common.{◌≡◌, ℕ, ◌<◌, ◌==◌, Bool, true, List, [], ◌∷◌, Some, unwrap_or, slice_get}
+use Rattle.std.proofs.Common.{slice_index_or, inl, inr, refl, subst, arith}
 use Rattle.std.specs.List.{list_any, list_all}
 use Rattle.std.proofs.lemmas.Bool.Decides.{nat_tests}
-use Rattle.std.proofs.lemmas.Bool.{agree_below_at, and_parts, cases_eq}
+use Rattle.std.proofs.lemmas.Bool.{agree_below_at, and_parts, eqb-true, or_cases}
 use Rattle.lexical_util.specs.Digits.{value, digit_characters}
 use Rattle.numfmt.specs.Numeral.{is_digit}
 use Rattle.numfmt.specs.WordText.{uppercase_digits, is_uppercase_digit}
-
-either : (a b : Bool) → (a || b) ≡ true → a ≡ false → b ≡ true
-either a b some first = rw first at some
 
 -- one of some elements passes what they all pass
 any_passes : (test : ℕ → Bool) (byte : ℕ) (xs : List ℕ) → list_all test xs ≡ true → list_any (λ x. x == byte) xs ≡ true
@@ -17,10 +14,9 @@ any_passes : (test : ℕ → Bool) (byte : ℕ) (xs : List ℕ) → list_all tes
 any_passes test byte [] all some = cc
 any_passes test byte (x ∷ xs) all some =
     let both : (test x ≡ true) × (list_all test xs ≡ true) = and_parts (test x) (list_all test xs) all in
-    elim (cases_eq x byte) [
-      | inl same ↦ rw (← same) both.0
-      | inr differ ↦ any_passes test byte xs both.1 (either (x == byte) (list_any (λ x. x == byte) xs) some
-          (grind (arith, nat_tests)))
+    elim (or_cases (x == byte) (list_any (λ x. x == byte) xs) some) [
+      | inl here ↦ subst (λ b. test b ≡ true) (eqb-true x byte here) both.0
+      | inr later ↦ any_passes test byte xs both.1 later
     ]
 
 abbrev is_digit_of_its_value : ℕ → Bool

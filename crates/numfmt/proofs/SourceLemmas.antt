@@ -1,25 +1,17 @@
 -- Writing the calls of a list of edits.
-use Rattle.std.proofs.Common.{◌≡◌, ℕ, ◌+◌, ◌<◌, List, [], ◌∷◌, ◌++◌, codes, length, take, get_or}
-use Rattle.std.proofs.Common.{Option, Result, Ok, Err, OnOk, ap, subst, ◌∙◌, append-nil, arith}
+use Rattle.std.proofs.Common.{◌≡◌, ℕ, ◌+◌, ◌<◌, List, [], ◌++◌, codes, length, take, get_or}
+use Rattle.std.proofs.Common.{Option, Result, Ok, Err, OnOk, sym, ap, subst, ◌∙◌}
 use Rattle.std.specs.Io.KnownBytes.{Appends}
 use Rattle.std.proofs.KnownBytes.{Appends-trans}
-use Rattle.std.proofs.lemmas.List.{take_more, take_all, take-append-le}
-use Rattle.std.proofs.lemmas.List.Concat.{flat_map-append}
+use Rattle.std.proofs.lemmas.List.{flat_map_more, take_more}
 use Rattle.lexical_util.specs.declared.edits.Edit.{Edit}
 use Rattle.numfmt.specs.Source.{call_text, calls_text, expression}
-
--- the first of two lists that are joined
-pub first_part : {X : Type 0} (list xs ys : List X) (n : ℕ) → list ≡ xs ++ ys → n ≡ length xs → take n list ≡ xs
-first_part list xs ys n e is =
-    ap (take n) e ∙ take-append-le n xs ys (omega arith) ∙ take_all n xs (omega arith)
 
 -- one call more
 pub calls_more : (list : List Edit) (i : ℕ) (edit : Edit) → i < length list
     → calls_text (take (i + 1) list) ≡ calls_text (take i list) ++ call_text (get_or list i edit)
 calls_more list i edit inside =
-    ap calls_text (take_more list i edit inside)
-    ∙ flat_map-append call_text (take i list) (get_or list i edit ∷ [])
-    ∙ ap (λ call. calls_text (take i list) ++ call) (append-nil (call_text (get_or list i edit)))
+    ap calls_text (take_more list i edit inside) ∙ sym (flat_map_more call_text [] (take i list) (get_or list i edit))
 
 -- all calls of a list between the two ends of the expression
 pub all_written : {T E : Type 0} (r : Result T E) (start begun called end : Option (List ℕ)) (list written : List Edit)

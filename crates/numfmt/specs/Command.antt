@@ -1,6 +1,7 @@
 -- The response that each list of arguments calls for.
 use Rattle.std.specs.Prelude.{ℕ, ◌≡◌, ◌≤◌, ◌↔◌, Bool, true, false, List, [], ◌∷◌, length, codes, Ok, Err}
 use Rattle.lexical_util.specs.declared.error.Error.{Error}
+use Rattle.lexical_util.specs.Digits.{numeral}
 use Rattle.lexical_util.specs.Record.{IsBuilt}
 use Rattle.lexical_util.specs.Rules.{IsErrorOf, Lawful}
 use Rattle.lexical_util.specs.Options.{AreAccepted}
@@ -12,7 +13,6 @@ use Rattle.numfmt.specs.declared.response.Answer.{Answer}
 use Rattle.numfmt.specs.declared.response.Answer.TheVariants as answers
 use Rattle.numfmt.specs.declared.response.Refusal.{Refusal}
 use Rattle.numfmt.specs.declared.response.Refusal.TheVariants as refusals
-use Rattle.numfmt.specs.Numeral.{numeral}
 use Rattle.numfmt.specs.WordText.{IsWordText, hex}
 use Rattle.numfmt.specs.EditText.{IsByteText, AreTextsOf}
 use Rattle.numfmt.specs.Response.{Response}

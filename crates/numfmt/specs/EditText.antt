@@ -2,11 +2,12 @@
 use Rattle.std.specs.Prelude.{ℕ, ◌≡◌, ◌≤◌, ◌⊎◌, if◌then◌else◌, ◌==◌, Bool, true, false, Option, None, List, codes}
 use Rattle.std.specs.Prelude.{bytes_eq}
 use Rattle.std.specs.List.{AllZip, before_first, after_first}
+use Rattle.lexical_util.specs.Digits.{numeral}
 use Rattle.lexical_util.specs.OptionByte.{option_of_byte}
 use Rattle.lexical_util.specs.SetterNames.{setter_name}
 use Rattle.lexical_util.specs.declared.edits.Edit.{Edit}
 use Rattle.lexical_util.specs.declared.edits.Edit.TheVariants as edits
-use Rattle.numfmt.specs.Numeral.{numeral, IsNumeral}
+use Rattle.numfmt.specs.Numeral.{IsNumeral}
 
 -- a text that writes a byte: 1 to 3 decimal digits, a number of at most 255
 pub record IsByteText (text : List ℕ) : Type 0 where

@@ -1,16 +1,11 @@
--- Numerals: digits of a radix, and the number that they write.
-use Rattle.std.specs.Prelude.{ℕ, ◌+◌, ◌*◌, ◌^◌, ◌≤◌, Bool, List, [], ◌∷◌, length, nat_lt}
+-- Numerals: digits of a radix.
+use Rattle.std.specs.Prelude.{ℕ, ◌≤◌, Bool, List, length, nat_lt}
 use Rattle.std.specs.List.{AllPass}
 use Rattle.lexical_util.specs.Digits.{value}
 
 -- whether a byte is a digit of the radix
 abbrev pub is_digit : ℕ → ℕ → Bool
 is_digit radix byte = nat_lt (value byte) radix
-
--- the sum of each digit's value times the radix to the power of its position, counted from 0 at the right
-abbrev pub numeral : ℕ → List ℕ → ℕ
-numeral radix [] = 0
-numeral radix (digit ∷ digits) = value digit * radix ^ length digits + numeral radix digits
 
 -- 1 to `most` digits of the radix
 pub record IsNumeral (radix most : ℕ) (digits : List ℕ) : Type 0 where

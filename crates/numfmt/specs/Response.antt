@@ -1,9 +1,10 @@
 -- The responses of the program: what each prints, and its exit status.
-use Rattle.std.specs.Prelude.{ℕ, ◌^◌, true, false, List, [], ◌∷◌, ◌++◌, flat_map, sum_by, codes, decimal, bit_and}
+use Rattle.std.specs.Prelude.{ℕ, true, false, List, [], ◌∷◌, ◌++◌, flat_map, codes, decimal, bit_and}
 use Rattle.std.specs.Prelude.{Result, Ok, Err}
 use Rattle.lexical_util.specs.Outcomes.{printed_text}
 use Rattle.lexical_util.specs.declared.error.Error.TheVariants.{Success}
-use Rattle.lexical_util.specs.Layout.{bit, flags}
+use Rattle.lexical_util.specs.Layout.{flags}
+use Rattle.lexical_util.specs.Constants.{mask_of}
 use Rattle.lexical_util.specs.Record.{raw, effective_exponent_base, effective_exponent_radix}
 use Rattle.numfmt.specs.declared.response.Answer.{Answer}
 use Rattle.numfmt.specs.declared.response.Answer.TheVariants as answers
@@ -24,14 +25,10 @@ line text = text ++ 10 ∷ []
 abbrev pub field : List ℕ → List ℕ → List ℕ
 field name value = name ++ 32 ∷ value
 
--- the bits of all flags
-abbrev pub flag_mask : ℕ
-flag_mask = sum_by (λ flag. 2 ^ bit flag) flags
-
 -- the fields of a format word, one a line
 abbrev pub fields : ℕ → List ℕ
 fields word = flat_map line (
-    field (codes "flags") (printed (bit_and word flag_mask))
+    field (codes "flags") (printed (bit_and word (mask_of flags)))
     ∷ field (codes "digit_separator") (decimal (raw word).digit_separator)
     ∷ field (codes "base_prefix") (decimal (raw word).base_prefix)
     ∷ field (codes "base_suffix") (decimal (raw word).base_suffix)

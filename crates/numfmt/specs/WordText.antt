@@ -2,7 +2,8 @@
 use Rattle.std.specs.Prelude.{◌≡◌, ℕ, zero, suc, ◌==◌, ◌/◌, ◌%◌, ◌^◌, Bool, List, [], ◌∷◌, ◌++◌, length, take, drop}
 use Rattle.std.specs.Prelude.{slice_index, codes}
 use Rattle.std.specs.List.{AllPass, list_any}
-use Rattle.numfmt.specs.Numeral.{numeral, IsNumeral}
+use Rattle.lexical_util.specs.Digits.{numeral}
+use Rattle.numfmt.specs.Numeral.{IsNumeral}
 
 -- what follows `0x`
 abbrev pub hex_digits : List ℕ → List ℕ

@@ -2,7 +2,7 @@
 
 ghost use Rattle.std.specs.Prelude.{◌≡◌, IfErr, List, [], ◌∷◌, map, string_bytes};
 ghost use Rattle.std.specs.Result.{OkIff};
-ghost use Rattle.numfmt.specs.Numeral.{numeral};
+ghost use Rattle.lexical_util.specs.Digits.{numeral};
 ghost use Rattle.numfmt.specs.WordText.{IsWordText, hex};
 ghost use Rattle.numfmt.specs.EditText.{IsByteText};
 ghost use Rattle.numfmt.specs.Command.{CallsFor, ShowCallsFor, EditCallsFor, CheckCallsFor, SameCallsFor};

@@ -4,7 +4,7 @@ ghost use Rattle.std.specs.Prelude.{◌≡◌, ◌≤◌, ◌↔◌, Bool, Some,
 ghost use Rattle.std.specs.Option.{SomeIff};
 ghost use Rattle.numfmt.specs.EditText.{truth_text, IsByteText, IsOptionalByteText, optional_byte};
 ghost use Rattle.numfmt.specs.EditText.{edit_name, WritesValueOf, IsTextOf, AreTextsOf};
-ghost use Rattle.numfmt.specs.Numeral.{numeral};
+ghost use Rattle.lexical_util.specs.Digits.{numeral};
 
 use crate::numeral::read_numeral;
 use lexical_util::edits::{Edit, FlagSetter};

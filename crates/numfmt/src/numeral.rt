@@ -2,7 +2,8 @@
 
 ghost use Rattle.std.specs.Prelude.{◌≤◌};
 ghost use Rattle.std.specs.Option.{SomeIff};
-ghost use Rattle.numfmt.specs.Numeral.{IsNumeral, numeral};
+ghost use Rattle.lexical_util.specs.Digits.{numeral};
+ghost use Rattle.numfmt.specs.Numeral.{IsNumeral};
 
 use lexical_util::digit::char_to_digit;
 
@@ -19,7 +20,8 @@ pub(crate) fn read_numeral(digits: &[u8], radix: u32, most: usize) -> Option<u12
     }
     let mut number = 0;
     for digit in digits {
-        number = number * radix as u128 + char_to_digit(*digit, radix)? as u128;
+        let value = char_to_digit(*digit, radix)?;
+        number = number * radix as u128 + value as u128;
     }
     Some(number)
 }

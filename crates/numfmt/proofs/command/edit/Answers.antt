@@ -1,10 +1,8 @@
 -- The word comes first, and the texts of the edits after it.
-use Rattle.std.proofs.Common.{string_bytes, sym, subst, arith}
-use Rattle.numfmt.specs.Command.{EditCallsFor, IsOnly}
+use Rattle.std.proofs.Common.{string_bytes, arith}
 use Rattle.numfmt.proofs.CommandLemmas.{first_and_rest}
 use Rattle.numfmt.proofs.command.edit.Goals as goal
 
 pub returns-in-len1-up : goal.returns-in-len1-up
 returns-in-len1-up c =
-    subst (λ args. IsOnly (EditCallsFor args) c.edit_by_texts.result)
-    (sym (first_and_rest string_bytes c.args.args.now _ (omega arith) c.word-item.is)) c.edit_by_texts.ensures
+    rw (first_and_rest string_bytes c.args.args.now _ (omega arith) c.word-item.is) c.edit_by_texts.ensures

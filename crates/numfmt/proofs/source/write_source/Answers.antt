@@ -2,11 +2,11 @@
 use Rattle.std.proofs.Common.{◌≡◌, ◌+◌, ◌++◌, take, get_or, sym, subst, ap, ◌∙◌}
 use Rattle.std.specs.Io.KnownBytes.{Appends}
 use Rattle.std.proofs.KnownBytes.{Appends-nil, Appends-trans}
-use Rattle.std.proofs.lemmas.List.{take_all}
+use Rattle.std.proofs.lemmas.List.{take_all, take_at}
 use Rattle.lexical_util.specs.Record.{raw}
 use Rattle.lexical_util.specs.Listing.{changing, unchanging}
 use Rattle.numfmt.specs.Source.{source_text, call_text, calls_text}
-use Rattle.numfmt.proofs.SourceLemmas.{first_part, calls_more, all_written}
+use Rattle.numfmt.proofs.SourceLemmas.{calls_more, all_written}
 use Rattle.numfmt.proofs.source.write_source.Goals as goal
 
 pub loop-edit-init : goal.loop-edit-init
@@ -30,8 +30,8 @@ returns g c =
     let list = take edits.result.1 edits.result.0 in
     let fields = raw c.args.word in
     let is : list ≡ changing fields =
-    first_part edits.result.0 (changing fields) (unchanging fields) edits.result.1 edits.ensures.list
-    edits.ensures.number in
+    ap (take edits.result.1) edits.ensures.list
+    ∙ take_at (changing fields) (unchanging fields) edits.result.1 (sym edits.ensures.number) in
     all_written c.write_all-2.result _ _ _ _ (changing fields) _
     (take_all c.loop-edit.edit-index list c.loop-edit-test.false ∙ is)
     c.in_ok-write_all.ensures.bytes c.loop-edit.invariant c.write_all-2.ensures.bytes
