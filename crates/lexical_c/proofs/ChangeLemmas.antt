@@ -1,10 +1,9 @@
 -- Changes that are applied one after another.
-use Rattle.std.proofs.Common.{◌≡◌, rules, ℕ, zero, suc, ◌+◌, ◌<◌, ◌≤◌, Some, IsSome, List, [], ◌∷◌, ◌++◌, length}
-use Rattle.std.proofs.Common.{get_or, take, set, refl, sym, ap, ◌∙◌, subst, append-nil, length-set, take_all, All}
+use Rattle.std.proofs.Common.{◌≡◌, rules, ℕ, ◌+◌, ◌<◌, ◌≤◌, Some, IsSome, List, [], ◌∷◌, ◌++◌, length}
+use Rattle.std.proofs.Common.{get_or, take, set, refl, sym, ap, ◌∙◌, subst, length-set, take_all, All}
 use Rattle.std.proofs.Common.{arith}
-use Rattle.std.proofs.lemmas.List.{take_more, take_more_set}
-use Rattle.std.proofs.lemmas.List.Concat.{flat_map-append}
-use Rattle.std.proofs.lemmas.List.Elements.{All-append, All-same, filter_map-append}
+use Rattle.std.proofs.lemmas.List.{flat_map_more, take_more, take_more_set}
+use Rattle.std.proofs.lemmas.List.Elements.{All-more, All-push, All-same, filter_map-append}
 use Rattle.std.specs.List.{cons_option}
 use Rattle.lexical_util.specs.Record.{Record}
 use Rattle.lexical_util.specs.Writes.{Write, after}
@@ -23,24 +22,14 @@ pub none_applied : (none : (r : Record) → after r [] ≡ r) (R : Record) (chan
     → HaveApplied R changes 0 R
 none_applied none R changes = record { fields = sym (none R); each = λ k d h. absurd (omega arith) }
 
-one : (c : Change) (e : Edit) → edit_of c ≡ Some e → known (c ∷ []) ≡ e ∷ []
-one c e is = ap (λ o. cons_option o []) is
+-- a change that stands for an edit has a setter
+has_setter : (c : Change) (e : Edit) → edit_of c ≡ Some e → HasSetter c
+has_setter c e is = subst IsSome (sym is) (search rules)
 
-single : (c : Change) (e : Edit) → edit_of c ≡ Some e → All HasSetter (c ∷ [])
-single c e is zero d l = subst IsSome (sym is) (search rules)
-single c e is (suc k) d l = absurd (omega (arith, l))
-
--- the writes of one change more
-more_writes : (changes : List Change) (i : ℕ) (e : Edit) (d : Change)
-    → i < length changes → edit_of (get_or changes i d) ≡ Some e
-    → all_writes (known (take (i + 1) changes)) ≡ all_writes (known (take i changes)) ++ writes_of e
-more_writes changes i e d inside edit =
-    let c = get_or changes i d in
-    let front = take i changes in
-    ap (λ xs. all_writes (known xs)) (take_more changes i d inside)
-    ∙ ap all_writes (filter_map-append edit_of front (c ∷ []) ∙ ap (λ xs. known front ++ xs) (one c e edit))
-    ∙ flat_map-append writes_of (known front) (e ∷ [])
-    ∙ ap (λ L. all_writes (known front) ++ L) (append-nil (writes_of e))
+-- its edit comes last
+known_push : (front : List Change) (c : Change) (e : Edit) → edit_of c ≡ Some e
+    → known (front ++ c ∷ []) ≡ known front ++ e ∷ []
+known_push front c e is = filter_map-append edit_of front (c ∷ []) ∙ ap (λ o. known front ++ cons_option o []) is
 
 -- one change more
 pub more_applied : {R : Record} {changes : List Change} {i : ℕ} {b next : Record} {e : Edit}
@@ -48,12 +37,16 @@ pub more_applied : {R : Record} {changes : List Change} {i : ℕ} {b next : Reco
     → (d : Change) → HaveApplied R changes i b → i < length changes
     → edit_of (get_or changes i d) ≡ Some e → next ≡ after b (writes_of e)
     → HaveApplied R changes (i + 1) next
-more_applied {R} {changes} {i} {b} {next} {e} append d h inside edit applied = record {
-  fields = applied ∙ ap (λ S. after S (writes_of e)) h.fields
-      ∙ append R (all_writes (known (take i changes))) (writes_of e) ∙ ap (after R) (sym (more_writes changes i e d inside edit));
-  each = All-same HasSetter _ _ (take_more changes i d inside)
-      (All-append HasSetter (take i changes) (get_or changes i d ∷ []) h.each (single _ e edit));
-}
+more_applied {R} {changes} {i} {b} {next} {e} append d h inside edit applied =
+    let front = take i changes in
+    let edits : known (take (i + 1) changes) ≡ known front ++ e ∷ [] =
+    ap known (take_more changes i d inside) ∙ known_push front (get_or changes i d) e edit in
+    record {
+      fields = applied ∙ ap (λ S. after S (writes_of e)) h.fields
+          ∙ append R (all_writes (known front)) (writes_of e)
+          ∙ ap (after R) (flat_map_more writes_of [] (known front) e ∙ ap all_writes (sym edits));
+      each = All-more HasSetter changes i d inside h.each (has_setter (get_or changes i d) e edit);
+    }
 
 -- of 37 changes the first i stand for the first i edits
 pub record StandFor (changes : List Change) (edits : List Edit) (i : ℕ) : Type 0 where
@@ -73,9 +66,9 @@ more_stand {changes} {edits} {i} {e} c h inside some is edit =
     let taken : take (i + 1) (set changes i c) ≡ front ++ c ∷ [] = take_more_set changes i c (omega (arith, h.count)) in
     record {
       count = length-set changes i c ∙ h.count;
-      edits_are = ap known taken ∙ filter_map-append edit_of front (c ∷ []) ∙ ap (λ xs. known front ++ xs) (one c e edit)
-          ∙ ap (λ xs. xs ++ e ∷ []) h.edits_are ∙ ap (λ x. take i edits ++ x ∷ []) is ∙ sym (take_more edits i e some);
-      each = All-same HasSetter _ _ taken (All-append HasSetter front (c ∷ []) h.each (single c e edit));
+      edits_are = ap known taken ∙ known_push front c e edit ∙ ap (λ xs. xs ++ e ∷ []) h.edits_are
+          ∙ ap (λ x. take i edits ++ x ∷ []) is ∙ sym (take_more edits i e some);
+      each = All-same HasSetter _ _ taken (All-push HasSetter front c h.each (has_setter c e edit));
     }
 
 -- after the last

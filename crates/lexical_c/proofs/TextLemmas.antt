@@ -1,22 +1,11 @@
 -- Texts that are written one after another.
-use Rattle.std.proofs.Common.{◌≡◌, ℕ, zero, suc, ◌+◌, ◌≤◌, List, [], ◌∷◌, ◌++◌, length, take, drop, min, sym, ap, ap₂}
+use Rattle.std.proofs.Common.{◌≡◌, ℕ, ◌+◌, ◌≤◌, List, [], ◌++◌, length, take, drop, min, sym, ap, ap₂}
 use Rattle.std.proofs.Common.{◌∙◌, inl, inr, arith, append-nil, append_assoc, length-append, length-drop, length-take}
 use Rattle.std.proofs.Common.{drop-drop, take_all}
+use Rattle.std.proofs.Math.Seq.{take-append-add}
 use Rattle.std.proofs.lemmas.Bool.{cases_lt}
-use Rattle.std.proofs.lemmas.List.{drop_all, take-append-le}
+use Rattle.std.proofs.lemmas.List.{drop_all, drop_at, take_at, take-append-le}
 use Rattle.lexical_c.specs.Texts.{written_over, IsWritten}
-
--- the front of two lists in a row, past the first
-take_past : (xs ys : List ℕ) (n k : ℕ) → n ≡ length xs + k → take n (xs ++ ys) ≡ xs ++ take k ys
-take_past [] ys n k e = let same : n ≡ k = omega arith in ap (λ m. take m ys) same
-take_past (x ∷ xs) ys zero k e = absurd (omega arith)
-take_past (x ∷ xs) ys (suc n) k e = ap (λ t. x ∷ t) (take_past xs ys n k (omega arith))
-
--- what follows it
-drop_past : (xs ys : List ℕ) (n k : ℕ) → n ≡ length xs + k → drop n (xs ++ ys) ≡ drop k ys
-drop_past [] ys n k e = let same : n ≡ k = omega arith in ap (λ m. drop m ys) same
-drop_past (x ∷ xs) ys zero k e = absurd (omega arith)
-drop_past (x ∷ xs) ys (suc n) k e = drop_past xs ys n k (omega arith)
 
 -- a text that ends inside the buffer leaves the rest of it for the next one
 written_inside : (front text base : List ℕ) → length front ≤ length base
@@ -28,7 +17,8 @@ written_inside front text base inside =
     drop-drop (length text) (length front) base ∙ ap (λ n. drop n base) (sym (length-append front text)) in
     ap (λ xs. front ++ (take (length rest) text ++ xs)) past
     ∙ sym (append_assoc front (take (length rest) text) (drop (length (front ++ text)) base))
-    ∙ ap (λ xs. xs ++ drop (length (front ++ text)) base) (sym (take_past front text (length base) (length rest) room))
+    ∙ ap (λ xs. xs ++ drop (length (front ++ text)) base) (sym (ap (λ n. take n (front ++ text)) room
+    ∙ take-append-add front text (length rest)))
 
 -- a text that fills the buffer leaves nothing of it
 written_full : (front base : List ℕ) → length base ≤ length front → written_over front base ≡ take (length base) front
@@ -61,8 +51,8 @@ written_more front text base out end m h middle = elim (cases_lt (length base) (
       let rest = drop (length front) base in
       let len : length out ≡ length base =
       ap length is ∙ omega (arith, length-append front rest, length-drop (length front) base) in
-      let here : m ≡ length front + 0 = omega (arith, h.whole) in
-      let before : take m out ≡ front = ap (take m) is ∙ take_past front rest m 0 here ∙ append-nil front in
-      let behind : drop m out ≡ rest = ap (drop m) is ∙ drop_past front rest m 0 here in
+      let here : length front ≡ m = omega (arith, h.whole) in
+      let before : take m out ≡ front = ap (take m) is ∙ take_at front rest m here in
+      let behind : drop m out ≡ rest = ap (drop m) is ∙ drop_at front rest m here in
       ap₂ (λ xs ys. xs ++ written_over text ys) before behind ∙ written_inside front text base fits
 ]
