@@ -74,16 +74,16 @@ fn digit(parts: &[&str]) -> Option<Fact> {
 }
 
 fn printed(parts: &str, alloc: Global) -> Result<Option<Fact>, AllocError> {
-    Ok(match parts.split_once(' ') {
-        Some((index, rest)) => match (index.parse(), rest.split_once(' ')) {
-            (Ok(index), Some((name, text))) => match outcome(name, index) {
-                Some(error) => Some(Fact::Printed(error, text.to_string(alloc)?)),
-                None => None,
-            },
-            _ => None,
-        },
-        None => None,
-    })
+    let Some((error, text)) = outcome_and_text(parts) else {
+        return Ok(None)
+    };
+    Ok(Some(Fact::Printed(error, text.to_string(alloc)?)))
+}
+
+fn outcome_and_text(parts: &str) -> Option<(Error, &str)> {
+    let (index, rest) = parts.split_once(' ')?;
+    let (name, text) = rest.split_once(' ')?;
+    Some((outcome(name, index.parse().ok()?)?, text))
 }
 
 fn fields(parts: &[&str]) -> Option<Fact> {
@@ -184,72 +184,42 @@ fn setter_call(call: &str) -> Option<Edit> {
         return Some(Edit::Flag(setter, truth(value)?));
     }
     let byte = value.parse().ok()?;
+    let optional = NonZeroU8::new(byte);
     Some(match name {
-        "digit_separator" => Edit::DigitSeparator(NonZeroU8::new(byte)),
-        "base_prefix" => Edit::BasePrefix(NonZeroU8::new(byte)),
-        "base_suffix" => Edit::BaseSuffix(NonZeroU8::new(byte)),
+        "digit_separator" => Edit::DigitSeparator(optional),
+        "base_prefix" => Edit::BasePrefix(optional),
+        "base_suffix" => Edit::BaseSuffix(optional),
         "mantissa_radix" => Edit::MantissaRadix(byte),
         "radix" => Edit::Radix(byte),
-        "exponent_base" => Edit::ExponentBase(NonZeroU8::new(byte)),
-        "exponent_radix" => Edit::ExponentRadix(NonZeroU8::new(byte)),
+        "exponent_base" => Edit::ExponentBase(optional),
+        "exponent_radix" => Edit::ExponentRadix(optional),
         _ => return None,
     })
 }
 
 // The outcome of this name, with an index if it holds one.
 fn outcome(name: &str, index: usize) -> Option<Error> {
-    Some(match name {
-        "Overflow" => Error::Overflow(index),
-        "Underflow" => Error::Underflow(index),
-        "InvalidDigit" => Error::InvalidDigit(index),
-        "Empty" => Error::Empty(index),
-        "EmptyMantissa" => Error::EmptyMantissa(index),
-        "EmptyExponent" => Error::EmptyExponent(index),
-        "EmptyInteger" => Error::EmptyInteger(index),
-        "EmptyFraction" => Error::EmptyFraction(index),
-        "InvalidPositiveMantissaSign" => Error::InvalidPositiveMantissaSign(index),
-        "MissingMantissaSign" => Error::MissingMantissaSign(index),
-        "InvalidExponent" => Error::InvalidExponent(index),
-        "InvalidPositiveExponentSign" => Error::InvalidPositiveExponentSign(index),
-        "MissingExponentSign" => Error::MissingExponentSign(index),
-        "ExponentWithoutFraction" => Error::ExponentWithoutFraction(index),
-        "InvalidLeadingZeros" => Error::InvalidLeadingZeros(index),
-        "MissingExponent" => Error::MissingExponent(index),
-        "MissingSign" => Error::MissingSign(index),
-        "InvalidPositiveSign" => Error::InvalidPositiveSign(index),
-        "InvalidNegativeSign" => Error::InvalidNegativeSign(index),
-        "InvalidMantissaRadix" => Error::InvalidMantissaRadix,
-        "InvalidExponentBase" => Error::InvalidExponentBase,
-        "InvalidExponentRadix" => Error::InvalidExponentRadix,
-        "InvalidDigitSeparator" => Error::InvalidDigitSeparator,
-        "InvalidDecimalPoint" => Error::InvalidDecimalPoint,
-        "InvalidExponentSymbol" => Error::InvalidExponentSymbol,
-        "InvalidBasePrefix" => Error::InvalidBasePrefix,
-        "InvalidBaseSuffix" => Error::InvalidBaseSuffix,
-        "InvalidPunctuation" => Error::InvalidPunctuation,
-        "InvalidExponentFlags" => Error::InvalidExponentFlags,
-        "InvalidMantissaSign" => Error::InvalidMantissaSign,
-        "InvalidExponentSign" => Error::InvalidExponentSign,
-        "InvalidSpecial" => Error::InvalidSpecial,
-        "InvalidConsecutiveIntegerDigitSeparator" => Error::InvalidConsecutiveIntegerDigitSeparator,
-        "InvalidConsecutiveFractionDigitSeparator" =>
-            Error::InvalidConsecutiveFractionDigitSeparator,
-        "InvalidConsecutiveExponentDigitSeparator" =>
-            Error::InvalidConsecutiveExponentDigitSeparator,
-        "InvalidFlags" => Error::InvalidFlags,
-        "InvalidNanString" => Error::InvalidNanString,
-        "NanStringTooLong" => Error::NanStringTooLong,
-        "InvalidInfString" => Error::InvalidInfString,
-        "InfStringTooLong" => Error::InfStringTooLong,
-        "InvalidInfinityString" => Error::InvalidInfinityString,
-        "InfinityStringTooLong" => Error::InfinityStringTooLong,
-        "InfinityStringTooShort" => Error::InfinityStringTooShort,
-        "InvalidFloatParseAlgorithm" => Error::InvalidFloatParseAlgorithm,
-        "InvalidRadix" => Error::InvalidRadix,
-        "InvalidFloatPrecision" => Error::InvalidFloatPrecision,
-        "InvalidNegativeExponentBreak" => Error::InvalidNegativeExponentBreak,
-        "InvalidPositiveExponentBreak" => Error::InvalidPositiveExponentBreak,
-        "Success" => Error::Success,
-        _ => return None,
-    })
+    macro_rules! outcome_of {
+        ($($Parse:ident)*; $($Other:ident)*) => {
+            match name {
+                $(stringify!($Parse) => Some(Error::$Parse(index)),)*
+                $(stringify!($Other) => Some(Error::$Other),)*
+                _ => None,
+            }
+        };
+    }
+    outcome_of! {
+        Overflow Underflow InvalidDigit Empty EmptyMantissa EmptyExponent EmptyInteger EmptyFraction
+        InvalidPositiveMantissaSign MissingMantissaSign InvalidExponent InvalidPositiveExponentSign
+        MissingExponentSign ExponentWithoutFraction InvalidLeadingZeros MissingExponent MissingSign
+        InvalidPositiveSign InvalidNegativeSign;
+        InvalidMantissaRadix InvalidExponentBase InvalidExponentRadix InvalidDigitSeparator
+        InvalidDecimalPoint InvalidExponentSymbol InvalidBasePrefix InvalidBaseSuffix InvalidPunctuation
+        InvalidExponentFlags InvalidMantissaSign InvalidExponentSign InvalidSpecial
+        InvalidConsecutiveIntegerDigitSeparator InvalidConsecutiveFractionDigitSeparator
+        InvalidConsecutiveExponentDigitSeparator InvalidFlags InvalidNanString NanStringTooLong
+        InvalidInfString InfStringTooLong InvalidInfinityString InfinityStringTooLong
+        InfinityStringTooShort InvalidFloatParseAlgorithm InvalidRadix InvalidFloatPrecision
+        InvalidNegativeExponentBreak InvalidPositiveExponentBreak Success
+    }
 }
