@@ -1,12 +1,13 @@
 -- A test of every element of a list, as one of its chunks and of the rest.
-use Rattle.std.proofs.Common.{◌≡◌, ℕ, zero, suc, ◌+◌, ◌*◌, ◌<◌, ◌≤◌, Bool, true, false, ◌&&◌, List, take, drop, length}
-use Rattle.std.proofs.Common.{slice_index_or, refl, sym, ap, ◌∙◌, arith, IsTrue, ◌↔◌}
+use Rattle.std.proofs.Common.{◌≡◌, ℕ, zero, suc, ◌+◌, ◌*◌, ◌/◌, ◌%◌, ◌<◌, ◌≤◌, Bool, true, false, ◌&&◌, List, [], take, drop}
+use Rattle.std.proofs.Common.{length, slice_index_or, refl, sym, subst, ap, ◌∙◌, arith, IsTrue, ◌↔◌}
 use Rattle.std.proofs.Math.Bool.{and_assoc}
-use Rattle.std.proofs.lemmas.Bool.{and_parts}
 use Rattle.std.specs.List.{list_all, AllPass}
 use Rattle.std.specs.Simd.{first_chunks}
-use Rattle.std.proofs.lemmas.List.{take-append-drop, take_all, drop-drop}
-use Rattle.std.proofs.lemmas.List.Folds.{list_all-append}
+use Rattle.std.proofs.lemmas.Nat.{mul-add-lt, div-add-mod', div_below, mod_below}
+use Rattle.std.proofs.lemmas.List.{take-append-drop, drop-drop}
+use Rattle.std.proofs.lemmas.List.Elements.{All-from_get_or}
+use Rattle.std.proofs.lemmas.List.Folds.{list_all-append, list_all_at}
 use Rattle.std.proofs.lemmas.List.Sums.{AllPass-from_list_all, list_all-from_AllPass}
 
 -- every element passes exactly if those of the first k chunks do, and those after them
@@ -26,10 +27,11 @@ by_chunks p n (suc k) xs =
 
 -- what the whole chunks and the rest tell of the list
 pub chunks_and_rest : {X : Type 0} (p : X → Bool) (n k : ℕ)
-    (xs : List X) {whole : List (List X)} {rest : List X} {passes : Bool}
+    (xs : List X) {whole : List (List X)} {rest : List X} {passes rest_passes : Bool}
     → whole ≡ first_chunks n k xs → rest ≡ drop (k * n) xs → passes ≡ list_all (list_all p) whole
-    → (passes && list_all p rest) ≡ list_all p xs
-chunks_and_rest p n k xs front back tested = rw (tested, front, back) (sym (by_chunks p n k xs))
+    → rest_passes ≡ list_all p rest → (passes && rest_passes) ≡ list_all p xs
+chunks_and_rest p n k xs front back tested rest_tested =
+    rw (tested, rest_tested, front, back) (sym (by_chunks p n k xs))
 
 -- a result that is the test of every element tells whether each passes
 pub tells_all : {X : Type 0} (p : X → Bool) (xs : List X) {passes : Bool} → passes ≡ list_all p xs → IsTrue passes
@@ -40,80 +42,66 @@ tells_all p xs tested = (
       ∙ list_all-from_AllPass p xs all,
 )
 
--- every element passes exactly if those of both parts of a list do
-by_parts : {X : Type 0} (p : X → Bool) (n : ℕ) (xs : List X) {front back : List X} → front ≡ take n xs
-    → back ≡ drop n xs → list_all p xs ≡ (list_all p front && list_all p back)
-by_parts p n xs front_is back_is = rw (front_is, back_is)
-    (ap (list_all p) (sym (take-append-drop n xs)) ∙ list_all-append p (take n xs) (drop n xs))
+-- the chunks of fewer chunks are the same
+chunk_at : {X : Type 0} (n k m : ℕ) (xs : List X) (i : ℕ) → i < k → i < m
+    → slice_index_or (first_chunks n k xs) i [] ≡ slice_index_or (first_chunks n m xs) i []
+chunk_at n zero m xs i in_k in_m = absurd (omega (arith, in_k))
+chunk_at n (suc k) zero xs i in_k in_m = absurd (omega (arith, in_m))
+chunk_at n (suc k) (suc m) xs zero in_k in_m = refl
+chunk_at n (suc k) (suc m) xs (suc i) in_k in_m = chunk_at n k m (drop n xs) i (omega (arith, in_k)) (omega (arith, in_m))
 
--- a list in four parts of one length, and the rest
-pub record Quarters {X : Type 0} (p : X → Bool) (xs front middle later last rest : List X) (count : ℕ) : Type 0 where
-  pub whole : list_all p xs ≡ (list_all p front && (list_all p middle
-      && (list_all p later && (list_all p last && list_all p rest))))
-  pub front_len : length front ≡ count
-  pub middle_len : length middle ≡ count
-  pub later_len : length later ≡ count
-  pub last_len : length last ≡ count
+length-first_chunks : {X : Type 0} (n k : ℕ) (xs : List X) → length (first_chunks n k xs) ≡ k
+length-first_chunks n zero xs = refl
+length-first_chunks n (suc k) xs = ap suc (length-first_chunks n k (drop n xs))
 
--- four splits of a list at one length make such parts
-pub quarters : {X : Type 0} (p : X → Bool) (n : ℕ) (xs : List X)
-    {front others middle others2 later others3 last rest : List X}
-    → front ≡ take n xs → others ≡ drop n xs → middle ≡ take n others → others2 ≡ drop n others → later ≡ take n others2
-    → others3 ≡ drop n others2 → last ≡ take n others3 → rest ≡ drop n others3
-    → length front ≡ n → length middle ≡ n → length later ≡ n → length last ≡ n
-    → Quarters p xs front middle later last rest n
-quarters p n xs front_is others_is middle_is others2_is later_is others3_is last_is rest_is front_len middle_len
-    later_len last_len = record {
-      whole = by_parts p n xs front_is others_is ∙ rw (
-        by_parts p n _ middle_is others2_is,
-        by_parts p n _ later_is others3_is,
-        by_parts p n _ last_is rest_is,
-      ) refl;
-      front_len = front_len;
-      middle_len = middle_len;
-      later_len = later_len;
-      last_len = last_len;
+-- where the block of a turn stands, if the turns go through four quarters side by side
+abbrev pub place : ℕ → ℕ → ℕ
+place quarter turn = turn % 4 * quarter + turn / 4
+
+pub place-lt : (quarter turn : ℕ) → turn < 4 * quarter → place quarter turn < 4 * quarter
+place-lt quarter turn below =
+    omega (arith, mul-add-lt (turn % 4) quarter (turn / 4) 4 (omega arith) (omega (arith, below)))
+
+-- the turn of a block
+record TurnOf (quarter i : ℕ) : Type 0 where
+  turn : ℕ
+  below : turn < 4 * quarter
+  is : place quarter turn ≡ i
+
+turn_of : (quarter i : ℕ) → i < 4 * quarter → TurnOf quarter i
+turn_of quarter i below =
+    let part = i / quarter in
+    let at = i % quarter in
+    let some : 0 < quarter = omega (arith, below) in
+    let of_four : part < 4 = div_below i quarter 4 some below in
+    let within : at < quarter = mod_below i quarter some in
+    let its_part : (4 * at + part) % 4 ≡ part = omega (arith, of_four) in
+    let its_index : (4 * at + part) / 4 ≡ at = omega (arith, of_four) in
+    record {
+      turn = 4 * at + part;
+      below = omega (arith, of_four, within);
+      is = rw (its_part, its_index) (div-add-mod' i quarter);
     }
 
--- the first elements of four lists pass
-pub record PassUpTo {X : Type 0} (p : X → Bool) (front middle later last : List X) (count : ℕ) : Type 0 where
-  pub in_front : list_all p (take count front) ≡ true
-  pub in_middle : list_all p (take count middle) ≡ true
-  pub in_later : list_all p (take count later) ≡ true
-  pub in_last : list_all p (take count last) ≡ true
+-- if the block of each turn passes, the chunks after them decide
+pub rest_decides : {X : Type 0} (p : X → Bool) (n m quarter : ℕ) (xs : List X) {blocks : List (List X)} {passes : Bool}
+    → blocks ≡ first_chunks n m xs → 4 * quarter ≤ m
+    → ((turn : ℕ) → turn < 4 * quarter → list_all p (slice_index_or blocks (place quarter turn) []) ≡ true)
+    → (k : ℕ) → k ≡ 4 * quarter * n → passes ≡ list_all p (drop k xs) → passes ≡ list_all p xs
+rest_decides p n m quarter xs blocks_are room seen k end rest =
+    let count = 4 * quarter in
+    let pass : list_all (list_all p) (first_chunks n count xs) ≡ true = list_all-from_AllPass (list_all p) _
+    (All-from_get_or (λ block. list_all p block ≡ true) _ [] (λ i inside.
+    let below : i < count = subst (λ len. i < len) (length-first_chunks n count xs) inside in
+    let its = turn_of quarter i below in
+    let here = rw (blocks_are, its.is) at (seen its.turn its.below) in
+    ap (list_all p) (chunk_at n count m xs i below (omega (arith, below, room))) ∙ here)) in
+    rest ∙ ap (λ at. list_all p (drop at xs)) end ∙ sym (by_chunks p n count xs ∙ rw pass refl)
 
-part_passes : {X : Type 0} (p : X → Bool) (i : ℕ) (part : List X) → length part ≤ i → list_all p (take i part) ≡ true
-    → list_all p part ≡ true
-part_passes p i part long pass = ap (list_all p) (sym (take_all i part long)) ∙ pass
-
--- if the four quarters pass, the rest decides
-pub rest_decides : {X : Type 0} (p : X → Bool) (i count : ℕ) {xs front middle later last rest : List X}
-    → Quarters p xs front middle later last rest count → PassUpTo p front middle later last i → count ≤ i
-    → list_all p rest ≡ list_all p xs
-rest_decides p i count {front} {middle} {later} {last} parts pass done =
-    let front_passes = part_passes p i front (omega (arith, parts.front_len)) pass.in_front in
-    let middle_passes = part_passes p i middle (omega (arith, parts.middle_len)) pass.in_middle in
-    let later_passes = part_passes p i later (omega (arith, parts.later_len)) pass.in_later in
-    let last_passes = part_passes p i last (omega (arith, parts.last_len)) pass.in_last in
-    sym (parts.whole ∙ rw (front_passes, middle_passes, later_passes, last_passes) refl)
-
--- if one of four elements at an index fails, so does the list
-pub some_fails : {X : Type 0} (p : X → Bool) (i count : ℕ) (d : X) {xs front middle later last rest : List X}
-    → Quarters p xs front middle later last rest count → i < count
-    → (((p (slice_index_or front i d) && p (slice_index_or middle i d)) && p (slice_index_or later i d))
-    && p (slice_index_or last i d)) ≡ false
-    → (all : Bool) → list_all p xs ≡ all → false ≡ all
-some_fails p i count d parts within fails false is = refl
-some_fails p i count d {front} {middle} {later} {last} parts within fails true is =
-    let of_front = and_parts (list_all p front) _ (sym parts.whole ∙ is) in
-    let of_middle = and_parts (list_all p middle) _ of_front.1 in
-    let of_later = and_parts (list_all p later) _ of_middle.1 in
-    let of_last = and_parts (list_all p last) _ of_later.1 in
-    let at_front = AllPass-from_list_all p front of_front.0 i d (omega (arith, parts.front_len)) in
-    let at_middle = AllPass-from_list_all p middle of_middle.0 i d (omega (arith, parts.middle_len)) in
-    let at_later = AllPass-from_list_all p later of_later.0 i d (omega (arith, parts.later_len)) in
-    let at_last = AllPass-from_list_all p last of_last.0 i d (omega (arith, parts.last_len)) in
-    let all_pass : (((p (slice_index_or front i d) && p (slice_index_or middle i d)) && p (slice_index_or later i d))
-    && p (slice_index_or last i d)) ≡ true = rw (at_front, at_middle, at_later, at_last) refl in
-    let no : true ≡ false = sym all_pass ∙ fails in
-    cc
+-- if a block fails, so does the list
+pub block_fails : {X : Type 0} (p : X → Bool) (n m i : ℕ) (xs : List X) {blocks : List (List X)} → blocks ≡ first_chunks n m xs
+    → i < m → list_all p (slice_index_or blocks i []) ≡ false → false ≡ list_all p xs
+block_fails p n m i xs blocks_are within fails =
+    let some : list_all (list_all p) (first_chunks n m xs) ≡ false = list_all_at (list_all p) _ i []
+    (omega (arith, within, length-first_chunks n m xs)) (rw blocks_are at fails) in
+    sym (by_chunks p n m xs ∙ rw some refl)

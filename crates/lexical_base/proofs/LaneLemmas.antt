@@ -1,63 +1,53 @@
--- Masks of n lanes, and what is known of all lanes together.
-use Rattle.std.proofs.Common.{◌≡◌, ℕ, zero, suc, ◌+◌, ◌-◌, ◌*◌, ◌^◌, ◌<◌, ◌≤◌, ◌%◌, Bool, true, false, cond, eqb, leb}
-use Rattle.std.proofs.Common.{◌&&◌, ◌||◌, List, [], ◌∷◌, map, length, bit_and, bit_or, replicate, refl, sym, ap, ◌∙◌}
-use Rattle.std.proofs.Common.{arith}
+-- What the largest distance of each lane tells of all bytes.
+use Rattle.std.proofs.Common.{◌≡◌, ℕ, zero, suc, ◌+◌, ◌-◌, ◌*◌, ◌^◌, ◌<◌, ◌≤◌, ◌%◌, Bool, true, false, cond, not, eqb, ltb}
+use Rattle.std.proofs.Common.{◌&&◌, ◌||◌, List, [], ◌∷◌, map, length, replicate, refl, subst, ap, ap₂, ◌∙◌, arith, Fits, w8}
+use Rattle.std.specs.Prelude.{nat_le}
 use Rattle.std.specs.List.{list_all}
-use Rattle.std.specs.Simd.Lanes.{zip2, mask_l, top}
+use Rattle.std.specs.Simd.Lanes.{zip2, sel_l, mask_l, top, Each1}
 use Rattle.std.proofs.lemmas.Bool.Decides.{nat_tests}
 use Rattle.std.proofs.lemmas.List.{length-map}
-use Rattle.std.proofs.lemmas.List.Folds.{list_all-map}
-use Rattle.std.proofs.lemmas.Simd.{length-replicate, mask_l-mod, length-zip2}
-use Rattle.std.proofs.Math.Pow.{suc_ones}
-use Rattle.lexical_base.specs.Ascii.{in_either}
+use Rattle.std.proofs.lemmas.Simd.{mask_l-mod, tops_compared, zip2_splat_left}
+use Rattle.lexical_base.specs.Ascii.{in_either, between, AreRanges}
 
--- a lane of a mask: all ones where a test passes, and else 0
-abbrev lane : Bool → ℕ
-lane passes = cond passes 255 0
+-- the operations on two lanes, as the compiler makes them: `-`, `+`, and the mask of `simd_lt`
+abbrev minus : ℕ → ℕ → ℕ
+minus a b = (a + (2 ^ 8 - b)) % 2 ^ 8
 
-and_lane : (p q : Bool) → bit_and (lane p) (lane q) ≡ lane (p && q)
-and_lane true true = refl
-and_lane true false = refl
-and_lane false true = refl
-and_lane false false = refl
+abbrev plus : ℕ → ℕ → ℕ
+plus a b = (a + b) % 2 ^ 8
 
-or_lane : (p q : Bool) → bit_or (lane p) (lane q) ≡ lane (p || q)
-or_lane true true = refl
-or_lane true false = refl
-or_lane false true = refl
-or_lane false false = refl
+abbrev below : ℕ → ℕ → ℕ
+below a b = cond (ltb a b) 255 0
 
--- the mask of the lanes that are in one of two ranges, as the code computes it
-abbrev range_mask : (first second : ℕ × ℕ) (n : ℕ) → List ℕ → List ℕ
-range_mask first second n xs =
-    zip2 bit_or
-    (zip2 bit_and (zip2 (λ p q. lane (leb p q)) (replicate n first.0) xs)
-    (zip2 (λ p q. lane (leb p q)) xs (replicate n first.1)))
-    (zip2 bit_and (zip2 (λ p q. lane (leb p q)) (replicate n second.0) xs)
-    (zip2 (λ p q. lane (leb p q)) xs (replicate n second.1)))
+-- `simd_min`, `simd_max` and `saturating_add`
+abbrev minima : List ℕ → List ℕ → List ℕ
+minima xs ys = sel_l (map (top 7) (zip2 below xs ys)) xs ys
 
-range_mask_is : (first second : ℕ × ℕ) (xs : List ℕ) → range_mask first second (length xs) xs ≡ map lane
-    (map (in_either first second) xs)
-range_mask_is first second [] = refl
-range_mask_is first second (x ∷ xs) =
-    rw (
-      and_lane (leb first.0 x) (leb x first.1),
-      and_lane (leb second.0 x) (leb x second.1),
-      or_lane (leb first.0 x && leb x first.1) (leb second.0 x && leb x second.1),
-    )
-    (ap (λ rest. lane (in_either first second x) ∷ rest) (range_mask_is first second xs))
+abbrev maxima : List ℕ → List ℕ → List ℕ
+maxima xs ys = sel_l (map (top 7) (zip2 below xs ys)) ys xs
 
--- a mask whose lanes are all set exactly if a test passes
-pub record Tells (n : ℕ) (mask : List ℕ) (passes : Bool) : Type 0 where
-  pub lanes : List Bool
-  pub long : length lanes ≡ n
-  pub is : mask ≡ map lane lanes
-  pub all : list_all (λ set. set) lanes ≡ passes
+abbrev sums : List ℕ → List ℕ → List ℕ
+sums xs ys = zip2 plus xs (minima ys (map (λ a. 2 ^ 8 - 1 - a) xs))
 
-zip2-lane : (bs cs : List Bool) → zip2 bit_and (map lane bs) (map lane cs) ≡ map lane (zip2 (λ b c. b && c) bs cs)
-zip2-lane [] cs = refl
-zip2-lane (b ∷ bs) [] = refl
-zip2-lane (b ∷ bs) (c ∷ cs) = rw (and_lane b c, zip2-lane bs cs) refl
+chosen : (b : Bool) (x y : ℕ) → cond (top 7 (cond b 255 0)) x y ≡ cond b x y
+chosen true x y = refl
+chosen false x y = refl
+
+min_le : (a b last : ℕ) → nat_le (cond (ltb a b) a b) last ≡ (nat_le a last || nat_le b last)
+min_le a b last = grind (arith, nat_tests)
+
+max_le : (a b last : ℕ) → nat_le (cond (ltb a b) b a) last ≡ (nat_le a last && nat_le b last)
+max_le a b last = grind (arith, nat_tests)
+
+-- a distance tells whether a byte is in a range
+distance : (low high byte : ℕ) → low ≤ high → high < 256 → byte < 256
+    → nat_le (minus byte low) (high - low) ≡ between low high byte
+distance low high byte some fits byte_fits = grind (arith, nat_tests)
+
+-- so does a raised one
+raised : (d width longer : ℕ) → d < 256 → width + longer < 255
+    → nat_le (plus d (cond (ltb longer (255 - d)) longer (255 - d))) (width + longer) ≡ nat_le d width
+raised d width longer fits room = grind (arith, nat_tests)
 
 and_swap : (b c p q : Bool) → ((b && c) && (p && q)) ≡ ((b && p) && (c && q))
 and_swap true true p q = refl
@@ -65,68 +55,74 @@ and_swap true false true q = refl
 and_swap true false false q = refl
 and_swap false c p q = refl
 
-all-zip2 : (bs cs : List Bool) → length bs ≡ length cs
-    → list_all (λ set. set) (zip2 (λ b c. b && c) bs cs) ≡ (list_all (λ set. set) bs && list_all (λ set. set) cs)
-all-zip2 [] [] same = refl
-all-zip2 [] (c ∷ cs) same = absurd (omega (arith, same))
-all-zip2 (b ∷ bs) [] same = absurd (omega (arith, same))
-all-zip2 (b ∷ bs) (c ∷ cs) same = rw (all-zip2 bs cs (omega (arith, same)))
-    (and_swap b c (list_all (λ set. set) bs) (list_all (λ set. set) cs))
+module _ (first second : ℕ × ℕ) (ranges : AreRanges first second) where
+  abbrev last : ℕ
+  last = second.1 - second.0
 
--- a mask tells a test, and joined with the mask of a chunk also whether the chunk passes
-pub joined : (n : ℕ) (first second : ℕ × ℕ) (xs : List ℕ) (mask : List ℕ) (passes : Bool) → length xs ≡ n
-    → Tells n mask passes
-    → Tells n (zip2 bit_and mask (range_mask first second n xs)) (passes && list_all (in_either first second) xs)
-joined n first second xs mask passes long told =
-    let tests : List Bool = map (in_either first second) xs in
-    let same : length told.lanes ≡ length tests = told.long ∙ sym (length-map xs (in_either first second) ∙ long) in
-    let mask_is : range_mask first second n xs ≡ map lane tests = ap (λ k. range_mask first second k xs) (sym long)
-    ∙ range_mask_is first second xs in
-    record {
-      lanes = zip2 (λ b c. b && c) told.lanes tests;
-      long = length-zip2 (λ b c. b && c) told.lanes tests same ∙ told.long;
-      is = rw (told.is, mask_is) (zip2-lane told.lanes tests);
-      all = all-zip2 told.lanes tests same ∙ rw (told.all, list_all-map (λ set. set) (in_either first second) xs) refl;
-    }
+  abbrev longer : ℕ
+  longer = last - (first.1 - first.0)
 
-full_step : (b : Bool) (m n : ℕ) (rest : Bool) → eqb m (2 ^ n - 1) ≡ rest
-    → eqb (cond b 1 0 + 2 * m) (2 ^ suc n - 1) ≡ (b && rest)
-full_step true m n rest h =
-    let double : 2 ^ suc n ≡ 2 * 2 ^ n = omega arith in
-    let some : 0 < 2 ^ n = omega (arith, suc_ones n) in
-    rw double (grind (arith, nat_tests))
-full_step false m n rest h =
-    let double : 2 ^ suc n ≡ 2 * 2 ^ n = omega arith in
-    let some : 0 < 2 ^ n = omega (arith, suc_ones n) in
-    rw double (grind (arith, nat_tests))
+  -- one lane
+  joined_lane : (largest byte : ℕ) → byte < 256
+      → (let d = minus byte first.0 in
+      let s = plus d (cond (top 7 (below longer (255 - d))) longer (255 - d)) in
+      let m = cond (top 7 (below s (minus byte second.0))) s (minus byte second.0) in
+      nat_le (cond (top 7 (below largest m)) m largest) last ≡ (nat_le largest last && in_either first second byte))
+  joined_lane largest byte fits =
+      let d = minus byte first.0 in
+      let e = minus byte second.0 in
+      let s = plus d (cond (ltb longer (255 - d)) longer (255 - d)) in
+      let m = cond (ltb s e) s e in
+      let width = first.1 - first.0 in
+      let whole : width + longer ≡ last = omega (arith, ranges.some, ranges.after, ranges.longer) in
+      let room : width + longer < 255 = omega (arith, ranges.some, ranges.after, ranges.longer, ranges.bytes) in
+      let in_first : nat_le s last ≡ between first.0 first.1 byte = subst (λ k. nat_le s k ≡ nat_le d width) whole
+      (raised d width longer (omega arith) room)
+      ∙ distance first.0 first.1 byte ranges.some (omega (arith, ranges.after, ranges.longer, ranges.some, ranges.bytes)) fits in
+      let in_second : nat_le e last ≡ between second.0 second.1 byte =
+      distance second.0 second.1 byte (omega (arith, ranges.longer, ranges.some)) ranges.bytes fits in
+      rw (
+        chosen (ltb longer (255 - d)) longer (255 - d),
+        chosen (ltb s e) s e,
+        chosen (ltb largest m) m largest,
+      ) (max_le largest m last ∙ ap (λ b. nat_le largest last && b) (min_le s e last ∙ ap₂ (λ p q. p || q) in_first in_second))
 
--- the number of a mask has all its bits exactly if each lane is set
-full_mask : (bs : List Bool) → eqb (mask_l bs) (2 ^ length bs - 1) ≡ list_all (λ set. set) bs
-full_mask [] = refl
-full_mask (b ∷ bs) = full_step b (mask_l bs) (length bs) (list_all (λ set. set) bs) (full_mask bs)
+  -- all lanes
+  pub joined_lanes : (largest bytes : List ℕ) → length largest ≡ length bytes → Each1 (Fits w8) bytes
+      → list_all (λ lane. nat_le lane last) (maxima largest (minima (sums (zip2 minus bytes (replicate (length bytes) first.0))
+      (replicate (length bytes) longer)) (zip2 minus bytes (replicate (length bytes) second.0))))
+      ≡ (list_all (λ lane. nat_le lane last) largest && list_all (in_either first second) bytes)
+  joined_lanes [] [] same fits = refl
+  joined_lanes [] (byte ∷ bytes) same fits = absurd (omega (arith, same))
+  joined_lanes (lane ∷ largest) [] same fits = absurd (omega (arith, same))
+  joined_lanes (lane ∷ largest) (byte ∷ bytes) same fits =
+      ap₂ (λ p q. p && q) (joined_lane lane byte fits.0.fits)
+      (joined_lanes largest bytes (omega (arith, same)) fits.1)
+      ∙ and_swap (nat_le lane last) (in_either first second byte) (list_all (λ lane. nat_le lane last) largest)
+      (list_all (in_either first second) bytes)
 
-tops : (bs : List Bool) → map (top 7) (map lane bs) ≡ bs
-tops [] = refl
-tops (true ∷ bs) = ap (λ rest. true ∷ rest) (tops bs)
-tops (false ∷ bs) = ap (λ rest. false ∷ rest) (tops bs)
+-- before the first chunk no lane is above a number
+pub none_joined : (last n : ℕ) → list_all (λ lane. nat_le lane last) (replicate n 0) ≡ true
+none_joined last zero = refl
+none_joined last (suc n) = rw (none_joined last n) (grind (arith, nat_tests))
 
--- before the first chunk all lanes are set
-pub none_joined : (n : ℕ) → Tells n (replicate n 255) true
-none_joined n = record { lanes = replicate n true; long = length-replicate n true; is = all_set n; all = all_pass n }
+clear_mask : (last : ℕ) (lanes : List ℕ)
+    → not (not (eqb (mask_l (map (λ lane. ltb last lane) lanes)) 0)) ≡ list_all (λ lane. nat_le lane last) lanes
+clear_mask last [] = refl
+clear_mask last (lane ∷ lanes) =
+    one lane (mask_l (map (λ lane. ltb last lane) lanes)) ∙ ap (λ rest. nat_le lane last && rest) (clear_mask last lanes)
   where
-    all_set : (k : ℕ) → replicate k 255 ≡ map lane (replicate k true)
-    all_set zero = refl
-    all_set (suc k) = ap (λ rest. 255 ∷ rest) (all_set k)
+    one : (lane m : ℕ)
+        → not (not (eqb (cond (ltb last lane) 1 0 + 2 * m) 0)) ≡ (nat_le lane last && not (not (eqb m 0)))
+    one lane m = grind (arith, nat_tests)
 
-    all_pass : (k : ℕ) → list_all (λ set. set) (replicate k true) ≡ true
-    all_pass zero = refl
-    all_pass (suc k) = all_pass k
-
--- what `all` returns of a mask is the test that the mask tells
-pub all_told : (n : ℕ) (mask : List ℕ) (passes : Bool) → n ≤ 64 → Tells n mask passes
-    → eqb (mask_l (map (top 7) mask) % 2 ^ 64) (2 ^ n - 1) ≡ passes
-all_told n mask passes narrow told =
-    let few : length told.lanes ≤ 64 = omega (arith, told.long, narrow) in
-    let full : eqb (mask_l told.lanes) (2 ^ length told.lanes - 1) ≡ passes = full_mask told.lanes ∙ told.all in
-    let whole : eqb (mask_l told.lanes) (2 ^ n - 1) ≡ passes = rw told.long at full in
-    rw (told.is, tops told.lanes, mask_l-mod told.lanes 64 few) whole
+-- what `!lanes.simd_gt(last).any()` returns
+pub none_above : (last n : ℕ) (lanes : List ℕ) → length lanes ≡ n → n ≤ 64
+    → not (not (eqb (mask_l (map (top 7) (zip2 below (replicate n last) lanes)) % 2 ^ 64) 0))
+    ≡ list_all (λ lane. nat_le lane last) lanes
+none_above last n lanes long narrow =
+    let tests : List Bool = map (λ lane. ltb last lane) lanes in
+    let few : length tests ≤ 64 = omega (arith, length-map lanes (λ lane. ltb last lane), long, narrow) in
+    let mask = ap (λ bs. mask_l bs % 2 ^ 64) (tops_compared w8 ltb (replicate n last) lanes
+    ∙ zip2_splat_left ltb last n lanes long) ∙ mask_l-mod tests 64 few in
+    ap (λ m. not (not (eqb m 0))) mask ∙ clear_mask last lanes

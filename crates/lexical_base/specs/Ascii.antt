@@ -1,5 +1,5 @@
 -- Sets of bytes.
-use Rattle.std.specs.Prelude.{ℕ, Bool, nat_le, ◌&&◌, ◌||◌}
+use Rattle.std.specs.Prelude.{ℕ, ◌+◌, ◌<◌, ◌≤◌, Bool, nat_le, ◌&&◌, ◌||◌}
 
 -- a set of bytes, given by the test of its members
 abbrev pub ByteSet : Type 0
@@ -12,6 +12,13 @@ between low high byte = nat_le low byte && nat_le byte high
 -- the bytes of two ranges, each given by its lowest and its highest byte
 abbrev pub in_either : ℕ × ℕ → ℕ × ℕ → ByteSet
 in_either first second byte = between first.0 first.1 byte || between second.0 second.1 byte
+
+-- two ranges of bytes, of which the second comes after the first and is at least as long
+pub record AreRanges (first second : ℕ × ℕ) : Type 0 where
+  pub some : first.0 ≤ first.1
+  pub after : first.1 < second.0
+  pub longer : first.1 + second.0 ≤ second.1 + first.0
+  pub bytes : second.1 < 256
 
 -- the ASCII that a format may use: tab to carriage return, and space to tilde
 abbrev pub allowed_ascii : ByteSet

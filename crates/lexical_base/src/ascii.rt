@@ -1,8 +1,8 @@
 //! Tests of single bytes and of slices of bytes: allowed ASCII and letters.
 
-ghost use Rattle.std.specs.Prelude.{◌≡◌, ◌↔◌, IsTrue};
+ghost use Rattle.std.specs.Prelude.{◌≡◌, ◌↔◌, ◌-◌, ◌≤◌, ◌&&◌, nat_le, IsTrue};
 ghost use Rattle.std.specs.List.{AllPass, list_all};
-ghost use Rattle.lexical_base.specs.Ascii.{allowed_ascii, letters, in_either};
+ghost use Rattle.lexical_base.specs.Ascii.{allowed_ascii, letters, in_either, AreRanges};
 
 use std::simd::prelude::*;
 
@@ -44,109 +44,85 @@ pub fn is_valid_letter_slice(slc: &[u8]) -> bool
 // It looks at 32 bytes at a time, and then at the rest, fewer than 32.
 #[inline(always)]
 fn all_in_either(bytes: &[u8], first: (u8, u8), second: (u8, u8)) -> bool
+    requires { AreRanges first second }
     ensures { IsTrue result ↔ AllPass (in_either first second) bytes.now }
 {
     let (chunks, rest) = bytes.as_chunks::<32>();
-    any_chunks_in_either(chunks, first, second) && few_in_either(rest, first, second)
+    chunks_in_either(chunks, first, second) & few_in_either(rest, first, second)
 }
 
-// The same for chunks of 32 bytes, few or many.
-#[inline(always)]
-fn any_chunks_in_either(chunks: &[[u8; 32]], first: (u8, u8), second: (u8, u8)) -> bool
-    ensures { result ≡ list_all (list_all (in_either first second)) chunks.now }
-{
-    if chunks.len() < 8 {
-        block_in_either(chunks, first, second)
-    } else {
-        chunks_in_either(chunks, first, second)
-    }
-}
-
-// The same for many chunks. It stops only after a block of eight, since a test after each chunk would
-// take as long as all else.
+// Whether every byte of chunks, few or many, is in one of the ranges.
+//
+// From 32 chunks on it takes blocks of eight, in turn from each of four quarters, since memory serves
+// four streams faster than one, and stops at the first block that fails. A test after each chunk
+// would take as long as all else.
 #[inline(always)]
 fn chunks_in_either(chunks: &[[u8; 32]], first: (u8, u8), second: (u8, u8)) -> bool
+    requires { AreRanges first second }
     ensures { result ≡ list_all (list_all (in_either first second)) chunks.now }
 {
-    let (blocks, rest) = chunks.as_chunks::<8>();
-    blocks_in_either(blocks, first, second) && block_in_either(rest, first, second)
-}
-
-// The same for blocks of eight chunks. It goes through four quarters of them side by side, since
-// memory serves four streams faster than one.
-#[inline(always)]
-fn blocks_in_either(blocks: &[[[u8; 32]; 8]], first: (u8, u8), second: (u8, u8)) -> bool
-    ensures { result ≡ list_all (list_all (list_all (in_either first second))) blocks.now }
-{
+    let (blocks, _) = chunks.as_chunks::<8>();
     let quarter = blocks.len() / 4;
-    let (front, others) = blocks.split_at(quarter);
-    let (middle, others) = others.split_at(quarter);
-    let (later, others) = others.split_at(quarter);
-    let (last, rest) = others.split_at(quarter);
-    for index in 0..quarter {
-        let in_front = block_in_either(&front[index], first, second);
-        let in_middle = block_in_either(&middle[index], first, second);
-        let in_later = block_in_either(&later[index], first, second);
-        let in_last = block_in_either(&last[index], first, second);
-        if !(in_front & in_middle & in_later & in_last) {
+    for turn in 0..4 * quarter {
+        let block = &blocks[turn % 4 * quarter + turn / 4];
+        if !block_in_either(block, first, second) {
             return false;
         }
     }
-    each_block_in_either(rest, first, second)
+    block_in_either(&chunks[32 * quarter..], first, second)
 }
 
-// The same, one block after the other.
+// Whether every byte of a few chunks of `N` bytes is in one of the ranges, with one test after the last.
 #[inline(always)]
-fn each_block_in_either(blocks: &[[[u8; 32]; 8]], first: (u8, u8), second: (u8, u8)) -> bool
-    ensures { result ≡ list_all (list_all (list_all (in_either first second))) blocks.now }
-{
-    blocks
-        .iter()
-        .all(|block| block_in_either(block, first, second))
-}
-
-// The same for a few chunks, with one test after the last.
-#[inline(always)]
-fn block_in_either(block: &[[u8; 32]], first: (u8, u8), second: (u8, u8)) -> bool
+fn block_in_either<const N: usize>(block: &[[u8; N]], first: (u8, u8), second: (u8, u8)) -> bool
+    requires narrow { N ≤ 64 }
+    requires ranges { AreRanges first second }
     ensures { result ≡ list_all (list_all (in_either first second)) block.now }
 {
-    let mut joined = Mask::splat(true);
+    let last = second.1 - second.0;
+    let mut largest = Simd::<u8, N>::splat(0);
     for chunk in block {
-        let lanes = u8x32::from_array(*chunk);
-        let in_first = lanes.simd_ge(u8x32::splat(first.0)) & lanes.simd_le(u8x32::splat(first.1));
-        let in_second = lanes.simd_ge(u8x32::splat(second.0))
-            & lanes.simd_le(u8x32::splat(second.1));
-        joined &= in_first | in_second;
+        largest = joined(largest, Simd::from_array(*chunk), first, second);
     }
-    joined.all()
+    !largest.simd_gt(Simd::splat(last)).any()
 }
 
-// The same for fewer than 32 bytes: 16 of them at once, if there are as many, and the others one by one.
+// Joins the bytes in `lanes` to `largest`, whose lanes are above the index of the second range's last
+// byte exactly if a byte was in neither range.
+//
+// A byte is in a range exactly if its distance from the lowest byte, modulo 256, is at most that of
+// the highest. Distances from the first range are raised by what the second is longer, so that of the
+// two the smaller decides, and of all bytes the largest.
+#[inline(always)]
+fn joined<const N: usize>(
+    largest: Simd<u8, N>,
+    lanes: Simd<u8, N>,
+    first: (u8, u8),
+    second: (u8, u8),
+) -> Simd<u8, N>
+    requires { AreRanges first second }
+    ensures { list_all (λ lane. nat_le lane (second.1 - second.0)) result
+        ≡ (list_all (λ lane. nat_le lane (second.1 - second.0)) largest.entry && list_all (in_either first second) lanes.entry) }
+{
+    let longer = (second.1 - second.0) - (first.1 - first.0);
+    let from_first = (lanes - Simd::splat(first.0)).saturating_add(Simd::splat(longer));
+    let from_second = lanes - Simd::splat(second.0);
+    largest.simd_max(from_first.simd_min(from_second))
+}
+
+// Whether every one of fewer than 32 bytes is in one of the ranges: 16 are tested at once, if there are
+// as many, and the others one by one.
 #[inline(always)]
 fn few_in_either(bytes: &[u8], first: (u8, u8), second: (u8, u8)) -> bool
+    requires { AreRanges first second }
     ensures { result ≡ list_all (in_either first second) bytes.now }
 {
     let (halves, rest) = bytes.as_chunks::<16>();
-    halves_in_either(halves, first, second) && bytes_in_either(rest, first, second)
+    block_in_either(halves, first, second) & bytes_in_either(rest, first, second)
 }
 
-// The same for chunks of half the length.
-#[inline(always)]
-fn halves_in_either(halves: &[[u8; 16]], first: (u8, u8), second: (u8, u8)) -> bool
-    ensures { result ≡ list_all (list_all (in_either first second)) halves.now }
-{
-    let mut joined = Mask::splat(true);
-    for half in halves {
-        let lanes = u8x16::from_array(*half);
-        let of_first = lanes.simd_ge(u8x16::splat(first.0)) & lanes.simd_le(u8x16::splat(first.1));
-        let of_second = lanes.simd_ge(u8x16::splat(second.0))
-            & lanes.simd_le(u8x16::splat(second.1));
-        joined &= of_first | of_second;
-    }
-    joined.all()
-}
-
-// The same for single bytes. It looks at all of them, with one test after the last.
+// Whether every one of a few bytes is in one of the ranges. It looks at all of them, with one test
+// after the last.
 #[inline(always)]
 fn bytes_in_either(bytes: &[u8], first: (u8, u8), second: (u8, u8)) -> bool
     ensures { result ≡ list_all (in_either first second) bytes.now }

@@ -1,23 +1,22 @@
-use Rattle.std.proofs.Common.{◌∙◌, [], slice_index_or, sym, subst, ap, arith}
+use Rattle.std.proofs.Common.{◌-◌, ◌&&◌, ◌∙◌, sym, ap, ap₂}
 use Rattle.std.specs.List.{list_all}
-use Rattle.std.proofs.lemmas.List.Folds.{list_all_more}
 use Rattle.std.proofs.lemmas.List.{take_all}
+use Rattle.std.proofs.lemmas.List.Folds.{list_all_more}
 use Rattle.lexical_base.specs.Ascii.{in_either}
-use Rattle.lexical_base.proofs.LaneLemmas.{Tells, none_joined, joined, all_told}
+use Rattle.lexical_base.proofs.LaneLemmas.{none_joined, none_above}
 use Rattle.lexical_base.proofs.ascii.block_in_either.Goals as goal
 
 pub loop-chunk-init : goal.loop-chunk-init
-loop-chunk-init c = none_joined 32
+loop-chunk-init g c = none_joined (c.args.second.1 - c.args.second.0) g.row.N
 
 pub loop-chunk-preserved : goal.loop-chunk-preserved
-loop-chunk-preserved c =
-    let chunks = c.args.block.now in
-    let i = c.loop-chunk.chunk-index in
-    let within = c.loop-chunk-test.true in
-    subst (Tells 32 _) (sym (list_all_more (list_all (in_either c.args.first c.args.second)) chunks i [] within))
-    (joined 32 c.args.first c.args.second (slice_index_or chunks i []) c.loop-chunk.joined _
-    (c.told-block i within) c.loop-chunk.invariant)
+loop-chunk-preserved g c =
+    let passes = list_all (in_either c.args.first c.args.second) in
+    c.joined-largest.ensures ∙ ap₂ (λ p q. p && q) c.loop-chunk.invariant (ap passes c.chunk-item.is)
+    ∙ sym (list_all_more passes c.args.block.now c.loop-chunk.chunk-index c.chunk-item.result c.loop-chunk-test.true)
 
 pub returns : goal.returns
-returns c = all_told 32 _ _ (omega arith) c.loop-chunk.invariant
+returns g c =
+    none_above (c.args.second.1 - c.args.second.0) g.row.N c.loop-chunk.largest c.loop-chunk.auto.largest.0
+    c.requires.narrow ∙ c.loop-chunk.invariant
     ∙ ap (list_all (list_all (in_either c.args.first c.args.second))) (take_all _ _ c.loop-chunk-test.false)
