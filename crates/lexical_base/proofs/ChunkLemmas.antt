@@ -1,9 +1,10 @@
 -- A test of every element of a list, as one of its chunks and of the rest.
 use Rattle.std.proofs.Common.{◌≡◌, ℕ, zero, suc, ◌+◌, ◌*◌, ◌/◌, ◌%◌, ◌<◌, ◌≤◌, Bool, true, false, ◌&&◌, List, [], take, drop}
-use Rattle.std.proofs.Common.{length, slice_index_or, refl, sym, subst, ap, ◌∙◌, arith, IsTrue, ◌↔◌}
+use Rattle.std.proofs.Common.{length, slice_index_or, refl, sym, subst, ap, ◌∙◌, arith, IsTrue, ◌↔◌, Fits, w8}
 use Rattle.std.proofs.Math.Bool.{and_assoc}
 use Rattle.std.specs.List.{list_all, AllPass}
 use Rattle.std.specs.Simd.{first_chunks}
+use Rattle.std.proofs.lemmas.Bool.{agree_below, agree_below_at}
 use Rattle.std.proofs.lemmas.Nat.{mul-add-lt, div-add-mod', div_below, mod_below}
 use Rattle.std.proofs.lemmas.List.{take-append-drop, drop-drop}
 use Rattle.std.proofs.lemmas.List.Elements.{All-from_get_or}
@@ -41,6 +42,16 @@ tells_all p xs tested = (
   λ all. tested
       ∙ list_all-from_AllPass p xs all,
 )
+
+-- two tests that agree on every byte tell the same of bytes
+pub same_test : (p q : ℕ → Bool) (xs : List ℕ) {passes : Bool} → ((i : ℕ) → Fits w8 (slice_index_or xs i 0))
+    → agree_below p q 256 ≡ true → IsTrue passes ↔ AllPass p xs → IsTrue passes ↔ AllPass q xs
+same_test p q xs fits agree told =
+    let same : (i : ℕ) → p (slice_index_or xs i 0) ≡ q (slice_index_or xs i 0) = λ i.
+    agree_below_at p q 256 (slice_index_or xs i 0) agree (fits i).fits in (
+      λ passed. All-from_get_or (λ x. q x ≡ true) xs 0 (λ i inside. sym (same i) ∙ told.0 passed i 0 inside),
+      λ all. told.1 (All-from_get_or (λ x. p x ≡ true) xs 0 (λ i inside. same i ∙ all i 0 inside)),
+    )
 
 -- the chunks of fewer chunks are the same
 chunk_at : {X : Type 0} (n k m : ℕ) (xs : List X) (i : ℕ) → i < k → i < m

@@ -1,11 +1,12 @@
 -- What the largest distance of each lane tells of all bytes.
 use Rattle.std.proofs.Common.{◌≡◌, ℕ, zero, suc, ◌+◌, ◌-◌, ◌*◌, ◌^◌, ◌<◌, ◌≤◌, ◌%◌, Bool, true, false, cond, not, eqb, ltb}
-use Rattle.std.proofs.Common.{◌&&◌, ◌||◌, List, [], ◌∷◌, map, length, replicate, refl, subst, ap, ap₂, ◌∙◌, arith, Fits, w8}
+use Rattle.std.proofs.Common.{◌&&◌, ◌||◌, List, [], ◌∷◌, map, length, replicate, bit_and, refl, subst, ap, ap₂, ◌∙◌, arith, Fits, w8}
 use Rattle.std.specs.Prelude.{nat_le}
 use Rattle.std.specs.List.{list_all}
 use Rattle.std.specs.Simd.Lanes.{zip2, sel_l, mask_l, top, Each1}
 use Rattle.std.proofs.lemmas.Bool.Decides.{nat_tests}
 use Rattle.std.proofs.lemmas.List.{length-map}
+use Rattle.std.proofs.lemmas.Nat.{and_le_l}
 use Rattle.std.proofs.lemmas.Simd.{mask_l-mod, tops_compared, zip2_splat_left}
 use Rattle.lexical_base.specs.Ascii.{in_either, between, AreRanges}
 
@@ -67,20 +68,20 @@ module _ (first second : ℕ × ℕ) (ranges : AreRanges first second) where
       → (let d = minus byte first.0 in
       let s = plus d (cond (top 7 (below longer (255 - d))) longer (255 - d)) in
       let m = cond (top 7 (below s (minus byte second.0))) s (minus byte second.0) in
-      nat_le (cond (top 7 (below largest m)) m largest) last ≡ (nat_le largest last && in_either first second byte))
+      nat_le (cond (top 7 (below largest m)) m largest) last ≡ (nat_le largest last && (between first.0 first.1 byte || between second.0 second.1 byte)))
   joined_lane largest byte fits =
       let d = minus byte first.0 in
       let e = minus byte second.0 in
       let s = plus d (cond (ltb longer (255 - d)) longer (255 - d)) in
       let m = cond (ltb s e) s e in
       let width = first.1 - first.0 in
-      let whole : width + longer ≡ last = omega (arith, ranges.some, ranges.after, ranges.longer) in
-      let room : width + longer < 255 = omega (arith, ranges.some, ranges.after, ranges.longer, ranges.bytes) in
+      let whole : width + longer ≡ last = omega (arith, ranges.some, ranges.longer) in
+      let room : width + longer < 255 = omega (arith, ranges.some, ranges.longer, ranges.narrow) in
       let in_first : nat_le s last ≡ between first.0 first.1 byte = subst (λ k. nat_le s k ≡ nat_le d width) whole
       (raised d width longer (omega arith) room)
-      ∙ distance first.0 first.1 byte ranges.some (omega (arith, ranges.after, ranges.longer, ranges.some, ranges.bytes)) fits in
+      ∙ distance first.0 first.1 byte ranges.some ranges.first_bytes fits in
       let in_second : nat_le e last ≡ between second.0 second.1 byte =
-      distance second.0 second.1 byte (omega (arith, ranges.longer, ranges.some)) ranges.bytes fits in
+      distance second.0 second.1 byte (omega (arith, ranges.longer, ranges.some)) ranges.second_bytes fits in
       rw (
         chosen (ltb longer (255 - d)) longer (255 - d),
         chosen (ltb s e) s e,
@@ -88,18 +89,18 @@ module _ (first second : ℕ × ℕ) (ranges : AreRanges first second) where
       ) (max_le largest m last ∙ ap (λ b. nat_le largest last && b) (min_le s e last ∙ ap₂ (λ p q. p || q) in_first in_second))
 
   -- all lanes
-  pub joined_lanes : (largest bytes : List ℕ) → length largest ≡ length bytes → Each1 (Fits w8) bytes
-      → list_all (λ lane. nat_le lane last) (maxima largest (minima (sums (zip2 minus bytes (replicate (length bytes) first.0))
-      (replicate (length bytes) longer)) (zip2 minus bytes (replicate (length bytes) second.0))))
-      ≡ (list_all (λ lane. nat_le lane last) largest && list_all (in_either first second) bytes)
-  joined_lanes [] [] same fits = refl
-  joined_lanes [] (byte ∷ bytes) same fits = absurd (omega (arith, same))
-  joined_lanes (lane ∷ largest) [] same fits = absurd (omega (arith, same))
-  joined_lanes (lane ∷ largest) (byte ∷ bytes) same fits =
-      ap₂ (λ p q. p && q) (joined_lane lane byte fits.0.fits)
-      (joined_lanes largest bytes (omega (arith, same)) fits.1)
-      ∙ and_swap (nat_le lane last) (in_either first second byte) (list_all (λ lane. nat_le lane last) largest)
-      (list_all (in_either first second) bytes)
+  pub joined_lanes : (kept : ℕ) (largest bytes : List ℕ) → length largest ≡ length bytes → Each1 (Fits w8) bytes
+      → list_all (λ lane. nat_le lane last) (maxima largest (minima (sums (zip2 minus (zip2 bit_and bytes (replicate (length bytes) kept)) (replicate (length bytes) first.0))
+      (replicate (length bytes) longer)) (zip2 minus (zip2 bit_and bytes (replicate (length bytes) kept)) (replicate (length bytes) second.0))))
+      ≡ (list_all (λ lane. nat_le lane last) largest && list_all (in_either kept first second) bytes)
+  joined_lanes kept [] [] same fits = refl
+  joined_lanes kept [] (byte ∷ bytes) same fits = absurd (omega (arith, same))
+  joined_lanes kept (lane ∷ largest) [] same fits = absurd (omega (arith, same))
+  joined_lanes kept (lane ∷ largest) (byte ∷ bytes) same fits =
+      ap₂ (λ p q. p && q) (joined_lane lane (bit_and byte kept) (omega (arith, and_le_l byte kept, fits.0.fits)))
+      (joined_lanes kept largest bytes (omega (arith, same)) fits.1)
+      ∙ and_swap (nat_le lane last) (in_either kept first second byte) (list_all (λ lane. nat_le lane last) largest)
+      (list_all (in_either kept first second) bytes)
 
 -- before the first chunk no lane is above a number
 pub none_joined : (last n : ℕ) → list_all (λ lane. nat_le lane last) (replicate n 0) ≡ true

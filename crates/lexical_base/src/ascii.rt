@@ -21,7 +21,7 @@ pub fn is_valid_ascii(c: u8) -> bool
 pub fn is_valid_ascii_slice(slc: &[u8]) -> bool
     ensures { IsTrue result ↔ AllPass allowed_ascii slc.now }
 {
-    all_in_either(slc, (0x09, 0x0d), (0x20, 0x7e))
+    all_in_either(slc, 0xff, (0x09, 0x0d), (0x20, 0x7e))
 }
 
 /// Returns whether the byte `c` is an ASCII letter, uppercase or lowercase.
@@ -36,19 +36,20 @@ pub fn is_valid_letter(c: u8) -> bool
 pub fn is_valid_letter_slice(slc: &[u8]) -> bool
     ensures { IsTrue result ↔ AllPass letters slc.now }
 {
-    all_in_either(slc, (b'A', b'Z'), (b'a', b'z'))
+    all_in_either(slc, 0xdf, (b'A', b'Z'), (b'A', b'Z'))
 }
 
-// Whether every byte of `bytes` is in one of two ranges, each given by its lowest and highest byte.
+// Whether every byte of `bytes` is in one of two ranges, each given by its lowest and highest byte,
+// once the bits that `kept` lacks are cleared.
 //
 // It looks at 32 bytes at a time, and then at the rest, fewer than 32.
 #[inline(always)]
-fn all_in_either(bytes: &[u8], first: (u8, u8), second: (u8, u8)) -> bool
+fn all_in_either(bytes: &[u8], kept: u8, first: (u8, u8), second: (u8, u8)) -> bool
     requires { AreRanges first second }
-    ensures { IsTrue result ↔ AllPass (in_either first second) bytes.now }
+    ensures { IsTrue result ↔ AllPass (in_either kept first second) bytes.now }
 {
     let (chunks, rest) = bytes.as_chunks::<32>();
-    chunks_in_either(chunks, first, second) & few_in_either(rest, first, second)
+    chunks_in_either(chunks, kept, first, second) & few_in_either(rest, kept, first, second)
 }
 
 // Whether every byte of chunks, few or many, is in one of the ranges.
@@ -57,32 +58,37 @@ fn all_in_either(bytes: &[u8], first: (u8, u8), second: (u8, u8)) -> bool
 // four streams faster than one, and stops at the first block that fails. A test after each chunk
 // would take as long as all else.
 #[inline(always)]
-fn chunks_in_either(chunks: &[[u8; 32]], first: (u8, u8), second: (u8, u8)) -> bool
+fn chunks_in_either(chunks: &[[u8; 32]], kept: u8, first: (u8, u8), second: (u8, u8)) -> bool
     requires { AreRanges first second }
-    ensures { result ≡ list_all (list_all (in_either first second)) chunks.now }
+    ensures { result ≡ list_all (list_all (in_either kept first second)) chunks.now }
 {
     let (blocks, _) = chunks.as_chunks::<8>();
     let quarter = blocks.len() / 4;
     for turn in 0..4 * quarter {
         let block = &blocks[turn % 4 * quarter + turn / 4];
-        if !block_in_either(block, first, second) {
+        if !block_in_either(block, kept, first, second) {
             return false;
         }
     }
-    block_in_either(&chunks[32 * quarter..], first, second)
+    block_in_either(&chunks[32 * quarter..], kept, first, second)
 }
 
 // Whether every byte of a few chunks of `N` bytes is in one of the ranges, with one test after the last.
 #[inline(always)]
-fn block_in_either<const N: usize>(block: &[[u8; N]], first: (u8, u8), second: (u8, u8)) -> bool
+fn block_in_either<const N: usize>(
+    block: &[[u8; N]],
+    kept: u8,
+    first: (u8, u8),
+    second: (u8, u8),
+) -> bool
     requires narrow { N ≤ 64 }
     requires ranges { AreRanges first second }
-    ensures { result ≡ list_all (list_all (in_either first second)) block.now }
+    ensures { result ≡ list_all (list_all (in_either kept first second)) block.now }
 {
     let last = second.1 - second.0;
     let mut largest = Simd::<u8, N>::splat(0);
     for chunk in block {
-        largest = joined(largest, Simd::from_array(*chunk), first, second);
+        largest = joined(largest, Simd::from_array(*chunk), kept, first, second);
     }
     !largest.simd_gt(Simd::splat(last)).any()
 }
@@ -97,39 +103,42 @@ fn block_in_either<const N: usize>(block: &[[u8; N]], first: (u8, u8), second: (
 fn joined<const N: usize>(
     largest: Simd<u8, N>,
     lanes: Simd<u8, N>,
+    kept: u8,
     first: (u8, u8),
     second: (u8, u8),
 ) -> Simd<u8, N>
     requires { AreRanges first second }
     ensures { list_all (λ lane. nat_le lane (second.1 - second.0)) result
-        ≡ (list_all (λ lane. nat_le lane (second.1 - second.0)) largest.entry && list_all (in_either first second) lanes.entry) }
+        ≡ (list_all (λ lane. nat_le lane (second.1 - second.0)) largest.entry && list_all (in_either kept first second) lanes.entry) }
 {
     let longer = (second.1 - second.0) - (first.1 - first.0);
-    let from_first = (lanes - Simd::splat(first.0)).saturating_add(Simd::splat(longer));
-    let from_second = lanes - Simd::splat(second.0);
+    let bytes = lanes & Simd::splat(kept);
+    let from_first = (bytes - Simd::splat(first.0)).saturating_add(Simd::splat(longer));
+    let from_second = bytes - Simd::splat(second.0);
     largest.simd_max(from_first.simd_min(from_second))
 }
 
 // Whether every one of fewer than 32 bytes is in one of the ranges: 16 are tested at once, if there are
 // as many, and the others one by one.
 #[inline(always)]
-fn few_in_either(bytes: &[u8], first: (u8, u8), second: (u8, u8)) -> bool
+fn few_in_either(bytes: &[u8], kept: u8, first: (u8, u8), second: (u8, u8)) -> bool
     requires { AreRanges first second }
-    ensures { result ≡ list_all (in_either first second) bytes.now }
+    ensures { result ≡ list_all (in_either kept first second) bytes.now }
 {
     let (halves, rest) = bytes.as_chunks::<16>();
-    block_in_either(halves, first, second) & bytes_in_either(rest, first, second)
+    block_in_either(halves, kept, first, second) & bytes_in_either(rest, kept, first, second)
 }
 
 // Whether every one of a few bytes is in one of the ranges. It looks at all of them, with one test
 // after the last.
 #[inline(always)]
-fn bytes_in_either(bytes: &[u8], first: (u8, u8), second: (u8, u8)) -> bool
-    ensures { result ≡ list_all (in_either first second) bytes.now }
+fn bytes_in_either(bytes: &[u8], kept: u8, first: (u8, u8), second: (u8, u8)) -> bool
+    ensures { result ≡ list_all (in_either kept first second) bytes.now }
 {
     let mut all = true;
     for byte in bytes {
-        all &= (*byte >= first.0 && *byte <= first.1) || (*byte >= second.0 && *byte <= second.1);
+        let c = *byte & kept;
+        all &= (c >= first.0 && c <= first.1) || (c >= second.0 && c <= second.1);
     }
     all
 }

@@ -6,4 +6,4 @@ use Rattle.lexical_base.proofs.ascii.chunks_in_either.Given as goal
 
 abbrev pub invariant-loop-turn : goal.invariant-loop-turn
 invariant-loop-turn l = (turn : ℕ) → turn < l.turn
-    → list_all (list_all (in_either l.first l.second)) (slice_index_or l.blocks (place l.quarter turn) []) ≡ true
+    → list_all (list_all (in_either l.kept l.first l.second)) (slice_index_or l.blocks (place l.quarter turn) []) ≡ true
