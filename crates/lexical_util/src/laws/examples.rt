@@ -80,6 +80,9 @@ pub fn compose_examples()
     // A separator that is dropped, and then written again together with its flag.
     ensures written_again { Composes 0x0A0A0A00_0000005F_00000000_0000000C []
         (write_flag layout.special_digit_separator true ∷ write_byte layout.digit_separator 0x2C ∷ []) }
+
+    // One that is dropped, and that no flag or one flag allows afterwards.
+    ensures not_wanted { Composes 0x0A0A0A00_0000005F_00000000_0000000C [] (write_flag layout.no_special true ∷ []) }
     ensures dropped { Composes 0x0A0A0A00_0000005F_00000000_0000000C []
         (write_flag layout.special_digit_separator true ∷ []) → ⊥ }
 

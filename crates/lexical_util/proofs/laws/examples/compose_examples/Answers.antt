@@ -1,4 +1,5 @@
 use Rattle.std.proofs.Common.{◌≡◌, ℕ, Some, None, inr, refl, arith}
+use Rattle.std.proofs.lemmas.Bool.{false≢true}
 use Rattle.lexical_flags.specs.Layout as layout
 use Rattle.lexical_builder.specs.Writes.{after}
 use Rattle.lexical_util.proofs.ComposeLemmas.{wanted_stay}
@@ -13,6 +14,7 @@ unfolding after
 returns c = record {
   fields = wanted_stay _ _ (λ left on. inr refl) ten ten;
   written_again = wanted_stay _ _ (λ left on. let value : Some 0x2C ≡ None = left in absurd cc) ten ten;
+  not_wanted = wanted_stay _ _ (λ left on. absurd (false≢true on)) ten ten;
   dropped = λ composes. let value : 0 ≡ 0x5F = composes.byte layout.digit_separator refl refl in omega (arith, value);
   filled_base = λ composes. ten (composes.byte layout.exponent_base refl tt);
   filled_radix = λ composes. ten (composes.byte layout.exponent_radix refl tt);
