@@ -1,12 +1,12 @@
 -- The flags of a word under a mask, and the fields of a record joined by `|`.
-use Rattle.std.proofs.Common.{ℕ, ◌≡◌, ◌≢◌, ◌+◌, ◌*◌, ◌/◌, ◌%◌, ◌^◌, ◌<◌, ◌==◌, Bool, true, false, not, ◌||◌, inl, inr}
-use Rattle.std.proofs.Common.{List, [], ◌∷◌, sum_by, bit_and, bit_or, refl, ap, sym, ◌∙◌, arith}
-use Rattle.std.specs.List.{fold, list_any}
+use Rattle.std.proofs.Common.{ℕ, ◌≡◌, ◌≢◌, ◌+◌, ◌*◌, ◌/◌, ◌%◌, ◌^◌, ◌<◌, ◌==◌, true, false, not, ◌||◌, inl, inr}
+use Rattle.std.proofs.Common.{List, [], ◌∷◌, sum_by, bit_and, bit_or, refl, ap, sym, subst, ◌∙◌, arith}
+use Rattle.std.specs.List.{filter, fold, list_any}
 use Rattle.std.proofs.Math.Nat.{mod-lt, zero-mul}
 use Rattle.std.proofs.lemmas.List.Sums.{sum_by-cons, sum_by_from}
 use Rattle.std.proofs.lemmas.Nat.{pow_pos}
 use Rattle.std.proofs.lemmas.Nat.Bits.{and_pow}
-use Rattle.std.proofs.lemmas.Bool.{cases_lt, cases_eq, ne_eqb, eq-eqb}
+use Rattle.std.proofs.lemmas.Bool.{cases_lt, ne_eqb, eq-eqb}
 use Rattle.std.proofs.lemmas.Bool.Decides.{nat_tests}
 use Rattle.lexical_flags.specs.Layout.{part, Flag, bit, shift, flags, bytes, digit_separator_flags}
 use Rattle.lexical_flags.specs.Record.{Record, tabulate, flag_of, byte_of, raw, word_of, flag_bits, byte_bits}
@@ -29,21 +29,23 @@ flag_test word k =
     ap (λ n. not (n == 0)) (and_pow word k)
     ∙ moved_bit-set (part word k 1) (2 ^ k) (mod-lt _ (omega arith)) (pow_pos k)
 
--- whether a number is the mask of one flag
-abbrev pub is_flag_mask : ℕ → Bool
-is_flag_mask mask = list_any (λ f. 2 ^ bit f == mask) flags
+-- the flags that a mask has
+abbrev pub members : ℕ → List Flag
+members mask = filter (λ f. not (bit_and mask (2 ^ bit f) == 0)) flags
 
-at_flag : (fs : List Flag) (word mask : ℕ) → list_any (λ f. 2 ^ bit f == mask) fs ≡ true
+-- the test of a mask of one flag that is written as a number
+pub flag_by_mask : (word mask : ℕ) → 2 ^ sum_by bit (members mask) ≡ mask
     → not (bit_and word mask == 0) ≡ (word / mask % 2 == 1)
-at_flag [] word mask h = cc
-at_flag (f ∷ fs) word mask h = elim (cases_eq (2 ^ bit f) mask) [
-  | inl same ↦ rw (← same) (flag_test word (bit f))
-  | inr differ ↦ at_flag fs word mask (rw (let other : (2 ^ bit f == mask) ≡ false = ne_eqb _ _ differ in other) at h)
-]
+flag_by_mask word mask is =
+    subst (λ m. not (bit_and word m == 0) ≡ (word / m % 2 == 1)) is (flag_test word (sum_by bit (members mask)))
 
--- the same for a mask that is written as a number
-pub flag_by_mask : (word mask : ℕ) → is_flag_mask mask ≡ true → not (bit_and word mask == 0) ≡ (word / mask % 2 == 1)
-flag_by_mask word mask is = at_flag flags word mask is
+-- what a word has under a mask of flags that is written as a number
+pub flags_under : (word mask : ℕ) → mask_of (members mask) ≡ mask → ascends bit 1 0 (members mask) ≡ true
+    → bit_and word mask ≡ sum_by (λ f. part word (bit f) 1 * 2 ^ bit f) (members mask)
+flags_under word mask is up = ap (bit_and word) (sym is) ∙ and_all bit (members mask) word up
+
+-- what the search needs for tests of flags
+pub ruleset flag_tests = (flags_under, nat_tests)
 
 sum-set : (m n : ℕ) → not (m + n == 0) ≡ (not (m == 0) || not (n == 0))
 sum-set m n = grind (arith, nat_tests)

@@ -16,5 +16,4 @@ mod RoleLemmas
 mod OptionLemmas
 mod OptionTest
 mod ReservedBits
-mod FlagTests
 mod ExampleLemmas

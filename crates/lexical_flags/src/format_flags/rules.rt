@@ -1,7 +1,7 @@
 //! The rules of a format word: a test for each, and the error of the first that a word breaks.
 //!
 //! A word that breaks no rule is *lawful*; the view of a word calls it valid.
-#![tactic(auto, using(crate::proofs::FlagTests::flag_tests), unfolding(crate::specs::Rules::Holds, crate::specs::Rules::IsPunctuation))]
+#![tactic(auto, using(crate::proofs::FlagBits::flag_tests), unfolding(crate::specs::Rules::Holds, crate::specs::Rules::IsPunctuation))]
 
 ghost use Rattle.std.specs.Prelude.{◌≡◌, ◌≢◌, ◌↔◌, IsTrue, bit_or};
 ghost use Rattle.std.specs.List.{AllByRecursion};
