@@ -101,23 +101,18 @@ word_of-raw w l clean =
     word_of-joined (raw w) ∙ ap (joined 0 widths) (values-raw w clean)
     ∙ omega (arith, joined-segments 0 widths w, mod-eq_of_lt l)
 
--- the bytes of a record, by their names
-by_name : (r : Record) → r.digit_separator < 256 → r.base_prefix < 256 → r.base_suffix < 256 → r.mantissa_radix < 256
-    → r.exponent_base < 256 → r.exponent_radix < 256
-    → (b : Byte) → byte_of r b < 256
-by_name r separator prefix suffix radix base exponent layout.digit_separator = separator
-by_name r separator prefix suffix radix base exponent layout.base_prefix = prefix
-by_name r separator prefix suffix radix base exponent layout.base_suffix = suffix
-by_name r separator prefix suffix radix base exponent layout.mantissa_radix = radix
-by_name r separator prefix suffix radix base exponent layout.exponent_base = base
-by_name r separator prefix suffix radix base exponent layout.exponent_radix = exponent
-
 -- a record has bytes if each of the six is one
 pub HasBytes-by_name : (r : Record) → r.digit_separator < 256 → r.base_prefix < 256 → r.base_suffix < 256
     → r.mantissa_radix < 256 → r.exponent_base < 256 → r.exponent_radix < 256
     → HasBytes r
-HasBytes-by_name r separator prefix suffix radix base exponent =
-    record { each = by_name r separator prefix suffix radix base exponent }
+HasBytes-by_name r separator prefix suffix radix base exponent = record { each = fits } where
+  fits : (b : Byte) → byte_of r b < 256
+  fits layout.digit_separator = separator
+  fits layout.base_prefix = prefix
+  fits layout.base_suffix = suffix
+  fits layout.mantissa_radix = radix
+  fits layout.exponent_base = base
+  fits layout.exponent_radix = exponent
 
 -- the record of every word has bytes
 pub HasBytes-raw : (w : ℕ) → HasBytes (raw w)
@@ -130,21 +125,21 @@ effective-lt own radix own_fits radix_fits = grind (arith, nat_tests)
 
 -- filling the exponent bytes leaves bytes
 pub HasBytes-fill : (r : Record) → HasBytes r → HasBytes (fill r)
-HasBytes-fill r h =
-    let byte = h.each in
-    let radix = byte layout.mantissa_radix in
-    HasBytes-by_name (fill r) (byte layout.digit_separator) (byte layout.base_prefix) (byte layout.base_suffix) radix
-    (effective-lt r.exponent_base r.mantissa_radix (byte layout.exponent_base) radix)
-    (effective-lt r.exponent_radix r.mantissa_radix (byte layout.exponent_radix) radix)
+HasBytes-fill r h = record { each = fits } where
+  fits : (b : Byte) → byte_of (fill r) b < 256
+  fits layout.exponent_base = effective-lt _ _ (h.each layout.exponent_base) (h.each layout.mantissa_radix)
+  fits layout.exponent_radix = effective-lt _ _ (h.each layout.exponent_radix) (h.each layout.mantissa_radix)
+  fits layout.digit_separator = h.each layout.digit_separator
+  fits b = h.each b
 
 -- dropping the separator leaves bytes
 pub HasBytes-trim : (r : Record) → HasBytes r → HasBytes (trim r)
-HasBytes-trim r h =
-    let byte = h.each in
-    HasBytes-by_name (trim r)
-    (cond_both (separator_on r) r.digit_separator 0 (λ n. n < 256) (λ _. byte layout.digit_separator) (λ _. omega arith))
-    (byte layout.base_prefix)
-    (byte layout.base_suffix) (byte layout.mantissa_radix) (byte layout.exponent_base) (byte layout.exponent_radix)
+HasBytes-trim r h = record { each = fits } where
+  fits : (b : Byte) → byte_of (trim r) b < 256
+  fits layout.digit_separator = cond_both (separator_on r) r.digit_separator 0 (λ n. n < 256)
+      (λ _. h.each layout.digit_separator) (λ _. omega arith)
+  fits layout.base_prefix = h.each layout.base_prefix
+  fits b = h.each b
 
 -- what is packed is read back, without an unused separator
 pub raw-pack : (r : Record) → HasBytes r → raw (pack r) ≡ trim r
