@@ -68,7 +68,8 @@ module _ (first second : ℕ × ℕ) (ranges : AreRanges first second) where
       → (let d = minus byte first.0 in
       let s = plus d (cond (top 7 (below longer (255 - d))) longer (255 - d)) in
       let m = cond (top 7 (below s (minus byte second.0))) s (minus byte second.0) in
-      nat_le (cond (top 7 (below largest m)) m largest) last ≡ (nat_le largest last && (between first.0 first.1 byte || between second.0 second.1 byte)))
+      nat_le (cond (top 7 (below largest m)) m largest) last
+      ≡ (nat_le largest last && (between first.0 first.1 byte || between second.0 second.1 byte)))
   joined_lane largest byte fits =
       let d = minus byte first.0 in
       let e = minus byte second.0 in
@@ -86,12 +87,19 @@ module _ (first second : ℕ × ℕ) (ranges : AreRanges first second) where
         chosen (ltb longer (255 - d)) longer (255 - d),
         chosen (ltb s e) s e,
         chosen (ltb largest m) m largest,
-      ) (max_le largest m last ∙ ap (λ b. nat_le largest last && b) (min_le s e last ∙ ap₂ (λ p q. p || q) in_first in_second))
+      )
+      (max_le largest m last
+      ∙ ap (λ b. nat_le largest last && b) (min_le s e last ∙ ap₂ (λ p q. p || q) in_first in_second))
 
   -- all lanes
+  abbrev distances : ℕ → ℕ → List ℕ → List ℕ
+  distances n kept bytes =
+      let cleared = zip2 bit_and bytes (replicate n kept) in
+      minima (sums (zip2 minus cleared (replicate n first.0)) (replicate n longer))
+      (zip2 minus cleared (replicate n second.0))
+
   pub joined_lanes : (kept : ℕ) (largest bytes : List ℕ) → length largest ≡ length bytes → Each1 (Fits w8) bytes
-      → list_all (λ lane. nat_le lane last) (maxima largest (minima (sums (zip2 minus (zip2 bit_and bytes (replicate (length bytes) kept)) (replicate (length bytes) first.0))
-      (replicate (length bytes) longer)) (zip2 minus (zip2 bit_and bytes (replicate (length bytes) kept)) (replicate (length bytes) second.0))))
+      → list_all (λ lane. nat_le lane last) (maxima largest (distances (length bytes) kept bytes))
       ≡ (list_all (λ lane. nat_le lane last) largest && list_all (in_either kept first second) bytes)
   joined_lanes kept [] [] same fits = refl
   joined_lanes kept [] (byte ∷ bytes) same fits = absurd (omega (arith, same))

@@ -54,7 +54,7 @@ fn all_in_either(bytes: &[u8], kept: u8, first: (u8, u8), second: (u8, u8)) -> b
 
 // Whether every byte of chunks, few or many, is in one of the ranges.
 //
-// From 32 chunks on it takes blocks of eight, in turn from each of four quarters, since memory serves
+// From 64 chunks on it takes blocks of 16, in turn from each of four quarters, since memory serves
 // four streams faster than one, and stops at the first block that fails. A test after each chunk
 // would take as long as all else.
 #[inline(always)]
@@ -62,7 +62,7 @@ fn chunks_in_either(chunks: &[[u8; 32]], kept: u8, first: (u8, u8), second: (u8,
     requires { AreRanges first second }
     ensures { result ≡ list_all (list_all (in_either kept first second)) chunks.now }
 {
-    let (blocks, _) = chunks.as_chunks::<8>();
+    let (blocks, _) = chunks.as_chunks::<16>();
     let quarter = blocks.len() / 4;
     for turn in 0..4 * quarter {
         let block = &blocks[turn % 4 * quarter + turn / 4];
@@ -70,7 +70,7 @@ fn chunks_in_either(chunks: &[[u8; 32]], kept: u8, first: (u8, u8), second: (u8,
             return false;
         }
     }
-    block_in_either(&chunks[32 * quarter..], kept, first, second)
+    block_in_either(&chunks[64 * quarter..], kept, first, second)
 }
 
 // Whether every byte of a few chunks of `N` bytes is in one of the ranges, with one test after the last.
