@@ -59,7 +59,8 @@ chunk_at : {X : Type 0} (n k m : ℕ) (xs : List X) (i : ℕ) → i < k → i < 
 chunk_at n zero m xs i in_k in_m = absurd (omega (arith, in_k))
 chunk_at n (suc k) zero xs i in_k in_m = absurd (omega (arith, in_m))
 chunk_at n (suc k) (suc m) xs zero in_k in_m = refl
-chunk_at n (suc k) (suc m) xs (suc i) in_k in_m = chunk_at n k m (drop n xs) i (omega (arith, in_k)) (omega (arith, in_m))
+chunk_at n (suc k) (suc m) xs (suc i) in_k in_m =
+    chunk_at n k m (drop n xs) i (omega (arith, in_k)) (omega (arith, in_m))
 
 length-first_chunks : {X : Type 0} (n k : ℕ) (xs : List X) → length (first_chunks n k xs) ≡ k
 length-first_chunks n zero xs = refl
@@ -110,8 +111,8 @@ rest_decides p n m quarter xs blocks_are room seen k end rest =
     rest ∙ ap (λ at. list_all p (drop at xs)) end ∙ sym (by_chunks p n count xs ∙ rw pass refl)
 
 -- if a block fails, so does the list
-pub block_fails : {X : Type 0} (p : X → Bool) (n m i : ℕ) (xs : List X) {blocks : List (List X)} → blocks ≡ first_chunks n m xs
-    → i < m → list_all p (slice_index_or blocks i []) ≡ false → false ≡ list_all p xs
+pub block_fails : {X : Type 0} (p : X → Bool) (n m i : ℕ) (xs : List X) {blocks : List (List X)}
+    → blocks ≡ first_chunks n m xs → i < m → list_all p (slice_index_or blocks i []) ≡ false → false ≡ list_all p xs
 block_fails p n m i xs blocks_are within fails =
     let some : list_all (list_all p) (first_chunks n m xs) ≡ false = list_all_at (list_all p) _ i []
     (omega (arith, within, length-first_chunks n m xs)) (rw blocks_are at fails) in

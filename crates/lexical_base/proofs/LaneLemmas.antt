@@ -119,7 +119,8 @@ clear_mask : (last : ℕ) (lanes : List ℕ)
     → not (not (eqb (mask_l (map (λ lane. ltb last lane) lanes)) 0)) ≡ list_all (λ lane. nat_le lane last) lanes
 clear_mask last [] = refl
 clear_mask last (lane ∷ lanes) =
-    one lane (mask_l (map (λ lane. ltb last lane) lanes)) ∙ ap (λ rest. nat_le lane last && rest) (clear_mask last lanes)
+    one lane (mask_l (map (λ lane. ltb last lane) lanes))
+    ∙ ap (λ rest. nat_le lane last && rest) (clear_mask last lanes)
   where
     one : (lane m : ℕ)
         → not (not (eqb (cond (ltb last lane) 1 0 + 2 * m) 0)) ≡ (nat_le lane last && not (not (eqb m 0)))

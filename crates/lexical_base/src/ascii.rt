@@ -109,7 +109,8 @@ fn joined<const N: usize>(
 ) -> Simd<u8, N>
     requires { AreRanges first second }
     ensures { list_all (λ lane. nat_le lane (second.1 - second.0)) result
-        ≡ (list_all (λ lane. nat_le lane (second.1 - second.0)) largest.entry && list_all (in_either kept first second) lanes.entry) }
+        ≡ (list_all (λ lane. nat_le lane (second.1 - second.0)) largest.entry
+        && list_all (in_either kept first second) lanes.entry) }
 {
     let longer = (second.1 - second.0) - (first.1 - first.0);
     let bytes = lanes & Simd::splat(kept);

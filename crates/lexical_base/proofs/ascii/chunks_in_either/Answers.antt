@@ -9,8 +9,8 @@ pub returns-then-not-block_in_either : goal.returns-then-not-block_in_either
 returns-then-not-block_in_either c =
     let quarter = length c.as_chunks.result.0.now / 4 in
     let turn = c.loop-turn.turn in
-    block_fails (list_all (in_either c.args.kept c.args.first c.args.second)) 16 (length c.args.chunks.now / 16) (place quarter turn)
-    c.args.chunks.now c.as_chunks.ensures.front
+    block_fails (list_all (in_either c.args.kept c.args.first c.args.second)) 16 (length c.args.chunks.now / 16)
+    (place quarter turn) c.args.chunks.now c.as_chunks.ensures.front
     (omega (arith, place-lt quarter turn c.loop-turn-test.true, c.as_chunks.ensures.front_len))
     (sym c.block_in_either.ensures ∙ c.if-not-block_in_either.true)
 
