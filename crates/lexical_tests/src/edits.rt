@@ -51,7 +51,7 @@ fn edits_a_word_once_with_all_edits(rt: HostRuntime) {
         ),
     ];
     for (format, edits, want) in cases {
-        assert_eq!(rt; edit_word(format, edits), want, "{edits:?} of {format:x}");
+        assert_eq!(rt; edit_word(format, edits), want);
     }
 }
 
@@ -87,16 +87,11 @@ fn edits_compose_unless_a_byte_is_filled_or_dropped_between(rt: HostRuntime) {
     ];
     for (first, second, once, twice) in cases {
         let between = edit_word(DECIMAL, &[first]);
-        assert_eq!(rt;
+        let (both, each) = (
             edit_word(DECIMAL, &[first, second]),
-            once,
-            "{first:?} {second:?}"
-        );
-        assert_eq!(rt;
             edit_word(between, &[second]),
-            twice,
-            "{first:?} {second:?}"
         );
+        assert!(rt; both == once && each == twice, "{once:x}");
     }
 }
 
@@ -118,22 +113,18 @@ fn of_ten_thousand_groups_the_last_counts(rt: HostRuntime) {
     for (index, edit) in edits.iter_mut().enumerate() {
         *edit = Edit::Flag(FlagSetter::DigitSeparatorFlags, index % 2 == 1);
     }
-    assert_eq!(rt;
+    let (all, but_the_last) = (
         edit_word(STANDARD, &edits),
-        0x0A0A0A00_00000000_00001FFF_0000000C
+        edit_word(STANDARD, &edits[..9_999]),
     );
-    assert_eq!(rt; edit_word(STANDARD, &edits[..9_999]), DECIMAL);
+    assert!(rt; all == 0x0A0A0A00_00000000_00001FFF_0000000C && but_the_last == DECIMAL);
 }
 
 #[test]
 fn words_mean_the_same_if_they_have_one_normal_form(rt: HostRuntime) {
     for (format, other, same) in [(STANDARD, UNUSED_SEPARATOR, true), (0, 12, false)] {
-        assert_eq!(rt; same_format(format, other), same, "{format:x}");
-        assert_eq!(rt;
-            normal_form(format) == normal_form(other),
-            same,
-            "{format:x}"
-        );
+        let have_one = normal_form(format) == normal_form(other);
+        assert!(rt; same_format(format, other) == same && have_one == same);
     }
 }
 
@@ -143,8 +134,11 @@ fn each_reserved_bit_is_dropped_by_the_normal_form(rt: HostRuntime) {
     for (first, end) in [(18u32, 32u32), (45, 64), (72, 88)] {
         for bit in first..end {
             let format = DECIMAL | 1u128.wrapping_shl(bit);
-            assert!(rt; format_error(format) == Error::InvalidFlags, "bit {bit}");
-            assert!(rt; normal_form(format) == DECIMAL, "bit {bit}");
+            let error = format_error(format);
+            assert!(rt;
+                error == Error::InvalidFlags && normal_form(format) == DECIMAL,
+                "bit {bit}"
+            );
         }
     }
 }
@@ -184,17 +178,17 @@ fn errors_of_words_and_of_their_normal_forms(rt: HostRuntime) {
         ),
     ];
     for ((format, error), (normal, normal_error)) in cases {
-        assert_eq!(rt; format_error(format), error, "{format:x}");
-        assert_eq!(rt; normal_form(format), normal, "of {format:x}");
-        assert_eq!(rt; format_error(normal), normal_error, "{normal:x}");
+        let are_right = format_error(format) == error && format_error(normal) == normal_error;
+        assert!(rt; are_right && normal_form(format) == normal, "{format:x}");
     }
 }
 
 #[test]
 fn a_separator_may_be_valid_in_a_word_that_is_not(rt: HostRuntime) {
     let format = 0xFFFFFF00_0000007E_00000001_0000000C;
-    assert!(rt; is_valid_digit_separator(format));
-    assert_eq!(rt; format_error(format), Error::InvalidMantissaRadix);
+    assert!(rt;
+        is_valid_digit_separator(format) && format_error(format) == Error::InvalidMantissaRadix
+    );
     assert!(rt; !is_valid_digit_separator(0xFFFFFF00_000000FF_00000001_0000000C));
 }
 
@@ -233,13 +227,14 @@ fn migrate_returns_the_normal_form_or_its_error(rt: HostRuntime) {
 #[test]
 fn what_migrate_does_not_mend_an_edit_does(rt: HostRuntime) {
     let contradiction = 0x00000A00_00000035_00000000_0000404C;
-    assert_eq!(rt; format_error(contradiction), Error::InvalidDigitSeparator);
+    assert!(rt; format_error(contradiction) == Error::InvalidDigitSeparator);
     let mended = edit_word(
         contradiction,
         &[Edit::Flag(FlagSetter::RequiredExponentNotation, false)],
     );
-    assert_eq!(rt; mended, 0x0A0A0A00_00000000_00000000_0000004C);
-    assert_eq!(rt; format_error(mended), Error::Success);
+    assert!(rt;
+        mended == 0x0A0A0A00_00000000_00000000_0000004C && format_error(mended).is_success()
+    );
 }
 
 #[test]
@@ -252,23 +247,19 @@ fn letters_in_two_cases_are_told_apart_by_the_flags_of_case(rt: HostRuntime) {
             Edit::Flag(FlagSetter::CaseSensitiveBaseSuffix, true),
         ],
     );
-    assert_eq!(rt; apart, 0x0A0A0A48_68000000_00000000_0003000C);
-    assert_eq!(rt; format_error(apart), Error::Success);
+    assert!(rt; apart == 0x0A0A0A48_68000000_00000000_0003000C && format_error(apart).is_success());
 
     let used_separator = 0x00000A00_78000058_00000001_0000000C;
-    assert_eq!(rt; migrate(used_separator), Err(Error::InvalidPunctuation));
+    assert!(rt; migrate(used_separator) == Err(Error::InvalidPunctuation));
     let apart = edit_word(
         used_separator,
         &[Edit::Flag(FlagSetter::CaseSensitiveBasePrefix, true)],
     );
-    assert_eq!(rt; apart, 0x0A0A0A00_78000058_00000001_0001000C);
-    assert_eq!(rt; format_error(apart), Error::Success);
+    assert!(rt; apart == 0x0A0A0A00_78000058_00000001_0001000C && format_error(apart).is_success());
 
     let prefix = 0x00000A00_45000000_00000000_0000000C;
-    assert_eq!(rt; format_error(prefix), Error::Success);
-    assert_eq!(rt; migrate(prefix), Ok(0x0A0A0A00_45000000_00000000_0000000C));
-    assert!(rt; !is_valid_options_punctuation(prefix, b'e', b'.'));
-    assert!(rt; is_valid_options_punctuation(prefix, b'^', b'.'));
+    let normal = Ok(0x0A0A0A00_45000000_00000000_0000000C);
+    assert!(rt; format_error(prefix).is_success() && migrate(prefix) == normal);
     let apart = edit_word(
         prefix,
         &[
@@ -276,8 +267,15 @@ fn letters_in_two_cases_are_told_apart_by_the_flags_of_case(rt: HostRuntime) {
             Edit::Flag(FlagSetter::CaseSensitiveBasePrefix, true),
         ],
     );
-    assert_eq!(rt; apart, 0x0A0A0A00_45000000_00000000_0001800C);
-    assert!(rt; is_valid_options_punctuation(apart, b'e', b'.'));
+    assert!(rt; apart == 0x0A0A0A00_45000000_00000000_0001800C);
+    let accepted = [
+        (prefix, b'e', false),
+        (prefix, b'^', true),
+        (apart, b'e', true),
+    ];
+    for (format, exponent, want) in accepted {
+        assert!(rt; is_valid_options_punctuation(format, exponent, b'.') == want);
+    }
 }
 
 #[test]
@@ -317,23 +315,15 @@ fn edits_of_lists_the_needed_edits_first(rt: HostRuntime) -> Result<(), Fail> {
         );
     }
     let (edits, _) = edits_of(0);
-    assert_eq!(rt;
-        edits[0],
-        Edit::Flag(FlagSetter::RequiredExponentDigits, false)
-    );
-    let builder = apply(NumberFormatBuilder::new(), Edit::MantissaRadix(2));
-    assert_eq!(rt;
-        builder.build_unchecked(),
-        0x00000200_00000000_00000000_0000000C
-    );
+    let builder = apply(NumberFormatBuilder::new(), edits[0]);
+    assert!(rt; builder.build_unchecked() == 0x00000A00_00000000_00000000_00000008);
     Ok(())
 }
 
 #[test]
 fn clone_returns_an_equal_value(rt: HostRuntime) -> Result<(), Fail> {
-    assert_eq!(rt; FlagSetter::NoSpecial.clone()?, FlagSetter::NoSpecial);
-    assert_eq!(rt; Edit::Radix(16).clone()?, Edit::Radix(16));
     let byte = NonZeroU8::new(95).ok_or("95 is refused")?;
-    assert_eq!(rt; byte.clone()?, byte);
+    let (setter, edit) = (FlagSetter::NoSpecial, Edit::Radix(16));
+    assert!(rt; setter.clone()? == setter && edit.clone()? == edit && byte.clone()? == byte);
     Ok(())
 }

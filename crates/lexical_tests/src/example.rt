@@ -30,7 +30,7 @@ mod tests {
         let format = hexadecimal()?;
         assert_eq!(rt; format, 0x0A0A1000_7800005F_00000007_0000000C);
         let view = NumberFormat::new(format);
-        assert_eq!(rt; (view.radix(), view.digit_separator()), (16, b'_'));
+        assert!(rt; view.radix() == 16 && view.digit_separator() == b'_');
         assert!(rt; view.integer_internal_digit_separator());
         assert!(rt; !same_format(format, NumberFormatBuilder::hexadecimal()));
 

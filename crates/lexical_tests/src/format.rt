@@ -30,7 +30,7 @@ fn masks_have_their_bits(rt: HostRuntime) {
         (EXPONENT_DIGIT_SEPARATOR_FLAG_MASK, 0x924_0000_0000),
     ];
     for (i, (mask, bits)) in masks.iter().enumerate() {
-        assert_eq!(rt; *mask, *bits, "mask {i}");
+        assert!(rt; mask == bits, "mask {i}");
     }
 }
 
@@ -55,28 +55,29 @@ const WORD: u128 = 0x0A021068_7800005F_00000001_0000000C;
 
 #[test]
 fn each_function_looks_at_the_word(rt: HostRuntime) {
-    assert_eq!(rt; digit_separator(WORD), b'_');
-    assert_eq!(rt; base_prefix(WORD), b'x');
-    assert_eq!(rt; base_suffix(WORD), b'h');
-    assert_eq!(rt; mantissa_radix(WORD), 16);
-    assert_eq!(rt; exponent_base(WORD), 2);
-    assert_eq!(rt; exponent_radix(WORD), 10);
-    assert_eq!(rt;
+    let bytes = [digit_separator(WORD), base_prefix(WORD), base_suffix(WORD)];
+    let radixes = [
+        mantissa_radix(WORD),
+        exponent_base(WORD),
+        exponent_radix(WORD),
         radix_from_flags(WORD, EXPONENT_BASE, EXPONENT_BASE_SHIFT),
-        2
-    );
-    assert!(rt; is_digit(WORD, b'f'));
-    assert!(rt; is_valid_radix(36));
-    assert!(rt; is_valid_digit_separator(WORD));
-    assert!(rt; is_valid_base_prefix(WORD));
-    assert!(rt; is_valid_base_suffix(WORD));
-    assert!(rt; is_valid_punctuation(WORD));
-    assert!(rt; is_valid_exponent_flags(WORD));
-    assert!(rt; is_valid_options_punctuation(WORD, b'p', b'.'));
-    assert_eq!(rt; radix_error_impl(WORD), Error::Success);
-    assert_eq!(rt; format_error_impl(WORD), Error::Success);
-    assert_eq!(rt; format_error(WORD), Error::Success);
-    assert!(rt; format_is_valid(WORD));
+    ];
+    assert!(rt; bytes == [b'_', b'x', b'h'] && radixes == [16, 2, 10, 2]);
+    let tests = [
+        is_digit(WORD, b'f'),
+        is_valid_radix(36),
+        is_valid_digit_separator(WORD),
+        is_valid_base_prefix(WORD),
+        is_valid_base_suffix(WORD),
+        is_valid_punctuation(WORD),
+        is_valid_exponent_flags(WORD),
+        is_valid_options_punctuation(WORD, b'p', b'.'),
+        radix_error_impl(WORD).is_success(),
+        format_error_impl(WORD).is_success(),
+        format_error(WORD).is_success(),
+        format_is_valid(WORD),
+    ];
+    assert!(rt; tests == [true; 12]);
 }
 
 #[test]
@@ -86,9 +87,6 @@ fn views_and_builders_are_here_too(rt: HostRuntime) {
         .digit_separator(separator)
         .special_digit_separator(true);
     let word = builder.build_unchecked();
-    assert_eq!(rt;
-        word,
-        STANDARD | SPECIAL_DIGIT_SEPARATOR | 0x5F << DIGIT_SEPARATOR_SHIFT
-    );
-    assert_eq!(rt; NumberFormat::new(word).digit_separator(), b'_');
+    let want = STANDARD | SPECIAL_DIGIT_SEPARATOR | 0x5F << DIGIT_SEPARATOR_SHIFT;
+    assert!(rt; word == want && NumberFormat::new(word).digit_separator() == b'_');
 }

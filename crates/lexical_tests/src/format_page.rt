@@ -103,26 +103,30 @@ fn seen_by_a_builder(builder: &NumberFormatBuilder) -> [bool; 31] {
     with_flags!(getters(builder))
 }
 
+fn rows() -> [(u32, &'static str, u128, FlagSetter, bool); 31] {
+    with_flags!(flag_rows())
+}
+
 #[test]
 fn each_flag_has_its_bit_name_and_default(rt: HostRuntime) {
-    let rows: [(u32, &str, u128, FlagSetter, bool); 31] = with_flags!(flag_rows());
-    for (bit, name, mask, setter, default) in rows {
-        assert_eq!(rt; mask, 1u128.wrapping_shl(bit), "{bit}");
-        assert_eq!(rt; setter.name(), name, "{bit}");
-        assert_eq!(rt; edit_word(0, &[Flag(setter, true)]), mask, "{bit}");
-        assert_eq!(rt; STANDARD & mask != 0, default, "{bit}");
+    for (bit, name, mask, setter, default) in rows() {
+        let is_at_bit = mask == 1u128.wrapping_shl(bit) && (STANDARD & mask != 0) == default;
+        let is_set = setter.name() == name && edit_word(0, &[Flag(setter, true)]) == mask;
+        assert!(rt; is_at_bit && is_set, "{bit}");
     }
 }
 
 #[test]
 fn each_getter_sees_its_bit_alone(rt: HostRuntime) {
-    let rows: [(u32, &str, u128, FlagSetter, bool); 31] = with_flags!(flag_rows());
-    for (index, (_, name, mask, _, _)) in rows.iter().enumerate() {
+    for (index, (_, name, mask, _, _)) in rows().iter().enumerate() {
         let view = seen_by_a_view(&NumberFormat::new(*mask));
         let builder = seen_by_a_builder(&NumberFormatBuilder::rebuild(*mask));
         for (other, seen) in view.iter().enumerate() {
-            assert_eq!(rt; *seen, other == index, "{name} {other}");
-            assert_eq!(rt; builder[other], other == index, "{name} {other}");
+            let is_its_own = other == index;
+            assert!(rt;
+                *seen == is_its_own && builder[other] == is_its_own,
+                "{name} {other}"
+            );
         }
     }
 }
@@ -142,8 +146,8 @@ fn each_group_sets_its_flags(rt: HostRuntime) {
         (b"exponent_digit_separator_flags", ExponentDigitSeparatorFlags, 0x92400000000),
     ];
     for (name, setter, mask) in rows {
-        assert!(rt; setter.name().as_bytes() == name, "{mask}");
-        assert_eq!(rt; edit_word(0, &[Flag(setter, true)]), mask, "{mask}");
+        let is_named = setter.name().as_bytes() == name;
+        assert!(rt; is_named && edit_word(0, &[Flag(setter, true)]) == mask, "{mask}");
     }
 }
 
@@ -161,8 +165,11 @@ fn each_byte_has_its_bits_and_default(rt: HostRuntime) {
         (120, b"exponent_radix", 6, 0),
     ];
     for (shift, _, value, default) in rows {
-        assert_eq!(rt; BYTES.wrapping_shr(shift) & 255, value, "{shift}");
-        assert_eq!(rt; STANDARD.wrapping_shr(shift) & 255, default, "{shift}");
+        let of_standard = STANDARD.wrapping_shr(shift) & 255;
+        assert!(rt;
+            BYTES.wrapping_shr(shift) & 255 == value && of_standard == default,
+            "{shift}"
+        );
     }
 }
 
@@ -201,11 +208,11 @@ fn each_rule_has_its_error_and_a_word_of_which_no_bit_can_be_left_out(rt: HostRu
         (16, Error::InvalidFlags, 0x00000200_00000000_00000000_00040000),
     ];
     for (rule, error, word) in rows {
-        assert_eq!(rt; format_error(word), error, "{rule}");
+        assert!(rt; format_error(word) == error, "{rule}");
         for bit in 0..128u32 {
             let mask = 1u128.wrapping_shl(bit);
             if word & mask != 0 {
-                assert_ne!(rt; format_error(word ^ mask), error, "{rule} {bit}");
+                assert!(rt; format_error(word ^ mask) != error, "{rule} {bit}");
             }
         }
     }
@@ -219,6 +226,5 @@ fn the_word_of_the_drawing_has_these_fields(rt: HostRuntime) {
         Flag(InternalDigitSeparator, true),
     ];
     let word = 0x0A0A1000_0000005F_00000007_0000000C;
-    assert_eq!(rt; edit_word(STANDARD, &edits), word);
-    assert_eq!(rt; format_error(word), Error::Success);
+    assert!(rt; edit_word(STANDARD, &edits) == word && format_error(word).is_success());
 }
