@@ -7,18 +7,12 @@ use Rattle.std.proofs.lemmas.Nat.Bits.{and_high, bit_at-zero, bit_at_or, bit_at_
 use Rattle.std.proofs.lemmas.Bool.Decides.{nat_tests}
 use Rattle.lexical_flags.specs.Layout.{part, Flag, bit, flags, base_flags, digit_separator_flags}
 use Rattle.lexical_flags.specs.Layout as layout
+use Rattle.lexical_flags.proofs.Packing.{low, high}
 use Rattle.lexical_flags.proofs.Segments.{joined-segments}
 use Rattle.lexical_builder.specs.Fields.{builder_bit, flags_in}
 
 bit-lt : (n k : ℕ) → part n k 1 < 2
 bit-lt n k = mod-lt _ (omega arith)
-
--- how many flags there are below the digit separator flags, and how many of these
-abbrev low : ℕ
-low = length base_flags
-
-abbrev high : ℕ
-high = length digit_separator_flags
 
 -- each flag has a bit
 pub builder_bit-lt : (f : Flag) → builder_bit f < 32

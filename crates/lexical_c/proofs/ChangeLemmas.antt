@@ -48,20 +48,20 @@ more_applied {R} {changes} {i} {b} {next} {e} append d h inside edit applied =
       each = All-more HasSetter changes i d inside h.each (has_setter (get_or changes i d) e edit);
     }
 
--- of 37 changes the first i stand for the first i edits
+-- of as many changes as edits the first i stand for the first i edits
 pub record StandFor (changes : List Change) (edits : List Edit) (i : ℕ) : Type 0 where
-  pub count : length changes ≡ 37
+  pub count : length changes ≡ length edits
   pub edits_are : known (take i changes) ≡ take i edits
   pub each : All HasSetter (take i changes)
 
 -- before the first
-pub none_stand : (changes : List Change) (edits : List Edit) → length changes ≡ 37 → StandFor changes edits 0
+pub none_stand : (changes : List Change) (edits : List Edit) → length changes ≡ length edits → StandFor changes edits 0
 none_stand changes edits count = record { count = count; edits_are = refl; each = λ k d h. absurd (omega arith) }
 
 -- one change more
 pub more_stand : {changes : List Change} {edits : List Edit} {i : ℕ} {e : Edit} (c : Change) → StandFor changes edits i
-    → i < 37 → i < length edits → e ≡ get_or edits i e → edit_of c ≡ Some e → StandFor (set changes i c) edits (i + 1)
-more_stand {changes} {edits} {i} {e} c h inside some is edit =
+    → i < length edits → e ≡ get_or edits i e → edit_of c ≡ Some e → StandFor (set changes i c) edits (i + 1)
+more_stand {changes} {edits} {i} {e} c h some is edit =
     let front = take i changes in
     let taken : take (i + 1) (set changes i c) ≡ front ++ c ∷ [] = take_more_set changes i c (omega (arith, h.count)) in
     record {
@@ -73,8 +73,7 @@ more_stand {changes} {edits} {i} {e} c h inside some is edit =
 
 -- after the last
 pub all_stand : {changes : List Change} {edits : List Edit} {i : ℕ}
-    → StandFor changes edits i → 37 ≤ i → length edits ≤ i
-    → (known changes ≡ edits) × All HasSetter changes
-all_stand {changes} {edits} {i} h end ends =
+    → StandFor changes edits i → length edits ≤ i → (known changes ≡ edits) × All HasSetter changes
+all_stand {changes} {edits} {i} h ends =
     let all : take i changes ≡ changes = take_all i changes (omega (arith, h.count)) in
     (ap known (sym all) ∙ h.edits_are ∙ take_all i edits ends, All-same HasSetter _ _ (sym all) h.each)

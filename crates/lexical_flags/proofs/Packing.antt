@@ -1,6 +1,6 @@
 -- A packed record, and the record that a word holds.
 use Rattle.std.proofs.Common.{ℕ, zero, suc, ◌≡◌, ◌+◌, ◌*◌, ◌^◌, ◌<◌, ◌==◌, ◌⊎◌, ◌↔◌, Bool, true, false}
-use Rattle.std.proofs.Common.{IsTrue, if◌then◌else◌, List, [], ◌∷◌}
+use Rattle.std.proofs.Common.{◌-◌, IsTrue, if◌then◌else◌, length, List, [], ◌∷◌}
 use Rattle.std.proofs.Common.{◌++◌, map, sum_by, refl, ap, sym, ◌∙◌, subst, inl, inr, arith}
 use Rattle.std.proofs.Math.Nat.{mod-eq_of_lt, mod-lt}
 use Rattle.std.proofs.lemmas.Nat.{pow_pos}
@@ -13,9 +13,18 @@ use Rattle.lexical_flags.specs.Record.{Record, tabulate, flag_of, byte_of, raw, 
 use Rattle.lexical_flags.specs.Record.{effective, separator_on, HasBytes, IsBuilt}
 use Rattle.lexical_flags.proofs.Segments.{joined, segments, segments-joined, joined-segments, joined-below, Fit}
 
+-- how many flags there are below the digit separator flags, and how many of these
+abbrev pub low : ℕ
+low = length base_flags
+
+abbrev pub high : ℕ
+high = length digit_separator_flags
+
 -- the widths of the segments of a word from the lowest up, with the three reserved ones
 abbrev widths : List ℕ
-widths = map (λ _. 1) base_flags ++ 14 ∷ (map (λ _. 1) digit_separator_flags ++ 19 ∷ 8 ∷ 16 ∷ 8 ∷ 8 ∷ 8 ∷ 8 ∷ 8 ∷ [])
+widths =
+    map (λ _. 1) base_flags ++ (32 - low) ∷ (map (λ _. 1) digit_separator_flags ++ (32 - high) ∷
+    8 ∷ 16 ∷ 8 ∷ 8 ∷ 8 ∷ 8 ∷ 8 ∷ [])
 
 -- the values of all segments: flags, bytes, and the three reserved ones
 abbrev laid : (Flag → ℕ) → (Byte → ℕ) → ℕ → ℕ → ℕ → List ℕ
@@ -81,7 +90,7 @@ word_of-clean : (r : Record) → HasBytes r → IsClean (word_of r)
 word_of-clean r h =
     let at : (k : ℕ) → value_at k 0 widths (segments 0 widths (word_of r)) ≡ value_at k 0 widths (values r) =
     λ k. ap (value_at k 0 widths) (segments-word_of r h) in
-    record { below_separator_flags = at 18; below_separator = at 45; below_prefix = at 72 }
+    record { below_separator_flags = at low; below_separator = at (32 + high); below_prefix = at 72 }
 
 word_of-lt : (r : Record) → HasBytes r → word_of r < 2 ^ 128
 word_of-lt r h = omega (arith, word_of-joined r, joined-below 0 widths (values r) 0 (omega arith) (values-fit r h))

@@ -4,4 +4,4 @@ use Rattle.lexical_c.proofs.words.Fields.new.Goals as goal
 pub returns : goal.returns
 returns c =
     let parts = c.to_parts-flags in
-    same_fields parts.result.0 parts.result.1 c.args.builder.now parts.ensures.flags parts.ensures.fields
+    same_fields _ parts.result.0 parts.result.1 c.args.builder.now parts.ensures.flags parts.ensures.fields

@@ -1,4 +1,4 @@
-use Rattle.std.proofs.Common.{◌≡◌, inl, inr, refl, arith}
+use Rattle.std.proofs.Common.{◌≡◌, ◌==◌, inl, inr, refl, ap, arith}
 use Rattle.std.proofs.lemmas.Bool.{false≢true}
 use Rattle.lexical_flags.specs.Record.{raw, SeparatorIsUsed}
 use Rattle.lexical_util.specs.Normal.{IsNormal}
@@ -23,7 +23,7 @@ returns c = record {
     exponent_base = λ empty. refl;
     exponent_radix = λ empty. refl;
   };
-  reserved_bit = λ normal. let value : 8192 ≡ 0 = normal.clean.below_separator_flags in omega (arith, value);
+  reserved_bit = λ normal. false≢true (ap (λ n. n == 0) normal.clean.below_separator_flags);
   unused_separator = λ normal. not_used normal.separator_used;
   empty_base = λ normal. let value : 10 ≡ 0 = normal.exponent_base refl in omega (arith, value);
   empty_radix = λ normal. let value : 10 ≡ 0 = normal.exponent_radix refl in omega (arith, value);
