@@ -47,16 +47,17 @@ static void test_fields(void) {
     CHECK(peltzivar_build(&PELTZIVAR_NEW_FIELDS, edits, 7, &word));
     CHECK(is_word(word, 0x0605040302000001, 0x0000100000000000 | 0xC));
 
-    const peltzivar_edit unknown[] = {{PELTZIVAR_SET_RADIX, 7}, {47, 0}};
+    const peltzivar_edit unknown[] = {{PELTZIVAR_SET_RADIX, 7}, {PELTZIVAR_SET_EXPONENT_RADIX + 1, 0}};
     CHECK(!peltzivar_build(&fields, unknown, 2, &word));
     CHECK(is_word(word, 0x0605040302000001, 0x0000100000000000 | 0xC));
     const peltzivar_fields before = fields;
     CHECK(!peltzivar_edit_fields(&fields, unknown, 2));
     CHECK(memcmp(&fields, &before, sizeof fields) == 0);
-    for (uint8_t flag = 0; flag < 31; flag++) {
+    const uint8_t separators = PELTZIVAR_SET_INTEGER_INTERNAL_DIGIT_SEPARATOR;
+    for (uint8_t flag = 0; flag < PELTZIVAR_SET_REQUIRED_DIGITS; flag++) {
         const peltzivar_edit set = {flag, 200};
         CHECK(peltzivar_edit_word(ZERO, &set, 1, &word));
-        CHECK(is_word(word, 0, 1ull << (flag < 18 ? flag : flag + 14)));
+        CHECK(is_word(word, 0, 1ull << (flag < separators ? flag : flag - separators + 32)));
         CHECK(peltzivar_fields_of(word).flags == 1u << flag);
     }
 }
@@ -130,8 +131,8 @@ static void test_texts(void) {
     CHECK(peltzivar_text(PELTZIVAR_EMPTY, 5, text, 0) == 63 && text[0] == '#');
     CHECK(peltzivar_text(49, 0, text, sizeof text) == 0 && text[0] == '#');
     CHECK(peltzivar_description(49, text, sizeof text) == 0 && text[0] == '#');
-    CHECK(peltzivar_setter_name(47, text, sizeof text) == 0 && text[0] == '#');
-    for (uint8_t setter = 0; setter < 47; setter++) {
+    CHECK(peltzivar_setter_name(PELTZIVAR_SET_EXPONENT_RADIX + 1, text, sizeof text) == 0 && text[0] == '#');
+    for (uint8_t setter = 0; setter <= PELTZIVAR_SET_EXPONENT_RADIX; setter++) {
         size_t len = peltzivar_setter_name(setter, text, sizeof text);
         CHECK(peltzivar_setter_of_name(text, len) == setter);
         CHECK(peltzivar_setter_of_name(text, len - 1) == PELTZIVAR_NO_SETTER);

@@ -13,8 +13,8 @@ macro_rules! setters {
         { $($Group:ident $group:ident $group_doc:literal;)* }
         $bytes:tt
     ) => {
-        /// A builder setter that takes a `bool`: one for each of the 31 flags, and one for each of the nine
-        /// groups of flags. A variant stands for the setter of the same name in snake case.
+        /// A builder setter that takes a `bool`: one for each flag, and one for each of the nine groups
+        /// of flags. A variant stands for the setter of the same name in snake case.
         #[derive(Clone, Copy, Debug, PartialEq, Eq, Hash)]
         #[repr(u8)]
         pub enum FlagSetter {
@@ -48,9 +48,15 @@ macro_rules! setters {
             ExponentRadix(OptionU8),
         }
 
+        /// How many setters of flags and of groups there are. Those of bytes are numbered after them.
+        const SETTERS: usize = [$(FlagSetter::$Flag,)* $(FlagSetter::$Group,)*].len();
+
+        /// How many flags and bytes there are.
+        pub(crate) const FIELDS: usize = [$(FlagSetter::$Flag,)*].len() + 6;
+
         impl FlagSetter {
             /// All of them, each at its number.
-            pub const ALL: [FlagSetter; 40] = [$(FlagSetter::$Flag,)* $(FlagSetter::$Group,)*];
+            pub const ALL: [FlagSetter; SETTERS] = [$(FlagSetter::$Flag,)* $(FlagSetter::$Group,)*];
         }
 
         impl Edit {
@@ -81,10 +87,10 @@ with_setters!(setters);
 // An edit is its number and its argument, which is what the library takes.
 const _: () = assert!(size_of::<Edit>() == 2 && align_of::<Edit>() == 1);
 
-/// The names of all 47 setters, each at its number.
+/// The names of all setters, each at its number.
 fn names() -> &'static [String] {
     static NAMES: OnceLock<Vec<String>> = OnceLock::new();
-    NAMES.get_or_init(|| (0..47).map(ffi::setter_name).collect())
+    NAMES.get_or_init(|| (0..SETTERS as u8 + 7).map(ffi::setter_name).collect())
 }
 
 impl FlagSetter {
@@ -108,33 +114,31 @@ impl Edit {
 
     /// Returns the name of the setter.
     pub fn name(self) -> &'static str {
-        let setter = match self {
-            Edit::DigitSeparator(_) => 40,
-            Edit::BasePrefix(_) => 41,
-            Edit::BaseSuffix(_) => 42,
-            Edit::MantissaRadix(_) => 43,
-            Edit::Radix(_) => 44,
-            Edit::ExponentBase(_) => 45,
-            Edit::ExponentRadix(_) => 46,
-            flag => flag.as_flag().expect("any other edit is of flags").0 as usize,
+        let byte = match self {
+            Edit::DigitSeparator(_) => 0,
+            Edit::BasePrefix(_) => 1,
+            Edit::BaseSuffix(_) => 2,
+            Edit::MantissaRadix(_) => 3,
+            Edit::Radix(_) => 4,
+            Edit::ExponentBase(_) => 5,
+            Edit::ExponentRadix(_) => 6,
+            flag => return flag.as_flag().expect("any other edit is of flags").0.name(),
         };
-        &names()[setter]
+        &names()[SETTERS + byte]
     }
 
     fn from_numbers(setter: u8, value: u8) -> Option<Edit> {
         let byte = NonZeroU8::new(value);
-        match setter {
-            40 => Some(Edit::DigitSeparator(byte)),
-            41 => Some(Edit::BasePrefix(byte)),
-            42 => Some(Edit::BaseSuffix(byte)),
-            43 => Some(Edit::MantissaRadix(value)),
-            44 => Some(Edit::Radix(value)),
-            45 => Some(Edit::ExponentBase(byte)),
-            46 => Some(Edit::ExponentRadix(byte)),
-            setter => {
-                let setter = FlagSetter::ALL.get(usize::from(setter))?;
-                Some(Edit::flag(*setter, value != 0))
-            }
+        match usize::from(setter).checked_sub(SETTERS) {
+            None => Some(Edit::flag(FlagSetter::ALL[usize::from(setter)], value != 0)),
+            Some(0) => Some(Edit::DigitSeparator(byte)),
+            Some(1) => Some(Edit::BasePrefix(byte)),
+            Some(2) => Some(Edit::BaseSuffix(byte)),
+            Some(3) => Some(Edit::MantissaRadix(value)),
+            Some(4) => Some(Edit::Radix(value)),
+            Some(5) => Some(Edit::ExponentBase(byte)),
+            Some(6) => Some(Edit::ExponentRadix(byte)),
+            Some(_) => None,
         }
     }
 }
@@ -200,10 +204,10 @@ pub fn is_built(format: u128) -> bool {
 
 /// Returns the setter calls that make `format` from a new builder, and how many of them are needed.
 ///
-/// The list has one edit for each of the 37 fields, with the field's value in `format`. The edits that change
+/// The list has one edit for each field, with the field's value in `format`. The edits that change
 /// a new builder come first, and the number says how many they are; then come the others. The first part
 /// alone makes a builder with exactly the fields of `format`, and no shorter list does.
-pub fn edits_of(format: u128) -> ([Edit; 37], usize) {
+pub fn edits_of(format: u128) -> ([Edit; FIELDS], usize) {
     let (numbers, count) = ffi::edits_of(format);
     let edit = |(setter, value)| Edit::from_numbers(setter, value).expect("each has a setter");
     (numbers.map(edit), count)

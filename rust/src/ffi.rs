@@ -2,7 +2,7 @@
 //!
 //! Nothing compares these declarations with the library's but the tests.
 
-use crate::edits::{Edit, FlagSetter};
+use crate::edits::{Edit, FlagSetter, FIELDS};
 
 /// A format word in two halves.
 #[repr(C)]
@@ -26,7 +26,7 @@ impl From<Word> for u128 {
     }
 }
 
-/// The fields of a builder: 31 flags, the first at bit 0, and six bytes, each 0 if it is absent.
+/// The fields of a builder: the flags, the first at bit 0, and six bytes, each 0 if it is absent.
 #[repr(C)]
 #[derive(Clone, Copy, Debug, PartialEq, Eq, Hash)]
 pub struct Fields {
@@ -68,7 +68,7 @@ extern "C" {
     fn peltzivar_migrate(format: Word, out: &mut Word) -> u32;
     fn peltzivar_same_format(a: Word, b: Word) -> bool;
     fn peltzivar_is_built(format: Word) -> bool;
-    fn peltzivar_edits_of(format: Word, changes: &mut [Change; 37]) -> usize;
+    fn peltzivar_edits_of(format: Word, changes: &mut [Change; FIELDS]) -> usize;
 
     fn peltzivar_format_error(format: Word) -> u32;
     fn peltzivar_radix_error(format: Word) -> u32;
@@ -168,9 +168,9 @@ pub fn is_built(format: u128) -> bool {
     unsafe { peltzivar_is_built(format.into()) }
 }
 
-/// The setters and arguments of 37 edits, and how many of them are needed.
-pub fn edits_of(format: u128) -> ([(u8, u8); 37], usize) {
-    let mut changes = [Change { setter: 0, value: 0 }; 37];
+/// The setters and arguments of the edits that make a word, and how many of them are needed.
+pub fn edits_of(format: u128) -> ([(u8, u8); FIELDS], usize) {
+    let mut changes = [Change { setter: 0, value: 0 }; FIELDS];
     let count = unsafe { peltzivar_edits_of(format.into(), &mut changes) };
     (changes.map(|change| (change.setter, change.value)), count)
 }

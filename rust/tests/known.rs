@@ -75,7 +75,7 @@ fn a_builder_keeps_a_separator_that_it_does_not_pack() {
 #[test]
 fn words_that_mean_the_same_have_one_normal_form() {
     assert!(same_format(STANDARD, NumberFormatBuilder::decimal()) && !same_format(STANDARD, 0xC));
-    assert_eq!(normal_form(u128::MAX), 0xFFFFFFFF_FF0000FF_00001FFF_0003FFFF);
+    assert_eq!(normal_form(RESERVED), 0x0A0A0A00_00000000_00000000_0000000C);
     assert!(is_built(normal_form(u128::MAX)) && !is_built(u128::MAX));
     let (edits, count) = edits_of(NumberFormatBuilder::hexadecimal());
     let sixteen = NonZeroU8::new(16);
