@@ -65,7 +65,7 @@ pub type OptionU8 = Option<NonZeroU8>;
 
 /// The fields of a number format, to be set one by one and packed into a format word.
 ///
-/// A builder has all flags, the mantissa radix, and five bytes that may be absent: digit
+/// A builder has 31 flags, the mantissa radix, and five bytes that may be absent: digit
 /// separator, base prefix, base suffix, exponent base and exponent radix. A setter takes the
 /// builder and returns it with its field changed; every other field keeps its value. So setters
 /// of different fields can be called in any order, and of several calls for one field the last
@@ -255,7 +255,7 @@ impl NumberFormatBuilder {
         }
     }
 
-    /// Returns the flags, the first in bit 0, and the bytes digit separator, base prefix, base suffix,
+    /// Returns the 31 flags, the first in bit 0, and the bytes digit separator, base prefix, base suffix,
     /// mantissa radix, exponent base and exponent radix, each 0 if it is absent.
     #[inline(always)]
     pub fn to_parts(&self) -> (u32, [u8; 6])

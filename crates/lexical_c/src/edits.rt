@@ -97,7 +97,7 @@ pub extern "C" fn peltzivar_is_built(format: Word) -> bool
     edits::is_built(format.number())
 }
 
-/// Writes one change for each field, with the field's value in the word, and returns how many of
+/// Writes one change for each of the 37 fields, with the field's value in the word, and returns how many of
 /// them make these fields from those of a new builder. These come first, and there is no shorter list.
 #[unsafe(no_mangle)]
 pub extern "C" fn peltzivar_edits_of(format: Word, changes: &mut [Change; 37]) -> usize

@@ -1,9 +1,9 @@
 //! The layout of a format word: the bits of each flag and byte, and the functions that read them.
 //! The tests of the validity rules, whose file is `format_flags/rules.rt`, are re-exported.
 //!
-//! A format word is a `u128`. Flags stand from bit 0 and from bit 32 up, six bytes from bit 64 up:
+//! A format word is a `u128`. Bits 0 to 17 and 32 to 44 are flags; six bytes stand from bit 64 up:
 //! digit separator, base prefix, base suffix, mantissa radix, exponent base and exponent radix. The
-//! other bits are reserved: no field takes them, and they are 0 in a lawful format.
+//! other 49 bits are reserved: no field takes them, and they are 0 in a lawful format.
 #![tactic(auto, using(crate::proofs::ByteParts::byte_parts))]
 
 ghost use Rattle.std.specs.Prelude.{◌≡◌, ℕ, ◌/◌, ◌%◌, ◌^◌, ◌≤ℤ◌, ◌<ℤ◌, pos, unsigned_abs};
@@ -205,7 +205,8 @@ pub const FRACTION_DIGIT_SEPARATOR_FLAG_MASK: u128 = 0x492_0000_0000;
 /// Mask of the four digit separator flags of the exponent.
 pub const EXPONENT_DIGIT_SEPARATOR_FLAG_MASK: u128 = 0x924_0000_0000;
 
-// Mask of the reserved bits: all but the flags, the digit separator, and what stands from the base prefix up.
+// Mask of the reserved bits: all but the flags, the digit separator, and what stands from the base
+// prefix up.
 const RESERVED_MASK: u128 = !(FLAG_MASK | DIGIT_SEPARATOR | !0 << BASE_PREFIX_SHIFT);
 
 // EXTRACTORS
