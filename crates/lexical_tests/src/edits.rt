@@ -128,7 +128,6 @@ fn words_mean_the_same_if_they_have_one_normal_form(rt: HostRuntime) {
     }
 }
 
-// There are 14, 19 and 16 of them.
 #[test]
 fn each_reserved_bit_is_dropped_by_the_normal_form(rt: HostRuntime) {
     for (first, end) in [(18u32, 32u32), (45, 64), (72, 88)] {

@@ -1,6 +1,5 @@
 use lexical_util::error::Error;
-use lexical_util::feature_format::NumberFormat;
-use lexical_util::format::{STANDARD, format_error, format_is_valid};
+use lexical_util::format::*;
 use std::test::Fail;
 
 const ALL_ONES: u128 = 0xFFFFFFFF_FFFFFFFF_FFFFFFFF_FFFFFFFF;
@@ -41,14 +40,14 @@ fn flag_groups_mask_out_everything_else(rt: HostRuntime) {
         view.fraction_digit_separator_flags(),
         view.exponent_digit_separator_flags(),
     ];
-    let masks: [u128; 7] = [
-        0x1FFF_0003_FFFF,
-        0xFFF_0000_63CF,
-        0x1FFF_0000_0000,
-        0x924_0000_43C4,
-        0x249_0000_0000,
-        0x492_0000_0000,
-        0x924_0000_0000,
+    let masks = [
+        FLAG_MASK,
+        INTERFACE_FLAG_MASK,
+        DIGIT_SEPARATOR_FLAG_MASK,
+        EXPONENT_FLAG_MASK,
+        INTEGER_DIGIT_SEPARATOR_FLAG_MASK,
+        FRACTION_DIGIT_SEPARATOR_FLAG_MASK,
+        EXPONENT_DIGIT_SEPARATOR_FLAG_MASK,
     ];
     assert!(rt; groups == masks);
 }

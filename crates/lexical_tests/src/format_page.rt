@@ -78,6 +78,9 @@ macro_rules! with_flags {
     };
 }
 
+// How many they are.
+const FLAGS: usize = 31;
+
 // The rows, with the name as text and without getters.
 macro_rules! flag_rows {
     (() $($bit:literal $flag:ident $Flag:ident $default:literal $getter:ident $MASK:ident;)*) => {
@@ -85,7 +88,7 @@ macro_rules! flag_rows {
     };
 }
 
-fn seen_by_a_view(view: &NumberFormat) -> [bool; 31] {
+fn seen_by_a_view(view: &NumberFormat) -> [bool; FLAGS] {
     macro_rules! getters {
         (($view:ident) $($bit:literal $flag:ident $Flag:ident $default:literal $getter:ident $MASK:ident;)*) => {
             [$($view.$flag(),)*]
@@ -94,7 +97,7 @@ fn seen_by_a_view(view: &NumberFormat) -> [bool; 31] {
     with_flags!(getters(view))
 }
 
-fn seen_by_a_builder(builder: &NumberFormatBuilder) -> [bool; 31] {
+fn seen_by_a_builder(builder: &NumberFormatBuilder) -> [bool; FLAGS] {
     macro_rules! getters {
         (($builder:ident) $($bit:literal $flag:ident $Flag:ident $default:literal $getter:ident $MASK:ident;)*) => {
             [$($builder.$getter(),)*]
@@ -103,7 +106,7 @@ fn seen_by_a_builder(builder: &NumberFormatBuilder) -> [bool; 31] {
     with_flags!(getters(builder))
 }
 
-fn rows() -> [(u32, &'static str, u128, FlagSetter, bool); 31] {
+fn rows() -> [(u32, &'static str, u128, FlagSetter, bool); FLAGS] {
     with_flags!(flag_rows())
 }
 
