@@ -4,6 +4,7 @@
 //! library differs from the Rust crate on purpose.
 
 use crate::random::Random;
+use upstream::format_flags::FLAG_MASK;
 
 const DIGITS: &[u8; 62] = b"0123456789ABCDEFGHIJKLMNOPQRSTUVWXYZabcdefghijklmnopqrstuvwxyz";
 
@@ -76,11 +77,9 @@ fn options(random: &mut Random) -> u64 {
     random.pick(b"ep^@") as u64 | (random.pick(b".;|") as u64) << 8
 }
 
-const FLAGS: u64 = 0x1FFF_0003_FFFF;
-
 /// Flags of which no two exclude each other.
 fn agreeing_flags(random: &mut Random) -> u64 {
-    let mut flags = random.next() & random.next() & FLAGS;
+    let mut flags = random.next() & random.next() & FLAG_MASK as u64;
     for (one, other) in [(6, 14), (4, 5), (7, 8), (10, 11), (10, 44)] {
         if flags >> one & 1 == 1 {
             flags &= !(1 << other);

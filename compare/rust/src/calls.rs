@@ -1,7 +1,7 @@
 // What is written alike over the calls of both sides, which have the same names: `ours.rs` and `theirs.rs` include
 // it, each under its own imports.
 
-use crate::inputs::SetterCall;
+use crate::inputs::{SetterCall, OF_FLAGS};
 use crate::results::*;
 use crate::rows::{with_outcomes, with_setters};
 use crate::rules;
@@ -216,8 +216,8 @@ macro_rules! builders {
         }
 
         /// The setters of flags and of groups, each at its position.
-        const SETTERS: [fn(NumberFormatBuilder, bool) -> NumberFormatBuilder; 40] =
-            [$(NumberFormatBuilder::$flag,)* $(NumberFormatBuilder::$group,)*];
+        const SETTERS: &[fn(NumberFormatBuilder, bool) -> NumberFormatBuilder] =
+            &[$(NumberFormatBuilder::$flag,)* $(NumberFormatBuilder::$group,)*];
 
         fn fields(builder: &NumberFormatBuilder) -> Fields {
             let byte = |byte: OptionU8| byte.map_or(0, NonZeroU8::get);
@@ -238,15 +238,15 @@ with_setters!(builders);
 
 fn set(builder: NumberFormatBuilder, call: &SetterCall) -> NumberFormatBuilder {
     let byte = NonZeroU8::new(call.value);
-    match call.setter {
-        40 => builder.digit_separator(byte),
-        41 => builder.base_prefix(byte),
-        42 => builder.base_suffix(byte),
-        43 => builder.mantissa_radix(call.value),
-        44 => builder.radix(call.value),
-        45 => builder.exponent_base(byte),
-        46 => builder.exponent_radix(byte),
-        setter => SETTERS[setter as usize](builder, call.value % 2 == 1),
+    match call.setter.checked_sub(OF_FLAGS) {
+        None => SETTERS[call.setter as usize](builder, call.value % 2 == 1),
+        Some(0) => builder.digit_separator(byte),
+        Some(1) => builder.base_prefix(byte),
+        Some(2) => builder.base_suffix(byte),
+        Some(3) => builder.mantissa_radix(call.value),
+        Some(4) => builder.radix(call.value),
+        Some(5) => builder.exponent_base(byte),
+        Some(_) => builder.exponent_radix(byte),
     }
 }
 

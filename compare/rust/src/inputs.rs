@@ -3,8 +3,9 @@
 use crate::random::Random;
 use crate::rows::with_setters;
 use std::fmt::{self, Debug, Formatter};
+use upstream::format_flags::FLAG_MASK;
 
-/// A setter of a builder, by its position: the 31 flags in the order of their bits, the nine groups,
+/// A setter of a builder, by its position: the flags in the order of their bits, the nine groups,
 /// separator, prefix, suffix, mantissa radix by its two names, exponent base, exponent radix. An odd
 /// value sets a flag, and the value 0 empties a byte that may be absent.
 #[derive(Clone, Copy)]
@@ -12,8 +13,6 @@ pub struct SetterCall {
     pub setter: u32,
     pub value: u8,
 }
-
-const SETTERS: u32 = 47;
 
 macro_rules! setter_names {
     (
@@ -35,22 +34,24 @@ macro_rules! setter_names {
     };
 }
 
-/// The name of the setter at a position.
-fn setter_name(position: u32) -> &'static str {
-    const NAMES: [&str; SETTERS as usize] = with_setters!(setter_names);
-    NAMES[position as usize]
-}
+/// The names of the setters, each at its position.
+const NAMES: &[&str] = &with_setters!(setter_names);
+
+const SETTERS: u32 = NAMES.len() as u32;
+
+/// How many of them take a `bool`. The seven of bytes come after these.
+pub const OF_FLAGS: u32 = SETTERS - 7;
 
 /// The position of the setter with a name.
 pub fn setter_named(name: &str) -> Option<u32> {
-    (0..SETTERS).find(|position| setter_name(*position) == name)
+    (0..SETTERS).find(|position| NAMES[*position as usize] == name)
 }
 
 impl Debug for SetterCall {
     fn fmt(&self, f: &mut Formatter) -> fmt::Result {
-        let name = setter_name(self.setter);
+        let name = NAMES[self.setter as usize];
         match self.setter {
-            0..40 => write!(f, "{name}={}", self.value % 2 == 1),
+            0..OF_FLAGS => write!(f, "{name}={}", self.value % 2 == 1),
             _ => write!(f, "{name}={}", self.value),
         }
     }
@@ -86,8 +87,7 @@ impl Random {
 
     /// A word that breaks few rules.
     fn nearly_lawful(&mut self) -> u128 {
-        const FLAGS: u64 = 0x1FFF_0003_FFFF;
-        let mut flags = self.next() & self.next() & FLAGS;
+        let mut flags = self.next() & self.next() & FLAG_MASK as u64;
         if !self.one_in(4) {
             // Leave out one flag of each two that exclude each other.
             flags &= !(1 << 14 | 1 << 5 | 1 << 8 | 1 << 11 | 1 << 44 | 7 << 41);
@@ -123,10 +123,10 @@ impl Random {
 
     fn call(&mut self) -> SetterCall {
         let setter = self.below(SETTERS as u64) as u32;
-        let value = match setter {
-            0..40 => self.one_in(3) as u8,
-            40..43 => self.punctuation(),
-            43 | 44 => self.radix(),
+        let value = match setter.checked_sub(OF_FLAGS) {
+            None => self.one_in(3) as u8,
+            Some(0..3) => self.punctuation(),
+            Some(3 | 4) => self.radix(),
             _ if self.one_in(3) => 0,
             _ => self.radix(),
         };

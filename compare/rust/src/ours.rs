@@ -50,15 +50,15 @@ fn strict(builder: &NumberFormatBuilder) -> (u128, u32) {
 
 fn edit(call: &SetterCall) -> Edit {
     let byte = NonZeroU8::new(call.value);
-    match call.setter {
-        40 => Edit::DigitSeparator(byte),
-        41 => Edit::BasePrefix(byte),
-        42 => Edit::BaseSuffix(byte),
-        43 => Edit::MantissaRadix(call.value),
-        44 => Edit::Radix(call.value),
-        45 => Edit::ExponentBase(byte),
-        46 => Edit::ExponentRadix(byte),
-        setter => Edit::flag(FlagSetter::ALL[setter as usize], call.value % 2 == 1),
+    match call.setter.checked_sub(OF_FLAGS) {
+        None => Edit::flag(FlagSetter::ALL[call.setter as usize], call.value % 2 == 1),
+        Some(0) => Edit::DigitSeparator(byte),
+        Some(1) => Edit::BasePrefix(byte),
+        Some(2) => Edit::BaseSuffix(byte),
+        Some(3) => Edit::MantissaRadix(call.value),
+        Some(4) => Edit::Radix(call.value),
+        Some(5) => Edit::ExponentBase(byte),
+        Some(_) => Edit::ExponentRadix(byte),
     }
 }
 

@@ -6,13 +6,17 @@
 //! - A word with a reserved bit breaks a last rule.
 
 use crate::results::{Built, Own, Word};
+use upstream::format_flags::{
+    BASE_PREFIX, BASE_SUFFIX, DIGIT_SEPARATOR, EXPONENT_BASE, FLAG_MASK, RADIX_MASK,
+};
 
 const INVALID_PUNCTUATION: u32 = 27;
 const INVALID_FLAGS: u32 = 35;
 pub const SUCCESS: u32 = 48;
 
 /// The bits that hold no flag and no byte.
-pub const RESERVED: u128 = 0x0000_0000_00FF_FF00_FFFF_E000_FFFC_0000;
+pub const RESERVED: u128 =
+    !(FLAG_MASK | DIGIT_SEPARATOR | BASE_PREFIX | BASE_SUFFIX | RADIX_MASK | EXPONENT_BASE);
 
 /// The bytes that a byte stands for in its role; 0 stands for none.
 #[derive(Clone, Copy)]

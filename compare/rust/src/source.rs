@@ -1,7 +1,7 @@
 //! The expressions that `numfmt source` prints: their calls are read back from the text, and done on
 //! the Rust crate's own builder.
 
-use crate::inputs::{setter_named, SetterCall, BASES};
+use crate::inputs::{setter_named, SetterCall, BASES, OF_FLAGS};
 use crate::random::Random;
 use crate::results::{Source, Wide};
 use crate::sections::Task;
@@ -58,9 +58,9 @@ fn calls_of(line: &str) -> Option<Vec<SetterCall>> {
 fn call_of(text: &str) -> Option<SetterCall> {
     let (name, value) = text.split_once('(')?;
     let setter = setter_named(name)?;
-    let value = match (setter, value) {
-        (0..40, _) => value.parse::<bool>().ok()? as u8,
-        (43 | 44, _) => value.parse().ok()?,
+    let value = match (name, value) {
+        _ if setter < OF_FLAGS => value.parse::<bool>().ok()? as u8,
+        ("mantissa_radix" | "radix", _) => value.parse().ok()?,
         (_, "None") => 0,
         _ => value.strip_prefix("NonZeroU8::new(")?.strip_suffix(')')?.parse().ok()?,
     };
