@@ -86,9 +86,25 @@ fn field_edits_of(format: u128) -> [Edit; 37]
         };
     }
     let view = NumberFormat::new(format);
-    let base = ((format & flags::EXPONENT_BASE) >> flags::EXPONENT_BASE_SHIFT) as u8;
-    let radix = ((format & flags::EXPONENT_RADIX) >> flags::EXPONENT_RADIX_SHIFT) as u8;
+    let base = raw_exponent_base(format);
+    let radix = raw_exponent_radix(format);
     with_setters!(edits_of_fields(view, base, radix))
+}
+
+// The exponent base that the word holds, 0 if it is empty.
+#[inline(always)]
+fn raw_exponent_base(format: u128) -> u8
+    ensures { result ≡ (raw format).exponent_base }
+{
+    ((format & flags::EXPONENT_BASE) >> flags::EXPONENT_BASE_SHIFT) as u8
+}
+
+// The exponent radix that the word holds, 0 if it is empty.
+#[inline(always)]
+fn raw_exponent_radix(format: u128) -> u8
+    ensures { result ≡ (raw format).exponent_radix }
+{
+    ((format & flags::EXPONENT_RADIX) >> flags::EXPONENT_RADIX_SHIFT) as u8
 }
 
 // Whether an edit changes a new builder.

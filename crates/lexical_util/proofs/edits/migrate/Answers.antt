@@ -1,8 +1,21 @@
--- The error of a normal form is not that of reserved bits, since it has none.
+-- The result is the normal form, and each clause what `normal_form` ensures of it. Its error is not that of reserved bits.
 use Rattle.std.proofs.Common.{◌≡◌, sym, subst}
 use Rattle.lexical_base.specs.declared.error.Error.TheVariants.{InvalidFlags}
 use Rattle.lexical_flags.specs.Rules.{Lawful, IsErrorOf}
 use Rattle.lexical_util.proofs.edits.migrate.Goals as goal
+
+pub returns-in-Success-clause-lawful : goal.returns-in-Success-clause-lawful
+returns-in-Success-clause-lawful c =
+    (subst Lawful c.normal_form-word.ensures.word (c.format_error_impl.ensures.lawful.0 search), c.normal_form-word.ensures.word)
+
+pub returns-in-Success-clause-fields : goal.returns-in-Success-clause-fields
+returns-in-Success-clause-fields c = c.normal_form-word.ensures.fields
+
+pub returns-in-Success-clause-normal : goal.returns-in-Success-clause-normal
+returns-in-Success-clause-normal c = c.normal_form-word.ensures.normal
+
+pub returns-in-Success-clause-same : goal.returns-in-Success-clause-same
+returns-in-Success-clause-same c = c.normal_form-word.ensures.same
 
 pub returns-in_default-clause-lawful : goal.returns-in_default-clause-lawful
 returns-in_default-clause-lawful c lawful =
