@@ -25,6 +25,7 @@ mod command;
 mod edit;
 mod examples;
 mod numeral;
+mod output;
 mod program;
 mod response;
 mod source;

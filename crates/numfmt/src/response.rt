@@ -6,6 +6,7 @@ ghost use Rattle.numfmt.specs.WordText.{printed};
 ghost use Rattle.numfmt.specs.Source.{source_text};
 ghost use Rattle.numfmt.specs.Response.{answer_text, field, fields, line, reason_text, status_of, text_of};
 
+use crate::output::Output;
 use crate::source::write_source;
 use crate::word::word_text;
 use lexical_util::error::Error;
@@ -14,7 +15,7 @@ use std::io;
 use std::io::Write;
 
 /// The result of a command.
-#[derive(Clone, Copy, Debug, PartialEq, Eq)]
+#[derive(Clone, Copy)]
 pub enum Answer {
     /// The fields of a format word.
     Fields(u128),
@@ -31,7 +32,7 @@ pub enum Answer {
 }
 
 /// Why arguments are refused.
-#[derive(Clone, Copy, Debug, PartialEq, Eq)]
+#[derive(Clone, Copy)]
 pub enum Refusal {
     /// The first argument is not the name of a command.
     UnknownCommand,
@@ -60,14 +61,15 @@ pub fn exit_status(response: Result<Answer, Refusal>) -> u8
 }
 
 /// Writes the text of `response` to `out` and flushes it. After an error nothing more is written.
-pub fn print<W: Write>(response: Result<Answer, Refusal>, out: &mut W) -> io::Result<()>
-    ensures { OnOk result (Appends (W.contents out.old) (W.contents out.new) (text_of response)) }
+pub fn print<W: Output>(response: Result<Answer, Refusal>, out: &mut W) -> io::Result<()>
+    ensures text { OnOk result (Appends (W.contents out.old) (W.contents out.new) (text_of response)) }
+    ensures flushed { OnOk result (W.is_flushed out.new) }
 {
     match response {
         Ok(answer) => answer.print(out)?,
         Err(refusal) => writeln!(out, "numfmt: {}", refusal.reason())?,
     }
-    out.flush()
+    out.pass_on()
 }
 
 impl Refusal {
