@@ -41,7 +41,7 @@ pub enum Fact {
 
 /// The fields of a word: its flags at their bits, and its bytes, those of an exponent by their
 /// effective values.
-#[derive(Debug, Clone, Copy, PartialEq, Eq)]
+#[derive(Clone, Copy, PartialEq, Eq)]
 pub struct Fields {
     pub flags: u128,
     pub digit_separator: u8,

@@ -158,7 +158,11 @@ fn hexadecimal(text: &str) -> Option<u128> {
 }
 
 fn truth(text: &str) -> Option<bool> {
-    text.parse().ok()
+    match text {
+        "true" => Some(true),
+        "false" => Some(false),
+        _ => None,
+    }
 }
 
 // The edits that setter calls are, `None` if one cannot be read.
@@ -199,27 +203,43 @@ fn setter_call(call: &str) -> Option<Edit> {
 
 // The outcome of this name, with an index if it holds one.
 fn outcome(name: &str, index: usize) -> Option<Error> {
-    macro_rules! outcome_of {
-        ($($Parse:ident)*; $($Other:ident)*) => {
-            match name {
-                $(stringify!($Parse) => Some(Error::$Parse(index)),)*
-                $(stringify!($Other) => Some(Error::$Other),)*
-                _ => None,
-            }
-        };
+    find(name, &parse_errors(index)).or(find(name, &OTHERS))
+}
+
+// The outcome that has this name in a table.
+fn find(name: &str, table: &[(&str, Error)]) -> Option<Error> {
+    for (known, error) in table {
+        if *known == name {
+            return Some(*error);
+        }
     }
-    outcome_of! {
-        Overflow Underflow InvalidDigit Empty EmptyMantissa EmptyExponent EmptyInteger EmptyFraction
-        InvalidPositiveMantissaSign MissingMantissaSign InvalidExponent InvalidPositiveExponentSign
-        MissingExponentSign ExponentWithoutFraction InvalidLeadingZeros MissingExponent MissingSign
-        InvalidPositiveSign InvalidNegativeSign;
-        InvalidMantissaRadix InvalidExponentBase InvalidExponentRadix InvalidDigitSeparator
-        InvalidDecimalPoint InvalidExponentSymbol InvalidBasePrefix InvalidBaseSuffix InvalidPunctuation
-        InvalidExponentFlags InvalidMantissaSign InvalidExponentSign InvalidSpecial
-        InvalidConsecutiveIntegerDigitSeparator InvalidConsecutiveFractionDigitSeparator
-        InvalidConsecutiveExponentDigitSeparator InvalidFlags InvalidNanString NanStringTooLong
-        InvalidInfString InfStringTooLong InvalidInfinityString InfinityStringTooLong
-        InfinityStringTooShort InvalidFloatParseAlgorithm InvalidRadix InvalidFloatPrecision
-        InvalidNegativeExponentBreak InvalidPositiveExponentBreak Success
+    None
+}
+
+// The outcomes with their names.
+macro_rules! named {
+    ($($Name:ident $(($index:ident))?)*) => {
+        [$((stringify!($Name), Error::$Name $(($index))?),)*]
+    };
+}
+
+fn parse_errors(index: usize) -> [(&'static str, Error); 19] {
+    named! {
+        Overflow(index) Underflow(index) InvalidDigit(index) Empty(index) EmptyMantissa(index)
+        EmptyExponent(index) EmptyInteger(index) EmptyFraction(index) InvalidPositiveMantissaSign(index)
+        MissingMantissaSign(index) InvalidExponent(index) InvalidPositiveExponentSign(index)
+        MissingExponentSign(index) ExponentWithoutFraction(index) InvalidLeadingZeros(index)
+        MissingExponent(index) MissingSign(index) InvalidPositiveSign(index) InvalidNegativeSign(index)
     }
 }
+
+const OTHERS: [(&str, Error); 30] = named! {
+    InvalidMantissaRadix InvalidExponentBase InvalidExponentRadix InvalidDigitSeparator
+    InvalidDecimalPoint InvalidExponentSymbol InvalidBasePrefix InvalidBaseSuffix InvalidPunctuation
+    InvalidExponentFlags InvalidMantissaSign InvalidExponentSign InvalidSpecial
+    InvalidConsecutiveIntegerDigitSeparator InvalidConsecutiveFractionDigitSeparator
+    InvalidConsecutiveExponentDigitSeparator InvalidFlags InvalidNanString NanStringTooLong
+    InvalidInfString InfStringTooLong InvalidInfinityString InfinityStringTooLong InfinityStringTooShort
+    InvalidFloatParseAlgorithm InvalidRadix InvalidFloatPrecision InvalidNegativeExponentBreak
+    InvalidPositiveExponentBreak Success
+};
