@@ -29,8 +29,8 @@ fn masks_have_their_bits(rt: HostRuntime) {
         (FRACTION_DIGIT_SEPARATOR_FLAG_MASK, 0x492_0000_0000),
         (EXPONENT_DIGIT_SEPARATOR_FLAG_MASK, 0x924_0000_0000),
     ];
-    for (i, (mask, bits)) in masks.iter().enumerate() {
-        assert!(rt; mask == bits, "mask {i}");
+    for (mask, bits) in masks {
+        assert!(rt; mask == bits, "{bits:x}");
     }
 }
 
@@ -46,7 +46,7 @@ fn shifts_are_the_lowest_bits_of_bytes(rt: HostRuntime) {
         (EXPONENT_RADIX_SHIFT, 120),
     ];
     for (shift, bit) in shifts {
-        assert_eq!(rt; shift, bit);
+        assert!(rt; shift == bit, "{bit}");
     }
 }
 

@@ -3,26 +3,25 @@ use lexical_util::format_builder::*;
 use lexical_util::format_flags as flags;
 
 #[test]
-fn sets_and_clears_each_byte(rt: HostRuntime) {
-    let set = NumberFormatBuilder::rebuild(0x1FFF_0000_0000)
-        .digit_separator(NonZeroU8::new(1))
-        .base_prefix(NonZeroU8::new(2))
-        .base_suffix(NonZeroU8::new(3))
-        .mantissa_radix(4)
-        .exponent_base(NonZeroU8::new(5))
-        .exponent_radix(NonZeroU8::new(6));
-    assert!(rt; set.build_unchecked() == 0x06050403_02000001_00001FFF_00000000);
+fn reads_and_clears_each_byte(rt: HostRuntime) {
+    let set = NumberFormatBuilder::rebuild(0x06050403_02000001_00001FFF_00000000);
     let bytes = [
-        (set.get_digit_separator(), 1),
-        (set.get_base_prefix(), 2),
-        (set.get_base_suffix(), 3),
-        (NonZeroU8::new(set.get_mantissa_radix()), 4),
-        (set.get_exponent_base(), 5),
-        (set.get_exponent_radix(), 6),
+        set.get_digit_separator(),
+        set.get_base_prefix(),
+        set.get_base_suffix(),
+        NonZeroU8::new(set.get_mantissa_radix()),
+        set.get_exponent_base(),
+        set.get_exponent_radix(),
     ];
-    for (byte, value) in bytes {
-        assert!(rt; byte == NonZeroU8::new(value));
-    }
+    let values = [
+        NonZeroU8::new(1),
+        NonZeroU8::new(2),
+        NonZeroU8::new(3),
+        NonZeroU8::new(4),
+        NonZeroU8::new(5),
+        NonZeroU8::new(6),
+    ];
+    assert!(rt; bytes == values);
     let cleared = set
         .digit_separator(None)
         .base_prefix(None)
@@ -30,8 +29,10 @@ fn sets_and_clears_each_byte(rt: HostRuntime) {
         .radix(7)
         .exponent_base(None)
         .exponent_radix(None);
-    assert!(rt; cleared.build_unchecked() == 0x00000700_00000000_00001FFF_00000000);
-    assert!(rt; cleared.get_digit_separator().is_none());
+    let packed = cleared.build_unchecked();
+    assert!(rt;
+        packed == 0x00000700_00000000_00001FFF_00000000 && cleared.get_digit_separator().is_none()
+    );
 }
 
 fn new() -> NumberFormatBuilder {
@@ -43,162 +44,91 @@ fn separated() -> NumberFormatBuilder {
     new().digit_separator(NonZeroU8::new(95))
 }
 
+// A new builder with radix 2 and its digit separators `5`.
+fn fives() -> NumberFormatBuilder {
+    new()
+        .radix(2)
+        .digit_separator(NonZeroU8::new(0x35))
+        .digit_separator_flags(true)
+}
+
+// A new builder with the prefix `h` and a suffix.
+fn affixed(suffix: u8) -> NumberFormatBuilder {
+    new()
+        .base_prefix(NonZeroU8::new(b'h'))
+        .base_suffix(NonZeroU8::new(suffix))
+}
+
+// A new builder that allows separators in a row, but nowhere.
+fn consecutive() -> NumberFormatBuilder {
+    new().integer_consecutive_digit_separator(true)
+}
+
+// Builders, the words that they pack, and the errors of these.
+#[rattlefmt::skip]
+fn cases() -> [(NumberFormatBuilder, u128, Error); 17] {
+    use Error::*;
+    [
+        (new(), 0x00000A00_00000000_00000000_0000000C, Success),
+        (NumberFormatBuilder::default(), 0x00000A00_00000000_00000000_0000000C, Success),
+        (new().radix(16), 0x00001000_00000000_00000000_0000000C, Success),
+        (new().radix(37), 0x00002500_00000000_00000000_0000000C, InvalidMantissaRadix),
+        // a separator is packed only with a flag for it
+        (separated(), 0x00000A00_00000000_00000000_0000000C, Success),
+        (separated().special_digit_separator(true), 0x00000A00_0000005F_00001000_0000000C, Success),
+        (separated().exponent_digit_separator_flags(true), 0x00000A00_0000005F_00000924_0000000C, Success),
+        // the last setter counts
+        (new().required_digits(true).required_exponent_digits(false),
+            0x00000A00_00000000_00000000_0000000B, Success),
+        (new().required_exponent_digits(false).required_digits(true),
+            0x00000A00_00000000_00000000_0000000F, Success),
+        (fives(), 0x00000200_00000035_00001FFF_0000000C, Success),
+        (fives().exponent_base(NonZeroU8::new(10)), 0x000A0200_00000035_00001FFF_0000000C, Success),
+        // `h` and `H` are one letter, unless both count in their own case
+        (affixed(b'h'), 0x00000A68_68000000_00000000_0000000C, InvalidPunctuation),
+        (affixed(b'H'), 0x00000A48_68000000_00000000_0000000C, InvalidPunctuation),
+        (affixed(b'H').case_sensitive_base_prefix(true).case_sensitive_base_suffix(true),
+            0x00000A48_68000000_00000000_0003000C, Success),
+        (consecutive(), 0x00000A00_00000000_00000200_0000000C, InvalidConsecutiveIntegerDigitSeparator),
+        (consecutive().no_special(true).case_sensitive_special(true),
+            0x00000A00_00000000_00000200_00000C0C, InvalidSpecial),
+        (new().no_exponent_notation(true).no_special(true), 0x00000A00_00000000_00000000_0000044C, Success),
+    ]
+}
+
 #[test]
-fn packs_a_separator_only_with_a_flag_for_it(rt: HostRuntime) {
-    let cases = [
-        (separated(), 0x00000A00_00000000_00000000_0000000C),
-        (
-            separated().special_digit_separator(true),
-            0x00000A00_0000005F_00001000_0000000C,
-        ),
-        (
-            separated().exponent_digit_separator_flags(true),
-            0x00000A00_0000005F_00000924_0000000C,
-        ),
-    ];
-    for (builder, want) in cases {
-        assert!(rt; builder.build_unchecked() == want);
+fn packs_the_fields_that_setters_wrote_and_strictly_only_lawful_ones(rt: HostRuntime) {
+    for (builder, word, error) in cases() {
+        let packs = builder.build_unchecked() == word && builder.build() == word;
+        let strict = if error.is_success() {
+            Ok(word)
+        } else {
+            Err(error)
+        };
+        assert!(rt; packs && builder.build_strict() == strict, "{word:x}");
     }
 }
 
 #[test]
-fn packs_the_fields_that_setters_wrote(rt: HostRuntime) {
-    let fives = || -> NumberFormatBuilder {
-        new()
-            .radix(2)
-            .digit_separator(NonZeroU8::new(0x35))
-            .digit_separator_flags(true)
-    };
-    let consecutive = || -> NumberFormatBuilder { new().integer_consecutive_digit_separator(true) };
-    let cases = [
-        (new(), 0x00000A00_00000000_00000000_0000000C),
-        (
-            NumberFormatBuilder::default(),
-            0x00000A00_00000000_00000000_0000000C,
-        ),
-        (new().radix(16), 0x00001000_00000000_00000000_0000000C),
-        (
-            new().required_digits(true).required_exponent_digits(false),
-            0x00000A00_00000000_00000000_0000000B,
-        ),
-        (
-            new().required_exponent_digits(false).required_digits(true),
-            0x00000A00_00000000_00000000_0000000F,
-        ),
-        (fives(), 0x00000200_00000035_00001FFF_0000000C),
-        (
-            fives().exponent_base(NonZeroU8::new(10)),
-            0x000A0200_00000035_00001FFF_0000000C,
-        ),
-        (
-            new()
-                .base_prefix(NonZeroU8::new(b'h'))
-                .base_suffix(NonZeroU8::new(b'H')),
-            0x00000A48_68000000_00000000_0000000C,
-        ),
-        (consecutive(), 0x00000A00_00000000_00000200_0000000C),
-        (
-            consecutive().no_special(true).case_sensitive_special(true),
-            0x00000A00_00000000_00000200_00000C0C,
-        ),
-        (
-            new().no_exponent_notation(true).no_special(true),
-            0x00000A00_00000000_00000000_0000044C,
-        ),
-    ];
-    for (builder, want) in cases {
-        assert!(rt;
-            builder.build_unchecked() == want && builder.build() == want,
-            "{want:x}"
-        );
-    }
-}
-
-#[test]
+#[rattlefmt::skip]
 fn from_radix_writes_all_three_radixes(rt: HostRuntime) {
-    let cases = [
-        (
-            NumberFormatBuilder::from_radix(0),
-            0x00000000_00000000_00000000_0000000C,
-        ),
-        (
-            NumberFormatBuilder::from_radix(32),
-            0x20202000_00000000_00000000_0000000C,
-        ),
-        (
-            NumberFormatBuilder::from_radix(37),
-            0x25252500_00000000_00000000_0000000C,
-        ),
-        (
-            NumberFormatBuilder::binary(),
-            0x02020200_00000000_00000000_0000000C,
-        ),
-        (
-            NumberFormatBuilder::octal(),
-            0x08080800_00000000_00000000_0000000C,
-        ),
-        (
-            NumberFormatBuilder::decimal(),
-            0x0A0A0A00_00000000_00000000_0000000C,
-        ),
-        (
-            NumberFormatBuilder::hexadecimal(),
-            0x10101000_00000000_00000000_0000000C,
-        ),
-    ];
-    for (word, want) in cases {
+    for (word, want) in [
+        (NumberFormatBuilder::from_radix(0), 0x00000000_00000000_00000000_0000000C),
+        (NumberFormatBuilder::from_radix(32), 0x20202000_00000000_00000000_0000000C),
+        (NumberFormatBuilder::from_radix(37), 0x25252500_00000000_00000000_0000000C),
+        (NumberFormatBuilder::binary(), 0x02020200_00000000_00000000_0000000C),
+        (NumberFormatBuilder::octal(), 0x08080800_00000000_00000000_0000000C),
+        (NumberFormatBuilder::decimal(), 0x0A0A0A00_00000000_00000000_0000000C),
+        (NumberFormatBuilder::hexadecimal(), 0x10101000_00000000_00000000_0000000C),
+    ] {
         assert!(rt; word == want, "{want:x}");
     }
 }
 
 #[test]
-fn non_zero_holds_every_byte_except_0(rt: HostRuntime) {
-    assert!(rt; NonZeroU8::new(0).is_none());
-    for value in 1..=255 {
-        assert!(rt; NonZeroU8::new(value).map(|byte| byte.get()) == Some(value));
-    }
+fn non_zero_bytes_are_compared_as_numbers(rt: HostRuntime) {
     let (low, high) = (NonZeroU8::new(1), NonZeroU8::new(255));
-    assert!(rt; low < high && low == NonZeroU8::new(1));
-}
-
-#[test]
-fn strict_build_returns_a_lawful_word_or_its_error(rt: HostRuntime) {
-    let affixed = |suffix: u8| -> NumberFormatBuilder {
-        new()
-            .base_prefix(NonZeroU8::new(b'h'))
-            .base_suffix(NonZeroU8::new(suffix))
-    };
-    let consecutive = new().integer_consecutive_digit_separator(true);
-    let special = new()
-        .integer_consecutive_digit_separator(true)
-        .no_special(true);
-    let cases = [
-        (new(), Ok(0x00000A00_00000000_00000000_0000000C)),
-        (affixed(b'H'), Err(Error::InvalidPunctuation)),
-        (
-            affixed(b'H')
-                .case_sensitive_base_prefix(true)
-                .case_sensitive_base_suffix(true),
-            Ok(0x00000A48_68000000_00000000_0003000C),
-        ),
-        (affixed(b'h'), Err(Error::InvalidPunctuation)),
-        (
-            consecutive,
-            Err(Error::InvalidConsecutiveIntegerDigitSeparator),
-        ),
-        (
-            special.case_sensitive_special(true),
-            Err(Error::InvalidSpecial),
-        ),
-        (
-            new().no_exponent_notation(true).no_special(true),
-            Ok(0x00000A00_00000000_00000000_0000044C),
-        ),
-        (new().radix(37), Err(Error::InvalidMantissaRadix)),
-    ];
-    for (builder, want) in cases {
-        assert!(rt; builder.build_strict() == want);
-    }
+    assert!(rt; low < high && low == NonZeroU8::new(1) && NonZeroU8::new(0).is_none());
 }
 
 // The digit separator `e` is a digit of the new radix.

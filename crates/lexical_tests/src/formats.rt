@@ -9,6 +9,6 @@ fn underscores_stand_between_digits_alone(rt: HostRuntime) {
         ("_1", Err(Error::InvalidDigit(0))),
         ("1__0", Err(Error::InvalidDigit(1))),
     ] {
-        assert_eq!(rt; read_decimal(text.as_bytes()), want, "{text}");
+        assert!(rt; read_decimal(text.as_bytes()) == want, "{text}");
     }
 }

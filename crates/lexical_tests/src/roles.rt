@@ -1,10 +1,11 @@
 use callers::roles::{Role, checked_role_of};
 use lexical_util::error::Error;
 
+// Radix 16, `_` between digits, prefix `x`, suffix `h` in lowercase alone.
+const FORMAT: u128 = 0x10101068_7800005F_00000007_0002000C;
+
 #[test]
 fn each_byte_has_one_role_or_none(rt: HostRuntime) {
-    // Radix 16, `_` between digits, prefix `x`, suffix `h` in lowercase alone.
-    let format = 0x10101068_7800005F_00000007_0002000C;
     let cases = [
         (b'7', Some(Role::Digit)),
         (b'f', Some(Role::Digit)),
@@ -21,9 +22,8 @@ fn each_byte_has_one_role_or_none(rt: HostRuntime) {
         (0, None),
     ];
     for (byte, role) in cases {
-        assert_eq!(rt;
-            checked_role_of(format, b'p', b'.', byte),
-            Ok(role),
+        assert!(rt;
+            checked_role_of(FORMAT, b'p', b'.', byte) == Ok(role),
             "{byte}"
         );
     }
@@ -31,12 +31,11 @@ fn each_byte_has_one_role_or_none(rt: HostRuntime) {
 
 #[test]
 fn roles_are_asked_of_checked_formats_alone(rt: HostRuntime) {
-    let format = 0x10101068_7800005F_00000007_0002000C;
-    let clash = Err(Error::InvalidPunctuation);
-    assert_eq!(rt; checked_role_of(format, b'e', b'.', b'7'), clash);
-    assert_eq!(rt; checked_role_of(format, b'X', b'.', b'7'), clash);
-    assert_eq!(rt;
-        checked_role_of(0xC, b'e', b'.', b'7'),
-        Err(Error::InvalidMantissaRadix)
-    );
+    for (format, exponent, error) in [
+        (FORMAT, b'e', Error::InvalidPunctuation),
+        (FORMAT, b'X', Error::InvalidPunctuation),
+        (0xC, b'e', Error::InvalidMantissaRadix),
+    ] {
+        assert!(rt; checked_role_of(format, exponent, b'.', b'7') == Err(error));
+    }
 }

@@ -26,35 +26,28 @@ fn punctuation_is_no_digit_and_clashes_only_as_the_same_letter(rt: HostRuntime) 
 }
 
 #[test]
-fn a_radix_is_valid_from_2_to_36(rt: HostRuntime) {
+fn digits_and_radixes_end_at_36(rt: HostRuntime) {
+    // mantissa radix 2 with exponent radix 10; then the mantissa radix 255
+    let mixed = 0x0A000200_00000000_00000000_0000000C;
+    let large = 0x0A0AFF00_00000000_00000000_0000000C;
+    assert!(rt; is_digit(mixed, b'5') && is_digit(large, b'z') && !is_digit(large, b'_'));
     for (radix, want) in [(0, false), (1, false), (2, true), (36, true), (37, false)] {
         assert!(rt; is_valid_radix(radix) == want, "{radix}");
     }
 }
 
 #[test]
-#[rattlefmt::skip]
-fn digits_are_those_of_mantissa_and_exponent(rt: HostRuntime) {
-    for (word, byte, want) in [
-        // mantissa radix 2 with exponent radix 10
-        (0x0A000200_00000000_00000000_0000000C, b'5', true),
-        // the mantissa radix 255, which is above 36
-        (0x0A0AFF00_00000000_00000000_0000000C, b'z', true),
-        (0x0A0AFF00_00000000_00000000_0000000C, b'_', false),
-    ] {
-        assert!(rt; is_digit(word, byte) == want, "{word:x}");
-    }
-}
-
-#[test]
 fn each_validator_looks_at_its_own_field(rt: HostRuntime) {
-    // a space as the separator; 0 although a separator is allowed
+    // a space as the separator; 0 although a separator is allowed; `~` and 0xFF beside a wrong radix
     let separators = is_valid_digit_separator(0x00000A00_00000020_00001FFF_0000000C)
-        && is_valid_digit_separator(0x00000A00_00000000_00001FFF_0000000C);
+        && is_valid_digit_separator(0x00000A00_00000000_00001FFF_0000000C)
+        && is_valid_digit_separator(0xFFFFFF00_0000007E_00000001_0000000C)
+        && !is_valid_digit_separator(0xFFFFFF00_000000FF_00000001_0000000C);
+    let error = format_error_impl(0xFFFFFF00_0000007E_00000001_0000000C);
     let flags = is_valid_exponent_flags(0x00000A00_00000000_00000000_0000404C);
     let prefix = is_valid_base_prefix(0x00000A00_2D000000_00000000_0000000C);
     let suffix = is_valid_base_suffix(0x00000A7F_00000000_00000000_0000000C);
-    assert!(rt; separators && !flags && !prefix && !suffix);
+    assert!(rt; separators && error == Error::InvalidMantissaRadix && !flags && !prefix && !suffix);
 }
 
 #[test]
