@@ -65,7 +65,7 @@ pub type OptionU8 = Option<NonZeroU8>;
 
 /// The fields of a number format, to be set one by one and packed into a format word.
 ///
-/// A builder has 31 flags, the mantissa radix, and five bytes that may be absent: digit
+/// A builder has the flags, the mantissa radix, and five bytes that may be absent: digit
 /// separator, base prefix, base suffix, exponent base and exponent radix. A setter takes the
 /// builder and returns it with its field changed; every other field keeps its value. So setters
 /// of different fields can be called in any order, and of several calls for one field the last
@@ -174,7 +174,7 @@ impl NumberFormatBuilder {
     // BUILDERS
 
     /// Packs the fields into a format word, lawful or not. Every field is written unchanged,
-    /// except the digit separator: it is written only if one of the 13 digit separator flags
+    /// except the digit separator: it is written only if one of the digit separator flags
     /// (`special_digit_separator` included) is set, and is 0 otherwise.
     #[inline(always)]
     pub fn build_unchecked(&self) -> u128
@@ -243,24 +243,24 @@ impl NumberFormatBuilder {
 
     // PARTS
 
-    /// Returns a builder with these flags and bytes, as [`to_parts`][Self::to_parts] returns them. Bit 31
-    /// of the flags is ignored.
+    /// Returns a builder with these flags and bytes, as [`to_parts`][Self::to_parts] returns them. The bits
+    /// above the flags are ignored.
     #[inline(always)]
     pub fn from_parts(flags: u32, bytes: [u8; 6]) -> Self
-        ensures { result ≡ record_of_parts (flags % 2 ^ 31) bytes }
+        ensures { result ≡ record_of_parts (flags % 2 ^ length layout.flags) bytes }
     {
         NumberFormatBuilder {
-            flags: flags % (1 << 31),
+            flags: flags & (LOW_FLAGS | SEPARATOR_FLAGS),
             bytes,
         }
     }
 
-    /// Returns the 31 flags, the first in bit 0, and the bytes digit separator, base prefix, base suffix,
+    /// Returns the flags, the first in bit 0, and the bytes digit separator, base prefix, base suffix,
     /// mantissa radix, exponent base and exponent radix, each 0 if it is absent.
     #[inline(always)]
     pub fn to_parts(&self) -> (u32, [u8; 6])
         ensures fields { record_of_parts result.0 result.1 ≡ self.now }
-        ensures flags { result.0 < 2 ^ 31 }
+        ensures flags { result.0 < 2 ^ length layout.flags }
     {
         (self.flags, self.bytes)
     }

@@ -13,7 +13,7 @@ use Rattle.lexical_flags.specs.Record.{Record, tabulate, flag_of, byte_of, raw, 
 use Rattle.lexical_flags.specs.Record.{separator_on, HasBytes}
 use Rattle.lexical_flags.specs.Constants.{mask_of}
 use Rattle.lexical_flags.proofs.RecordLemmas.{flag_of-raw}
-use Rattle.lexical_flags.proofs.Packing.{bit_value, bit_value-lt, flag_bits-value, raw-word_of, HasBytes-by_name}
+use Rattle.lexical_flags.proofs.Packing.{high, bit_value, bit_value-lt, flag_bits-value, raw-word_of, HasBytes-by_name}
 use Rattle.lexical_flags.proofs.Masks.{ascends, and_all, or_all, sum-below}
 
 -- a bit times a power of two is 0 exactly if the bit is
@@ -83,7 +83,7 @@ flags_joined r =
 
 flags-lt : (r : Record) → sum_by (flag_bits r) flags < 2 ^ 64
 flags-lt r =
-    let below : fold (λ bits f. bits + bit_value (flag_of r f) * 2 ^ bit f) 0 flags < 2 ^ 45 =
+    let below : fold (λ bits f. bits + bit_value (flag_of r f) * 2 ^ bit f) 0 flags < 2 ^ (32 + high) =
     sum-below bit (λ f. bit_value (flag_of r f)) 1 (λ f. bit_value-lt (flag_of r f)) flags 0 0 (omega arith) refl in
     let same : fold (λ bits f. bits + bit_value (flag_of r f) * 2 ^ bit f) 0 flags ≡ sum_by (flag_bits r) flags =
     sym (λ i. fold (λ bits f. bits + flag_bits-value (flag_of r f) (bit f) i) 0 flags) in

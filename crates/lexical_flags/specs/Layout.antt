@@ -5,7 +5,7 @@ use Rattle.std.specs.Prelude.{ℕ, ◌≡◌, ◌/◌, ◌%◌, ◌^◌, List, [
 abbrev pub part : ℕ → ℕ → ℕ → ℕ
 part word s n = word / 2 ^ s % 2 ^ n
 
--- the 31 flags
+-- the flags
 pub data Flag : Type 0 where
   required_integer_digits : Flag
   required_fraction_digits : Flag
@@ -91,7 +91,7 @@ shift mantissa_radix = 104
 shift exponent_base = 112
 shift exponent_radix = 120
 
--- the flags of the bits 0 to 17
+-- the flags from bit 0 up
 abbrev pub base_flags : List Flag
 base_flags =
     required_integer_digits ∷ required_fraction_digits ∷ required_exponent_digits ∷

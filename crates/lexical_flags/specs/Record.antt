@@ -1,4 +1,4 @@
--- A format as a record of its 37 fields, and how a word holds one.
+-- A format as a record of its fields, and how a word holds one.
 use Rattle.std.specs.Prelude.{ℕ, ◌+◌, ◌*◌, ◌^◌, ◌<◌, ◌≡◌, ◌==◌, ◌⊎◌, Bool, IsTrue, if◌then◌else◌, sum_by}
 use Rattle.std.specs.List.{list_any}
 use Rattle.lexical_flags.specs.Layout.{part, Flag, Byte, bit, shift, flags, bytes, digit_separator_flags, IsClean}

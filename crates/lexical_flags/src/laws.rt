@@ -1,7 +1,7 @@
 //! Laws of the layout, of packing, of the rules and of the roles, stated as the clauses of functions
 //! with empty bodies; and examples of the definitions, proved by computation.
 
-ghost use Rattle.std.specs.Prelude.{◌≡◌, ℕ, ◌*◌, ◌/◌, ◌^◌, ◌<◌, ◌↔◌, [], ◌∷◌, map, pos, bit_or, Bool, true, false, IsTrue};
+ghost use Rattle.std.specs.Prelude.{◌≡◌, ℕ, ◌*◌, ◌/◌, ◌^◌, ◌<◌, ◌↔◌, [], ◌∷◌, ◌+◌, length, map, pos, bit_or, Bool, true, false, IsTrue};
 ghost use Rattle.lexical_base.specs.declared.error.Error.{Error};
 ghost use Rattle.lexical_base.specs.declared.error.Error.TheVariants as errors;
 ghost use Rattle.lexical_flags.specs.Layout as layout;
@@ -23,8 +23,9 @@ pub mod examples;
 pub fn layout_facts()
     // Each flag is a power of two, and the double of the one before.
     ensures flag { (f : Flag) → flag_constant f ≡ 2 ^ bit f }
-    ensures base_flags { map flag_constant layout.base_flags ≡ doublings 1 18 }
-    ensures separator_flags { map flag_constant layout.digit_separator_flags ≡ doublings (2 ^ 32) 13 }
+    ensures base_flags { map flag_constant layout.base_flags ≡ doublings 1 (length layout.base_flags) }
+    ensures separator_flags { map flag_constant layout.digit_separator_flags
+        ≡ doublings (2 ^ 32) (length layout.digit_separator_flags) }
 
     // Each byte is eight bits from its shift up.
     ensures shift { (b : Byte) → byte_shift b ≡ pos (shift b) }
@@ -156,7 +157,8 @@ pub fn field_examples()
     ensures dropped { pack (raw 0x0A0A0A00_0000005F_00000000_0000000C) ≡ 0x0A0A0A00_00000000_00000000_0000000C }
 
     // A packed word has no reserved bit.
-    ensures cleared { pack (raw 0xFFFFFFFF_FFFFFFFF_FFFFFFFF_FFFFFFFF) ≡ 0xFFFFFFFF_FF0000FF_00001FFF_0003FFFF }
+    ensures cleared { pack (raw 0xFFFFFFFF_FFFFFFFF_FFFFFFFF_FFFFFFFF)
+        ≡ 0xFFFFFFFF_FF0000FF_00000000_00000000 + FLAG_MASK }
 {}
 
 /// Examples of the digits of a format.

@@ -28,7 +28,7 @@ byte_edits r =
     edits.BaseSuffix (option_of_byte r.base_suffix) ∷ edits.MantissaRadix r.mantissa_radix ∷
     edits.ExponentBase (option_of_byte r.exponent_base) ∷ edits.ExponentRadix (option_of_byte r.exponent_radix) ∷ []
 
--- the edits that write all its 37 fields, in the order of their bits
+-- the edits that write all its fields, in the order of their bits
 abbrev pub field_edits : Record → List Edit
 field_edits r = flag_edits r ++ byte_edits r
 

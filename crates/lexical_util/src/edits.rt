@@ -16,7 +16,7 @@ ghost use Rattle.lexical_util.specs.SetterNames.{setter_name};
 use crate::laws::{edit_facts, normal_form_facts};
 use lexical_base::error::Error;
 use lexical_builder::format_builder::{NumberFormatBuilder, OptionU8};
-use lexical_flags::format_flags::format_error_impl;
+use lexical_flags::format_flags::{FLAG_MASK, format_error_impl};
 
 // Calls `$rows!` with `$args`, a row for each flag, and a row for each group of flags. A row has the
 // variant of `FlagSetter`, and the name that the setter and, for a flag, the getter have.
@@ -76,8 +76,8 @@ mod listing;
 
 pub use listing::{edits_of, is_built};
 
-/// A builder setter that takes a `bool`: one for each of the 31 flags, and one for each of the nine
-/// groups of flags. A variant stands for the setter of the same name in snake case.
+/// A builder setter that takes a `bool`: one for each flag, and one for each of the nine groups of
+/// flags. A variant stands for the setter of the same name in snake case.
 #[derive(Debug, Clone, Copy, PartialEq, Eq)]
 pub enum FlagSetter {
     RequiredIntegerDigits,
@@ -150,8 +150,11 @@ macro_rules! variants {
     };
 }
 
-/// All setters, in the order of the variants.
-pub const SETTERS: [FlagSetter; 40] = with_setters!(variants());
+/// How many fields a word has: the flags and six bytes.
+pub const FIELDS: usize = u128::count_ones(FLAG_MASK) as usize + 6;
+
+/// All setters, in the order of the variants: those of the flags, and those of nine groups.
+pub const SETTERS: [FlagSetter; FIELDS + 3] = with_setters!(variants());
 
 impl FlagSetter {
     /// Returns the name of the setter: the variant in snake case.

@@ -1,10 +1,11 @@
 //! Laws and worked examples, each a clause of a function with an empty body. To use a law, call its
 //! function.
 
-ghost use Rattle.std.specs.Prelude.{◌≡◌, ◌≢◌, ◌↔◌, ◌<◌, ◌^◌, ℕ, true, false, Some, List, [], ◌∷◌, ◌++◌, All};
+ghost use Rattle.std.specs.Prelude.{◌≡◌, ◌≢◌, ◌↔◌, ◌<◌, ◌^◌, ◌+◌, ℕ, true, false, Some, List, [], ◌∷◌, ◌++◌, All};
 ghost use Rattle.lexical_base.specs.declared.error.Error.{Error};
 ghost use Rattle.lexical_flags.specs.Layout.{Flag, IsClean};
 ghost use Rattle.lexical_flags.specs.Layout as layout;
+ghost use Rattle.lexical_flags.specs.declared.format_flags.TheConstants.{FLAG_MASK};
 ghost use Rattle.lexical_flags.specs.Record.{Record, raw, pack, fill, trim, SeparatorIsUsed};
 ghost use Rattle.lexical_flags.specs.Rules.{Lawful, IsErrorOf};
 ghost use Rattle.lexical_builder.specs.Writes.{Write, IsLegal, write_flag, write_byte, new_record, radix_record, after, SameWrites};
@@ -110,7 +111,7 @@ pub fn normal_form_examples()
     ensures dropped { normal_form_of 0x0A0A0A00_0000005F_00000000_0000000C
         ≡ 0x0A0A0A00_00000000_00000000_0000000C }
     ensures ones { normal_form_of 0xFFFFFFFF_FFFFFFFF_FFFFFFFF_FFFFFFFF
-        ≡ 0xFFFFFFFF_FF0000FF_00001FFF_0003FFFF }
+        ≡ 0xFFFFFFFF_FF0000FF_00000000_00000000 + FLAG_MASK }
 
     // A separator that a flag allows stays, and so does what is wrong with a word.
     ensures kept { normal_form_of 0x24242424_24000024_00001FFF_0000000C

@@ -417,7 +417,7 @@ impl NumberFormatBuilder {
         self.with_flags(flags::SPECIAL_DIGIT_SEPARATOR, flag)
     }
 
-    /// Sets all 13 digit separator flags, `special_digit_separator` included. Default: false for
+    /// Sets all digit separator flags, `special_digit_separator` included. Default: false for
     /// each.
     #[inline(always)]
     pub fn digit_separator_flags(self, flag: bool) -> Self

@@ -331,8 +331,7 @@ fn is_valid_exponent_consecutive_flags(format: u128) -> bool
     format & EXPONENT_DIGIT_SEPARATOR_FLAG_MASK != EXPONENT_CONSECUTIVE_DIGIT_SEPARATOR
 }
 
-/// Returns whether all reserved bits of `format` are 0: the bits 18 to 31, 45 to 63 and 72 to 87. The
-/// Rust crate has no such function.
+/// Returns whether all reserved bits of `format` are 0. The Rust crate has no such function.
 #[inline(always)]
 pub fn is_clean(format: u128) -> bool
     ensures { IsTrue result ↔ IsClean format }
@@ -494,7 +493,7 @@ pub fn radix_error_impl(format: u128) -> Error
 ///     the integer: `InvalidConsecutiveIntegerDigitSeparator`.
 /// 14. The same for the fraction: `InvalidConsecutiveFractionDigitSeparator`.
 /// 15. The same for the exponent: `InvalidConsecutiveExponentDigitSeparator`.
-/// 16. All 49 reserved bits are 0: `InvalidFlags`.
+/// 16. All reserved bits are 0: `InvalidFlags`.
 ///
 /// The Rust crate compares raw bytes in the seventh rule, and has no rule on reserved bits.
 pub fn format_error_impl(format: u128) -> Error

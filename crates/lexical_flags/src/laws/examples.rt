@@ -1,9 +1,10 @@
 //! Of each predicate of the definitions an example that it holds of and one that it does not hold of,
 //! so that none of them can say more or less unseen.
 
-ghost use Rattle.std.specs.Prelude.{[], ◌∷◌, false};
+ghost use Rattle.std.specs.Prelude.{[], ◌∷◌, ◌+◌, ◌^◌, length, false};
 ghost use Rattle.lexical_base.specs.declared.error.Error.TheVariants as errors;
 ghost use Rattle.lexical_flags.specs.Constants.{AreApart};
+ghost use Rattle.lexical_flags.specs.Layout as layout;
 ghost use Rattle.lexical_flags.specs.Layout.{IsClean};
 ghost use Rattle.lexical_flags.specs.Options.{HaveOneRole, LeavesRoom};
 ghost use Rattle.lexical_flags.specs.Pairs.{ArePairwise};
@@ -11,6 +12,8 @@ ghost use Rattle.lexical_flags.specs.Record.{raw, tabulate, HasBytes, IsBuilt, S
 ghost use Rattle.lexical_flags.specs.Roles.{Disjoint, AtMostOneRole, cased, only, signs};
 ghost use Rattle.lexical_flags.specs.Rules as rules;
 ghost use Rattle.lexical_flags.specs.Rules.{Holds, IsErrorOf, IsPunctuation, Lawful};
+
+use crate::format_flags::FLAG_MASK;
 
 /// Masks that have a bit in common, and masks that have none.
 pub fn mask_examples()
@@ -26,10 +29,10 @@ pub fn mask_examples()
 
 /// Reserved bits: a word with all other bits set, and the first and the last bit of each range.
 pub fn clean_examples()
-    ensures all_fields { IsClean 0xFFFFFFFF_FF0000FF_00001FFF_0003FFFF }
-    ensures bit_18 { IsClean 0x00000A00_00000000_00000000_0004000C → ⊥ }
+    ensures all_fields { IsClean (0xFFFFFFFF_FF0000FF_00000000_00000000 + FLAG_MASK) }
+    ensures above_base_flags { IsClean (2 ^ length layout.base_flags) → ⊥ }
     ensures bit_31 { IsClean 0x00000A00_00000000_00000000_8000000C → ⊥ }
-    ensures bit_45 { IsClean 0x00000A00_00000000_00002000_0000000C → ⊥ }
+    ensures above_separator_flags { IsClean (2 ^ (32 + length layout.digit_separator_flags)) → ⊥ }
     ensures bit_63 { IsClean 0x00000A00_00000000_80000000_0000000C → ⊥ }
     ensures bit_72 { IsClean 0x00000A00_00000100_00000000_0000000C → ⊥ }
     ensures bit_87 { IsClean 0x00000A00_00800000_00000000_0000000C → ⊥ }
@@ -101,7 +104,7 @@ pub fn kept_examples()
     ensures fraction { Holds rules.fraction_consecutive_is_allowed 0x410_00000000 }
     ensures exponent { Holds rules.exponent_consecutive_is_allowed 0x900_00000000 }
 
-    ensures reserved { Holds rules.reserved_bits_are_zero 0xFFFFFFFF_FF0000FF_00001FFF_0003FFFF }
+    ensures reserved { Holds rules.reserved_bits_are_zero (0xFFFFFFFF_FF0000FF_00000000_00000000 + FLAG_MASK) }
 {}
 
 /// Words that break a rule.

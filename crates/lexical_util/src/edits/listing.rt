@@ -7,7 +7,7 @@ ghost use Rattle.lexical_builder.specs.Writes.{Write, IsLegal, new_record, after
 ghost use Rattle.lexical_util.specs.Edits.{all_writes};
 ghost use Rattle.lexical_util.specs.Listing.{field_edits, changes_new, changing, unchanging, IsBuiltByWrites};
 
-use crate::edits::{Edit, FlagSetter};
+use crate::edits::{Edit, FIELDS, FlagSetter};
 use crate::feature_format::NumberFormat;
 use lexical_builder::format_builder::NonZeroU8;
 use lexical_flags::format_flags as flags;
@@ -40,12 +40,12 @@ fn is_separator_used(format: u128) -> bool
 
 /// Returns the setter calls that make `format` from a new builder, and how many of them are needed.
 ///
-/// The list has one edit for each of the 37 fields, with the field's value in `format`. The edits that
-/// change a new builder come first, and the number says how many they are; then come the others. Each
-/// part is in the order of the fields' bits. The first part alone makes a builder with exactly the
-/// fields of `format`, and so does the whole list; `build_unchecked` of it returns `format` if
-/// [`is_built`] is true of it. No shorter list of setter calls of single fields does.
-pub fn edits_of(format: u128) -> ([Edit; 37], usize)
+/// The list has one edit for each field, with the field's value in `format`. The edits that change a
+/// new builder come first, and the number says how many they are; then come the others. Each part is
+/// in the order of the fields' bits. The first part alone makes a builder with exactly the fields of
+/// `format`, and so does the whole list; `build_unchecked` of it returns `format` if [`is_built`] is
+/// true of it. No shorter list of setter calls of single fields does.
+pub fn edits_of(format: u128) -> ([Edit; FIELDS], usize)
     ensures list { result.0 ≡ changing (raw format) ++ unchanging (raw format) }
     ensures number { result.1 ≡ length (changing (raw format)) }
     ensures legal { All IsLegal (all_writes result.0) }
@@ -68,7 +68,7 @@ pub fn edits_of(format: u128) -> ([Edit; 37], usize)
 }
 
 // The edits that write all fields of a word, in the order of their bits.
-fn field_edits_of(format: u128) -> [Edit; 37]
+fn field_edits_of(format: u128) -> [Edit; FIELDS]
     ensures { result ≡ field_edits (raw format) }
 {
     macro_rules! edits_of_fields {

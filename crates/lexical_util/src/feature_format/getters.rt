@@ -370,7 +370,7 @@ impl NumberFormat {
 
     // FLAG GROUPS
 
-    /// Returns the word with everything but its 31 flags masked out.
+    /// Returns the word with everything but its flags masked out.
     #[inline(always)]
     pub fn flags(&self) -> u128
         ensures bits { result ≡ bits_of self.now layout.flags }
@@ -390,7 +390,7 @@ impl NumberFormat {
         self.format & flags::INTERFACE_FLAG_MASK
     }
 
-    /// Returns the word with everything but its 13 digit separator flags masked out.
+    /// Returns the word with everything but its digit separator flags masked out.
     #[inline(always)]
     pub fn digit_separator_flags(&self) -> u128
         ensures bits { result ≡ bits_of self.now layout.digit_separator_flags }
