@@ -41,7 +41,7 @@ int main(int argc, char **argv) {
     print_word(word);
 
     /* The shortest list of edits that makes the word again. */
-    peltzivar_edit all[37];
+    peltzivar_edit all[PELTZIVAR_FIELDS];
     size_t needed = peltzivar_edits_of(word, all);
     peltzivar_fields fields = PELTZIVAR_NEW_FIELDS;
     if (!peltzivar_edit_fields(&fields, all, needed)) return 1;

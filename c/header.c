@@ -40,7 +40,7 @@ static void test_fields(void) {
     CHECK(fields.mantissa_radix == 4 && fields.exponent_base == 5 && fields.exponent_radix == 6);
     CHECK(fields.flags == (0xC | 1u << PELTZIVAR_SET_SPECIAL_DIGIT_SEPARATOR));
     CHECK(is_word(peltzivar_pack(&fields), 0x0605040302000001, 0x0000100000000000 | 0xC));
-    fields.flags |= 1u << 31;
+    fields.flags |= (uint32_t)(~0ull << PELTZIVAR_SET_REQUIRED_DIGITS);
     CHECK(is_word(peltzivar_pack(&fields), 0x0605040302000001, 0x0000100000000000 | 0xC));
 
     peltzivar_word word = {1, 2};
@@ -76,7 +76,7 @@ static void test_words(void) {
     CHECK(is_word(peltzivar_normal_form(PELTZIVAR_STANDARD), 0x0A0A0A0000000000, 0xC));
     CHECK(peltzivar_same_format(PELTZIVAR_STANDARD, RESERVED) && !peltzivar_same_format(PELTZIVAR_STANDARD, ZERO));
     CHECK(peltzivar_is_built(PELTZIVAR_STANDARD) && !peltzivar_is_built(RESERVED));
-    peltzivar_edit edits[37];
+    peltzivar_edit edits[PELTZIVAR_FIELDS];
     CHECK(peltzivar_edits_of((peltzivar_word){0xC, 0x0000100000000000}, edits) == 1);
     CHECK(edits[0].setter == PELTZIVAR_SET_MANTISSA_RADIX && edits[0].value == 16);
 }

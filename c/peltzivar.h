@@ -1,8 +1,8 @@
 /* Number formats in words of 128 bits: their fields, edits and rules. Link with liblexical_c.a.
  *
- * A format word has 31 flags (bits 0 to 17 and 32 to 44) and six bytes (from bit 64 up: digit separator, bits
+ * A format word has flags (from bit 0 up and from bit 32 up) and six bytes (from bit 64 up: digit separator, bits
  * 64 to 71; base prefix, 88; base suffix, 96; mantissa radix, 104; exponent base, 112; exponent radix, 120). The
- * other 49 bits are reserved and 0 in a lawful word.
+ * other bits are reserved and 0 in a lawful word.
  *
  * Any word, number, byte or length that fits its type is allowed. A pointer has to point to what its type says,
  * or to as many as the length beside it says, and is not null, not even for a length of 0; what a call writes must
@@ -24,8 +24,8 @@ typedef struct {
     uint64_t low, high;
 } peltzivar_word;
 
-/* The fields of a builder: the 31 flags, the first at bit 0, and six bytes, each 0 if it is absent. Bit 31 of the
- * flags is ignored. */
+/* The fields of a builder: the flags, the first at bit 0, and six bytes, each 0 if it is absent. The bits above the
+ * flags are ignored. */
 typedef struct {
     uint32_t flags;
     uint8_t digit_separator;
@@ -51,57 +51,60 @@ typedef struct {
 #define PELTZIVAR_NO_DIGIT UINT32_MAX
 #define PELTZIVAR_NO_CHAR 0
 
-/* The setters. Those from 0 to 30 set the flag at that bit of `flags`, those from 31 to 39 set groups of flags, and
- * those from 40 to 46 set bytes. */
+/* The setters. First come those of flags, each with the number of its bit in `flags`, then those of groups of flags,
+ * then those of bytes. */
 enum {
     PELTZIVAR_SET_REQUIRED_INTEGER_DIGITS = 0,
-    PELTZIVAR_SET_REQUIRED_FRACTION_DIGITS = 1,
-    PELTZIVAR_SET_REQUIRED_EXPONENT_DIGITS = 2,
-    PELTZIVAR_SET_REQUIRED_MANTISSA_DIGITS = 3,
-    PELTZIVAR_SET_NO_POSITIVE_MANTISSA_SIGN = 4,
-    PELTZIVAR_SET_REQUIRED_MANTISSA_SIGN = 5,
-    PELTZIVAR_SET_NO_EXPONENT_NOTATION = 6,
-    PELTZIVAR_SET_NO_POSITIVE_EXPONENT_SIGN = 7,
-    PELTZIVAR_SET_REQUIRED_EXPONENT_SIGN = 8,
-    PELTZIVAR_SET_NO_EXPONENT_WITHOUT_FRACTION = 9,
-    PELTZIVAR_SET_NO_SPECIAL = 10,
-    PELTZIVAR_SET_CASE_SENSITIVE_SPECIAL = 11,
-    PELTZIVAR_SET_NO_INTEGER_LEADING_ZEROS = 12,
-    PELTZIVAR_SET_NO_FLOAT_LEADING_ZEROS = 13,
-    PELTZIVAR_SET_REQUIRED_EXPONENT_NOTATION = 14,
-    PELTZIVAR_SET_CASE_SENSITIVE_EXPONENT = 15,
-    PELTZIVAR_SET_CASE_SENSITIVE_BASE_PREFIX = 16,
-    PELTZIVAR_SET_CASE_SENSITIVE_BASE_SUFFIX = 17,
-    PELTZIVAR_SET_INTEGER_INTERNAL_DIGIT_SEPARATOR = 18,
-    PELTZIVAR_SET_FRACTION_INTERNAL_DIGIT_SEPARATOR = 19,
-    PELTZIVAR_SET_EXPONENT_INTERNAL_DIGIT_SEPARATOR = 20,
-    PELTZIVAR_SET_INTEGER_LEADING_DIGIT_SEPARATOR = 21,
-    PELTZIVAR_SET_FRACTION_LEADING_DIGIT_SEPARATOR = 22,
-    PELTZIVAR_SET_EXPONENT_LEADING_DIGIT_SEPARATOR = 23,
-    PELTZIVAR_SET_INTEGER_TRAILING_DIGIT_SEPARATOR = 24,
-    PELTZIVAR_SET_FRACTION_TRAILING_DIGIT_SEPARATOR = 25,
-    PELTZIVAR_SET_EXPONENT_TRAILING_DIGIT_SEPARATOR = 26,
-    PELTZIVAR_SET_INTEGER_CONSECUTIVE_DIGIT_SEPARATOR = 27,
-    PELTZIVAR_SET_FRACTION_CONSECUTIVE_DIGIT_SEPARATOR = 28,
-    PELTZIVAR_SET_EXPONENT_CONSECUTIVE_DIGIT_SEPARATOR = 29,
-    PELTZIVAR_SET_SPECIAL_DIGIT_SEPARATOR = 30,
-    PELTZIVAR_SET_REQUIRED_DIGITS = 31,
-    PELTZIVAR_SET_INTERNAL_DIGIT_SEPARATOR = 32,
-    PELTZIVAR_SET_LEADING_DIGIT_SEPARATOR = 33,
-    PELTZIVAR_SET_TRAILING_DIGIT_SEPARATOR = 34,
-    PELTZIVAR_SET_CONSECUTIVE_DIGIT_SEPARATOR = 35,
-    PELTZIVAR_SET_DIGIT_SEPARATOR_FLAGS = 36,
-    PELTZIVAR_SET_INTEGER_DIGIT_SEPARATOR_FLAGS = 37,
-    PELTZIVAR_SET_FRACTION_DIGIT_SEPARATOR_FLAGS = 38,
-    PELTZIVAR_SET_EXPONENT_DIGIT_SEPARATOR_FLAGS = 39,
-    PELTZIVAR_SET_DIGIT_SEPARATOR = 40,
-    PELTZIVAR_SET_BASE_PREFIX = 41,
-    PELTZIVAR_SET_BASE_SUFFIX = 42,
-    PELTZIVAR_SET_MANTISSA_RADIX = 43,
-    PELTZIVAR_SET_RADIX = 44,
-    PELTZIVAR_SET_EXPONENT_BASE = 45,
-    PELTZIVAR_SET_EXPONENT_RADIX = 46,
+    PELTZIVAR_SET_REQUIRED_FRACTION_DIGITS,
+    PELTZIVAR_SET_REQUIRED_EXPONENT_DIGITS,
+    PELTZIVAR_SET_REQUIRED_MANTISSA_DIGITS,
+    PELTZIVAR_SET_NO_POSITIVE_MANTISSA_SIGN,
+    PELTZIVAR_SET_REQUIRED_MANTISSA_SIGN,
+    PELTZIVAR_SET_NO_EXPONENT_NOTATION,
+    PELTZIVAR_SET_NO_POSITIVE_EXPONENT_SIGN,
+    PELTZIVAR_SET_REQUIRED_EXPONENT_SIGN,
+    PELTZIVAR_SET_NO_EXPONENT_WITHOUT_FRACTION,
+    PELTZIVAR_SET_NO_SPECIAL,
+    PELTZIVAR_SET_CASE_SENSITIVE_SPECIAL,
+    PELTZIVAR_SET_NO_INTEGER_LEADING_ZEROS,
+    PELTZIVAR_SET_NO_FLOAT_LEADING_ZEROS,
+    PELTZIVAR_SET_REQUIRED_EXPONENT_NOTATION,
+    PELTZIVAR_SET_CASE_SENSITIVE_EXPONENT,
+    PELTZIVAR_SET_CASE_SENSITIVE_BASE_PREFIX,
+    PELTZIVAR_SET_CASE_SENSITIVE_BASE_SUFFIX,
+    PELTZIVAR_SET_INTEGER_INTERNAL_DIGIT_SEPARATOR,
+    PELTZIVAR_SET_FRACTION_INTERNAL_DIGIT_SEPARATOR,
+    PELTZIVAR_SET_EXPONENT_INTERNAL_DIGIT_SEPARATOR,
+    PELTZIVAR_SET_INTEGER_LEADING_DIGIT_SEPARATOR,
+    PELTZIVAR_SET_FRACTION_LEADING_DIGIT_SEPARATOR,
+    PELTZIVAR_SET_EXPONENT_LEADING_DIGIT_SEPARATOR,
+    PELTZIVAR_SET_INTEGER_TRAILING_DIGIT_SEPARATOR,
+    PELTZIVAR_SET_FRACTION_TRAILING_DIGIT_SEPARATOR,
+    PELTZIVAR_SET_EXPONENT_TRAILING_DIGIT_SEPARATOR,
+    PELTZIVAR_SET_INTEGER_CONSECUTIVE_DIGIT_SEPARATOR,
+    PELTZIVAR_SET_FRACTION_CONSECUTIVE_DIGIT_SEPARATOR,
+    PELTZIVAR_SET_EXPONENT_CONSECUTIVE_DIGIT_SEPARATOR,
+    PELTZIVAR_SET_SPECIAL_DIGIT_SEPARATOR,
+    PELTZIVAR_SET_REQUIRED_DIGITS,
+    PELTZIVAR_SET_INTERNAL_DIGIT_SEPARATOR,
+    PELTZIVAR_SET_LEADING_DIGIT_SEPARATOR,
+    PELTZIVAR_SET_TRAILING_DIGIT_SEPARATOR,
+    PELTZIVAR_SET_CONSECUTIVE_DIGIT_SEPARATOR,
+    PELTZIVAR_SET_DIGIT_SEPARATOR_FLAGS,
+    PELTZIVAR_SET_INTEGER_DIGIT_SEPARATOR_FLAGS,
+    PELTZIVAR_SET_FRACTION_DIGIT_SEPARATOR_FLAGS,
+    PELTZIVAR_SET_EXPONENT_DIGIT_SEPARATOR_FLAGS,
+    PELTZIVAR_SET_DIGIT_SEPARATOR,
+    PELTZIVAR_SET_BASE_PREFIX,
+    PELTZIVAR_SET_BASE_SUFFIX,
+    PELTZIVAR_SET_MANTISSA_RADIX,
+    PELTZIVAR_SET_RADIX,
+    PELTZIVAR_SET_EXPONENT_BASE,
+    PELTZIVAR_SET_EXPONENT_RADIX,
 };
+
+/* How many fields a word has: the flags and six bytes. */
+#define PELTZIVAR_FIELDS (PELTZIVAR_SET_REQUIRED_DIGITS + 6)
 
 /* The outcomes. Those from 0 to 18 are errors of parsing, each with the index at which it was found; 19 to 35 are
  * errors of formats, 36 to 47 of options. */
@@ -197,9 +200,9 @@ bool peltzivar_same_format(peltzivar_word a, peltzivar_word b);
 /* Returns whether peltzivar_pack can return the word. */
 bool peltzivar_is_built(peltzivar_word format);
 
-/* Writes one edit for each of the 37 fields, with its value in the word, and returns how many of them make these
- * fields from those of a new builder. These come first, and no shorter list does. */
-size_t peltzivar_edits_of(peltzivar_word format, peltzivar_edit edits[37]);
+/* Writes one edit for each field, with its value in the word, and returns how many of them make these fields from
+ * those of a new builder. These come first, and no shorter list does. */
+size_t peltzivar_edits_of(peltzivar_word format, peltzivar_edit edits[PELTZIVAR_FIELDS]);
 
 /* RULES */
 

@@ -2,8 +2,8 @@
 """Compares the pages with the repository, prints what differs, and ends with 1 if something does.
 
 - Each link between pages has a file and a heading to lead to.
-- Each block of code is a piece of a file; `..` stands for lines that it leaves out. c/peltzivar.h has the numbers of setters
-  and outcomes.
+- Each block of code is a piece of a file; `..` stands for lines that it leaves out. c/peltzivar.h has the setters in their
+  order, and the numbers of outcomes.
 - The tables of FORMAT.md are those of the tests in format_page.rt, and each of its words stands in some code.
 - PROVED.md names each file of definitions.
 - A format word outside of a block of code can be pasted: it has no `_`.
@@ -117,19 +117,39 @@ def format_page(text, found, files):
             yield f"in no code: {word}"
 
 
-def header():
-    """Returns the lines of the C header that name setters and outcomes, by the tables of both."""
+def constant(name):
+    """Returns the name in the C header of a setter or an outcome."""
+    return "PELTZIVAR_" + re.sub(r"(?<=[a-z])(?=[A-Z])", "_", name).upper()
+
+
+def setters():
+    """Returns the names in the C header of the setters, in the order of their numbers."""
     edits = (TOP / "crates/lexical_util/src/edits.rt").read_text()
     variants = re.search(r"pub enum FlagSetter \{(.*?)^\}", edits, re.M | re.S)[1]
-    setters = [*enumerate(re.findall(r"^    (\w+),", variants, re.M))]
     changes = (TOP / "crates/lexical_c/src/changes.rt").read_text()
-    setters += re.findall(r"(\d+) => Some\(Edit::(\w+)\(", changes)
+    names = re.findall(r"^    (\w+),", variants, re.M) + re.findall(r"\d+ => Some\(Edit::(\w+)\(", changes)
+    return [constant(f"SET_{name}") for name in names]
+
+
+def outcomes():
+    """Returns the names in the C header of the outcomes, with their numbers."""
     table = (TOP / "crates/lexical_base/specs/Outcomes.antt").read_text()
-    outcomes = re.findall(r"^rank_of \(?outcomes\.(\w+).*= (\d+)$", table, re.M)
-    names = [(f"SET_{name}", number) for number, name in setters] + outcomes
-    for name, number in names:
-        upper = re.sub(r"(?<=[a-z])(?=[A-Z])", "_", name).upper()
-        yield f"    PELTZIVAR_{upper} = {number},\n"
+    ranks = re.findall(r"^rank_of \(?outcomes\.(\w+).*= (\d+)$", table, re.M)
+    return [(constant(name), number) for name, number in ranks]
+
+
+def header(wanted):
+    """Returns what of the C header differs from the tables of setters and outcomes."""
+    text = (TOP / "c/peltzivar.h").read_text()
+    names = setters()
+    if re.findall(r"^    (PELTZIVAR_SET_\w+)(?: = 0)?,$", text, re.M) != names:
+        yield "c/peltzivar.h has not the setters in their order"
+    for name, number in outcomes():
+        if text.count(f"    {name} = {number},\n") != 1:
+            yield f"not once in c/peltzivar.h: {name} = {number}"
+    # `radix` is one more setter.
+    if len(names) != wanted["fields"] + wanted["groups"] + 1 or len(outcomes()) != wanted["outcomes"]:
+        yield f"{len(names)} setters and {len(outcomes())} outcomes are named"
 
 
 def layout():
@@ -162,12 +182,7 @@ def main():
             specs = {path.stem for path in (TOP / "crates").glob("*/specs/*.antt")} - {"Lib"}
             found += [f"has no `{name}` of specs/" for name in sorted(specs) if f"`{name}`" not in text]
         if page.name == "CALLING-FROM-RUST-AND-C.md":
-            lines = list(header())
-            text = (TOP / "c/peltzivar.h").read_text()
-            found += [f"not once in c/peltzivar.h: {line}" for line in lines if text.count(line) != 1]
-            # `radix` is one more setter.
-            if len(lines) != sum(wanted[name] for name in ("fields", "groups", "outcomes")) + 1:
-                found.append(f"{len(lines)} setters and outcomes are named")
+            found += header(wanted)
         for it in found:
             print(f"{page.relative_to(TOP)}: {it}")
         wrong += len(found)

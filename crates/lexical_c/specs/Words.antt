@@ -1,5 +1,6 @@
 -- The numbers and records that the structs which cross to C stand for.
-use Rattle.std.specs.Prelude.{ℕ, ◌+◌, ◌*◌, ◌^◌, ◌%◌, [], ◌∷◌}
+use Rattle.std.specs.Prelude.{ℕ, ◌+◌, ◌*◌, ◌^◌, ◌%◌, length, [], ◌∷◌}
+use Rattle.lexical_util.specs.Layout.{flags}
 use Rattle.lexical_util.specs.Fields.{record_of_parts}
 use Rattle.lexical_util.specs.Record.{Record}
 use Rattle.lexical_c.specs.declared.words.Word.TheInside as word
@@ -9,8 +10,8 @@ use Rattle.lexical_c.specs.declared.words.Fields as fields
 abbrev pub number_of : word.Inside → ℕ
 number_of w = w.low + w.high * 2 ^ 64
 
--- the record of fields that cross; bit 31 of the flags is ignored
+-- the record of fields that cross; the bits above the flags are ignored
 abbrev pub fields_of : fields.Fields → Record
 fields_of f =
-    record_of_parts (f.flags % 2 ^ 31)
+    record_of_parts (f.flags % 2 ^ length flags)
     (f.digit_separator ∷ f.base_prefix ∷ f.base_suffix ∷ f.mantissa_radix ∷ f.exponent_base ∷ f.exponent_radix ∷ [])

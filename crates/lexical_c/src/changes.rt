@@ -7,7 +7,10 @@ ghost use Rattle.lexical_c.specs.Edits.{edit_of};
 use lexical_util::edits::{Edit, SETTERS};
 use lexical_util::format_builder::{NonZeroU8, OptionU8};
 
-/// An edit: the number of a setter, 0 to 46, and its argument.
+/// The number of the first setter of a byte: the setters of flags and groups come before it.
+pub const FIRST_BYTE: u8 = SETTERS.len() as u8;
+
+/// An edit: the number of a setter and its argument.
 #[repr(C)]
 #[derive(Clone, Copy)]
 pub struct Change {
@@ -22,13 +25,13 @@ impl Change {
     {
         let (setter, value) = match edit {
             Edit::Flag(setter, flag) => (setter as u8, flag as u8),
-            Edit::DigitSeparator(byte) => (40, byte_or_zero(byte)),
-            Edit::BasePrefix(byte) => (41, byte_or_zero(byte)),
-            Edit::BaseSuffix(byte) => (42, byte_or_zero(byte)),
-            Edit::MantissaRadix(radix) => (43, radix),
-            Edit::Radix(radix) => (44, radix),
-            Edit::ExponentBase(byte) => (45, byte_or_zero(byte)),
-            Edit::ExponentRadix(byte) => (46, byte_or_zero(byte)),
+            Edit::DigitSeparator(byte) => (FIRST_BYTE, byte_or_zero(byte)),
+            Edit::BasePrefix(byte) => (FIRST_BYTE + 1, byte_or_zero(byte)),
+            Edit::BaseSuffix(byte) => (FIRST_BYTE + 2, byte_or_zero(byte)),
+            Edit::MantissaRadix(radix) => (FIRST_BYTE + 3, radix),
+            Edit::Radix(radix) => (FIRST_BYTE + 4, radix),
+            Edit::ExponentBase(byte) => (FIRST_BYTE + 5, byte_or_zero(byte)),
+            Edit::ExponentRadix(byte) => (FIRST_BYTE + 6, byte_or_zero(byte)),
         };
         Change { setter, value }
     }
@@ -38,16 +41,19 @@ impl Change {
     pub fn edit(self) -> Option<Edit>
         ensures { result ≡ edit_of self }
     {
+        if let Some(setter) = SETTERS.get(self.setter as usize) {
+            return Some(Edit::Flag(*setter, self.value != 0));
+        }
         let byte = NonZeroU8::new(self.value);
-        match self.setter {
-            40 => Some(Edit::DigitSeparator(byte)),
-            41 => Some(Edit::BasePrefix(byte)),
-            42 => Some(Edit::BaseSuffix(byte)),
-            43 => Some(Edit::MantissaRadix(self.value)),
-            44 => Some(Edit::Radix(self.value)),
-            45 => Some(Edit::ExponentBase(byte)),
-            46 => Some(Edit::ExponentRadix(byte)),
-            setter => Some(Edit::Flag(*SETTERS.get(setter as usize)?, self.value != 0)),
+        match self.setter - FIRST_BYTE {
+            0 => Some(Edit::DigitSeparator(byte)),
+            1 => Some(Edit::BasePrefix(byte)),
+            2 => Some(Edit::BaseSuffix(byte)),
+            3 => Some(Edit::MantissaRadix(self.value)),
+            4 => Some(Edit::Radix(self.value)),
+            5 => Some(Edit::ExponentBase(byte)),
+            6 => Some(Edit::ExponentRadix(byte)),
+            _ => None,
         }
     }
 }

@@ -15,7 +15,7 @@ use crate::changes::Change;
 use crate::rules::checked;
 use crate::words::Word;
 use lexical_util::edits;
-use lexical_util::edits::apply;
+use lexical_util::edits::{FIELDS, apply};
 use lexical_util::format_builder::NumberFormatBuilder;
 use lexical_util::laws::write_facts;
 
@@ -97,10 +97,10 @@ pub extern "C" fn peltzivar_is_built(format: Word) -> bool
     edits::is_built(format.number())
 }
 
-/// Writes one change for each of the 37 fields, with the field's value in the word, and returns how many of
+/// Writes one change for each field, with the field's value in the word, and returns how many of
 /// them make these fields from those of a new builder. These come first, and there is no shorter list.
 #[unsafe(no_mangle)]
-pub extern "C" fn peltzivar_edits_of(format: Word, changes: &mut [Change; 37]) -> usize
+pub extern "C" fn peltzivar_edits_of(format: Word, changes: &mut [Change; FIELDS]) -> usize
     ensures each { All HasSetter changes.new }
     ensures list { known changes.new ≡ changing (raw format) ++ unchanging (raw format) }
     ensures number { result ≡ length (changing (raw format)) }

@@ -51,8 +51,8 @@ impl Word {
     }
 }
 
-/// The fields of a builder: 31 flags, the first at bit 0, and six bytes, each 0 if it is absent. Bit 31 of
-/// the flags is ignored.
+/// The fields of a builder: the flags, the first at bit 0, and six bytes, each 0 if it is absent. The bits
+/// above the flags are ignored.
 #[repr(C)]
 #[derive(Clone, Copy)]
 pub struct Fields {
