@@ -188,7 +188,7 @@ impl NumberFormat {
         self.fields.exponent_radix.into()
     }
 
-    /// Returns the word with everything but its 31 flags masked out.
+    /// Returns the word with everything but its flags masked out.
     #[inline]
     pub fn flags(&self) -> u128 {
         self.format & flags::FLAG_MASK
@@ -200,7 +200,7 @@ impl NumberFormat {
         self.format & flags::INTERFACE_FLAG_MASK
     }
 
-    /// Returns the word with everything but its 13 digit separator flags masked out.
+    /// Returns the word with everything but its digit separator flags masked out.
     #[inline]
     pub fn digit_separator_flags(&self) -> u128 {
         self.format & flags::DIGIT_SEPARATOR_FLAG_MASK

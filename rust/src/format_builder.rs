@@ -15,7 +15,7 @@ const KEPT: usize = 16;
 
 /// The fields of a number format, to be set one by one and packed into a format word.
 ///
-/// A builder has 31 flags, the mantissa radix, and five bytes that may be absent: digit separator, base
+/// A builder has the flags, the mantissa radix, and five bytes that may be absent: digit separator, base
 /// prefix, base suffix, exponent base and exponent radix. A setter takes the builder and returns it with its
 /// field changed; every other field keeps its value. So setters of different fields can be called in any
 /// order, and of several calls for one field the last counts.
@@ -81,7 +81,7 @@ impl NumberFormatBuilder {
     }
 
     /// Packs the fields into a format word, lawful or not. Every field is written unchanged, except the digit
-    /// separator: it is written only if one of the 13 digit separator flags is set, and is 0 otherwise.
+    /// separator: it is written only if one of the digit separator flags is set, and is 0 otherwise.
     #[inline]
     pub fn build_unchecked(&self) -> u128 {
         ffi::build(&self.fields, self.kept())

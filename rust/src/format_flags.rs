@@ -1,8 +1,8 @@
 //! The layout of a format word, and the tests of its rules.
 //!
-//! A format word is a `u128`. Bits 0 to 17 and 32 to 44 are flags; six bytes stand from bit 64 up: digit
-//! separator, base prefix, base suffix, mantissa radix, exponent base and exponent radix. The other 49 bits
-//! are reserved: no field takes them, and they are 0 in a lawful format.
+//! A format word is a `u128`. Flags stand from bit 0 up and from bit 32 up; six bytes stand from bit 64 up:
+//! digit separator, base prefix, base suffix, mantissa radix, exponent base and exponent radix. The other
+//! bits are reserved: no field takes them, and they are 0 in a lawful format.
 
 use crate::error::Error;
 use crate::ffi;
@@ -14,6 +14,9 @@ macro_rules! constants {
             #[doc = concat!("Mask of the flag `", stringify!($flag), "`. ", $doc)]
             pub const $CONST: u128 = 1 << $bit;
         )*
+
+        /// Mask of all flags.
+        pub const FLAG_MASK: u128 = 0 $(| $CONST)*;
     };
 }
 
@@ -79,13 +82,10 @@ pub const EXPONENT_RADIX: u128 = 0xFF000000_00000000_00000000_00000000;
 /// Mask of the mantissa radix and the exponent radix, without the exponent base.
 pub const RADIX_MASK: u128 = 0xFF00FF00_00000000_00000000_00000000;
 
-/// Mask of all 31 flags.
-pub const FLAG_MASK: u128 = 0x1FFF_0003_FFFF;
-
 /// Mask of the flags that a parser's front end handles: required digits, exponents (except the case of the character), leading zeros of floats, and digit separators (except in special values).
 pub const INTERFACE_FLAG_MASK: u128 = 0xFFF_0000_63CF;
 
-/// Mask of the 13 flags that allow a digit separator somewhere, with [`SPECIAL_DIGIT_SEPARATOR`].
+/// Mask of the flags that allow a digit separator somewhere, with [`SPECIAL_DIGIT_SEPARATOR`].
 pub const DIGIT_SEPARATOR_FLAG_MASK: u128 = 0x1FFF_0000_0000;
 
 /// Mask of the flags of exponents, without [`CASE_SENSITIVE_EXPONENT`].

@@ -88,7 +88,7 @@ macro_rules! with_setters {
                 ConsecutiveDigitSeparator consecutive_digit_separator
                     "Sets whether several digit separators in a row are allowed in integers, fractions and exponents, at the positions at which one is allowed. Default: false for each.";
                 DigitSeparatorFlags digit_separator_flags
-                    "Sets all 13 digit separator flags, `special_digit_separator` included. Default: false for each.";
+                    "Sets all digit separator flags, `special_digit_separator` included. Default: false for each.";
                 IntegerDigitSeparatorFlags integer_digit_separator_flags
                     "Sets the four digit separator flags of integer digits. Default: false for each.";
                 FractionDigitSeparatorFlags fraction_digit_separator_flags
