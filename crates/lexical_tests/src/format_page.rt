@@ -2,7 +2,7 @@
 
 use lexical_util::edits::Edit::{DigitSeparator, Flag, MantissaRadix};
 use lexical_util::edits::FlagSetter::*;
-use lexical_util::edits::{FlagSetter, edit_word};
+use lexical_util::edits::{FIELDS, FlagSetter, edit_word};
 use lexical_util::error::Error;
 use lexical_util::format::*;
 
@@ -79,7 +79,7 @@ macro_rules! with_flags {
 }
 
 // How many they are.
-const FLAGS: usize = 31;
+const FLAGS: usize = FIELDS - 6;
 
 // The rows, with the name as text and without getters.
 macro_rules! flag_rows {
@@ -198,7 +198,7 @@ fn each_rule_has_its_error_and_a_word_of_which_no_bit_can_be_left_out(rt: HostRu
         (13, Error::InvalidConsecutiveIntegerDigitSeparator, 0x00000200_00000000_00000200_00000000),
         (14, Error::InvalidConsecutiveFractionDigitSeparator, 0x00000200_00000000_00000400_00000000),
         (15, Error::InvalidConsecutiveExponentDigitSeparator, 0x00000200_00000000_00000800_00000000),
-        (16, Error::InvalidFlags, 0x00000200_00000000_00000000_00040000),
+        (16, Error::InvalidFlags, 0x00000200_00000000_00000000_80000000),
     ];
     for (rule, error, word) in rows {
         assert!(rt; format_error(word) == error, "{rule}");
