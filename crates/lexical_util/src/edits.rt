@@ -150,11 +150,13 @@ macro_rules! variants {
     };
 }
 
+const FLAGS: usize = u128::count_ones(FLAG_MASK) as usize;
+
 /// How many fields a word has: the flags and six bytes.
-pub const FIELDS: usize = u128::count_ones(FLAG_MASK) as usize + 6;
+pub const FIELDS: usize = FLAGS + 6;
 
 /// All setters, in the order of the variants: those of the flags, and those of nine groups.
-pub const SETTERS: [FlagSetter; FIELDS + 3] = with_setters!(variants());
+pub const SETTERS: [FlagSetter; FLAGS + 9] = with_setters!(variants());
 
 impl FlagSetter {
     /// Returns the name of the setter: the variant in snake case.
