@@ -2,7 +2,7 @@
 
 use lexical_util::edits::Edit::{DigitSeparator, Flag, MantissaRadix};
 use lexical_util::edits::FlagSetter::*;
-use lexical_util::edits::{FIELDS, FlagSetter, edit_word};
+use lexical_util::edits::{FlagSetter, edit_word};
 use lexical_util::error::Error;
 use lexical_util::format::*;
 
@@ -78,15 +78,24 @@ macro_rules! with_flags {
     };
 }
 
-// How many they are.
-const FLAGS: usize = FIELDS - 6;
-
 // The rows, with the name as text and without getters.
 macro_rules! flag_rows {
     (() $($bit:literal $flag:ident $Flag:ident $default:literal $getter:ident $MASK:ident;)*) => {
         [$(($bit, stringify!($flag), $MASK, $Flag, $default),)*]
     };
 }
+
+macro_rules! flag_bits {
+    (() $($bit:literal $flag:ident $Flag:ident $default:literal $getter:ident $MASK:ident;)*) => {
+        0 $(| 1 << $bit)*
+    };
+}
+
+/// The bits of all flags.
+pub const FLAG_BITS: u128 = with_flags!(flag_bits());
+
+/// How many flags there are.
+pub const FLAGS: usize = u128::count_ones(FLAG_BITS) as usize;
 
 fn seen_by_a_view(view: &NumberFormat) -> [bool; FLAGS] {
     macro_rules! getters {
