@@ -142,7 +142,7 @@ def header(wanted):
     """Returns what of the C header differs from the tables of setters and outcomes."""
     text = (TOP / "c/peltzivar.h").read_text()
     names = setters()
-    if re.findall(r"^    (PELTZIVAR_SET_\w+)(?: = 0)?,$", text, re.M) != names:
+    if re.findall(r"^    (PELTZIVAR_SET_.*),$", text, re.M) != [f"{names[0]} = 0", *names[1:]]:
         yield "c/peltzivar.h has not the setters in their order"
     for name, number in outcomes():
         if text.count(f"    {name} = {number},\n") != 1:

@@ -30,9 +30,10 @@ pub fn mask_examples()
 /// Reserved bits: a word with all other bits set, and the first and the last bit of each range.
 pub fn clean_examples()
     ensures all_fields { IsClean (0xFFFFFFFF_FF0000FF_00000000_00000000 + FLAG_MASK) }
-    ensures above_base_flags { IsClean (2 ^ length layout.base_flags) → ⊥ }
+    ensures above_base_flags { IsClean (0x00000A00_00000000_00000000_0000000C + 2 ^ length layout.base_flags) → ⊥ }
     ensures bit_31 { IsClean 0x00000A00_00000000_00000000_8000000C → ⊥ }
-    ensures above_separator_flags { IsClean (2 ^ (32 + length layout.digit_separator_flags)) → ⊥ }
+    ensures above_separator_flags { IsClean (0x00000A00_00000000_00000000_0000000C
+        + 2 ^ (32 + length layout.digit_separator_flags)) → ⊥ }
     ensures bit_63 { IsClean 0x00000A00_00000000_80000000_0000000C → ⊥ }
     ensures bit_72 { IsClean 0x00000A00_00000100_00000000_0000000C → ⊥ }
     ensures bit_87 { IsClean 0x00000A00_00800000_00000000_0000000C → ⊥ }
