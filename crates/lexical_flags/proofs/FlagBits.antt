@@ -12,6 +12,7 @@ use Rattle.lexical_flags.specs.Layout.{part, Flag, bit, shift, flags, bytes, dig
 use Rattle.lexical_flags.specs.Record.{Record, tabulate, flag_of, byte_of, raw, word_of, flag_bits, byte_bits}
 use Rattle.lexical_flags.specs.Record.{separator_on, HasBytes}
 use Rattle.lexical_flags.specs.Constants.{mask_of}
+use Rattle.lexical_flags.specs.declared.format_flags.TheConstants.{DIGIT_SEPARATOR_FLAG_MASK}
 use Rattle.lexical_flags.proofs.RecordLemmas.{flag_of-raw}
 use Rattle.lexical_flags.proofs.Packing.{high, bit_value, bit_value-lt, flag_bits-value, raw-word_of, HasBytes-by_name}
 use Rattle.lexical_flags.proofs.Masks.{ascends, and_all, or_all, sum-below}
@@ -68,10 +69,10 @@ pub mask_test : (fs : List Flag) (word : ℕ) → ascends bit 1 0 fs ≡ true
 mask_test fs word up = ap (λ n. not (n == 0)) (and_all bit fs word up) ∙ sum_by-set fs word
 
 -- whether some flag allows a digit separator, as the code tests it
-pub separator_flag_set : (word : ℕ) → bit_and word 0x1FFF_0000_0000 ≢ 0 → separator_on (raw word) ≡ true
+pub separator_flag_set : (word : ℕ) → bit_and word DIGIT_SEPARATOR_FLAG_MASK ≢ 0 → separator_on (raw word) ≡ true
 separator_flag_set word some = sym (mask_test digit_separator_flags word refl) ∙ ap not (ne_eqb _ _ some)
 
-pub no_separator_flag_set : (word : ℕ) → bit_and word 0x1FFF_0000_0000 ≡ 0 → separator_on (raw word) ≡ false
+pub no_separator_flag_set : (word : ℕ) → bit_and word DIGIT_SEPARATOR_FLAG_MASK ≡ 0 → separator_on (raw word) ≡ false
 no_separator_flag_set word none = sym (mask_test digit_separator_flags word refl) ∙ ap not (eq-eqb _ _ none)
 
 -- the flags of a record joined by `|`

@@ -1,7 +1,7 @@
 //! Laws of the layout, of packing, of the rules and of the roles, stated as the clauses of functions
 //! with empty bodies; and examples of the definitions, proved by computation.
 
-ghost use Rattle.std.specs.Prelude.{◌≡◌, ℕ, ◌*◌, ◌/◌, ◌^◌, ◌<◌, ◌↔◌, [], ◌∷◌, ◌+◌, length, map, pos, bit_or, Bool, true, false, IsTrue};
+ghost use Rattle.std.specs.Prelude.{◌≡◌, ℕ, ◌*◌, ◌/◌, ◌^◌, ◌<◌, ◌↔◌, [], ◌∷◌, ◌+◌, ◌-◌, length, map, pos, bit_or, Bool, true, false, IsTrue};
 ghost use Rattle.lexical_base.specs.declared.error.Error.{Error};
 ghost use Rattle.lexical_base.specs.declared.error.Error.TheVariants as errors;
 ghost use Rattle.lexical_flags.specs.Layout as layout;
@@ -149,7 +149,8 @@ pub fn field_examples()
 
     // Bit 44 alone allows a separator; all the others below 64 do not.
     ensures allowed { separator_on (raw 0x00000A00_0000005F_00001000_0000000C) ≡ true }
-    ensures not_allowed { separator_on (raw 0x00000A00_0000005F_FFFFE000_FFFFFFFF) ≡ false }
+    ensures not_allowed { separator_on
+        (raw (0x00000A00_0000005F_FFFFFFFF_FFFFFFFF - DIGIT_SEPARATOR_FLAG_MASK)) ≡ false }
 
     // The standard format and two words of its builder, packed; a separator that no flag allows is dropped.
     ensures standard { pack (raw 0x00000A00_00000000_00000000_0000000C) ≡ 0x00000A00_00000000_00000000_0000000C }
