@@ -1,8 +1,8 @@
 /* Number formats in words of 128 bits: their fields, edits and rules. Link with liblexical_c.a.
  *
- * A format word has flags (from bit 0 up and from bit 32 up) and six bytes (from bit 64 up: digit separator, bits
- * 64 to 71; base prefix, 88; base suffix, 96; mantissa radix, 104; exponent base, 112; exponent radix, 120). The
- * other bits are reserved and 0 in a lawful word.
+ * A format word has flags (bits 0 to 17 and 32 to 44) and six bytes (from bit 64 up: digit separator, bits 64 to 71;
+ * base prefix, 88; base suffix, 96; mantissa radix, 104; exponent base, 112; exponent radix, 120). The other bits are
+ * reserved and 0 in a lawful word.
  *
  * Any word, number, byte or length that fits its type is allowed. A pointer has to point to what its type says,
  * or to as many as the length beside it says, and is not null, not even for a length of 0; what a call writes must

