@@ -1,3 +1,4 @@
+use crate::format_page::FLAG_BITS;
 use callers::calls::called;
 
 #[test]
@@ -9,7 +10,7 @@ fn setter_calls_make_the_word_that_a_builder_packs(rt: HostRuntime) {
         (0x0A0A0A00_0000005F_00000000_0000000C, 0x0A0A0A00_00000000_00000000_0000000C),
         (0x00000A00_00000000_00000000_8000000C, 0x00000A00_00000000_00000000_0000000C),
         (0x0A0A0A00_00000000_00000000_0000000C, 0x0A0A0A00_00000000_00000000_0000000C),
-        (0xFFFFFFFF_FFFFFFFF_FFFFFFFF_FFFFFFFF, 0xFFFFFFFF_FF0000FF_00001FFF_0003FFFF),
+        (0xFFFFFFFF_FFFFFFFF_FFFFFFFF_FFFFFFFF, 0xFFFFFFFF_FF0000FF_00000000_00000000 | FLAG_BITS),
         (0, 0),
     ] {
         assert!(rt; called(word) == want, "{word:x}");

@@ -40,13 +40,13 @@ fn flag_groups_mask_out_everything_else(rt: HostRuntime) {
         view.exponent_digit_separator_flags(),
     ];
     let masks = [
-        0x1FFF_0003_FFFF,
-        0xFFF_0000_63CF,
-        0x1FFF_0000_0000,
-        0x924_0000_43C4,
-        0x249_0000_0000,
-        0x492_0000_0000,
-        0x924_0000_0000,
+        FLAG_MASK,
+        INTERFACE_FLAG_MASK,
+        DIGIT_SEPARATOR_FLAG_MASK,
+        EXPONENT_FLAG_MASK,
+        INTEGER_DIGIT_SEPARATOR_FLAG_MASK,
+        FRACTION_DIGIT_SEPARATOR_FLAG_MASK,
+        EXPONENT_DIGIT_SEPARATOR_FLAG_MASK,
     ];
     assert!(rt; groups == masks);
 }
