@@ -143,6 +143,16 @@ fn fails_only_if_its_formatter_fails(rt: HostRuntime) {
     }
 }
 
+// Of each style whether a value is printed in it, and the text is what it prints.
+macro_rules! prints {
+    ($text:ident: $($style:literal)*) => {
+        [$({
+            let mut writer = Expecting { rest: $text };
+            write!(&mut writer, $style).is_ok() && writer.rest.is_empty()
+        },)*]
+    };
+}
+
 #[test]
 #[rattlefmt::skip]
 fn prints_the_same_at_any_width(rt: HostRuntime) {
@@ -150,16 +160,8 @@ fn prints_the_same_at_any_width(rt: HostRuntime) {
         (Error::InvalidDigit(3), "lexical parse error: 'invalid digit found' at index 3"),
         (Error::Success, "'not actually an error'"),
     ] {
-        let mut plain = Expecting { rest: text };
-        let mut wide = Expecting { rest: text };
-        let mut padded = Expecting { rest: text };
-        let mut short = Expecting { rest: text };
-        let succeeds = write!(&mut plain, "{error}").is_ok()
-            && write!(&mut wide, "{error:80}").is_ok()
-            && write!(&mut padded, "{error:->080}").is_ok()
-            && write!(&mut short, "{error:+.3}").is_ok();
-        let takes = plain.rest.is_empty() && wide.rest.is_empty() && padded.rest.is_empty() && short.rest.is_empty();
-        assert!(rt; succeeds && takes);
+        let in_styles = prints!(text: "{error}" "{error:80}" "{error:->080}" "{error:#^80}" "{error:+.3}");
+        assert!(rt; in_styles == [true; 5]);
     }
 }
 
