@@ -1,4 +1,4 @@
-use Rattle.std.proofs.Common.{◌≡◌, ◌+◌, ◌%◌, [], ◌∷◌, refl, sym, subst, ap, ◌∙◌, arith}
+use Rattle.std.proofs.Common.{◌≡◌, ◌+◌, ◌%◌, [], ◌∷◌, true, refl, sym, subst, ap, ◌∙◌, arith}
 use Rattle.std.specs.Char.{encode_utf8}
 use Rattle.std.specs.Fmt.{decimal, HasWrittenStyled, IsFlush}
 use Rattle.std.proofs.Output.{has_written_styled_append, has_written_styled_of_eq}
@@ -15,7 +15,7 @@ returns g t c flush ok =
     encode_ascii c.from.result (omega (arith, c.from.ensures)) ∙ ap (λ d. d ∷ []) c.from.ensures in
     elim c.if-has_front.branch [
       | then-has_front+in_ok-write_decimal w ↦
-          let front = w.in_ok-write_decimal.ensures flush refl in
+          let front = w.in_ok-write_decimal.ensures flush (refl {a = true}) in
           let end = c.write_char.ensures.styled (subst IsFlush (sym w.f-is) front.flush) ok in
           let last = has_written_styled_of_eq took _ _ _ _ digit
           (subst (λ f. HasWrittenStyled took f (encode_utf8 c.from.result) c.write_char.new.self) w.f-is end) in
