@@ -11,7 +11,7 @@ use std::simd::prelude::*;
 /// That is 9 to 13 (tab, line feed, vertical tab, form feed, carriage return), the space, and the
 /// printable characters `!` to `~`. Every other byte is rejected, among them 127 and all from 128 up.
 #[inline(always)]
-pub fn is_valid_ascii(c: u8) -> bool
+pub const fn is_valid_ascii(c: u8) -> bool
     ensures { IsTrue result ↔ IsTrue (allowed_ascii c) }
 {
     (c >= 0x09 && c <= 0x0d) || (c >= 0x20 && c < 0x7f)
@@ -26,7 +26,7 @@ pub fn is_valid_ascii_slice(slc: &[u8]) -> bool
 
 /// Returns whether the byte `c` is an ASCII letter, uppercase or lowercase.
 #[inline(always)]
-pub fn is_valid_letter(c: u8) -> bool
+pub const fn is_valid_letter(c: u8) -> bool
     ensures { IsTrue result ↔ IsTrue (letters c) }
 {
     (c >= b'A' && c <= b'Z') || (c >= b'a' && c <= b'z')

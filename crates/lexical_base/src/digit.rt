@@ -32,7 +32,7 @@ const VALUES: [u8; 256] = [
 // The value of `c`: 0 to 35 for a digit character, and 255 for any other byte.
 #[inline(always)]
 #[tactic(auto, using(crate::proofs::TableLemmas::table_entry))]
-fn byte_value(c: u8) -> u32
+const fn byte_value(c: u8) -> u32
     ensures { result ≡ value c }
 {
     VALUES[c as usize] as u32
@@ -44,7 +44,7 @@ fn byte_value(c: u8) -> u32
 /// `c`, which is 255 unless `c` is a digit character. The result is meaningful only if `c` is a
 /// digit of `radix`; [`char_to_digit_const`] tests that.
 #[inline(always)]
-pub fn char_to_valid_digit_const(c: u8, radix: u32) -> u32
+pub const fn char_to_valid_digit_const(c: u8, radix: u32) -> u32
     ensures small { radix ≤ 10 → result ≡ (c + 208) % 256 }
     ensures large { 10 < radix → result ≡ value c }
 {
@@ -62,7 +62,7 @@ pub fn char_to_valid_digit_const(c: u8, radix: u32) -> u32
 /// byte gives `Some(255)`.
 #[inline(always)]
 #[tactic(auto, using(crate::proofs::ValueLemmas::small_digit))]
-pub fn char_to_digit_const(c: u8, radix: u32) -> Option<u32>
+pub const fn char_to_digit_const(c: u8, radix: u32) -> Option<u32>
     ensures digit { result ≡ digit_of c radix }
     // a digit of a radix is the same digit of each larger one
     ensures larger { IfSome result (λ digit. (larger : ℕ) → radix < larger → digit_of c larger ≡ Some digit) }
@@ -74,10 +74,10 @@ pub fn char_to_digit_const(c: u8, radix: u32) -> Option<u32>
 /// Returns whether the byte `c` is a digit of `radix`: whether [`char_to_digit_const`] returns
 /// `Some`.
 #[inline(always)]
-pub fn char_is_digit_const(c: u8, radix: u32) -> bool
+pub const fn char_is_digit_const(c: u8, radix: u32) -> bool
     ensures { IsTrue result ↔ IsSome (digit_of c radix) }
 {
-    char_to_digit_const(c, radix).is_some()
+    matches!(char_to_digit_const(c, radix), Some(_))
 }
 
 /// Returns the digit character of `digit` in `radix`: `0` to `9`, or from 10 on an uppercase letter.
@@ -86,7 +86,7 @@ pub fn char_is_digit_const(c: u8, radix: u32) -> bool
 /// returns `b'0' + digit` even for a digit of 10 or more, which is then not a digit character.
 #[inline(always)]
 #[tactic(auto, using(crate::proofs::ValueLemmas::values))]
-pub fn digit_to_char_const(digit: u32, radix: u32) -> u8
+pub const fn digit_to_char_const(digit: u32, radix: u32) -> u8
     requires { digit < 36 }
     ensures byte { result ≡ (if (nat_le radix 10) || (nat_lt digit 10) then 48 + digit else 55 + digit) }
     // below the radix it is the byte that `digit_to_char` returns
@@ -105,7 +105,7 @@ pub fn digit_to_char_const(digit: u32, radix: u32) -> u8
 /// Returns the digit that the byte `c` is in `radix`: `Some` of its value if that is below `radix`,
 /// and `None` otherwise. Same result as [`char_to_digit_const`], for a radix known at run time.
 #[inline(always)]
-pub fn char_to_digit(c: u8, radix: u32) -> Option<u32>
+pub const fn char_to_digit(c: u8, radix: u32) -> Option<u32>
     ensures digit { result ≡ digit_of c radix }
     // a digit of a radix is the same digit of each larger one
     ensures larger { IfSome result (λ digit. (larger : ℕ) → radix < larger → digit_of c larger ≡ Some digit) }
@@ -116,17 +116,17 @@ pub fn char_to_digit(c: u8, radix: u32) -> Option<u32>
 
 /// Returns whether the byte `c` is a digit of `radix`: whether [`char_to_digit`] returns `Some`.
 #[inline(always)]
-pub fn char_is_digit(c: u8, radix: u32) -> bool
+pub const fn char_is_digit(c: u8, radix: u32) -> bool
     ensures { IsTrue result ↔ IsSome (digit_of c radix) }
 {
-    char_to_digit(c, radix).is_some()
+    matches!(char_to_digit(c, radix), Some(_))
 }
 
 /// Returns the digit character of `digit`: `0` to `9`, or from 10 on an uppercase letter.
 ///
 /// `digit` must be below 36. Every radix above `digit` reads the character as `digit`.
 #[inline(always)]
-pub fn digit_to_char(digit: u32) -> u8
+pub const fn digit_to_char(digit: u32) -> u8
     requires { digit < 36 }
     ensures character { slice_get digit_characters digit ≡ Some result }
     ensures back { value result ≡ digit }

@@ -151,7 +151,7 @@ impl Error {
     ///
     /// See [`Error::index`] for the index, and `Display` for the whole text.
     #[inline(always)]
-    pub fn description(&self) -> &'static str
+    pub const fn description(&self) -> &'static str
         ensures { result.now ≡ description_of self.now }
     {
         match self {
@@ -222,7 +222,7 @@ impl Error {
     /// Returns the index of the byte at which a parser found the error: `Some` of it for a parse
     /// error, and `None` for every other variant.
     #[inline(always)]
-    pub fn index(&self) -> Option<&usize>
+    pub const fn index(&self) -> Option<&usize>
         ensures value { option_copied result ≡ index_of self.now }
         ensures held { IsSome result ↔ (rank_of self.now < 19) }
     {
@@ -251,343 +251,343 @@ impl Error {
     }
 
     /// Returns whether this is [`Error::Overflow`], at any index.
-    pub fn is_overflow(&self) -> bool
+    pub const fn is_overflow(&self) -> bool
         ensures { IsTrue result ↔ (rank_of self.now ≡ 0) }
     {
         matches!(self, Error::Overflow(_))
     }
 
     /// Returns whether this is [`Error::Underflow`], at any index.
-    pub fn is_underflow(&self) -> bool
+    pub const fn is_underflow(&self) -> bool
         ensures { IsTrue result ↔ (rank_of self.now ≡ 1) }
     {
         matches!(self, Error::Underflow(_))
     }
 
     /// Returns whether this is [`Error::InvalidDigit`], at any index.
-    pub fn is_invalid_digit(&self) -> bool
+    pub const fn is_invalid_digit(&self) -> bool
         ensures { IsTrue result ↔ (rank_of self.now ≡ 2) }
     {
         matches!(self, Error::InvalidDigit(_))
     }
 
     /// Returns whether this is [`Error::Empty`], at any index.
-    pub fn is_empty(&self) -> bool
+    pub const fn is_empty(&self) -> bool
         ensures { IsTrue result ↔ (rank_of self.now ≡ 3) }
     {
         matches!(self, Error::Empty(_))
     }
 
     /// Returns whether this is [`Error::EmptyMantissa`], at any index.
-    pub fn is_empty_mantissa(&self) -> bool
+    pub const fn is_empty_mantissa(&self) -> bool
         ensures { IsTrue result ↔ (rank_of self.now ≡ 4) }
     {
         matches!(self, Error::EmptyMantissa(_))
     }
 
     /// Returns whether this is [`Error::EmptyExponent`], at any index.
-    pub fn is_empty_exponent(&self) -> bool
+    pub const fn is_empty_exponent(&self) -> bool
         ensures { IsTrue result ↔ (rank_of self.now ≡ 5) }
     {
         matches!(self, Error::EmptyExponent(_))
     }
 
     /// Returns whether this is [`Error::EmptyInteger`], at any index.
-    pub fn is_empty_integer(&self) -> bool
+    pub const fn is_empty_integer(&self) -> bool
         ensures { IsTrue result ↔ (rank_of self.now ≡ 6) }
     {
         matches!(self, Error::EmptyInteger(_))
     }
 
     /// Returns whether this is [`Error::EmptyFraction`], at any index.
-    pub fn is_empty_fraction(&self) -> bool
+    pub const fn is_empty_fraction(&self) -> bool
         ensures { IsTrue result ↔ (rank_of self.now ≡ 7) }
     {
         matches!(self, Error::EmptyFraction(_))
     }
 
     /// Returns whether this is [`Error::InvalidPositiveMantissaSign`], at any index.
-    pub fn is_invalid_positive_mantissa_sign(&self) -> bool
+    pub const fn is_invalid_positive_mantissa_sign(&self) -> bool
         ensures { IsTrue result ↔ (rank_of self.now ≡ 8) }
     {
         matches!(self, Error::InvalidPositiveMantissaSign(_))
     }
 
     /// Returns whether this is [`Error::MissingMantissaSign`], at any index.
-    pub fn is_missing_mantissa_sign(&self) -> bool
+    pub const fn is_missing_mantissa_sign(&self) -> bool
         ensures { IsTrue result ↔ (rank_of self.now ≡ 9) }
     {
         matches!(self, Error::MissingMantissaSign(_))
     }
 
     /// Returns whether this is [`Error::InvalidExponent`], at any index.
-    pub fn is_invalid_exponent(&self) -> bool
+    pub const fn is_invalid_exponent(&self) -> bool
         ensures { IsTrue result ↔ (rank_of self.now ≡ 10) }
     {
         matches!(self, Error::InvalidExponent(_))
     }
 
     /// Returns whether this is [`Error::InvalidPositiveExponentSign`], at any index.
-    pub fn is_invalid_positive_exponent_sign(&self) -> bool
+    pub const fn is_invalid_positive_exponent_sign(&self) -> bool
         ensures { IsTrue result ↔ (rank_of self.now ≡ 11) }
     {
         matches!(self, Error::InvalidPositiveExponentSign(_))
     }
 
     /// Returns whether this is [`Error::MissingExponentSign`], at any index.
-    pub fn is_missing_exponent_sign(&self) -> bool
+    pub const fn is_missing_exponent_sign(&self) -> bool
         ensures { IsTrue result ↔ (rank_of self.now ≡ 12) }
     {
         matches!(self, Error::MissingExponentSign(_))
     }
 
     /// Returns whether this is [`Error::ExponentWithoutFraction`], at any index.
-    pub fn is_exponent_without_fraction(&self) -> bool
+    pub const fn is_exponent_without_fraction(&self) -> bool
         ensures { IsTrue result ↔ (rank_of self.now ≡ 13) }
     {
         matches!(self, Error::ExponentWithoutFraction(_))
     }
 
     /// Returns whether this is [`Error::InvalidLeadingZeros`], at any index.
-    pub fn is_invalid_leading_zeros(&self) -> bool
+    pub const fn is_invalid_leading_zeros(&self) -> bool
         ensures { IsTrue result ↔ (rank_of self.now ≡ 14) }
     {
         matches!(self, Error::InvalidLeadingZeros(_))
     }
 
     /// Returns whether this is [`Error::MissingExponent`], at any index.
-    pub fn is_missing_exponent(&self) -> bool
+    pub const fn is_missing_exponent(&self) -> bool
         ensures { IsTrue result ↔ (rank_of self.now ≡ 15) }
     {
         matches!(self, Error::MissingExponent(_))
     }
 
     /// Returns whether this is [`Error::MissingSign`], at any index.
-    pub fn is_missing_sign(&self) -> bool
+    pub const fn is_missing_sign(&self) -> bool
         ensures { IsTrue result ↔ (rank_of self.now ≡ 16) }
     {
         matches!(self, Error::MissingSign(_))
     }
 
     /// Returns whether this is [`Error::InvalidPositiveSign`], at any index.
-    pub fn is_invalid_positive_sign(&self) -> bool
+    pub const fn is_invalid_positive_sign(&self) -> bool
         ensures { IsTrue result ↔ (rank_of self.now ≡ 17) }
     {
         matches!(self, Error::InvalidPositiveSign(_))
     }
 
     /// Returns whether this is [`Error::InvalidNegativeSign`], at any index.
-    pub fn is_invalid_negative_sign(&self) -> bool
+    pub const fn is_invalid_negative_sign(&self) -> bool
         ensures { IsTrue result ↔ (rank_of self.now ≡ 18) }
     {
         matches!(self, Error::InvalidNegativeSign(_))
     }
 
     /// Returns whether this is [`Error::InvalidMantissaRadix`].
-    pub fn is_invalid_mantissa_radix(&self) -> bool
+    pub const fn is_invalid_mantissa_radix(&self) -> bool
         ensures { IsTrue result ↔ (rank_of self.now ≡ 19) }
     {
         matches!(self, Error::InvalidMantissaRadix)
     }
 
     /// Returns whether this is [`Error::InvalidExponentBase`].
-    pub fn is_invalid_exponent_base(&self) -> bool
+    pub const fn is_invalid_exponent_base(&self) -> bool
         ensures { IsTrue result ↔ (rank_of self.now ≡ 20) }
     {
         matches!(self, Error::InvalidExponentBase)
     }
 
     /// Returns whether this is [`Error::InvalidExponentRadix`].
-    pub fn is_invalid_exponent_radix(&self) -> bool
+    pub const fn is_invalid_exponent_radix(&self) -> bool
         ensures { IsTrue result ↔ (rank_of self.now ≡ 21) }
     {
         matches!(self, Error::InvalidExponentRadix)
     }
 
     /// Returns whether this is [`Error::InvalidDigitSeparator`].
-    pub fn is_invalid_digit_separator(&self) -> bool
+    pub const fn is_invalid_digit_separator(&self) -> bool
         ensures { IsTrue result ↔ (rank_of self.now ≡ 22) }
     {
         matches!(self, Error::InvalidDigitSeparator)
     }
 
     /// Returns whether this is [`Error::InvalidDecimalPoint`].
-    pub fn is_invalid_decimal_point(&self) -> bool
+    pub const fn is_invalid_decimal_point(&self) -> bool
         ensures { IsTrue result ↔ (rank_of self.now ≡ 23) }
     {
         matches!(self, Error::InvalidDecimalPoint)
     }
 
     /// Returns whether this is [`Error::InvalidExponentSymbol`].
-    pub fn is_invalid_exponent_symbol(&self) -> bool
+    pub const fn is_invalid_exponent_symbol(&self) -> bool
         ensures { IsTrue result ↔ (rank_of self.now ≡ 24) }
     {
         matches!(self, Error::InvalidExponentSymbol)
     }
 
     /// Returns whether this is [`Error::InvalidBasePrefix`].
-    pub fn is_invalid_base_prefix(&self) -> bool
+    pub const fn is_invalid_base_prefix(&self) -> bool
         ensures { IsTrue result ↔ (rank_of self.now ≡ 25) }
     {
         matches!(self, Error::InvalidBasePrefix)
     }
 
     /// Returns whether this is [`Error::InvalidBaseSuffix`].
-    pub fn is_invalid_base_suffix(&self) -> bool
+    pub const fn is_invalid_base_suffix(&self) -> bool
         ensures { IsTrue result ↔ (rank_of self.now ≡ 26) }
     {
         matches!(self, Error::InvalidBaseSuffix)
     }
 
     /// Returns whether this is [`Error::InvalidPunctuation`].
-    pub fn is_invalid_punctuation(&self) -> bool
+    pub const fn is_invalid_punctuation(&self) -> bool
         ensures { IsTrue result ↔ (rank_of self.now ≡ 27) }
     {
         matches!(self, Error::InvalidPunctuation)
     }
 
     /// Returns whether this is [`Error::InvalidExponentFlags`].
-    pub fn is_invalid_exponent_flags(&self) -> bool
+    pub const fn is_invalid_exponent_flags(&self) -> bool
         ensures { IsTrue result ↔ (rank_of self.now ≡ 28) }
     {
         matches!(self, Error::InvalidExponentFlags)
     }
 
     /// Returns whether this is [`Error::InvalidMantissaSign`].
-    pub fn is_invalid_mantissa_sign(&self) -> bool
+    pub const fn is_invalid_mantissa_sign(&self) -> bool
         ensures { IsTrue result ↔ (rank_of self.now ≡ 29) }
     {
         matches!(self, Error::InvalidMantissaSign)
     }
 
     /// Returns whether this is [`Error::InvalidExponentSign`].
-    pub fn is_invalid_exponent_sign(&self) -> bool
+    pub const fn is_invalid_exponent_sign(&self) -> bool
         ensures { IsTrue result ↔ (rank_of self.now ≡ 30) }
     {
         matches!(self, Error::InvalidExponentSign)
     }
 
     /// Returns whether this is [`Error::InvalidSpecial`].
-    pub fn is_invalid_special(&self) -> bool
+    pub const fn is_invalid_special(&self) -> bool
         ensures { IsTrue result ↔ (rank_of self.now ≡ 31) }
     {
         matches!(self, Error::InvalidSpecial)
     }
 
     /// Returns whether this is [`Error::InvalidConsecutiveIntegerDigitSeparator`].
-    pub fn is_invalid_consecutive_integer_digit_separator(&self) -> bool
+    pub const fn is_invalid_consecutive_integer_digit_separator(&self) -> bool
         ensures { IsTrue result ↔ (rank_of self.now ≡ 32) }
     {
         matches!(self, Error::InvalidConsecutiveIntegerDigitSeparator)
     }
 
     /// Returns whether this is [`Error::InvalidConsecutiveFractionDigitSeparator`].
-    pub fn is_invalid_consecutive_fraction_digit_separator(&self) -> bool
+    pub const fn is_invalid_consecutive_fraction_digit_separator(&self) -> bool
         ensures { IsTrue result ↔ (rank_of self.now ≡ 33) }
     {
         matches!(self, Error::InvalidConsecutiveFractionDigitSeparator)
     }
 
     /// Returns whether this is [`Error::InvalidConsecutiveExponentDigitSeparator`].
-    pub fn is_invalid_consecutive_exponent_digit_separator(&self) -> bool
+    pub const fn is_invalid_consecutive_exponent_digit_separator(&self) -> bool
         ensures { IsTrue result ↔ (rank_of self.now ≡ 34) }
     {
         matches!(self, Error::InvalidConsecutiveExponentDigitSeparator)
     }
 
     /// Returns whether this is [`Error::InvalidFlags`].
-    pub fn is_invalid_flags(&self) -> bool
+    pub const fn is_invalid_flags(&self) -> bool
         ensures { IsTrue result ↔ (rank_of self.now ≡ 35) }
     {
         matches!(self, Error::InvalidFlags)
     }
 
     /// Returns whether this is [`Error::InvalidNanString`].
-    pub fn is_invalid_nan_string(&self) -> bool
+    pub const fn is_invalid_nan_string(&self) -> bool
         ensures { IsTrue result ↔ (rank_of self.now ≡ 36) }
     {
         matches!(self, Error::InvalidNanString)
     }
 
     /// Returns whether this is [`Error::NanStringTooLong`].
-    pub fn is_nan_string_too_long(&self) -> bool
+    pub const fn is_nan_string_too_long(&self) -> bool
         ensures { IsTrue result ↔ (rank_of self.now ≡ 37) }
     {
         matches!(self, Error::NanStringTooLong)
     }
 
     /// Returns whether this is [`Error::InvalidInfString`].
-    pub fn is_invalid_inf_string(&self) -> bool
+    pub const fn is_invalid_inf_string(&self) -> bool
         ensures { IsTrue result ↔ (rank_of self.now ≡ 38) }
     {
         matches!(self, Error::InvalidInfString)
     }
 
     /// Returns whether this is [`Error::InfStringTooLong`].
-    pub fn is_inf_string_too_long(&self) -> bool
+    pub const fn is_inf_string_too_long(&self) -> bool
         ensures { IsTrue result ↔ (rank_of self.now ≡ 39) }
     {
         matches!(self, Error::InfStringTooLong)
     }
 
     /// Returns whether this is [`Error::InvalidInfinityString`].
-    pub fn is_invalid_infinity_string(&self) -> bool
+    pub const fn is_invalid_infinity_string(&self) -> bool
         ensures { IsTrue result ↔ (rank_of self.now ≡ 40) }
     {
         matches!(self, Error::InvalidInfinityString)
     }
 
     /// Returns whether this is [`Error::InfinityStringTooLong`].
-    pub fn is_infinity_string_too_long(&self) -> bool
+    pub const fn is_infinity_string_too_long(&self) -> bool
         ensures { IsTrue result ↔ (rank_of self.now ≡ 41) }
     {
         matches!(self, Error::InfinityStringTooLong)
     }
 
     /// Returns whether this is [`Error::InfinityStringTooShort`].
-    pub fn is_infinity_string_too_short(&self) -> bool
+    pub const fn is_infinity_string_too_short(&self) -> bool
         ensures { IsTrue result ↔ (rank_of self.now ≡ 42) }
     {
         matches!(self, Error::InfinityStringTooShort)
     }
 
     /// Returns whether this is [`Error::InvalidFloatParseAlgorithm`].
-    pub fn is_invalid_float_parse_algorithm(&self) -> bool
+    pub const fn is_invalid_float_parse_algorithm(&self) -> bool
         ensures { IsTrue result ↔ (rank_of self.now ≡ 43) }
     {
         matches!(self, Error::InvalidFloatParseAlgorithm)
     }
 
     /// Returns whether this is [`Error::InvalidRadix`].
-    pub fn is_invalid_radix(&self) -> bool
+    pub const fn is_invalid_radix(&self) -> bool
         ensures { IsTrue result ↔ (rank_of self.now ≡ 44) }
     {
         matches!(self, Error::InvalidRadix)
     }
 
     /// Returns whether this is [`Error::InvalidFloatPrecision`].
-    pub fn is_invalid_float_precision(&self) -> bool
+    pub const fn is_invalid_float_precision(&self) -> bool
         ensures { IsTrue result ↔ (rank_of self.now ≡ 45) }
     {
         matches!(self, Error::InvalidFloatPrecision)
     }
 
     /// Returns whether this is [`Error::InvalidNegativeExponentBreak`].
-    pub fn is_invalid_negative_exponent_break(&self) -> bool
+    pub const fn is_invalid_negative_exponent_break(&self) -> bool
         ensures { IsTrue result ↔ (rank_of self.now ≡ 46) }
     {
         matches!(self, Error::InvalidNegativeExponentBreak)
     }
 
     /// Returns whether this is [`Error::InvalidPositiveExponentBreak`].
-    pub fn is_invalid_positive_exponent_break(&self) -> bool
+    pub const fn is_invalid_positive_exponent_break(&self) -> bool
         ensures { IsTrue result ↔ (rank_of self.now ≡ 47) }
     {
         matches!(self, Error::InvalidPositiveExponentBreak)
     }
 
     /// Returns whether this is [`Error::Success`].
-    pub fn is_success(&self) -> bool
+    pub const fn is_success(&self) -> bool
         ensures rank { IsTrue result ↔ (rank_of self.now ≡ 48) }
         ensures same { IsTrue result ↔ (self.now ≡ Error.Success) }
     {
@@ -596,7 +596,7 @@ impl Error {
 
     /// Returns the rank of the variant: its index in the list of the 49 variants, 0 to 48.
     #[inline(always)]
-    pub fn rank(&self) -> u8
+    pub const fn rank(&self) -> u8
         ensures value { result ≡ rank_of self.now }
         ensures last { result < 49 }
     {

@@ -9,7 +9,7 @@ ghost use Rattle.lexical_base.specs.declared.error.Error.TheVariants as errors;
 
 /// The values of bytes, and the digits of one radix and of two.
 #[inline(always)]
-pub fn digit_facts()
+pub const fn digit_facts()
     // The value of a byte is below 36, or 255.
     ensures values { (byte : ℕ) → byte < 256 → (value byte < 36) ⊎ (value byte ≡ 255) }
     // The digits of a radix are the bytes that have a digit in it.

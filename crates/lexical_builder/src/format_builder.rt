@@ -109,7 +109,7 @@ impl NumberFormatBuilder {
     /// suffix, exponent base or exponent radix, `required_exponent_digits` and
     /// `required_mantissa_digits` true, and every other flag false.
     #[inline(always)]
-    pub fn new() -> Self
+    pub const fn new() -> Self
         ensures fields { result ≡ new_record }
         ensures packed { pack result ≡ 0x00000A00_00000000_00000000_0000000C }
         ensures lawful { Lawful (pack result) }
@@ -123,7 +123,7 @@ impl NumberFormatBuilder {
 
     /// Returns the format of binary numbers: `from_radix(2)`.
     #[inline(always)]
-    pub fn binary() -> u128
+    pub const fn binary() -> u128
         ensures word { result ≡ 0x02020200_00000000_00000000_0000000C }
         ensures lawful { Lawful result }
     {
@@ -132,7 +132,7 @@ impl NumberFormatBuilder {
 
     /// Returns the format of octal numbers: `from_radix(8)`.
     #[inline(always)]
-    pub fn octal() -> u128
+    pub const fn octal() -> u128
         ensures word { result ≡ 0x08080800_00000000_00000000_0000000C }
         ensures lawful { Lawful result }
     {
@@ -141,7 +141,7 @@ impl NumberFormatBuilder {
 
     /// Returns the format of decimal numbers: `from_radix(10)`.
     #[inline(always)]
-    pub fn decimal() -> u128
+    pub const fn decimal() -> u128
         ensures word { result ≡ 0x0A0A0A00_00000000_00000000_0000000C }
         ensures lawful { Lawful result }
     {
@@ -150,7 +150,7 @@ impl NumberFormatBuilder {
 
     /// Returns the format of hexadecimal numbers: `from_radix(16)`.
     #[inline(always)]
-    pub fn hexadecimal() -> u128
+    pub const fn hexadecimal() -> u128
         ensures word { result ≡ 0x10101000_00000000_00000000_0000000C }
         ensures lawful { Lawful result }
     {
@@ -161,7 +161,7 @@ impl NumberFormatBuilder {
     /// exponent radix. The radix is not checked; the word is lawful only for 2 to 36.
     #[inline(always)]
     #[tactic(auto, unfolding(lexical_flags::specs::Record::word_of))]
-    pub fn from_radix(radix: u8) -> u128
+    pub const fn from_radix(radix: u8) -> u128
         ensures word { result ≡ pack (radix_record radix) }
         ensures lawful { Lawful result ↔ IsRadix radix }
     {
@@ -177,7 +177,7 @@ impl NumberFormatBuilder {
     /// except the digit separator: it is written only if one of the digit separator flags
     /// (`special_digit_separator` included) is set, and is 0 otherwise.
     #[inline(always)]
-    pub fn build_unchecked(&self) -> u128
+    pub const fn build_unchecked(&self) -> u128
         ensures word { result ≡ pack self.now }
         ensures fields { raw result ≡ trim self.now }
         ensures clean { IsClean result }
@@ -195,7 +195,7 @@ impl NumberFormatBuilder {
     ///
     /// The Rust crate panics with the description of the error instead.
     #[inline(always)]
-    pub fn build_strict(&self) -> Result<u128, Error>
+    pub const fn build_strict(&self) -> Result<u128, Error>
         ensures lawful { OkIff result (Lawful (pack self.now)) (pack self.now) }
         ensures fields { IfOk result (λ word. raw word ≡ trim self.now) }
         ensures error { IfErr result (IsErrorOf (pack self.now)) }
@@ -213,7 +213,7 @@ impl NumberFormatBuilder {
 
     /// Another name of `build_unchecked`. Deprecated in the Rust crate.
     #[inline(always)]
-    pub fn build(&self) -> u128
+    pub const fn build(&self) -> u128
         ensures { result ≡ pack self.now }
     {
         self.build_unchecked()
@@ -224,7 +224,7 @@ impl NumberFormatBuilder {
     /// of the mantissa radix does not change it; if the mantissa radix is 0 too, it stays 0. The
     /// digit separator is read even if no flag allows one. The reserved bits are dropped.
     #[inline(always)]
-    pub fn rebuild(format: u128) -> Self
+    pub const fn rebuild(format: u128) -> Self
         ensures { result ≡ fill (raw format) }
     {
         let high = fill_radix(fill_base((format >> 64) as u64));
@@ -246,7 +246,7 @@ impl NumberFormatBuilder {
     /// Returns a builder with these flags and bytes, as [`to_parts`][Self::to_parts] returns them. The bits
     /// above the flags are ignored.
     #[inline(always)]
-    pub fn from_parts(flags: u32, bytes: [u8; 6]) -> Self
+    pub const fn from_parts(flags: u32, bytes: [u8; 6]) -> Self
         ensures { result ≡ record_of_parts (flags % 2 ^ length layout.flags) bytes }
     {
         NumberFormatBuilder {
@@ -258,7 +258,7 @@ impl NumberFormatBuilder {
     /// Returns the flags, the first in bit 0, and the bytes digit separator, base prefix, base suffix,
     /// mantissa radix, exponent base and exponent radix, each 0 if it is absent.
     #[inline(always)]
-    pub fn to_parts(&self) -> (u32, [u8; 6])
+    pub const fn to_parts(&self) -> (u32, [u8; 6])
         ensures fields { record_of_parts result.0 result.1 ≡ self.now }
         ensures flags { result.0 < 2 ^ length layout.flags }
     {
@@ -267,7 +267,7 @@ impl NumberFormatBuilder {
 
     // Packs the fields. The separator is joined last, since it has to wait for a test.
     #[inline(always)]
-    fn packed(&self) -> u128
+    const fn packed(&self) -> u128
         ensures word { result ≡ pack self.now }
         ensures bytes { HasBytes self.now }
     {
@@ -292,7 +292,7 @@ impl NumberFormatBuilder {
 
     // Whether the flag with this mask is set.
     #[inline(always)]
-    fn has_flag(&self, mask: u128) -> bool
+    const fn has_flag(&self, mask: u128) -> bool
         requires { 2 ^ bit (flag_with mask) ≡ mask }
         ensures { result ≡ flag_of self.now (flag_with mask) }
     {
@@ -301,7 +301,7 @@ impl NumberFormatBuilder {
 
     // Sets all flags of a mask to one value.
     #[inline(always)]
-    fn with_flags(mut self, mask: u128, value: bool) -> Self
+    const fn with_flags(mut self, mask: u128, value: bool) -> Self
         ensures { result ≡ tabulate (λ f. if part mask (bit f) 1 == 1 then value else flag_of self f) (byte_of self) }
     {
         self.flags = replace_bits(self.flags, builder_flags(mask), value);
@@ -310,7 +310,7 @@ impl NumberFormatBuilder {
 
     // Sets the byte at an index.
     #[inline(always)]
-    fn with_byte(mut self, index: usize, value: u8) -> Self
+    const fn with_byte(mut self, index: usize, value: u8) -> Self
         requires { index < 6 }
         ensures { result ≡ tabulate (flag_of self) (λ b. if index_of b == index then value else byte_of self b) }
     {
@@ -322,7 +322,7 @@ impl NumberFormatBuilder {
 // The upper half of a format word, with the mantissa radix as exponent base if that is 0.
 #[inline(always)]
 #[tactic(auto, using(crate::proofs::ExponentBytes::filled_base))]
-fn fill_base(high: u64) -> u64
+const fn fill_base(high: u64) -> u64
     ensures low { result % 2 ^ 48 ≡ high % 2 ^ 48 }
     ensures base { part result 48 8 ≡ effective (part high 48 8) (part high 40 8) }
     ensures radix { part result 56 8 ≡ part high 56 8 }
@@ -337,7 +337,7 @@ fn fill_base(high: u64) -> u64
 // The upper half of a format word, with the mantissa radix as exponent radix if that is 0.
 #[inline(always)]
 #[tactic(auto, using(crate::proofs::ExponentBytes::filled_radix))]
-fn fill_radix(high: u64) -> u64
+const fn fill_radix(high: u64) -> u64
     ensures low { result % 2 ^ 56 ≡ high % 2 ^ 56 }
     ensures radix { part result 56 8 ≡ effective (part high 56 8) (part high 40 8) }
 {
@@ -350,7 +350,7 @@ fn fill_radix(high: u64) -> u64
 
 // The flags of a format word, at the bits of a builder.
 #[inline(always)]
-fn builder_flags(format: u128) -> u32
+const fn builder_flags(format: u128) -> u32
     ensures { result ≡ flags_in format }
 {
     (format & (LOW_FLAGS as u128)
@@ -359,7 +359,7 @@ fn builder_flags(format: u128) -> u32
 
 // The flags of a builder, at the bits of a format word.
 #[inline(always)]
-fn word_flags(flags: u32) -> u128
+const fn word_flags(flags: u32) -> u128
     requires { flags < 2 ^ length layout.flags }
     ensures { result ≡ sum_by (λ f. if part flags (builder_bit f) 1 == 1 then 2 ^ bit f else 0) layout.flags }
 {
@@ -368,7 +368,7 @@ fn word_flags(flags: u32) -> u128
 
 // The bits with all bits of a mask set to one value.
 #[inline(always)]
-fn replace_bits(bits: u32, mask: u32, value: bool) -> u32
+const fn replace_bits(bits: u32, mask: u32, value: bool) -> u32
     ensures each { (i : ℕ) → i < 32 → (part result i 1 == 1)
         ≡ (if part mask i 1 == 1 then value else (part bits i 1 == 1)) }
     ensures below { (n : ℕ) → bits < 2 ^ n → mask < 2 ^ n → result < 2 ^ n }
@@ -378,7 +378,7 @@ fn replace_bits(bits: u32, mask: u32, value: bool) -> u32
 
 // The bits if the condition holds, or else 0.
 #[inline(always)]
-fn bits_if(condition: bool, bits: u32) -> u32
+const fn bits_if(condition: bool, bits: u32) -> u32
     ensures { result ≡ (if condition then bits else 0) }
 {
     if condition { bits } else { 0 }
@@ -387,7 +387,7 @@ fn bits_if(condition: bool, bits: u32) -> u32
 // The digit separator, or 0 if none of these flags of a format word allows one.
 #[inline(always)]
 #[tactic(auto, using(lexical_flags::proofs::FlagBits::separator_flag_set, lexical_flags::proofs::FlagBits::no_separator_flag_set))]
-fn used_separator(flags: u128, separator: u8) -> u8
+const fn used_separator(flags: u128, separator: u8) -> u8
     ensures { result ≡ (if separator_on (raw flags) then separator else 0) }
 {
     if flags & flags::DIGIT_SEPARATOR_FLAG_MASK != 0 {
@@ -399,7 +399,7 @@ fn used_separator(flags: u128, separator: u8) -> u8
 
 // The byte, or 0 if it is absent.
 #[inline(always)]
-fn byte_or_zero(byte: OptionU8) -> u8
+const fn byte_or_zero(byte: OptionU8) -> u8
     ensures { result ≡ byte_of_option byte }
 {
     match byte {

@@ -216,7 +216,7 @@ const RESERVED_MASK: u128 = !(FLAG_MASK | DIGIT_SEPARATOR | !0 << BASE_PREFIX_SH
 
 /// Returns the raw digit separator byte, even if no flag allows a separator; 0 if there is none.
 #[inline(always)]
-pub fn digit_separator(format: u128) -> u8
+pub const fn digit_separator(format: u128) -> u8
     ensures { result ≡ (raw format).digit_separator }
 {
     ((format & DIGIT_SEPARATOR) >> DIGIT_SEPARATOR_SHIFT) as u8
@@ -224,7 +224,7 @@ pub fn digit_separator(format: u128) -> u8
 
 /// Returns the base prefix byte, 0 if there is none.
 #[inline(always)]
-pub fn base_prefix(format: u128) -> u8
+pub const fn base_prefix(format: u128) -> u8
     ensures { result ≡ (raw format).base_prefix }
 {
     ((format & BASE_PREFIX) >> BASE_PREFIX_SHIFT) as u8
@@ -232,7 +232,7 @@ pub fn base_prefix(format: u128) -> u8
 
 /// Returns the base suffix byte, 0 if there is none.
 #[inline(always)]
-pub fn base_suffix(format: u128) -> u8
+pub const fn base_suffix(format: u128) -> u8
     ensures { result ≡ (raw format).base_suffix }
 {
     ((format & BASE_SUFFIX) >> BASE_SUFFIX_SHIFT) as u8
@@ -240,7 +240,7 @@ pub fn base_suffix(format: u128) -> u8
 
 /// Returns the radix of the significant digits: 0 to 255, and 2 to 36 if the format is lawful.
 #[inline(always)]
-pub fn mantissa_radix(format: u128) -> u32
+pub const fn mantissa_radix(format: u128) -> u32
     ensures value { result ≡ (raw format).mantissa_radix }
     ensures lawful { Lawful format → IsRadix result }
 {
@@ -250,7 +250,7 @@ pub fn mantissa_radix(format: u128) -> u32
 /// Returns the base of exponents: with base b, an exponent e multiplies by b to the power e. It is
 /// the byte of the format, or the mantissa radix if that is 0; 2 to 36 if the format is lawful.
 #[inline(always)]
-pub fn exponent_base(format: u128) -> u32
+pub const fn exponent_base(format: u128) -> u32
     ensures value { result ≡ effective_exponent_base (raw format) }
     ensures lawful { Lawful format → IsRadix result }
 {
@@ -262,7 +262,7 @@ pub fn exponent_base(format: u128) -> u32
 /// Returns the radix of the digits of an exponent: the byte of the format, or the mantissa radix if
 /// that is 0; 2 to 36 if the format is lawful.
 #[inline(always)]
-pub fn exponent_radix(format: u128) -> u32
+pub const fn exponent_radix(format: u128) -> u32
     ensures value { result ≡ effective_exponent_radix (raw format) }
     ensures lawful { Lawful format → IsRadix result }
 {
@@ -277,7 +277,7 @@ pub fn exponent_radix(format: u128) -> u32
 /// With the mask and the shift of a byte, that is the byte, or the mantissa radix if the byte is 0.
 #[inline(always)]
 #[tactic(auto, using(crate::proofs::ByteParts::byte_parts, crate::proofs::CommonLemmas::common_part))]
-pub fn radix_from_flags(format: u128, mask: u128, shift: i32) -> u32
+pub const fn radix_from_flags(format: u128, mask: u128, shift: i32) -> u32
     requires from { pos 0 ≤ℤ shift }
     requires below { shift <ℤ pos 128 }
     ensures { result ≡ effective (common format mask / 2 ^ unsigned_abs shift % 2 ^ 32) (raw format).mantissa_radix }

@@ -82,7 +82,7 @@ pub fn packing_facts()
 /// What the rules demand of a normal form: of fields whose exponent bytes are filled in, and whose
 /// digit separator is dropped if no flag allows one; and that a word has one error.
 #[inline(always)]
-pub fn rule_facts()
+pub const fn rule_facts()
     // A rule that the fields keep is kept by the normal form.
     ensures kept { (rule : Rule) → (r : Record) → Demands rule r → Demands rule (trim (fill r)) }
 
@@ -116,7 +116,7 @@ pub fn role_facts()
 
 /// The error of a word, and whether it accepts options, by computation: for words that are literals.
 #[inline(always)]
-pub fn literal_facts()
+pub const fn literal_facts()
     ensures error { (word : ℕ) → IsErrorOf word (error_at word) }
     ensures lawful { (word : ℕ) → (error_at word ≡ errors.Success) ↔ Lawful word }
     ensures accepted { (word exponent_byte point_byte : ℕ)

@@ -160,7 +160,7 @@ pub const SETTERS: [FlagSetter; FLAGS + 9] = with_setters!(variants());
 
 impl FlagSetter {
     /// Returns the name of the setter: the variant in snake case.
-    pub fn name(self) -> &'static str
+    pub const fn name(self) -> &'static str
         ensures { result.now ≡ setter_name self }
     {
         macro_rules! name_of {
@@ -189,7 +189,7 @@ impl FlagSetter {
 
 /// Applies one edit: calls the setter that it names.
 #[inline(always)]
-pub fn apply(builder: NumberFormatBuilder, edit: Edit) -> NumberFormatBuilder
+pub const fn apply(builder: NumberFormatBuilder, edit: Edit) -> NumberFormatBuilder
     ensures fields { result ≡ after builder (writes_of edit) }
     ensures legal { All IsLegal (writes_of edit) }
 {
@@ -207,7 +207,11 @@ pub fn apply(builder: NumberFormatBuilder, edit: Edit) -> NumberFormatBuilder
 
 // Calls the setter of a flag or of a group.
 #[inline(always)]
-fn apply_flag(builder: NumberFormatBuilder, setter: FlagSetter, flag: bool) -> NumberFormatBuilder
+const fn apply_flag(
+    builder: NumberFormatBuilder,
+    setter: FlagSetter,
+    flag: bool,
+) -> NumberFormatBuilder
     ensures { result ≡ after builder (write_flags (flags_of setter) flag) }
 {
     macro_rules! call_setter {
@@ -223,12 +227,14 @@ fn apply_flag(builder: NumberFormatBuilder, setter: FlagSetter, flag: bool) -> N
 }
 
 /// Applies `edits` in order.
-pub fn apply_all(mut builder: NumberFormatBuilder, edits: &[Edit]) -> NumberFormatBuilder
+pub const fn apply_all(mut builder: NumberFormatBuilder, edits: &[Edit]) -> NumberFormatBuilder
     ensures fields { result ≡ after builder (all_writes edits.now) }
     ensures legal { All IsLegal (all_writes edits.now) }
 {
-    for edit in edits {
-        builder = apply(builder, *edit);
+    let mut index = 0;
+    while index < edits.len() {
+        builder = apply(builder, edits[index]);
+        index += 1;
     }
     builder
 }
@@ -246,7 +252,7 @@ pub fn apply_all(mut builder: NumberFormatBuilder, edits: &[Edit]) -> NumberForm
 /// that has no flag yet, and the second fills an exponent byte that the first emptied. If the mantissa
 /// radix of `format` is not 0, two calls are one if the first list leaves no exponent byte `None`, and
 /// the second sets no digit separator flag unless it writes the digit separator too.
-pub fn edit_word(format: u128, edits: &[Edit]) -> u128
+pub const fn edit_word(format: u128, edits: &[Edit]) -> u128
     ensures word { result ≡ edited format (all_writes edits.now) }
     ensures fields { raw result ≡ trim (after (fill (raw format)) (all_writes edits.now)) }
     ensures clean { IsClean result }
@@ -280,7 +286,7 @@ pub fn edit_word(format: u128, edits: &[Edit]) -> u128
 /// Each exponent byte holds its effective value, there is a digit separator only if a flag allows one
 /// somewhere, and the reserved bits are 0.
 #[inline(always)]
-pub fn normal_form(format: u128) -> u128
+pub const fn normal_form(format: u128) -> u128
     ensures word { result ≡ normal_form_of format }
     ensures fields { raw result ≡ trim (fill (raw format)) }
     ensures clean { IsClean result }
@@ -320,7 +326,7 @@ pub fn normal_form(format: u128) -> u128
 /// Reserved bits, empty exponent bytes, and a digit separator that no flag allows are mended, so none
 /// of these is an error; everything else that is wrong is. The error is never `Success` or
 /// `InvalidFlags`.
-pub fn migrate(format: u128) -> Result<u128, Error>
+pub const fn migrate(format: u128) -> Result<u128, Error>
     ensures lawful { OkIff result (Lawful (normal_form_of format)) (normal_form_of format) }
     ensures fields { IfOk result (λ word. raw word ≡ trim (fill (raw format))) }
     ensures normal { IfOk result IsNormal }
@@ -337,7 +343,7 @@ pub fn migrate(format: u128) -> Result<u128, Error>
 }
 
 /// Returns whether two words mean the same, that is, have the same normal form.
-pub fn same_format(a: u128, b: u128) -> bool
+pub const fn same_format(a: u128, b: u128) -> bool
     ensures normal_forms { IsTrue result ↔ (normal_form_of a ≡ normal_form_of b) }
     ensures fields { IsTrue result ↔ SameFormat (raw a) (raw b) }
 {

@@ -73,7 +73,7 @@ impl NumberFormat {
 
     /// Returns the view of `format`, which may be any word.
     #[inline(always)]
-    pub fn new(format: u128) -> Self
+    pub const fn new(format: u128) -> Self
         ensures { result ≡ format }
     {
         NumberFormat { format }
@@ -84,7 +84,7 @@ impl NumberFormat {
     /// Returns whether the word is lawful, that is, breaks none of the rules of
     /// [`error`][Self::error].
     #[inline(always)]
-    pub fn is_valid(&self) -> bool
+    pub const fn is_valid(&self) -> bool
         ensures { IsTrue result ↔ Lawful self.now }
     {
         self.error().is_success()
@@ -93,7 +93,7 @@ impl NumberFormat {
     /// Returns the error of the first rule that the word breaks, in the order of
     /// [`format_error_impl`], or `Success` if it is lawful.
     #[inline(always)]
-    pub fn error(&self) -> Error
+    pub const fn error(&self) -> Error
         ensures first { IsErrorOf self.now result }
         ensures lawful { (result ≡ Error.Success) ↔ Lawful self.now }
         ensures only { (other : Error) → IsErrorOf self.now other → other ≡ result }
@@ -104,7 +104,7 @@ impl NumberFormat {
     /// Returns whether the mantissa radix, the exponent base and the exponent radix are each 2 to
     /// 36; an exponent byte of 0 counts as the mantissa radix.
     #[inline(always)]
-    pub fn is_valid_radix(&self) -> bool
+    pub const fn is_valid_radix(&self) -> bool
         ensures { IsTrue result ↔ IsFirstError radix_rules self.now Error.Success }
     {
         self.error_radix().is_success()
@@ -113,7 +113,7 @@ impl NumberFormat {
     /// Returns the error of the first of mantissa radix, exponent base and exponent radix that is
     /// not 2 to 36, or `Success` if there is none.
     #[inline(always)]
-    pub fn error_radix(&self) -> Error
+    pub const fn error_radix(&self) -> Error
         ensures first { IsFirstError radix_rules self.now result }
         ensures only { (other : Error) → IsFirstError radix_rules self.now other → other ≡ result }
     {
@@ -126,7 +126,7 @@ impl NumberFormat {
     /// none. A parser skips it wherever a flag allows it, so that digits can be grouped, such as
     /// the `_` in `1_000`. Default: 0.
     #[inline(always)]
-    pub fn digit_separator(&self) -> u8
+    pub const fn digit_separator(&self) -> u8
         ensures { result ≡ (raw self.now).digit_separator }
     {
         flags::digit_separator(self.format)
@@ -134,7 +134,7 @@ impl NumberFormat {
 
     /// Returns whether the digit separator byte is not 0.
     #[inline(always)]
-    pub fn has_digit_separator(&self) -> bool
+    pub const fn has_digit_separator(&self) -> bool
         ensures { IsTrue result ↔ ((raw self.now).digit_separator ≢ 0) }
     {
         has_any!(self, DIGIT_SEPARATOR)
@@ -143,7 +143,7 @@ impl NumberFormat {
     /// Returns the base prefix, 0 if there is none. A parser accepts it after a leading zero, such
     /// as the `x` in `0x1F`. Default: 0.
     #[inline(always)]
-    pub fn base_prefix(&self) -> u8
+    pub const fn base_prefix(&self) -> u8
         ensures { result ≡ (raw self.now).base_prefix }
     {
         flags::base_prefix(self.format)
@@ -151,7 +151,7 @@ impl NumberFormat {
 
     /// Returns whether the base prefix byte is not 0.
     #[inline(always)]
-    pub fn has_base_prefix(&self) -> bool
+    pub const fn has_base_prefix(&self) -> bool
         ensures { IsTrue result ↔ ((raw self.now).base_prefix ≢ 0) }
     {
         has_any!(self, BASE_PREFIX)
@@ -160,7 +160,7 @@ impl NumberFormat {
     /// Returns the base suffix, 0 if there is none. A parser accepts it after the digits, such as
     /// the `h` in `1Fh`. Default: 0.
     #[inline(always)]
-    pub fn base_suffix(&self) -> u8
+    pub const fn base_suffix(&self) -> u8
         ensures { result ≡ (raw self.now).base_suffix }
     {
         flags::base_suffix(self.format)
@@ -168,7 +168,7 @@ impl NumberFormat {
 
     /// Returns whether the base suffix byte is not 0.
     #[inline(always)]
-    pub fn has_base_suffix(&self) -> bool
+    pub const fn has_base_suffix(&self) -> bool
         ensures { IsTrue result ↔ ((raw self.now).base_suffix ≢ 0) }
     {
         has_any!(self, BASE_SUFFIX)
@@ -179,7 +179,7 @@ impl NumberFormat {
     /// Returns the radix of the integer and fraction digits, 0 to 255; a lawful format has 2 to 36.
     /// Default: 10.
     #[inline(always)]
-    pub fn mantissa_radix(&self) -> u32
+    pub const fn mantissa_radix(&self) -> u32
         ensures value { result ≡ (raw self.now).mantissa_radix }
         ensures lawful { Lawful self.now → IsRadix result }
     {
@@ -188,7 +188,7 @@ impl NumberFormat {
 
     /// Returns the same as `mantissa_radix`.
     #[inline(always)]
-    pub fn radix(&self) -> u32
+    pub const fn radix(&self) -> u32
         ensures value { result ≡ (raw self.now).mantissa_radix }
         ensures lawful { Lawful self.now → IsRadix result }
     {
@@ -197,7 +197,7 @@ impl NumberFormat {
 
     /// Returns the second power of the mantissa radix.
     #[inline(always)]
-    pub fn radix2(&self) -> u32
+    pub const fn radix2(&self) -> u32
         ensures { result ≡ (raw self.now).mantissa_radix ^ 2 }
     {
         let radix = self.mantissa_radix();
@@ -206,7 +206,7 @@ impl NumberFormat {
 
     /// Returns the fourth power of the mantissa radix.
     #[inline(always)]
-    pub fn radix4(&self) -> u32
+    pub const fn radix4(&self) -> u32
         ensures { result ≡ (raw self.now).mantissa_radix ^ 4 }
     {
         let square = self.radix2();
@@ -216,7 +216,7 @@ impl NumberFormat {
     /// Returns the eighth power of the mantissa radix modulo 2^32. It is exact up to radix 15; for
     /// 16 it is 0.
     #[inline(always)]
-    pub fn radix8(&self) -> u32
+    pub const fn radix8(&self) -> u32
         ensures { result ≡ (raw self.now).mantissa_radix ^ 8 % 2 ^ 32 }
     {
         let fourth = self.radix4();
@@ -227,7 +227,7 @@ impl NumberFormat {
     /// byte of the format, or the mantissa radix if that is 0; a lawful format has 2 to 36.
     /// Default: the mantissa radix.
     #[inline(always)]
-    pub fn exponent_base(&self) -> u32
+    pub const fn exponent_base(&self) -> u32
         ensures value { result ≡ effective_exponent_base (raw self.now) }
         ensures lawful { Lawful self.now → IsRadix result }
     {
@@ -237,7 +237,7 @@ impl NumberFormat {
     /// Returns the radix of the exponent's digits: the byte of the format, or the mantissa radix if
     /// that is 0; a lawful format has 2 to 36. Default: the mantissa radix.
     #[inline(always)]
-    pub fn exponent_radix(&self) -> u32
+    pub const fn exponent_radix(&self) -> u32
         ensures value { result ≡ effective_exponent_radix (raw self.now) }
         ensures lawful { Lawful self.now → IsRadix result }
     {
@@ -249,7 +249,7 @@ impl NumberFormat {
     /// Returns whether `byte` is a digit of numbers in this format: a digit of the mantissa radix or
     /// of the exponent radix. Letters are digits in both cases.
     #[inline(always)]
-    pub fn is_digit(&self, byte: u8) -> bool
+    pub const fn is_digit(&self, byte: u8) -> bool
         ensures { IsTrue result ↔ IsTrue (digits (raw self.now) byte) }
     {
         flags::is_digit(self.format, byte)
@@ -259,7 +259,7 @@ impl NumberFormat {
 
     /// Returns a new builder, the same for every word.
     #[inline(always)]
-    pub fn builder() -> NumberFormatBuilder
+    pub const fn builder() -> NumberFormatBuilder
         ensures { result ≡ new_record }
     {
         NumberFormatBuilder::new()
@@ -268,7 +268,7 @@ impl NumberFormat {
     /// Returns a builder with the fields of the word; an exponent base or exponent radix of 0
     /// becomes the mantissa radix.
     #[inline(always)]
-    pub fn rebuild(&self) -> NumberFormatBuilder
+    pub const fn rebuild(&self) -> NumberFormatBuilder
         ensures { result ≡ fill (raw self.now) }
     {
         NumberFormatBuilder::rebuild(self.format)

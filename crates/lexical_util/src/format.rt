@@ -39,7 +39,7 @@ pub const STANDARD: u128 = 0x00000A00_00000000_00000000_0000000C;
 
 /// Returns whether `format` is lawful, as [`NumberFormat::is_valid`] does.
 #[inline(always)]
-pub fn format_is_valid(format: u128) -> bool
+pub const fn format_is_valid(format: u128) -> bool
     ensures { IsTrue result ↔ Lawful format }
 {
     NumberFormat::new(format).is_valid()
@@ -48,7 +48,7 @@ pub fn format_is_valid(format: u128) -> bool
 /// Returns the error of the first rule that `format` breaks, or `Success`, as [`NumberFormat::error`]
 /// does.
 #[inline(always)]
-pub fn format_error(format: u128) -> Error
+pub const fn format_error(format: u128) -> Error
     ensures first { IsErrorOf format result }
     ensures lawful { (result ≡ Error.Success) ↔ Lawful format }
     ensures only { (other : Error) → IsErrorOf format other → other ≡ result }

@@ -34,7 +34,7 @@ pub fn write_facts()
 
 /// What the normal form of a word is, for any word.
 #[inline(always)]
-pub fn normal_form_facts()
+pub const fn normal_form_facts()
     // It is the only word without reserved bits that has the fields of the word, filled and trimmed.
     ensures fields { (word : ℕ) → raw (normal_form_of word) ≡ trim (fill (raw word)) }
     ensures clean { (word : ℕ) → IsClean (normal_form_of word) }
@@ -71,7 +71,7 @@ pub fn normal_form_facts()
 
 /// What writes make of a word, for any word.
 #[inline(always)]
-pub fn edit_facts()
+pub const fn edit_facts()
     // It is the only word without reserved bits that has these fields.
     ensures fields { (word : ℕ) → (writes : List Write) → All IsLegal writes
         → raw (edited word writes) ≡ trim (after (fill (raw word)) writes) }

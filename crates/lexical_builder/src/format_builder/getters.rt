@@ -15,7 +15,7 @@ impl NumberFormatBuilder {
     /// Returns the digit separator: a byte that a parser skips, to group digits, at the positions
     /// that the digit separator flags allow, such as the `_` in `1_000`. `None` if there is none.
     #[inline(always)]
-    pub fn get_digit_separator(&self) -> OptionU8
+    pub const fn get_digit_separator(&self) -> OptionU8
         ensures { result ≡ option_of_byte self.now.digit_separator }
     {
         NonZeroU8::new(self.bytes[DIGIT_SEPARATOR])
@@ -23,7 +23,7 @@ impl NumberFormatBuilder {
 
     /// Returns the mantissa radix: the radix of the integer and fraction digits.
     #[inline(always)]
-    pub fn get_mantissa_radix(&self) -> u8
+    pub const fn get_mantissa_radix(&self) -> u8
         ensures { result ≡ self.now.mantissa_radix }
     {
         self.bytes[MANTISSA_RADIX]
@@ -32,7 +32,7 @@ impl NumberFormatBuilder {
     /// Returns the exponent base: with base 2, `1p3` means 1 × 2^3. `None` if it follows the
     /// mantissa radix.
     #[inline(always)]
-    pub fn get_exponent_base(&self) -> OptionU8
+    pub const fn get_exponent_base(&self) -> OptionU8
         ensures { result ≡ option_of_byte self.now.exponent_base }
     {
         NonZeroU8::new(self.bytes[EXPONENT_BASE])
@@ -41,7 +41,7 @@ impl NumberFormatBuilder {
     /// Returns the exponent radix: the radix of the digits of an exponent. `None` if it follows the
     /// mantissa radix.
     #[inline(always)]
-    pub fn get_exponent_radix(&self) -> OptionU8
+    pub const fn get_exponent_radix(&self) -> OptionU8
         ensures { result ≡ option_of_byte self.now.exponent_radix }
     {
         NonZeroU8::new(self.bytes[EXPONENT_RADIX])
@@ -50,7 +50,7 @@ impl NumberFormatBuilder {
     /// Returns the base prefix: the byte that may follow a leading zero to show the radix, such as
     /// the `x` in `0x1F`. `None` if there is none.
     #[inline(always)]
-    pub fn get_base_prefix(&self) -> OptionU8
+    pub const fn get_base_prefix(&self) -> OptionU8
         ensures { result ≡ option_of_byte self.now.base_prefix }
     {
         NonZeroU8::new(self.bytes[BASE_PREFIX])
@@ -59,7 +59,7 @@ impl NumberFormatBuilder {
     /// Returns the base suffix: the byte that may follow the digits to show the radix, such as the
     /// `h` in `1Fh`. `None` if there is none.
     #[inline(always)]
-    pub fn get_base_suffix(&self) -> OptionU8
+    pub const fn get_base_suffix(&self) -> OptionU8
         ensures { result ≡ option_of_byte self.now.base_suffix }
     {
         NonZeroU8::new(self.bytes[BASE_SUFFIX])
@@ -68,7 +68,7 @@ impl NumberFormatBuilder {
     /// Returns the flag `required_integer_digits`: whether digits are required before the decimal
     /// point.
     #[inline(always)]
-    pub fn get_required_integer_digits(&self) -> bool
+    pub const fn get_required_integer_digits(&self) -> bool
         ensures { result ≡ self.now.required_integer_digits }
     {
         self.has_flag(flags::REQUIRED_INTEGER_DIGITS)
@@ -77,7 +77,7 @@ impl NumberFormatBuilder {
     /// Returns the flag `required_fraction_digits`: whether digits are required after a decimal
     /// point, if there is one.
     #[inline(always)]
-    pub fn get_required_fraction_digits(&self) -> bool
+    pub const fn get_required_fraction_digits(&self) -> bool
         ensures { result ≡ self.now.required_fraction_digits }
     {
         self.has_flag(flags::REQUIRED_FRACTION_DIGITS)
@@ -86,7 +86,7 @@ impl NumberFormatBuilder {
     /// Returns the flag `required_exponent_digits`: whether digits are required after the exponent
     /// character, if there is one.
     #[inline(always)]
-    pub fn get_required_exponent_digits(&self) -> bool
+    pub const fn get_required_exponent_digits(&self) -> bool
         ensures { result ≡ self.now.required_exponent_digits }
     {
         self.has_flag(flags::REQUIRED_EXPONENT_DIGITS)
@@ -95,7 +95,7 @@ impl NumberFormatBuilder {
     /// Returns the flag `required_mantissa_digits`: whether at least one digit is required before
     /// or after the decimal point.
     #[inline(always)]
-    pub fn get_required_mantissa_digits(&self) -> bool
+    pub const fn get_required_mantissa_digits(&self) -> bool
         ensures { result ≡ self.now.required_mantissa_digits }
     {
         self.has_flag(flags::REQUIRED_MANTISSA_DIGITS)
@@ -104,7 +104,7 @@ impl NumberFormatBuilder {
     /// Returns the flag `no_positive_mantissa_sign`: whether a `+` before the number is not
     /// allowed.
     #[inline(always)]
-    pub fn get_no_positive_mantissa_sign(&self) -> bool
+    pub const fn get_no_positive_mantissa_sign(&self) -> bool
         ensures { result ≡ self.now.no_positive_mantissa_sign }
     {
         self.has_flag(flags::NO_POSITIVE_MANTISSA_SIGN)
@@ -113,7 +113,7 @@ impl NumberFormatBuilder {
     /// Returns the flag `required_mantissa_sign`: whether a sign, `+` or `-`, is required before
     /// the number.
     #[inline(always)]
-    pub fn get_required_mantissa_sign(&self) -> bool
+    pub const fn get_required_mantissa_sign(&self) -> bool
         ensures { result ≡ self.now.required_mantissa_sign }
     {
         self.has_flag(flags::REQUIRED_MANTISSA_SIGN)
@@ -121,7 +121,7 @@ impl NumberFormatBuilder {
 
     /// Returns the flag `no_exponent_notation`: whether an exponent is not allowed.
     #[inline(always)]
-    pub fn get_no_exponent_notation(&self) -> bool
+    pub const fn get_no_exponent_notation(&self) -> bool
         ensures { result ≡ self.now.no_exponent_notation }
     {
         self.has_flag(flags::NO_EXPONENT_NOTATION)
@@ -130,7 +130,7 @@ impl NumberFormatBuilder {
     /// Returns the flag `no_positive_exponent_sign`: whether a `+` before the digits of an exponent
     /// is not allowed.
     #[inline(always)]
-    pub fn get_no_positive_exponent_sign(&self) -> bool
+    pub const fn get_no_positive_exponent_sign(&self) -> bool
         ensures { result ≡ self.now.no_positive_exponent_sign }
     {
         self.has_flag(flags::NO_POSITIVE_EXPONENT_SIGN)
@@ -139,7 +139,7 @@ impl NumberFormatBuilder {
     /// Returns the flag `required_exponent_sign`: whether a sign, `+` or `-`, is required before
     /// the digits of an exponent.
     #[inline(always)]
-    pub fn get_required_exponent_sign(&self) -> bool
+    pub const fn get_required_exponent_sign(&self) -> bool
         ensures { result ≡ self.now.required_exponent_sign }
     {
         self.has_flag(flags::REQUIRED_EXPONENT_SIGN)
@@ -148,7 +148,7 @@ impl NumberFormatBuilder {
     /// Returns the flag `no_exponent_without_fraction`: whether an exponent is allowed only in a
     /// float with a decimal point.
     #[inline(always)]
-    pub fn get_no_exponent_without_fraction(&self) -> bool
+    pub const fn get_no_exponent_without_fraction(&self) -> bool
         ensures { result ≡ self.now.no_exponent_without_fraction }
     {
         self.has_flag(flags::NO_EXPONENT_WITHOUT_FRACTION)
@@ -157,7 +157,7 @@ impl NumberFormatBuilder {
     /// Returns the flag `no_special`: whether special values, such as NaN and infinity, are not
     /// allowed.
     #[inline(always)]
-    pub fn get_no_special(&self) -> bool
+    pub const fn get_no_special(&self) -> bool
         ensures { result ≡ self.now.no_special }
     {
         self.has_flag(flags::NO_SPECIAL)
@@ -166,7 +166,7 @@ impl NumberFormatBuilder {
     /// Returns the flag `case_sensitive_special`: whether the case of letters counts in special
     /// values.
     #[inline(always)]
-    pub fn get_case_sensitive_special(&self) -> bool
+    pub const fn get_case_sensitive_special(&self) -> bool
         ensures { result ≡ self.now.case_sensitive_special }
     {
         self.has_flag(flags::CASE_SENSITIVE_SPECIAL)
@@ -175,7 +175,7 @@ impl NumberFormatBuilder {
     /// Returns the flag `no_integer_leading_zeros`: whether zeros before the digits of an integer
     /// are not allowed.
     #[inline(always)]
-    pub fn get_no_integer_leading_zeros(&self) -> bool
+    pub const fn get_no_integer_leading_zeros(&self) -> bool
         ensures { result ≡ self.now.no_integer_leading_zeros }
     {
         self.has_flag(flags::NO_INTEGER_LEADING_ZEROS)
@@ -184,7 +184,7 @@ impl NumberFormatBuilder {
     /// Returns the flag `no_float_leading_zeros`: whether zeros before the integer digits of a
     /// float are not allowed.
     #[inline(always)]
-    pub fn get_no_float_leading_zeros(&self) -> bool
+    pub const fn get_no_float_leading_zeros(&self) -> bool
         ensures { result ≡ self.now.no_float_leading_zeros }
     {
         self.has_flag(flags::NO_FLOAT_LEADING_ZEROS)
@@ -192,7 +192,7 @@ impl NumberFormatBuilder {
 
     /// Returns the flag `required_exponent_notation`: whether an exponent is required.
     #[inline(always)]
-    pub fn get_required_exponent_notation(&self) -> bool
+    pub const fn get_required_exponent_notation(&self) -> bool
         ensures { result ≡ self.now.required_exponent_notation }
     {
         self.has_flag(flags::REQUIRED_EXPONENT_NOTATION)
@@ -201,7 +201,7 @@ impl NumberFormatBuilder {
     /// Returns the flag `case_sensitive_exponent`: whether the case of the exponent character
     /// counts.
     #[inline(always)]
-    pub fn get_case_sensitive_exponent(&self) -> bool
+    pub const fn get_case_sensitive_exponent(&self) -> bool
         ensures { result ≡ self.now.case_sensitive_exponent }
     {
         self.has_flag(flags::CASE_SENSITIVE_EXPONENT)
@@ -209,7 +209,7 @@ impl NumberFormatBuilder {
 
     /// Returns the flag `case_sensitive_base_prefix`: whether the case of the base prefix counts.
     #[inline(always)]
-    pub fn get_case_sensitive_base_prefix(&self) -> bool
+    pub const fn get_case_sensitive_base_prefix(&self) -> bool
         ensures { result ≡ self.now.case_sensitive_base_prefix }
     {
         self.has_flag(flags::CASE_SENSITIVE_BASE_PREFIX)
@@ -217,7 +217,7 @@ impl NumberFormatBuilder {
 
     /// Returns the flag `case_sensitive_base_suffix`: whether the case of the base suffix counts.
     #[inline(always)]
-    pub fn get_case_sensitive_base_suffix(&self) -> bool
+    pub const fn get_case_sensitive_base_suffix(&self) -> bool
         ensures { result ≡ self.now.case_sensitive_base_suffix }
     {
         self.has_flag(flags::CASE_SENSITIVE_BASE_SUFFIX)
@@ -226,7 +226,7 @@ impl NumberFormatBuilder {
     /// Returns the flag `integer_internal_digit_separator`: whether a digit separator is allowed
     /// between integer digits.
     #[inline(always)]
-    pub fn get_integer_internal_digit_separator(&self) -> bool
+    pub const fn get_integer_internal_digit_separator(&self) -> bool
         ensures { result ≡ self.now.integer_internal_digit_separator }
     {
         self.has_flag(flags::INTEGER_INTERNAL_DIGIT_SEPARATOR)
@@ -235,7 +235,7 @@ impl NumberFormatBuilder {
     /// Returns the flag `fraction_internal_digit_separator`: whether a digit separator is allowed
     /// between fraction digits.
     #[inline(always)]
-    pub fn get_fraction_internal_digit_separator(&self) -> bool
+    pub const fn get_fraction_internal_digit_separator(&self) -> bool
         ensures { result ≡ self.now.fraction_internal_digit_separator }
     {
         self.has_flag(flags::FRACTION_INTERNAL_DIGIT_SEPARATOR)
@@ -244,7 +244,7 @@ impl NumberFormatBuilder {
     /// Returns the flag `exponent_internal_digit_separator`: whether a digit separator is allowed
     /// between exponent digits.
     #[inline(always)]
-    pub fn get_exponent_internal_digit_separator(&self) -> bool
+    pub const fn get_exponent_internal_digit_separator(&self) -> bool
         ensures { result ≡ self.now.exponent_internal_digit_separator }
     {
         self.has_flag(flags::EXPONENT_INTERNAL_DIGIT_SEPARATOR)
@@ -253,7 +253,7 @@ impl NumberFormatBuilder {
     /// Returns the flag `integer_leading_digit_separator`: whether a digit separator is allowed
     /// before integer digits.
     #[inline(always)]
-    pub fn get_integer_leading_digit_separator(&self) -> bool
+    pub const fn get_integer_leading_digit_separator(&self) -> bool
         ensures { result ≡ self.now.integer_leading_digit_separator }
     {
         self.has_flag(flags::INTEGER_LEADING_DIGIT_SEPARATOR)
@@ -262,7 +262,7 @@ impl NumberFormatBuilder {
     /// Returns the flag `fraction_leading_digit_separator`: whether a digit separator is allowed
     /// before fraction digits.
     #[inline(always)]
-    pub fn get_fraction_leading_digit_separator(&self) -> bool
+    pub const fn get_fraction_leading_digit_separator(&self) -> bool
         ensures { result ≡ self.now.fraction_leading_digit_separator }
     {
         self.has_flag(flags::FRACTION_LEADING_DIGIT_SEPARATOR)
@@ -271,7 +271,7 @@ impl NumberFormatBuilder {
     /// Returns the flag `exponent_leading_digit_separator`: whether a digit separator is allowed
     /// before exponent digits.
     #[inline(always)]
-    pub fn get_exponent_leading_digit_separator(&self) -> bool
+    pub const fn get_exponent_leading_digit_separator(&self) -> bool
         ensures { result ≡ self.now.exponent_leading_digit_separator }
     {
         self.has_flag(flags::EXPONENT_LEADING_DIGIT_SEPARATOR)
@@ -280,7 +280,7 @@ impl NumberFormatBuilder {
     /// Returns the flag `integer_trailing_digit_separator`: whether a digit separator is allowed
     /// after integer digits.
     #[inline(always)]
-    pub fn get_integer_trailing_digit_separator(&self) -> bool
+    pub const fn get_integer_trailing_digit_separator(&self) -> bool
         ensures { result ≡ self.now.integer_trailing_digit_separator }
     {
         self.has_flag(flags::INTEGER_TRAILING_DIGIT_SEPARATOR)
@@ -289,7 +289,7 @@ impl NumberFormatBuilder {
     /// Returns the flag `fraction_trailing_digit_separator`: whether a digit separator is allowed
     /// after fraction digits.
     #[inline(always)]
-    pub fn get_fraction_trailing_digit_separator(&self) -> bool
+    pub const fn get_fraction_trailing_digit_separator(&self) -> bool
         ensures { result ≡ self.now.fraction_trailing_digit_separator }
     {
         self.has_flag(flags::FRACTION_TRAILING_DIGIT_SEPARATOR)
@@ -298,7 +298,7 @@ impl NumberFormatBuilder {
     /// Returns the flag `exponent_trailing_digit_separator`: whether a digit separator is allowed
     /// after exponent digits.
     #[inline(always)]
-    pub fn get_exponent_trailing_digit_separator(&self) -> bool
+    pub const fn get_exponent_trailing_digit_separator(&self) -> bool
         ensures { result ≡ self.now.exponent_trailing_digit_separator }
     {
         self.has_flag(flags::EXPONENT_TRAILING_DIGIT_SEPARATOR)
@@ -307,7 +307,7 @@ impl NumberFormatBuilder {
     /// Returns the flag `integer_consecutive_digit_separator`: whether several digit separators in
     /// a row are allowed at the positions at which one is allowed among integer digits.
     #[inline(always)]
-    pub fn get_integer_consecutive_digit_separator(&self) -> bool
+    pub const fn get_integer_consecutive_digit_separator(&self) -> bool
         ensures { result ≡ self.now.integer_consecutive_digit_separator }
     {
         self.has_flag(flags::INTEGER_CONSECUTIVE_DIGIT_SEPARATOR)
@@ -316,7 +316,7 @@ impl NumberFormatBuilder {
     /// Returns the flag `fraction_consecutive_digit_separator`: whether several digit separators in
     /// a row are allowed at the positions at which one is allowed among fraction digits.
     #[inline(always)]
-    pub fn get_fraction_consecutive_digit_separator(&self) -> bool
+    pub const fn get_fraction_consecutive_digit_separator(&self) -> bool
         ensures { result ≡ self.now.fraction_consecutive_digit_separator }
     {
         self.has_flag(flags::FRACTION_CONSECUTIVE_DIGIT_SEPARATOR)
@@ -325,7 +325,7 @@ impl NumberFormatBuilder {
     /// Returns the flag `exponent_consecutive_digit_separator`: whether several digit separators in
     /// a row are allowed at the positions at which one is allowed among exponent digits.
     #[inline(always)]
-    pub fn get_exponent_consecutive_digit_separator(&self) -> bool
+    pub const fn get_exponent_consecutive_digit_separator(&self) -> bool
         ensures { result ≡ self.now.exponent_consecutive_digit_separator }
     {
         self.has_flag(flags::EXPONENT_CONSECUTIVE_DIGIT_SEPARATOR)
@@ -334,7 +334,7 @@ impl NumberFormatBuilder {
     /// Returns the flag `special_digit_separator`: whether digit separators are allowed anywhere in
     /// special values.
     #[inline(always)]
-    pub fn get_special_digit_separator(&self) -> bool
+    pub const fn get_special_digit_separator(&self) -> bool
         ensures { result ≡ self.now.special_digit_separator }
     {
         self.has_flag(flags::SPECIAL_DIGIT_SEPARATOR)

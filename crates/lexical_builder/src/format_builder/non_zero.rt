@@ -24,7 +24,7 @@ impl Model for NonZeroU8 {
 impl NonZeroU8 {
     /// Returns the byte, or `None` if `value` is 0.
     #[inline(always)]
-    pub fn new(value: u8) -> Option<NonZeroU8>
+    pub const fn new(value: u8) -> Option<NonZeroU8>
         ensures value { result ≡ option_of_byte value }
         ensures none { IsNone result ↔ (value ≡ 0) }
     {
@@ -37,7 +37,7 @@ impl NonZeroU8 {
 
     /// Returns the byte, 1 to 255.
     #[inline(always)]
-    pub fn get(self) -> u8
+    pub const fn get(self) -> u8
         ensures value { result ≡ self }
         ensures not_zero { result ≢ 0 }
     {

@@ -20,7 +20,7 @@ impl NumberFormatBuilder {
     /// allowed ASCII (see `is_valid_ascii`), no sign, and no digit of the mantissa or exponent
     /// radix. It is packed only if a digit separator flag is set. Default: `None`, no separator.
     #[inline(always)]
-    pub fn digit_separator(self, character: OptionU8) -> Self
+    pub const fn digit_separator(self, character: OptionU8) -> Self
         ensures { result ≡ after self (write_byte layout.digit_separator (byte_of_option character) ∷ []) }
     {
         self.with_byte(DIGIT_SEPARATOR, byte_or_zero(character))
@@ -28,7 +28,7 @@ impl NumberFormatBuilder {
 
     /// Another name of `mantissa_radix`.
     #[inline(always)]
-    pub fn radix(self, radix: u8) -> Self
+    pub const fn radix(self, radix: u8) -> Self
         ensures { result ≡ after self (write_byte layout.mantissa_radix radix ∷ []) }
     {
         self.mantissa_radix(radix)
@@ -37,7 +37,7 @@ impl NumberFormatBuilder {
     /// Sets the mantissa radix: the radix of the integer and fraction digits, 2 to 36 in a lawful
     /// format. An exponent base or exponent radix that is absent follows it. Default: 10.
     #[inline(always)]
-    pub fn mantissa_radix(self, radix: u8) -> Self
+    pub const fn mantissa_radix(self, radix: u8) -> Self
         ensures { result ≡ after self (write_byte layout.mantissa_radix radix ∷ []) }
     {
         self.with_byte(MANTISSA_RADIX, radix)
@@ -46,7 +46,7 @@ impl NumberFormatBuilder {
     /// Sets the exponent base: with base 2, `1p3` means 1 × 2^3. In a lawful format it is 2 to 36.
     /// Default: `None`, that is, the mantissa radix.
     #[inline(always)]
-    pub fn exponent_base(self, base: OptionU8) -> Self
+    pub const fn exponent_base(self, base: OptionU8) -> Self
         ensures { result ≡ after self (write_byte layout.exponent_base (byte_of_option base) ∷ []) }
     {
         self.with_byte(EXPONENT_BASE, byte_or_zero(base))
@@ -55,7 +55,7 @@ impl NumberFormatBuilder {
     /// Sets the exponent radix: the radix of the digits of an exponent. In a lawful format it is 2
     /// to 36. Default: `None`, that is, the mantissa radix.
     #[inline(always)]
-    pub fn exponent_radix(self, radix: OptionU8) -> Self
+    pub const fn exponent_radix(self, radix: OptionU8) -> Self
         ensures { result ≡ after self (write_byte layout.exponent_radix (byte_of_option radix) ∷ []) }
     {
         self.with_byte(EXPONENT_RADIX, byte_or_zero(radix))
@@ -65,7 +65,7 @@ impl NumberFormatBuilder {
     /// `x` in `0x1F`. In a lawful format it is allowed ASCII (see `is_valid_ascii`), no sign, and
     /// no digit of the mantissa or exponent radix. Default: `None`, no prefix.
     #[inline(always)]
-    pub fn base_prefix(self, base_prefix: OptionU8) -> Self
+    pub const fn base_prefix(self, base_prefix: OptionU8) -> Self
         ensures { result ≡ after self (write_byte layout.base_prefix (byte_of_option base_prefix) ∷ []) }
     {
         self.with_byte(BASE_PREFIX, byte_or_zero(base_prefix))
@@ -75,7 +75,7 @@ impl NumberFormatBuilder {
     /// in `1Fh`. In a lawful format it is allowed ASCII (see `is_valid_ascii`), no sign, and no
     /// digit of the mantissa or exponent radix. Default: `None`, no suffix.
     #[inline(always)]
-    pub fn base_suffix(self, base_suffix: OptionU8) -> Self
+    pub const fn base_suffix(self, base_suffix: OptionU8) -> Self
         ensures { result ≡ after self (write_byte layout.base_suffix (byte_of_option base_suffix) ∷ []) }
     {
         self.with_byte(BASE_SUFFIX, byte_or_zero(base_suffix))
@@ -84,7 +84,7 @@ impl NumberFormatBuilder {
     /// Sets the flag `required_integer_digits`. If true, a parser rejects a float with no digits
     /// before its decimal point, such as `.5`. Default: false.
     #[inline(always)]
-    pub fn required_integer_digits(self, flag: bool) -> Self
+    pub const fn required_integer_digits(self, flag: bool) -> Self
         ensures { result ≡ after self (write_flag layout.required_integer_digits flag ∷ []) }
     {
         self.with_flags(flags::REQUIRED_INTEGER_DIGITS, flag)
@@ -94,7 +94,7 @@ impl NumberFormatBuilder {
     /// point and no digits after it, such as `1.`. A float with no decimal point is still accepted.
     /// Default: false.
     #[inline(always)]
-    pub fn required_fraction_digits(self, flag: bool) -> Self
+    pub const fn required_fraction_digits(self, flag: bool) -> Self
         ensures { result ≡ after self (write_flag layout.required_fraction_digits flag ∷ []) }
     {
         self.with_flags(flags::REQUIRED_FRACTION_DIGITS, flag)
@@ -103,7 +103,7 @@ impl NumberFormatBuilder {
     /// Sets the flag `required_exponent_digits`. If true, a parser rejects an exponent character
     /// with no digits after it, such as `1e`. Default: true.
     #[inline(always)]
-    pub fn required_exponent_digits(self, flag: bool) -> Self
+    pub const fn required_exponent_digits(self, flag: bool) -> Self
         ensures { result ≡ after self (write_flag layout.required_exponent_digits flag ∷ []) }
     {
         self.with_flags(flags::REQUIRED_EXPONENT_DIGITS, flag)
@@ -113,7 +113,7 @@ impl NumberFormatBuilder {
     /// significant digit at all, such as `.`. If false, `.` is read as 0; the empty text is still
     /// rejected. Default: true.
     #[inline(always)]
-    pub fn required_mantissa_digits(self, flag: bool) -> Self
+    pub const fn required_mantissa_digits(self, flag: bool) -> Self
         ensures { result ≡ after self (write_flag layout.required_mantissa_digits flag ∷ []) }
     {
         self.with_flags(flags::REQUIRED_MANTISSA_DIGITS, flag)
@@ -122,7 +122,7 @@ impl NumberFormatBuilder {
     /// Sets the four `required_.._digits` flags: integer, fraction, exponent and mantissa. A parser
     /// of integers requires a digit regardless. Default: true for exponent and mantissa only.
     #[inline(always)]
-    pub fn required_digits(self, flag: bool) -> Self
+    pub const fn required_digits(self, flag: bool) -> Self
         ensures { result ≡ after self (write_flags layout.required_digits flag) }
     {
         self.with_flags(flags::REQUIRED_DIGITS, flag)
@@ -131,7 +131,7 @@ impl NumberFormatBuilder {
     /// Sets the flag `no_positive_mantissa_sign`. If true, a parser of integers and floats rejects
     /// `+1`. A `-` is still accepted. Default: false.
     #[inline(always)]
-    pub fn no_positive_mantissa_sign(self, flag: bool) -> Self
+    pub const fn no_positive_mantissa_sign(self, flag: bool) -> Self
         ensures { result ≡ after self (write_flag layout.no_positive_mantissa_sign flag ∷ []) }
     {
         self.with_flags(flags::NO_POSITIVE_MANTISSA_SIGN, flag)
@@ -141,7 +141,7 @@ impl NumberFormatBuilder {
     /// number with no sign, such as `1`, and a writer writes `+` before a number that is not
     /// negative. Default: false.
     #[inline(always)]
-    pub fn required_mantissa_sign(self, flag: bool) -> Self
+    pub const fn required_mantissa_sign(self, flag: bool) -> Self
         ensures { result ≡ after self (write_flag layout.required_mantissa_sign flag ∷ []) }
     {
         self.with_flags(flags::REQUIRED_MANTISSA_SIGN, flag)
@@ -150,7 +150,7 @@ impl NumberFormatBuilder {
     /// Sets the flag `no_exponent_notation`. If true, a parser rejects a float with an exponent,
     /// such as `1e5`, and a writer writes all digits instead of an exponent. Default: false.
     #[inline(always)]
-    pub fn no_exponent_notation(self, flag: bool) -> Self
+    pub const fn no_exponent_notation(self, flag: bool) -> Self
         ensures { result ≡ after self (write_flag layout.no_exponent_notation flag ∷ []) }
     {
         self.with_flags(flags::NO_EXPONENT_NOTATION, flag)
@@ -159,7 +159,7 @@ impl NumberFormatBuilder {
     /// Sets the flag `no_positive_exponent_sign`. If true, a parser rejects `1e+5`. `1e5` and
     /// `1e-5` are still accepted. Default: false.
     #[inline(always)]
-    pub fn no_positive_exponent_sign(self, flag: bool) -> Self
+    pub const fn no_positive_exponent_sign(self, flag: bool) -> Self
         ensures { result ≡ after self (write_flag layout.no_positive_exponent_sign flag ∷ []) }
     {
         self.with_flags(flags::NO_POSITIVE_EXPONENT_SIGN, flag)
@@ -169,7 +169,7 @@ impl NumberFormatBuilder {
     /// such as `1e5`, and a writer writes `+` before an exponent that is not negative. Default:
     /// false.
     #[inline(always)]
-    pub fn required_exponent_sign(self, flag: bool) -> Self
+    pub const fn required_exponent_sign(self, flag: bool) -> Self
         ensures { result ≡ after self (write_flag layout.required_exponent_sign flag ∷ []) }
     {
         self.with_flags(flags::REQUIRED_EXPONENT_SIGN, flag)
@@ -179,7 +179,7 @@ impl NumberFormatBuilder {
     /// float with no decimal point, such as `1e5`, and accepts `1.0e5`. This flag does not require
     /// digits after the point. Default: false.
     #[inline(always)]
-    pub fn no_exponent_without_fraction(self, flag: bool) -> Self
+    pub const fn no_exponent_without_fraction(self, flag: bool) -> Self
         ensures { result ≡ after self (write_flag layout.no_exponent_without_fraction flag ∷ []) }
     {
         self.with_flags(flags::NO_EXPONENT_WITHOUT_FRACTION, flag)
@@ -188,7 +188,7 @@ impl NumberFormatBuilder {
     /// Sets the flag `no_special`. If true, a parser rejects every special value, such as `NaN` and
     /// `inf`. Default: false.
     #[inline(always)]
-    pub fn no_special(self, flag: bool) -> Self
+    pub const fn no_special(self, flag: bool) -> Self
         ensures { result ≡ after self (write_flag layout.no_special flag ∷ []) }
     {
         self.with_flags(flags::NO_SPECIAL, flag)
@@ -197,7 +197,7 @@ impl NumberFormatBuilder {
     /// Sets the flag `case_sensitive_special`. If true, a parser accepts a special value only in
     /// the spelling given in its options, such as `NaN`; if false, in any case. Default: false.
     #[inline(always)]
-    pub fn case_sensitive_special(self, flag: bool) -> Self
+    pub const fn case_sensitive_special(self, flag: bool) -> Self
         ensures { result ≡ after self (write_flag layout.case_sensitive_special flag ∷ []) }
     {
         self.with_flags(flags::CASE_SENSITIVE_SPECIAL, flag)
@@ -206,7 +206,7 @@ impl NumberFormatBuilder {
     /// Sets the flag `no_integer_leading_zeros`. If true, a parser of integers rejects `01`. `0` by
     /// itself is still accepted. Default: false.
     #[inline(always)]
-    pub fn no_integer_leading_zeros(self, flag: bool) -> Self
+    pub const fn no_integer_leading_zeros(self, flag: bool) -> Self
         ensures { result ≡ after self (write_flag layout.no_integer_leading_zeros flag ∷ []) }
     {
         self.with_flags(flags::NO_INTEGER_LEADING_ZEROS, flag)
@@ -215,7 +215,7 @@ impl NumberFormatBuilder {
     /// Sets the flag `no_float_leading_zeros`. If true, a parser of floats rejects `01` and `01.0`.
     /// `0`, `0.1` and the like are still accepted. Default: false.
     #[inline(always)]
-    pub fn no_float_leading_zeros(self, flag: bool) -> Self
+    pub const fn no_float_leading_zeros(self, flag: bool) -> Self
         ensures { result ≡ after self (write_flag layout.no_float_leading_zeros flag ∷ []) }
     {
         self.with_flags(flags::NO_FLOAT_LEADING_ZEROS, flag)
@@ -224,7 +224,7 @@ impl NumberFormatBuilder {
     /// Sets the flag `required_exponent_notation`. If true, a parser rejects a float with no
     /// exponent, such as `1.0`, and a writer writes an exponent with every float. Default: false.
     #[inline(always)]
-    pub fn required_exponent_notation(self, flag: bool) -> Self
+    pub const fn required_exponent_notation(self, flag: bool) -> Self
         ensures { result ≡ after self (write_flag layout.required_exponent_notation flag ∷ []) }
     {
         self.with_flags(flags::REQUIRED_EXPONENT_NOTATION, flag)
@@ -233,7 +233,7 @@ impl NumberFormatBuilder {
     /// Sets the flag `case_sensitive_exponent`. If true, a parser whose exponent character is `e`
     /// rejects `1E5`; if false, it accepts both cases. Default: false.
     #[inline(always)]
-    pub fn case_sensitive_exponent(self, flag: bool) -> Self
+    pub const fn case_sensitive_exponent(self, flag: bool) -> Self
         ensures { result ≡ after self (write_flag layout.case_sensitive_exponent flag ∷ []) }
     {
         self.with_flags(flags::CASE_SENSITIVE_EXPONENT, flag)
@@ -242,7 +242,7 @@ impl NumberFormatBuilder {
     /// Sets the flag `case_sensitive_base_prefix`. If true, a parser whose base prefix is `x`
     /// rejects `0X1F`; if false, it accepts both cases. Default: false.
     #[inline(always)]
-    pub fn case_sensitive_base_prefix(self, flag: bool) -> Self
+    pub const fn case_sensitive_base_prefix(self, flag: bool) -> Self
         ensures { result ≡ after self (write_flag layout.case_sensitive_base_prefix flag ∷ []) }
     {
         self.with_flags(flags::CASE_SENSITIVE_BASE_PREFIX, flag)
@@ -251,7 +251,7 @@ impl NumberFormatBuilder {
     /// Sets the flag `case_sensitive_base_suffix`. If true, a parser whose base suffix is `h`
     /// rejects `1FH`; if false, it accepts both cases. Default: false.
     #[inline(always)]
-    pub fn case_sensitive_base_suffix(self, flag: bool) -> Self
+    pub const fn case_sensitive_base_suffix(self, flag: bool) -> Self
         ensures { result ≡ after self (write_flag layout.case_sensitive_base_suffix flag ∷ []) }
     {
         self.with_flags(flags::CASE_SENSITIVE_BASE_SUFFIX, flag)
@@ -260,7 +260,7 @@ impl NumberFormatBuilder {
     /// Sets the flag `integer_internal_digit_separator`. If true, a parser whose digit separator is
     /// `_` accepts `1_2`: the separator is allowed between integer digits. Default: false.
     #[inline(always)]
-    pub fn integer_internal_digit_separator(self, flag: bool) -> Self
+    pub const fn integer_internal_digit_separator(self, flag: bool) -> Self
         ensures { result ≡ after self (write_flag layout.integer_internal_digit_separator flag ∷ []) }
     {
         self.with_flags(flags::INTEGER_INTERNAL_DIGIT_SEPARATOR, flag)
@@ -269,7 +269,7 @@ impl NumberFormatBuilder {
     /// Sets the flag `fraction_internal_digit_separator`. If true, a parser whose digit separator
     /// is `_` accepts `0.1_2`: the separator is allowed between fraction digits. Default: false.
     #[inline(always)]
-    pub fn fraction_internal_digit_separator(self, flag: bool) -> Self
+    pub const fn fraction_internal_digit_separator(self, flag: bool) -> Self
         ensures { result ≡ after self (write_flag layout.fraction_internal_digit_separator flag ∷ []) }
     {
         self.with_flags(flags::FRACTION_INTERNAL_DIGIT_SEPARATOR, flag)
@@ -278,7 +278,7 @@ impl NumberFormatBuilder {
     /// Sets the flag `exponent_internal_digit_separator`. If true, a parser whose digit separator
     /// is `_` accepts `1e1_2`: the separator is allowed between exponent digits. Default: false.
     #[inline(always)]
-    pub fn exponent_internal_digit_separator(self, flag: bool) -> Self
+    pub const fn exponent_internal_digit_separator(self, flag: bool) -> Self
         ensures { result ≡ after self (write_flag layout.exponent_internal_digit_separator flag ∷ []) }
     {
         self.with_flags(flags::EXPONENT_INTERNAL_DIGIT_SEPARATOR, flag)
@@ -287,7 +287,7 @@ impl NumberFormatBuilder {
     /// Sets whether a digit separator is allowed between the digits of integers, fractions and
     /// exponents. Default: false for each.
     #[inline(always)]
-    pub fn internal_digit_separator(self, flag: bool) -> Self
+    pub const fn internal_digit_separator(self, flag: bool) -> Self
         ensures { result ≡ after self (write_flags layout.internal_digit_separator flag) }
     {
         self.with_flags(flags::INTERNAL_DIGIT_SEPARATOR, flag)
@@ -296,7 +296,7 @@ impl NumberFormatBuilder {
     /// Sets the flag `integer_leading_digit_separator`. If true, a parser whose digit separator is
     /// `_` accepts `_12`: the separator is allowed before integer digits. Default: false.
     #[inline(always)]
-    pub fn integer_leading_digit_separator(self, flag: bool) -> Self
+    pub const fn integer_leading_digit_separator(self, flag: bool) -> Self
         ensures { result ≡ after self (write_flag layout.integer_leading_digit_separator flag ∷ []) }
     {
         self.with_flags(flags::INTEGER_LEADING_DIGIT_SEPARATOR, flag)
@@ -305,7 +305,7 @@ impl NumberFormatBuilder {
     /// Sets the flag `fraction_leading_digit_separator`. If true, a parser whose digit separator is
     /// `_` accepts `0._12`: the separator is allowed before fraction digits. Default: false.
     #[inline(always)]
-    pub fn fraction_leading_digit_separator(self, flag: bool) -> Self
+    pub const fn fraction_leading_digit_separator(self, flag: bool) -> Self
         ensures { result ≡ after self (write_flag layout.fraction_leading_digit_separator flag ∷ []) }
     {
         self.with_flags(flags::FRACTION_LEADING_DIGIT_SEPARATOR, flag)
@@ -314,7 +314,7 @@ impl NumberFormatBuilder {
     /// Sets the flag `exponent_leading_digit_separator`. If true, a parser whose digit separator is
     /// `_` accepts `1e_12`: the separator is allowed before exponent digits. Default: false.
     #[inline(always)]
-    pub fn exponent_leading_digit_separator(self, flag: bool) -> Self
+    pub const fn exponent_leading_digit_separator(self, flag: bool) -> Self
         ensures { result ≡ after self (write_flag layout.exponent_leading_digit_separator flag ∷ []) }
     {
         self.with_flags(flags::EXPONENT_LEADING_DIGIT_SEPARATOR, flag)
@@ -323,7 +323,7 @@ impl NumberFormatBuilder {
     /// Sets whether a digit separator is allowed before the digits of integers, fractions and
     /// exponents. Default: false for each.
     #[inline(always)]
-    pub fn leading_digit_separator(self, flag: bool) -> Self
+    pub const fn leading_digit_separator(self, flag: bool) -> Self
         ensures { result ≡ after self (write_flags layout.leading_digit_separator flag) }
     {
         self.with_flags(flags::LEADING_DIGIT_SEPARATOR, flag)
@@ -332,7 +332,7 @@ impl NumberFormatBuilder {
     /// Sets the flag `integer_trailing_digit_separator`. If true, a parser whose digit separator is
     /// `_` accepts `12_`: the separator is allowed after integer digits. Default: false.
     #[inline(always)]
-    pub fn integer_trailing_digit_separator(self, flag: bool) -> Self
+    pub const fn integer_trailing_digit_separator(self, flag: bool) -> Self
         ensures { result ≡ after self (write_flag layout.integer_trailing_digit_separator flag ∷ []) }
     {
         self.with_flags(flags::INTEGER_TRAILING_DIGIT_SEPARATOR, flag)
@@ -341,7 +341,7 @@ impl NumberFormatBuilder {
     /// Sets the flag `fraction_trailing_digit_separator`. If true, a parser whose digit separator
     /// is `_` accepts `0.12_`: the separator is allowed after fraction digits. Default: false.
     #[inline(always)]
-    pub fn fraction_trailing_digit_separator(self, flag: bool) -> Self
+    pub const fn fraction_trailing_digit_separator(self, flag: bool) -> Self
         ensures { result ≡ after self (write_flag layout.fraction_trailing_digit_separator flag ∷ []) }
     {
         self.with_flags(flags::FRACTION_TRAILING_DIGIT_SEPARATOR, flag)
@@ -350,7 +350,7 @@ impl NumberFormatBuilder {
     /// Sets the flag `exponent_trailing_digit_separator`. If true, a parser whose digit separator
     /// is `_` accepts `1e12_`: the separator is allowed after exponent digits. Default: false.
     #[inline(always)]
-    pub fn exponent_trailing_digit_separator(self, flag: bool) -> Self
+    pub const fn exponent_trailing_digit_separator(self, flag: bool) -> Self
         ensures { result ≡ after self (write_flag layout.exponent_trailing_digit_separator flag ∷ []) }
     {
         self.with_flags(flags::EXPONENT_TRAILING_DIGIT_SEPARATOR, flag)
@@ -359,7 +359,7 @@ impl NumberFormatBuilder {
     /// Sets whether a digit separator is allowed after the digits of integers, fractions and
     /// exponents. Default: false for each.
     #[inline(always)]
-    pub fn trailing_digit_separator(self, flag: bool) -> Self
+    pub const fn trailing_digit_separator(self, flag: bool) -> Self
         ensures { result ≡ after self (write_flags layout.trailing_digit_separator flag) }
     {
         self.with_flags(flags::TRAILING_DIGIT_SEPARATOR, flag)
@@ -370,7 +370,7 @@ impl NumberFormatBuilder {
     /// integer digits. A format with this flag and none of the other three of integer digits is not
     /// lawful. Default: false.
     #[inline(always)]
-    pub fn integer_consecutive_digit_separator(self, flag: bool) -> Self
+    pub const fn integer_consecutive_digit_separator(self, flag: bool) -> Self
         ensures { result ≡ after self (write_flag layout.integer_consecutive_digit_separator flag ∷ []) }
     {
         self.with_flags(flags::INTEGER_CONSECUTIVE_DIGIT_SEPARATOR, flag)
@@ -381,7 +381,7 @@ impl NumberFormatBuilder {
     /// of the fraction digits. A format with this flag and none of the other three of fraction
     /// digits is not lawful. Default: false.
     #[inline(always)]
-    pub fn fraction_consecutive_digit_separator(self, flag: bool) -> Self
+    pub const fn fraction_consecutive_digit_separator(self, flag: bool) -> Self
         ensures { result ≡ after self (write_flag layout.fraction_consecutive_digit_separator flag ∷ []) }
     {
         self.with_flags(flags::FRACTION_CONSECUTIVE_DIGIT_SEPARATOR, flag)
@@ -392,7 +392,7 @@ impl NumberFormatBuilder {
     /// of the exponent digits. A format with this flag and none of the other three of exponent
     /// digits is not lawful. Default: false.
     #[inline(always)]
-    pub fn exponent_consecutive_digit_separator(self, flag: bool) -> Self
+    pub const fn exponent_consecutive_digit_separator(self, flag: bool) -> Self
         ensures { result ≡ after self (write_flag layout.exponent_consecutive_digit_separator flag ∷ []) }
     {
         self.with_flags(flags::EXPONENT_CONSECUTIVE_DIGIT_SEPARATOR, flag)
@@ -401,7 +401,7 @@ impl NumberFormatBuilder {
     /// Sets whether several digit separators in a row are allowed in integers, fractions and
     /// exponents, at the positions at which one is allowed. Default: false for each.
     #[inline(always)]
-    pub fn consecutive_digit_separator(self, flag: bool) -> Self
+    pub const fn consecutive_digit_separator(self, flag: bool) -> Self
         ensures { result ≡ after self (write_flags layout.consecutive_digit_separator flag) }
     {
         self.with_flags(flags::CONSECUTIVE_DIGIT_SEPARATOR, flag)
@@ -411,7 +411,7 @@ impl NumberFormatBuilder {
     /// accepts `N__a_N_` for `NaN`: separators are allowed before, between and after the letters,
     /// also several in a row. Default: false.
     #[inline(always)]
-    pub fn special_digit_separator(self, flag: bool) -> Self
+    pub const fn special_digit_separator(self, flag: bool) -> Self
         ensures { result ≡ after self (write_flag layout.special_digit_separator flag ∷ []) }
     {
         self.with_flags(flags::SPECIAL_DIGIT_SEPARATOR, flag)
@@ -420,7 +420,7 @@ impl NumberFormatBuilder {
     /// Sets all digit separator flags, `special_digit_separator` included. Default: false for
     /// each.
     #[inline(always)]
-    pub fn digit_separator_flags(self, flag: bool) -> Self
+    pub const fn digit_separator_flags(self, flag: bool) -> Self
         ensures { result ≡ after self (write_flags layout.digit_separator_flags flag) }
     {
         self.with_flags(flags::DIGIT_SEPARATOR_FLAG_MASK, flag)
@@ -428,7 +428,7 @@ impl NumberFormatBuilder {
 
     /// Sets the four digit separator flags of integer digits. Default: false for each.
     #[inline(always)]
-    pub fn integer_digit_separator_flags(self, flag: bool) -> Self
+    pub const fn integer_digit_separator_flags(self, flag: bool) -> Self
         ensures { result ≡ after self (write_flags layout.integer_digit_separator_flags flag) }
     {
         self.with_flags(flags::INTEGER_DIGIT_SEPARATOR_FLAG_MASK, flag)
@@ -436,7 +436,7 @@ impl NumberFormatBuilder {
 
     /// Sets the four digit separator flags of fraction digits. Default: false for each.
     #[inline(always)]
-    pub fn fraction_digit_separator_flags(self, flag: bool) -> Self
+    pub const fn fraction_digit_separator_flags(self, flag: bool) -> Self
         ensures { result ≡ after self (write_flags layout.fraction_digit_separator_flags flag) }
     {
         self.with_flags(flags::FRACTION_DIGIT_SEPARATOR_FLAG_MASK, flag)
@@ -444,7 +444,7 @@ impl NumberFormatBuilder {
 
     /// Sets the four digit separator flags of exponent digits. Default: false for each.
     #[inline(always)]
-    pub fn exponent_digit_separator_flags(self, flag: bool) -> Self
+    pub const fn exponent_digit_separator_flags(self, flag: bool) -> Self
         ensures { result ≡ after self (write_flags layout.exponent_digit_separator_flags flag) }
     {
         self.with_flags(flags::EXPONENT_DIGIT_SEPARATOR_FLAG_MASK, flag)

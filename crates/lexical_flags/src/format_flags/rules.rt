@@ -3,7 +3,7 @@
 //! A word that breaks no rule is *lawful*; the view of a word calls it valid.
 #![tactic(auto, using(crate::proofs::FlagBits::flag_tests), unfolding(crate::specs::Rules::Holds, crate::specs::Rules::IsPunctuation))]
 
-ghost use Rattle.std.specs.Prelude.{◌≡◌, ◌≢◌, ◌↔◌, IsTrue, bit_or};
+ghost use Rattle.std.specs.Prelude.{◌≡◌, ◌≢◌, ◌↔◌, IsTrue, bit_or, max};
 ghost use Rattle.std.specs.List.{AllByRecursion};
 ghost use Rattle.lexical_base.specs.Ascii.{letters};
 ghost use Rattle.lexical_flags.specs.Layout.{IsClean};
@@ -36,32 +36,40 @@ const LIMITS: [u16; 256] = [
     0, 0, 0, 0, 0, 0, 0, 0, 0, 0, 0, 0, 0,
 ];
 
+// The larger of two radixes: `max` of a trait cannot be called in a `const fn`.
+#[inline(always)]
+const fn larger(a: u32, b: u32) -> u32
+    ensures { result ≡ max a b }
+{
+    if a < b { b } else { a }
+}
+
 /// Returns whether `byte` is a digit of numbers in this format: a digit of the mantissa radix or of
 /// the exponent radix. Letters are digits in both cases.
 ///
 /// If the exponent radix of the format is 0, the mantissa radix stands for it. The exponent base
 /// has no digits. Any word and any byte may be passed. The Rust crate has no such function.
 #[inline(always)]
-pub fn is_digit(format: u128, byte: u8) -> bool
+pub const fn is_digit(format: u128, byte: u8) -> bool
     ensures { IsTrue result ↔ IsTrue (digits (raw format) byte) }
 {
     digit_facts();
-    char_is_digit(byte, mantissa_radix(format).max(exponent_radix(format)))
+    char_is_digit(byte, larger(mantissa_radix(format), exponent_radix(format)))
 }
 
 // Whether a byte is absent, or text that is no digit and no sign.
 #[inline(always)]
 #[tactic(auto, using(crate::proofs::FreeBytes::free_below_limit))]
-fn is_free(format: u128, byte: u8) -> bool
+const fn is_free(format: u128, byte: u8) -> bool
     ensures { IsTrue result ↔ IsFree (raw format) byte }
 {
-    let radix = mantissa_radix(format).max(exponent_radix(format));
+    let radix = larger(mantissa_radix(format), exponent_radix(format));
     radix < LIMITS[byte as usize] as u32
 }
 
 // Whether a byte is such text.
 #[inline(always)]
-fn is_punctuation(format: u128, byte: u8) -> bool
+const fn is_punctuation(format: u128, byte: u8) -> bool
     ensures { IsTrue result ↔ IsPunctuation (raw format) byte }
 {
     byte != 0 && is_free(format, byte)
@@ -70,7 +78,7 @@ fn is_punctuation(format: u128, byte: u8) -> bool
 // Whether two bytes are the two cases of one letter.
 #[inline(always)]
 #[tactic(auto, using(crate::proofs::CaseLemmas::flipped))]
-fn are_cases(a: u8, b: u8) -> bool
+const fn are_cases(a: u8, b: u8) -> bool
     ensures { IsTrue result ↔ (IsTrue (letters a) × (b ≡ other_case a)) }
 {
     a ^ 0x20 == b && is_valid_letter(a)
@@ -80,7 +88,7 @@ fn are_cases(a: u8, b: u8) -> bool
 // cases of its letter. A byte of 0 is absent: no byte plays its role.
 #[inline(always)]
 #[tactic(auto, unfolding(crate::specs::Roles::Disjoint, crate::specs::Roles::cased))]
-fn are_disjoint(a: u8, a_case_counts: bool, b: u8, b_case_counts: bool) -> bool
+const fn are_disjoint(a: u8, a_case_counts: bool, b: u8, b_case_counts: bool) -> bool
     ensures { IsTrue result ↔ Disjoint (cased a_case_counts a) (cased b_case_counts b) }
 {
     a == 0 || (a != b && (!are_cases(a, b) || (a_case_counts & b_case_counts)))
@@ -90,7 +98,7 @@ fn are_disjoint(a: u8, a_case_counts: bool, b: u8, b_case_counts: bool) -> bool
 // in another.
 #[inline(always)]
 #[tactic(auto, using(crate::proofs::CaseLemmas::other_bits_apart))]
-fn are_apart(a: u8, a_case_counts: bool, b: u8, b_case_counts: bool) -> bool
+const fn are_apart(a: u8, a_case_counts: bool, b: u8, b_case_counts: bool) -> bool
     ensures { IsTrue result ↔ Disjoint (cased a_case_counts a) (cased b_case_counts b) }
 {
     (a | 0x20) != (b | 0x20) || are_disjoint(a, a_case_counts, b, b_case_counts)
@@ -99,7 +107,7 @@ fn are_apart(a: u8, a_case_counts: bool, b: u8, b_case_counts: bool) -> bool
 // Whether two bytes, of which the first is there, have all bits but 0x20 in common. If not, their roles are
 // disjoint, whether case counts or not.
 #[inline(always)]
-fn are_near(a: u8, b: u8) -> bool
+const fn are_near(a: u8, b: u8) -> bool
     ensures { IsTrue result ↔ ((a ≢ 0) × (bit_or a 32 ≡ bit_or b 32)) }
 {
     (a != 0) & (a | 0x20 == b | 0x20)
@@ -107,7 +115,7 @@ fn are_near(a: u8, b: u8) -> bool
 
 // Whether the base prefix is case-sensitive.
 #[inline(always)]
-fn prefix_case_counts(format: u128) -> bool
+const fn prefix_case_counts(format: u128) -> bool
     ensures { result ≡ (raw format).case_sensitive_base_prefix }
 {
     format & CASE_SENSITIVE_BASE_PREFIX != 0
@@ -115,7 +123,7 @@ fn prefix_case_counts(format: u128) -> bool
 
 // Whether the base suffix is case-sensitive.
 #[inline(always)]
-fn suffix_case_counts(format: u128) -> bool
+const fn suffix_case_counts(format: u128) -> bool
     ensures { result ≡ (raw format).case_sensitive_base_suffix }
 {
     format & CASE_SENSITIVE_BASE_SUFFIX != 0
@@ -123,7 +131,7 @@ fn suffix_case_counts(format: u128) -> bool
 
 // Whether the exponent character is case-sensitive.
 #[inline(always)]
-fn exponent_case_counts(format: u128) -> bool
+const fn exponent_case_counts(format: u128) -> bool
     ensures { result ≡ (raw format).case_sensitive_exponent }
 {
     format & CASE_SENSITIVE_EXPONENT != 0
@@ -133,7 +141,7 @@ fn exponent_case_counts(format: u128) -> bool
 
 /// Returns whether numbers can be written in a radix, that is, whether it is 2 to 36.
 #[inline(always)]
-pub fn is_valid_radix(radix: u32) -> bool
+pub const fn is_valid_radix(radix: u32) -> bool
     ensures { IsTrue result ↔ IsRadix radix }
 {
     radix >= 2 && radix <= 36
@@ -141,7 +149,7 @@ pub fn is_valid_radix(radix: u32) -> bool
 
 // Whether the mantissa radix is 2 to 36.
 #[inline(always)]
-fn is_valid_mantissa_radix(format: u128) -> bool
+const fn is_valid_mantissa_radix(format: u128) -> bool
     ensures { IsTrue result ↔ Holds rules.mantissa_radix_in_range format }
 {
     is_valid_radix(mantissa_radix(format))
@@ -149,7 +157,7 @@ fn is_valid_mantissa_radix(format: u128) -> bool
 
 // Whether the exponent base, or the mantissa radix if that is 0, is 2 to 36.
 #[inline(always)]
-fn is_valid_exponent_base(format: u128) -> bool
+const fn is_valid_exponent_base(format: u128) -> bool
     ensures { IsTrue result ↔ Holds rules.exponent_base_in_range format }
 {
     is_valid_radix(exponent_base(format))
@@ -157,7 +165,7 @@ fn is_valid_exponent_base(format: u128) -> bool
 
 // Whether the exponent radix, or the mantissa radix if that is 0, is 2 to 36.
 #[inline(always)]
-fn is_valid_exponent_radix(format: u128) -> bool
+const fn is_valid_exponent_radix(format: u128) -> bool
     ensures { IsTrue result ↔ Holds rules.exponent_radix_in_range format }
 {
     is_valid_radix(exponent_radix(format))
@@ -171,7 +179,7 @@ fn is_valid_exponent_radix(format: u128) -> bool
 /// The raw byte is tested: a digit is rejected even if no flag allows a separator, and 0 is accepted
 /// even if one does.
 #[inline(always)]
-pub fn is_valid_digit_separator(format: u128) -> bool
+pub const fn is_valid_digit_separator(format: u128) -> bool
     ensures { IsTrue result ↔ Holds rules.digit_separator_is_free format }
 {
     is_free(format, digit_separator(format))
@@ -180,7 +188,7 @@ pub fn is_valid_digit_separator(format: u128) -> bool
 /// Returns whether the base prefix is 0, or allowed ASCII that is no sign and no digit of the
 /// mantissa or of the exponent.
 #[inline(always)]
-pub fn is_valid_base_prefix(format: u128) -> bool
+pub const fn is_valid_base_prefix(format: u128) -> bool
     ensures { IsTrue result ↔ Holds rules.base_prefix_is_free format }
 {
     is_free(format, base_prefix(format))
@@ -189,7 +197,7 @@ pub fn is_valid_base_prefix(format: u128) -> bool
 /// Returns whether the base suffix is 0, or allowed ASCII that is no sign and no digit of the
 /// mantissa or of the exponent.
 #[inline(always)]
-pub fn is_valid_base_suffix(format: u128) -> bool
+pub const fn is_valid_base_suffix(format: u128) -> bool
     ensures { IsTrue result ↔ Holds rules.base_suffix_is_free format }
 {
     is_free(format, base_suffix(format))
@@ -203,7 +211,7 @@ pub fn is_valid_base_suffix(format: u128) -> bool
 /// are set. The digit separator is always one byte. The Rust crate compares the raw bytes, so it
 /// accepts such a prefix and suffix with any flags.
 #[inline(always)]
-pub fn is_valid_punctuation(format: u128) -> bool
+pub const fn is_valid_punctuation(format: u128) -> bool
     ensures { IsTrue result ↔ Holds rules.punctuation_differs format }
 {
     let separator = digit_separator(format);
@@ -222,7 +230,7 @@ pub fn is_valid_punctuation(format: u128) -> bool
 
 // Whether a byte clashes with none of digit separator, base prefix and base suffix.
 #[inline(always)]
-fn is_apart_from_own(format: u128, byte: u8, case_counts: bool) -> bool
+const fn is_apart_from_own(format: u128, byte: u8, case_counts: bool) -> bool
     ensures { IsTrue result ↔ AllByRecursion (Disjoint (cased case_counts byte)) (own_roles (raw format)) }
 {
     let prefix_case = prefix_case_counts(format);
@@ -234,7 +242,7 @@ fn is_apart_from_own(format: u128, byte: u8, case_counts: bool) -> bool
 
 // Whether both bytes are punctuation that is not in use yet.
 #[inline(always)]
-fn are_accepted(format: u128, exponent: u8, decimal_point: u8) -> bool
+const fn are_accepted(format: u128, exponent: u8, decimal_point: u8) -> bool
     ensures { IsTrue result ↔ AreAccepted format exponent decimal_point }
 {
     let exponent_case = exponent_case_counts(format);
@@ -256,7 +264,7 @@ fn are_accepted(format: u128, exponent: u8, decimal_point: u8) -> bool
 /// has two meanings, and for every lawful format some such pair exists. The Rust crate compares the
 /// raw bytes.
 #[inline(always)]
-pub fn is_valid_options_punctuation(format: u128, exponent: u8, decimal_point: u8) -> bool
+pub const fn is_valid_options_punctuation(format: u128, exponent: u8, decimal_point: u8) -> bool
     ensures accepted { IsTrue result ↔ AreAccepted format exponent decimal_point }
     // In a lawful format this is all that it takes for each byte to play at most one role.
     ensures roles { Lawful format → (IsTrue result ↔ HaveOneRole format exponent decimal_point) }
@@ -269,7 +277,7 @@ pub fn is_valid_options_punctuation(format: u128, exponent: u8, decimal_point: u
 
 /// Returns whether [`NO_EXPONENT_NOTATION`] and [`REQUIRED_EXPONENT_NOTATION`] are not both set.
 #[inline(always)]
-pub fn is_valid_exponent_flags(format: u128) -> bool
+pub const fn is_valid_exponent_flags(format: u128) -> bool
     ensures { IsTrue result ↔ Holds rules.exponent_flags_agree format }
 {
     format & NO_EXPONENT_NOTATION == 0 || format & REQUIRED_EXPONENT_NOTATION == 0
@@ -277,7 +285,7 @@ pub fn is_valid_exponent_flags(format: u128) -> bool
 
 // Not both NO_POSITIVE_MANTISSA_SIGN and REQUIRED_MANTISSA_SIGN.
 #[inline(always)]
-fn is_valid_mantissa_sign_flags(format: u128) -> bool
+const fn is_valid_mantissa_sign_flags(format: u128) -> bool
     ensures { IsTrue result ↔ Holds rules.mantissa_sign_flags_agree format }
 {
     format & NO_POSITIVE_MANTISSA_SIGN == 0 || format & REQUIRED_MANTISSA_SIGN == 0
@@ -285,7 +293,7 @@ fn is_valid_mantissa_sign_flags(format: u128) -> bool
 
 // Not both NO_POSITIVE_EXPONENT_SIGN and REQUIRED_EXPONENT_SIGN.
 #[inline(always)]
-fn is_valid_exponent_sign_flags(format: u128) -> bool
+const fn is_valid_exponent_sign_flags(format: u128) -> bool
     ensures { IsTrue result ↔ Holds rules.exponent_sign_flags_agree format }
 {
     format & NO_POSITIVE_EXPONENT_SIGN == 0 || format & REQUIRED_EXPONENT_SIGN == 0
@@ -293,7 +301,7 @@ fn is_valid_exponent_sign_flags(format: u128) -> bool
 
 // Not both NO_SPECIAL and CASE_SENSITIVE_SPECIAL.
 #[inline(always)]
-fn is_valid_special_case_flags(format: u128) -> bool
+const fn is_valid_special_case_flags(format: u128) -> bool
     ensures { IsTrue result ↔ Holds rules.special_case_flags_agree format }
 {
     format & NO_SPECIAL == 0 || format & CASE_SENSITIVE_SPECIAL == 0
@@ -301,7 +309,7 @@ fn is_valid_special_case_flags(format: u128) -> bool
 
 // Not both NO_SPECIAL and SPECIAL_DIGIT_SEPARATOR.
 #[inline(always)]
-fn is_valid_special_separator_flags(format: u128) -> bool
+const fn is_valid_special_separator_flags(format: u128) -> bool
     ensures { IsTrue result ↔ Holds rules.special_separator_flags_agree format }
 {
     format & NO_SPECIAL == 0 || format & SPECIAL_DIGIT_SEPARATOR == 0
@@ -309,7 +317,7 @@ fn is_valid_special_separator_flags(format: u128) -> bool
 
 // Not INTEGER_CONSECUTIVE_DIGIT_SEPARATOR alone among the four separator flags of the integer.
 #[inline(always)]
-fn is_valid_integer_consecutive_flags(format: u128) -> bool
+const fn is_valid_integer_consecutive_flags(format: u128) -> bool
     ensures { IsTrue result ↔ Holds rules.integer_consecutive_is_allowed format }
 {
     format & INTEGER_DIGIT_SEPARATOR_FLAG_MASK != INTEGER_CONSECUTIVE_DIGIT_SEPARATOR
@@ -317,7 +325,7 @@ fn is_valid_integer_consecutive_flags(format: u128) -> bool
 
 // The same for the fraction.
 #[inline(always)]
-fn is_valid_fraction_consecutive_flags(format: u128) -> bool
+const fn is_valid_fraction_consecutive_flags(format: u128) -> bool
     ensures { IsTrue result ↔ Holds rules.fraction_consecutive_is_allowed format }
 {
     format & FRACTION_DIGIT_SEPARATOR_FLAG_MASK != FRACTION_CONSECUTIVE_DIGIT_SEPARATOR
@@ -325,7 +333,7 @@ fn is_valid_fraction_consecutive_flags(format: u128) -> bool
 
 // The same for the exponent.
 #[inline(always)]
-fn is_valid_exponent_consecutive_flags(format: u128) -> bool
+const fn is_valid_exponent_consecutive_flags(format: u128) -> bool
     ensures { IsTrue result ↔ Holds rules.exponent_consecutive_is_allowed format }
 {
     format & EXPONENT_DIGIT_SEPARATOR_FLAG_MASK != EXPONENT_CONSECUTIVE_DIGIT_SEPARATOR
@@ -333,7 +341,7 @@ fn is_valid_exponent_consecutive_flags(format: u128) -> bool
 
 /// Returns whether all reserved bits of `format` are 0. The Rust crate has no such function.
 #[inline(always)]
-pub fn is_clean(format: u128) -> bool
+pub const fn is_clean(format: u128) -> bool
     ensures { IsTrue result ↔ IsClean format }
 {
     format & RESERVED_MASK == 0
@@ -344,7 +352,7 @@ pub fn is_clean(format: u128) -> bool
 // The error of the first broken rule of radixes, or `Success`.
 #[inline(always)]
 #[tactic(auto)]
-fn first_broken_radix(format: u128) -> Error
+const fn first_broken_radix(format: u128) -> Error
     ensures { IsFirstError rules.radix_rules format result }
 {
     if !is_valid_mantissa_radix(format) {
@@ -360,7 +368,7 @@ fn first_broken_radix(format: u128) -> Error
 
 // Whether all rules of punctuation are kept.
 #[inline(always)]
-fn keeps_punctuation_rules(format: u128) -> bool
+const fn keeps_punctuation_rules(format: u128) -> bool
     ensures { IsTrue result ↔ AllByRecursion (λ rule. Holds rule format) rules.punctuation_rules }
 {
     let are_free = is_valid_digit_separator(format)
@@ -372,7 +380,7 @@ fn keeps_punctuation_rules(format: u128) -> bool
 // The same for the rules of punctuation. Most words keep them all, which takes fewer branches to see.
 #[inline(always)]
 #[tactic(auto)]
-fn first_broken_punctuation(format: u128) -> Error
+const fn first_broken_punctuation(format: u128) -> Error
     ensures { IsFirstError rules.punctuation_rules format result }
 {
     if keeps_punctuation_rules(format) {
@@ -390,7 +398,7 @@ fn first_broken_punctuation(format: u128) -> Error
 
 // Whether all rules of flags are kept.
 #[inline(always)]
-fn keeps_flag_rules(format: u128) -> bool
+const fn keeps_flag_rules(format: u128) -> bool
     ensures { IsTrue result ↔ AllByRecursion (λ rule. Holds rule format) rules.flag_rules }
 {
     is_valid_exponent_flags(format)
@@ -406,7 +414,7 @@ fn keeps_flag_rules(format: u128) -> bool
 // The same for the rules of flags.
 #[inline(always)]
 #[tactic(auto)]
-fn first_broken_flags(format: u128) -> Error
+const fn first_broken_flags(format: u128) -> Error
     ensures { IsFirstError rules.flag_rules format result }
 {
     if keeps_flag_rules(format) {
@@ -431,7 +439,7 @@ fn first_broken_flags(format: u128) -> Error
 // The same for the rule of reserved bits.
 #[inline(always)]
 #[tactic(auto, unfolding(crate::specs::Rules::Holds))]
-fn first_broken_reserved(format: u128) -> Error
+const fn first_broken_reserved(format: u128) -> Error
     ensures { IsFirstError rules.reserved_rules format result }
 {
     if is_clean(format) {
@@ -443,7 +451,7 @@ fn first_broken_reserved(format: u128) -> Error
 
 // The same for all rules.
 #[tactic(auto, unfolding(crate::specs::Rules::IsErrorOf))]
-fn first_broken(format: u128) -> Error
+const fn first_broken(format: u128) -> Error
     ensures { IsErrorOf format result }
 {
     match first_broken_radix(format) {
@@ -465,7 +473,7 @@ fn first_broken(format: u128) -> Error
 /// 2 to 36, and `Success` if all are.
 ///
 /// If the exponent base or the exponent radix is 0, the mantissa radix stands for it.
-pub fn radix_error_impl(format: u128) -> Error
+pub const fn radix_error_impl(format: u128) -> Error
     ensures first { IsFirstError rules.radix_rules format result }
     ensures only { (other : Error) → IsFirstError rules.radix_rules format other → other ≡ result }
 {
@@ -496,7 +504,7 @@ pub fn radix_error_impl(format: u128) -> Error
 /// 16. All reserved bits are 0: `InvalidFlags`.
 ///
 /// The Rust crate compares raw bytes in the seventh rule, and has no rule on reserved bits.
-pub fn format_error_impl(format: u128) -> Error
+pub const fn format_error_impl(format: u128) -> Error
     ensures first { IsErrorOf format result }
     ensures lawful { (result ≡ Error.Success) ↔ Lawful format }
     ensures only { (other : Error) → IsErrorOf format other → other ≡ result }

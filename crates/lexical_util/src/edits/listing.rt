@@ -14,7 +14,7 @@ use lexical_flags::format_flags as flags;
 
 /// Returns whether `build_unchecked` can return this word: its reserved bits are 0, and it has a digit
 /// separator only if a flag allows one somewhere.
-pub fn is_built(format: u128) -> bool
+pub const fn is_built(format: u128) -> bool
     ensures rule { IsTrue result ↔ IsBuilt format }
 
     // Exactly these words are made by setter calls on a new builder.
@@ -24,7 +24,7 @@ pub fn is_built(format: u128) -> bool
 }
 
 // Whether the reserved bits are 0, and a separator is there only if a flag allows one.
-fn has_built_form(format: u128) -> bool
+const fn has_built_form(format: u128) -> bool
     ensures { IsTrue result ↔ IsBuilt format }
 {
     flags::is_clean(format) && is_separator_used(format)
@@ -32,7 +32,7 @@ fn has_built_form(format: u128) -> bool
 
 // Whether there is no digit separator, or a flag that allows one.
 #[tactic(auto, using(lexical_flags::proofs::FlagBits::separator_flag_set, lexical_flags::proofs::FlagBits::no_separator_flag_set))]
-fn is_separator_used(format: u128) -> bool
+const fn is_separator_used(format: u128) -> bool
     ensures { IsTrue result ↔ SeparatorIsUsed (raw format) }
 {
     flags::digit_separator(format) == 0 || format & flags::DIGIT_SEPARATOR_FLAG_MASK != 0
@@ -68,7 +68,7 @@ pub fn edits_of(format: u128) -> ([Edit; FIELDS], usize)
 }
 
 // The edits that write all fields of a word, in the order of their bits.
-fn field_edits_of(format: u128) -> [Edit; FIELDS]
+const fn field_edits_of(format: u128) -> [Edit; FIELDS]
     ensures { result ≡ field_edits (raw format) }
 {
     macro_rules! edits_of_fields {
@@ -93,7 +93,7 @@ fn field_edits_of(format: u128) -> [Edit; FIELDS]
 
 // The exponent base that the word holds, 0 if it is empty.
 #[inline(always)]
-fn raw_exponent_base(format: u128) -> u8
+const fn raw_exponent_base(format: u128) -> u8
     ensures { result ≡ (raw format).exponent_base }
 {
     ((format & flags::EXPONENT_BASE) >> flags::EXPONENT_BASE_SHIFT) as u8
@@ -101,7 +101,7 @@ fn raw_exponent_base(format: u128) -> u8
 
 // The exponent radix that the word holds, 0 if it is empty.
 #[inline(always)]
-fn raw_exponent_radix(format: u128) -> u8
+const fn raw_exponent_radix(format: u128) -> u8
     ensures { result ≡ (raw format).exponent_radix }
 {
     ((format & flags::EXPONENT_RADIX) >> flags::EXPONENT_RADIX_SHIFT) as u8
@@ -109,7 +109,7 @@ fn raw_exponent_radix(format: u128) -> u8
 
 // Whether an edit changes a new builder.
 #[tactic(auto, using(crate::proofs::ChangeLemmas::flag_change, crate::proofs::ChangeLemmas::group_change))]
-fn is_change(edit: Edit) -> bool
+const fn is_change(edit: Edit) -> bool
     ensures { result ≡ changes_new edit }
 {
     match edit {
@@ -122,7 +122,7 @@ fn is_change(edit: Edit) -> bool
         | Edit::BasePrefix(byte)
         | Edit::BaseSuffix(byte)
         | Edit::ExponentBase(byte)
-        | Edit::ExponentRadix(byte) => byte.is_some(),
+        | Edit::ExponentRadix(byte) => matches!(byte, Some(_)),
         Edit::MantissaRadix(radix) | Edit::Radix(radix) => radix != 10,
     }
 }

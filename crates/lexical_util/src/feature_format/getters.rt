@@ -17,7 +17,7 @@ impl NumberFormat {
     /// Returns whether the flag `required_integer_digits` is set. If true, a parser rejects a float
     /// with no digits before its decimal point, such as `.5`. Default: false.
     #[inline(always)]
-    pub fn required_integer_digits(&self) -> bool
+    pub const fn required_integer_digits(&self) -> bool
         ensures { result ≡ (raw self.now).required_integer_digits }
     {
         has_any!(self, REQUIRED_INTEGER_DIGITS)
@@ -27,7 +27,7 @@ impl NumberFormat {
     /// float with a decimal point and no digits after it, such as `1.`. A float with no decimal
     /// point is still accepted. Default: false.
     #[inline(always)]
-    pub fn required_fraction_digits(&self) -> bool
+    pub const fn required_fraction_digits(&self) -> bool
         ensures { result ≡ (raw self.now).required_fraction_digits }
     {
         has_any!(self, REQUIRED_FRACTION_DIGITS)
@@ -36,7 +36,7 @@ impl NumberFormat {
     /// Returns whether the flag `required_exponent_digits` is set. If true, a parser rejects an
     /// exponent character with no digits after it, such as `1e`. Default: true.
     #[inline(always)]
-    pub fn required_exponent_digits(&self) -> bool
+    pub const fn required_exponent_digits(&self) -> bool
         ensures { result ≡ (raw self.now).required_exponent_digits }
     {
         has_any!(self, REQUIRED_EXPONENT_DIGITS)
@@ -46,7 +46,7 @@ impl NumberFormat {
     /// float with no significant digit at all, such as `.`. If false, it reads this as 0; the empty
     /// text is still rejected. Default: true.
     #[inline(always)]
-    pub fn required_mantissa_digits(&self) -> bool
+    pub const fn required_mantissa_digits(&self) -> bool
         ensures { result ≡ (raw self.now).required_mantissa_digits }
     {
         has_any!(self, REQUIRED_MANTISSA_DIGITS)
@@ -55,7 +55,7 @@ impl NumberFormat {
     /// Returns whether any of the four flags is set that require digits: in the integer, in the
     /// fraction, in the exponent, or in the mantissa. Default: true.
     #[inline(always)]
-    pub fn required_digits(&self) -> bool
+    pub const fn required_digits(&self) -> bool
         ensures any { result ≡ any_flag self.now layout.required_digits }
         ensures common { IsTrue result ↔ (common self.now constants.REQUIRED_DIGITS ≢ 0) }
     {
@@ -65,7 +65,7 @@ impl NumberFormat {
     /// Returns whether the flag `no_positive_mantissa_sign` is set. If true, a parser of integers
     /// and floats rejects `+1`. A `-` is still accepted. Default: false.
     #[inline(always)]
-    pub fn no_positive_mantissa_sign(&self) -> bool
+    pub const fn no_positive_mantissa_sign(&self) -> bool
         ensures { result ≡ (raw self.now).no_positive_mantissa_sign }
     {
         has_any!(self, NO_POSITIVE_MANTISSA_SIGN)
@@ -75,7 +75,7 @@ impl NumberFormat {
     /// floats rejects a number with no sign, such as `1`, and a writer writes `+` before a number
     /// that is not negative. Default: false.
     #[inline(always)]
-    pub fn required_mantissa_sign(&self) -> bool
+    pub const fn required_mantissa_sign(&self) -> bool
         ensures { result ≡ (raw self.now).required_mantissa_sign }
     {
         has_any!(self, REQUIRED_MANTISSA_SIGN)
@@ -85,7 +85,7 @@ impl NumberFormat {
     /// with an exponent, such as `1e5`, and a writer writes all digits instead of an exponent.
     /// Default: false.
     #[inline(always)]
-    pub fn no_exponent_notation(&self) -> bool
+    pub const fn no_exponent_notation(&self) -> bool
         ensures { result ≡ (raw self.now).no_exponent_notation }
     {
         has_any!(self, NO_EXPONENT_NOTATION)
@@ -94,7 +94,7 @@ impl NumberFormat {
     /// Returns whether the flag `no_positive_exponent_sign` is set. If true, a parser rejects
     /// `1e+5`. `1e5` and `1e-5` are still accepted. Default: false.
     #[inline(always)]
-    pub fn no_positive_exponent_sign(&self) -> bool
+    pub const fn no_positive_exponent_sign(&self) -> bool
         ensures { result ≡ (raw self.now).no_positive_exponent_sign }
     {
         has_any!(self, NO_POSITIVE_EXPONENT_SIGN)
@@ -104,7 +104,7 @@ impl NumberFormat {
     /// exponent with no sign, such as `1e5`, and a writer writes `+` before an exponent that is not
     /// negative. Default: false.
     #[inline(always)]
-    pub fn required_exponent_sign(&self) -> bool
+    pub const fn required_exponent_sign(&self) -> bool
         ensures { result ≡ (raw self.now).required_exponent_sign }
     {
         has_any!(self, REQUIRED_EXPONENT_SIGN)
@@ -114,7 +114,7 @@ impl NumberFormat {
     /// exponent in a float with no decimal point, such as `1e5`, and accepts `1.0e5`. This flag
     /// does not require digits after the point. Default: false.
     #[inline(always)]
-    pub fn no_exponent_without_fraction(&self) -> bool
+    pub const fn no_exponent_without_fraction(&self) -> bool
         ensures { result ≡ (raw self.now).no_exponent_without_fraction }
     {
         has_any!(self, NO_EXPONENT_WITHOUT_FRACTION)
@@ -123,7 +123,7 @@ impl NumberFormat {
     /// Returns whether the flag `no_special` is set. If true, a parser rejects every special value,
     /// such as `NaN` and `inf`. Default: false.
     #[inline(always)]
-    pub fn no_special(&self) -> bool
+    pub const fn no_special(&self) -> bool
         ensures { result ≡ (raw self.now).no_special }
     {
         has_any!(self, NO_SPECIAL)
@@ -132,7 +132,7 @@ impl NumberFormat {
     /// Returns whether the flag `case_sensitive_special` is set. If true, a parser accepts only the
     /// spelling of `NaN` and the like that its options give; if false, any case. Default: false.
     #[inline(always)]
-    pub fn case_sensitive_special(&self) -> bool
+    pub const fn case_sensitive_special(&self) -> bool
         ensures { result ≡ (raw self.now).case_sensitive_special }
     {
         has_any!(self, CASE_SENSITIVE_SPECIAL)
@@ -141,7 +141,7 @@ impl NumberFormat {
     /// Returns whether the flag `no_integer_leading_zeros` is set. If true, a parser of integers
     /// rejects `01`. `0` by itself is still accepted. Default: false.
     #[inline(always)]
-    pub fn no_integer_leading_zeros(&self) -> bool
+    pub const fn no_integer_leading_zeros(&self) -> bool
         ensures { result ≡ (raw self.now).no_integer_leading_zeros }
     {
         has_any!(self, NO_INTEGER_LEADING_ZEROS)
@@ -150,7 +150,7 @@ impl NumberFormat {
     /// Returns whether the flag `no_float_leading_zeros` is set. If true, a parser of floats
     /// rejects `01` and `01.0`. `0`, `0.1` and the like are still accepted. Default: false.
     #[inline(always)]
-    pub fn no_float_leading_zeros(&self) -> bool
+    pub const fn no_float_leading_zeros(&self) -> bool
         ensures { result ≡ (raw self.now).no_float_leading_zeros }
     {
         has_any!(self, NO_FLOAT_LEADING_ZEROS)
@@ -160,7 +160,7 @@ impl NumberFormat {
     /// float with no exponent, such as `1.0`, and a writer writes an exponent with every float.
     /// Default: false.
     #[inline(always)]
-    pub fn required_exponent_notation(&self) -> bool
+    pub const fn required_exponent_notation(&self) -> bool
         ensures { result ≡ (raw self.now).required_exponent_notation }
     {
         has_any!(self, REQUIRED_EXPONENT_NOTATION)
@@ -169,7 +169,7 @@ impl NumberFormat {
     /// Returns whether the flag `case_sensitive_exponent` is set. If true, a parser whose exponent
     /// character is `e` rejects `1E5`. If false, it accepts both cases. Default: false.
     #[inline(always)]
-    pub fn case_sensitive_exponent(&self) -> bool
+    pub const fn case_sensitive_exponent(&self) -> bool
         ensures { result ≡ (raw self.now).case_sensitive_exponent }
     {
         has_any!(self, CASE_SENSITIVE_EXPONENT)
@@ -178,7 +178,7 @@ impl NumberFormat {
     /// Returns whether the flag `case_sensitive_base_prefix` is set. If true, a parser whose base
     /// prefix is `x` rejects `0X1F`. If false, it accepts both cases. Default: false.
     #[inline(always)]
-    pub fn case_sensitive_base_prefix(&self) -> bool
+    pub const fn case_sensitive_base_prefix(&self) -> bool
         ensures { result ≡ (raw self.now).case_sensitive_base_prefix }
     {
         has_any!(self, CASE_SENSITIVE_BASE_PREFIX)
@@ -187,7 +187,7 @@ impl NumberFormat {
     /// Returns whether the flag `case_sensitive_base_suffix` is set. If true, a parser whose base
     /// suffix is `h` rejects `1FH`. If false, it accepts both cases. Default: false.
     #[inline(always)]
-    pub fn case_sensitive_base_suffix(&self) -> bool
+    pub const fn case_sensitive_base_suffix(&self) -> bool
         ensures { result ≡ (raw self.now).case_sensitive_base_suffix }
     {
         has_any!(self, CASE_SENSITIVE_BASE_SUFFIX)
@@ -199,7 +199,7 @@ impl NumberFormat {
     /// digit separator is `_` accepts `1_2`: the separator may stand between integer digits.
     /// Default: false.
     #[inline(always)]
-    pub fn integer_internal_digit_separator(&self) -> bool
+    pub const fn integer_internal_digit_separator(&self) -> bool
         ensures { result ≡ (raw self.now).integer_internal_digit_separator }
     {
         has_any!(self, INTEGER_INTERNAL_DIGIT_SEPARATOR)
@@ -209,7 +209,7 @@ impl NumberFormat {
     /// digit separator is `_` accepts `0.1_2`: the separator may stand between fraction digits.
     /// Default: false.
     #[inline(always)]
-    pub fn fraction_internal_digit_separator(&self) -> bool
+    pub const fn fraction_internal_digit_separator(&self) -> bool
         ensures { result ≡ (raw self.now).fraction_internal_digit_separator }
     {
         has_any!(self, FRACTION_INTERNAL_DIGIT_SEPARATOR)
@@ -219,7 +219,7 @@ impl NumberFormat {
     /// digit separator is `_` accepts `1e1_2`: the separator may stand between exponent digits.
     /// Default: false.
     #[inline(always)]
-    pub fn exponent_internal_digit_separator(&self) -> bool
+    pub const fn exponent_internal_digit_separator(&self) -> bool
         ensures { result ≡ (raw self.now).exponent_internal_digit_separator }
     {
         has_any!(self, EXPONENT_INTERNAL_DIGIT_SEPARATOR)
@@ -229,7 +229,7 @@ impl NumberFormat {
     /// digit separator is `_` accepts `_12`: the separator may stand before integer digits.
     /// Default: false.
     #[inline(always)]
-    pub fn integer_leading_digit_separator(&self) -> bool
+    pub const fn integer_leading_digit_separator(&self) -> bool
         ensures { result ≡ (raw self.now).integer_leading_digit_separator }
     {
         has_any!(self, INTEGER_LEADING_DIGIT_SEPARATOR)
@@ -239,7 +239,7 @@ impl NumberFormat {
     /// digit separator is `_` accepts `0._12`: the separator may stand before fraction digits.
     /// Default: false.
     #[inline(always)]
-    pub fn fraction_leading_digit_separator(&self) -> bool
+    pub const fn fraction_leading_digit_separator(&self) -> bool
         ensures { result ≡ (raw self.now).fraction_leading_digit_separator }
     {
         has_any!(self, FRACTION_LEADING_DIGIT_SEPARATOR)
@@ -249,7 +249,7 @@ impl NumberFormat {
     /// digit separator is `_` accepts `1e_12`: the separator may stand before exponent digits.
     /// Default: false.
     #[inline(always)]
-    pub fn exponent_leading_digit_separator(&self) -> bool
+    pub const fn exponent_leading_digit_separator(&self) -> bool
         ensures { result ≡ (raw self.now).exponent_leading_digit_separator }
     {
         has_any!(self, EXPONENT_LEADING_DIGIT_SEPARATOR)
@@ -259,7 +259,7 @@ impl NumberFormat {
     /// digit separator is `_` accepts `12_`: the separator may stand after integer digits. Default:
     /// false.
     #[inline(always)]
-    pub fn integer_trailing_digit_separator(&self) -> bool
+    pub const fn integer_trailing_digit_separator(&self) -> bool
         ensures { result ≡ (raw self.now).integer_trailing_digit_separator }
     {
         has_any!(self, INTEGER_TRAILING_DIGIT_SEPARATOR)
@@ -269,7 +269,7 @@ impl NumberFormat {
     /// digit separator is `_` accepts `0.12_`: the separator may stand after fraction digits.
     /// Default: false.
     #[inline(always)]
-    pub fn fraction_trailing_digit_separator(&self) -> bool
+    pub const fn fraction_trailing_digit_separator(&self) -> bool
         ensures { result ≡ (raw self.now).fraction_trailing_digit_separator }
     {
         has_any!(self, FRACTION_TRAILING_DIGIT_SEPARATOR)
@@ -279,7 +279,7 @@ impl NumberFormat {
     /// digit separator is `_` accepts `1e12_`: the separator may stand after exponent digits.
     /// Default: false.
     #[inline(always)]
-    pub fn exponent_trailing_digit_separator(&self) -> bool
+    pub const fn exponent_trailing_digit_separator(&self) -> bool
         ensures { result ≡ (raw self.now).exponent_trailing_digit_separator }
     {
         has_any!(self, EXPONENT_TRAILING_DIGIT_SEPARATOR)
@@ -290,7 +290,7 @@ impl NumberFormat {
     /// position of the integer digits at all. A format with this flag and none for the three
     /// positions is not lawful. Default: false.
     #[inline(always)]
-    pub fn integer_consecutive_digit_separator(&self) -> bool
+    pub const fn integer_consecutive_digit_separator(&self) -> bool
         ensures { result ≡ (raw self.now).integer_consecutive_digit_separator }
     {
         has_any!(self, INTEGER_CONSECUTIVE_DIGIT_SEPARATOR)
@@ -301,7 +301,7 @@ impl NumberFormat {
     /// position of the fraction digits at all. A format with this flag and none for the three
     /// positions is not lawful. Default: false.
     #[inline(always)]
-    pub fn fraction_consecutive_digit_separator(&self) -> bool
+    pub const fn fraction_consecutive_digit_separator(&self) -> bool
         ensures { result ≡ (raw self.now).fraction_consecutive_digit_separator }
     {
         has_any!(self, FRACTION_CONSECUTIVE_DIGIT_SEPARATOR)
@@ -312,7 +312,7 @@ impl NumberFormat {
     /// position of the exponent digits at all. A format with this flag and none for the three
     /// positions is not lawful. Default: false.
     #[inline(always)]
-    pub fn exponent_consecutive_digit_separator(&self) -> bool
+    pub const fn exponent_consecutive_digit_separator(&self) -> bool
         ensures { result ≡ (raw self.now).exponent_consecutive_digit_separator }
     {
         has_any!(self, EXPONENT_CONSECUTIVE_DIGIT_SEPARATOR)
@@ -321,7 +321,7 @@ impl NumberFormat {
     /// Returns whether a digit separator may stand between integer, fraction or exponent digits:
     /// whether any of these three flags is set. Default: false.
     #[inline(always)]
-    pub fn internal_digit_separator(&self) -> bool
+    pub const fn internal_digit_separator(&self) -> bool
         ensures any { result ≡ any_flag self.now layout.internal_digit_separator }
         ensures common { IsTrue result ↔ (common self.now constants.INTERNAL_DIGIT_SEPARATOR ≢ 0) }
     {
@@ -331,7 +331,7 @@ impl NumberFormat {
     /// Returns whether a digit separator may stand before integer, fraction or exponent digits:
     /// whether any of these three flags is set. Default: false.
     #[inline(always)]
-    pub fn leading_digit_separator(&self) -> bool
+    pub const fn leading_digit_separator(&self) -> bool
         ensures any { result ≡ any_flag self.now layout.leading_digit_separator }
         ensures common { IsTrue result ↔ (common self.now constants.LEADING_DIGIT_SEPARATOR ≢ 0) }
     {
@@ -341,7 +341,7 @@ impl NumberFormat {
     /// Returns whether a digit separator may stand after integer, fraction or exponent digits:
     /// whether any of these three flags is set. Default: false.
     #[inline(always)]
-    pub fn trailing_digit_separator(&self) -> bool
+    pub const fn trailing_digit_separator(&self) -> bool
         ensures any { result ≡ any_flag self.now layout.trailing_digit_separator }
         ensures common { IsTrue result ↔ (common self.now constants.TRAILING_DIGIT_SEPARATOR ≢ 0) }
     {
@@ -351,7 +351,7 @@ impl NumberFormat {
     /// Returns whether several digit separators in a row may stand in integer, fraction or exponent
     /// digits: whether any of these three flags is set. Default: false.
     #[inline(always)]
-    pub fn consecutive_digit_separator(&self) -> bool
+    pub const fn consecutive_digit_separator(&self) -> bool
         ensures any { result ≡ any_flag self.now layout.consecutive_digit_separator }
         ensures common { IsTrue result ↔ (common self.now constants.CONSECUTIVE_DIGIT_SEPARATOR ≢ 0) }
     {
@@ -362,7 +362,7 @@ impl NumberFormat {
     /// separator is `_` accepts `N__a_N_` for `NaN`: separators may stand before, between and after
     /// the letters, also several in a row. Default: false.
     #[inline(always)]
-    pub fn special_digit_separator(&self) -> bool
+    pub const fn special_digit_separator(&self) -> bool
         ensures { result ≡ (raw self.now).special_digit_separator }
     {
         has_any!(self, SPECIAL_DIGIT_SEPARATOR)
@@ -372,7 +372,7 @@ impl NumberFormat {
 
     /// Returns the word with everything but its flags masked out.
     #[inline(always)]
-    pub fn flags(&self) -> u128
+    pub const fn flags(&self) -> u128
         ensures bits { result ≡ bits_of self.now layout.flags }
         ensures common { result ≡ common self.now constants.FLAG_MASK }
     {
@@ -383,7 +383,7 @@ impl NumberFormat {
     /// handles: required digits, exponents except the case of their character, leading zeros of
     /// floats, and digit separators except in special values.
     #[inline(always)]
-    pub fn interface_flags(&self) -> u128
+    pub const fn interface_flags(&self) -> u128
         ensures bits { result ≡ bits_of self.now layout.interface_flags }
         ensures common { result ≡ common self.now constants.INTERFACE_FLAG_MASK }
     {
@@ -392,7 +392,7 @@ impl NumberFormat {
 
     /// Returns the word with everything but its digit separator flags masked out.
     #[inline(always)]
-    pub fn digit_separator_flags(&self) -> u128
+    pub const fn digit_separator_flags(&self) -> u128
         ensures bits { result ≡ bits_of self.now layout.digit_separator_flags }
         ensures common { result ≡ common self.now constants.DIGIT_SEPARATOR_FLAG_MASK }
     {
@@ -402,7 +402,7 @@ impl NumberFormat {
     /// Returns the word with everything but its exponent flags masked out.
     /// `case_sensitive_exponent` is not one of them.
     #[inline(always)]
-    pub fn exponent_flags(&self) -> u128
+    pub const fn exponent_flags(&self) -> u128
         ensures bits { result ≡ bits_of self.now layout.exponent_flags }
         ensures common { result ≡ common self.now constants.EXPONENT_FLAG_MASK }
     {
@@ -412,7 +412,7 @@ impl NumberFormat {
     /// Returns the word with everything but the four digit separator flags of integer digits masked
     /// out.
     #[inline(always)]
-    pub fn integer_digit_separator_flags(&self) -> u128
+    pub const fn integer_digit_separator_flags(&self) -> u128
         ensures bits { result ≡ bits_of self.now layout.integer_digit_separator_flags }
         ensures common { result ≡ common self.now constants.INTEGER_DIGIT_SEPARATOR_FLAG_MASK }
     {
@@ -422,7 +422,7 @@ impl NumberFormat {
     /// Returns the word with everything but the four digit separator flags of fraction digits
     /// masked out.
     #[inline(always)]
-    pub fn fraction_digit_separator_flags(&self) -> u128
+    pub const fn fraction_digit_separator_flags(&self) -> u128
         ensures bits { result ≡ bits_of self.now layout.fraction_digit_separator_flags }
         ensures common { result ≡ common self.now constants.FRACTION_DIGIT_SEPARATOR_FLAG_MASK }
     {
@@ -432,7 +432,7 @@ impl NumberFormat {
     /// Returns the word with everything but the four digit separator flags of exponent digits
     /// masked out.
     #[inline(always)]
-    pub fn exponent_digit_separator_flags(&self) -> u128
+    pub const fn exponent_digit_separator_flags(&self) -> u128
         ensures bits { result ≡ bits_of self.now layout.exponent_digit_separator_flags }
         ensures common { result ≡ common self.now constants.EXPONENT_DIGIT_SEPARATOR_FLAG_MASK }
     {
