@@ -1,50 +1,58 @@
-//! Reads a format from a file of settings, checks it, and prints it: what a reader of a configuration does.
+//! Reads a file of settings, `name = value` a line, and prints the format that they make.
 //!
-//!     cargo run --example settings -- settings.txt
-//!
-//! A line is `NAME = VALUE`: the name of a setter, and `true`, `false`, `none`, a number or one character. Lines
-//! that are empty or begin with `#` are skipped.
+//!     cargo run --example settings -- examples/settings.txt
 
-use peltzivar::edits::{edit_word, edits_of, Edit};
-use peltzivar::format::{format_error, NumberFormat, STANDARD};
+use peltzivar::edits::{apply_all, Edit, FlagSetter};
+use peltzivar::format::{NumberFormatBuilder, OptionU8};
+use peltzivar::word::FormatView;
 use std::error::Error;
+use std::num::NonZeroU8;
 
-/// The argument of a setter.
-fn value(text: &str) -> Option<u8> {
-    match text.as_bytes() {
-        b"none" | b"false" => Some(0),
-        b"true" => Some(1),
-        [byte] if !byte.is_ascii_digit() => Some(*byte),
-        _ => text.parse().ok(),
+/// A character, or `none`.
+fn character(value: &str) -> Option<OptionU8> {
+    match value.as_bytes() {
+        b"none" => Some(None),
+        [byte] => Some(NonZeroU8::new(*byte)),
+        _ => None,
     }
 }
 
-/// The edit of a line.
-fn edit(line: &str) -> Result<Edit, String> {
-    let (name, text) = line.split_once('=').ok_or_else(|| format!("no `=`: {line}"))?;
-    let value = value(text.trim()).ok_or_else(|| format!("no value: {line}"))?;
-    Edit::from_name(name.trim(), value).ok_or_else(|| format!("no setting: {line}"))
+/// A number, 0 to 255.
+fn number(value: &str) -> Option<u8> {
+    value.parse().ok()
 }
 
-/// The word of the settings, and an error if it is not lawful.
+/// The edit that writes a setting: a flag or a group of flags is `true` or `false`.
+fn edit(name: &str, value: &str) -> Option<Edit> {
+    Some(match name {
+        "digit_separator" => Edit::DigitSeparator(character(value)?),
+        "base_prefix" => Edit::BasePrefix(character(value)?),
+        "base_suffix" => Edit::BaseSuffix(character(value)?),
+        "mantissa_radix" => Edit::MantissaRadix(number(value)?),
+        "exponent_base" => Edit::ExponentBase(NonZeroU8::new(number(value)?)),
+        "exponent_radix" => Edit::ExponentRadix(NonZeroU8::new(number(value)?)),
+        flag => Edit::Flag(FlagSetter::from_name(flag)?, value.parse().ok()?),
+    })
+}
+
+/// The format that settings make of a new builder. What is not set keeps its default: exponent base and exponent radix
+/// follow the mantissa radix.
 fn format_of(settings: &str) -> Result<u128, Box<dyn Error>> {
-    let lines = settings.lines().map(str::trim).filter(|line| !line.is_empty() && !line.starts_with('#'));
-    let edits: Vec<Edit> = lines.map(edit).collect::<Result<_, _>>()?;
-    let format = edit_word(STANDARD, &edits);
-    match format_error(format) {
-        peltzivar::error::Error::Success => Ok(format),
-        error => Err(error.into()),
+    let mut edits = Vec::new();
+    for (index, line) in settings.lines().map(str::trim).enumerate() {
+        if line.is_empty() || line.starts_with('#') {
+            continue;
+        }
+        let setting = line.split_once('=');
+        let edit = setting.and_then(|(name, value)| edit(name.trim(), value.trim()));
+        edits.push(edit.ok_or_else(|| format!("line {}: no setting: {line}", index + 1))?);
     }
+    Ok(apply_all(NumberFormatBuilder::new(), &edits).build_strict()?)
 }
 
 fn main() -> Result<(), Box<dyn Error>> {
     let path = std::env::args().nth(1).ok_or("name a file of settings")?;
     let format = format_of(&std::fs::read_to_string(path)?)?;
-    let view = NumberFormat::new(format);
-    println!("{format:#034X}: radix {}, separator {:?}", view.radix(), char::from(view.digit_separator()));
-    let (edits, count) = edits_of(format);
-    for edit in &edits[..count] {
-        println!("{edit:?}");
-    }
+    println!("{:#?}", FormatView::new(format));
     Ok(())
 }

@@ -1,28 +1,119 @@
+// Made by rust/erase from crates/lexical_base/src/ascii.rt: change that file.
+
 //! Tests of single bytes and of slices of bytes: allowed ASCII and letters.
 
-use crate::ffi;
+use crate::lanes::Simd;
 
-/// Returns whether the byte `c` is ASCII that a number format may use: 9 to 13 (tab to carriage return), the
-/// space, or a printable character, `!` to `~`.
-#[inline]
-pub fn is_valid_ascii(c: u8) -> bool {
-    ffi::is_valid_ascii(c)
+/// Returns whether the byte `c` is ASCII that a number format may use.
+///
+/// That is 9 to 13 (tab, line feed, vertical tab, form feed, carriage return), the space, and the
+/// printable characters `!` to `~`. Every other byte is rejected, among them 127 and all from 128 up.
+#[must_use]
+#[inline(always)]
+pub const fn is_valid_ascii(c: u8) -> bool {
+    (c >= 0x09 && c <= 0x0d) || (c >= 0x20 && c < 0x7f)
 }
 
 /// Returns whether [`is_valid_ascii`] is true of every byte of `slc`; true for an empty slice.
-#[inline]
+#[must_use]
 pub fn is_valid_ascii_slice(slc: &[u8]) -> bool {
-    ffi::is_valid_ascii_slice(slc)
+    all_in_either(slc, 0xff, (0x09, 0x0d), (0x20, 0x7e))
 }
 
 /// Returns whether the byte `c` is an ASCII letter, uppercase or lowercase.
-#[inline]
-pub fn is_valid_letter(c: u8) -> bool {
-    ffi::is_valid_letter(c)
+#[must_use]
+#[inline(always)]
+pub const fn is_valid_letter(c: u8) -> bool {
+    (c >= b'A' && c <= b'Z') || (c >= b'a' && c <= b'z')
 }
 
 /// Returns whether [`is_valid_letter`] is true of every byte of `slc`; true for an empty slice.
-#[inline]
+#[must_use]
 pub fn is_valid_letter_slice(slc: &[u8]) -> bool {
-    ffi::is_valid_letter_slice(slc)
+    all_in_either(slc, 0xdf, (b'A', b'Z'), (b'A', b'Z'))
+}
+
+// Whether every byte of `bytes` is in one of two ranges, each given by its lowest and highest byte,
+// once the bits that `kept` lacks are cleared.
+//
+// It looks at 32 bytes at a time, and then at the rest, fewer than 32.
+#[inline(always)]
+fn all_in_either(bytes: &[u8], kept: u8, first: (u8, u8), second: (u8, u8)) -> bool {
+    let (chunks, rest) = bytes.as_chunks::<32>();
+    chunks_in_either(chunks, kept, first, second) & few_in_either(rest, kept, first, second)
+}
+
+// Whether every byte of chunks, few or many, is in one of the ranges.
+//
+// From 64 chunks on it takes blocks of 16, in turn from each of four quarters, since memory serves
+// four streams faster than one, and stops at the first block that fails. A test after each chunk
+// would take as long as all else.
+#[inline(always)]
+fn chunks_in_either(chunks: &[[u8; 32]], kept: u8, first: (u8, u8), second: (u8, u8)) -> bool {
+    let (blocks, _) = chunks.as_chunks::<16>();
+    let quarter = blocks.len() / 4;
+    for turn in 0..4 * quarter {
+        let block = &blocks[turn % 4 * quarter + turn / 4];
+        if !block_in_either(block, kept, first, second) {
+            return false;
+        }
+    }
+    block_in_either(&chunks[64 * quarter..], kept, first, second)
+}
+
+// Whether every byte of a few chunks of `N` bytes is in one of the ranges, with one test after the last.
+#[inline(always)]
+fn block_in_either<const N: usize>(
+    block: &[[u8; N]],
+    kept: u8,
+    first: (u8, u8),
+    second: (u8, u8),
+) -> bool {
+    let last = second.1 - second.0;
+    let mut largest = Simd::<u8, N>::splat(0);
+    for chunk in block {
+        largest = joined(largest, Simd::from_array(*chunk), kept, first, second);
+    }
+    !largest.simd_gt(Simd::splat(last)).any()
+}
+
+// Joins the bytes in `lanes` to `largest`, whose lanes are above the index of the second range's last
+// byte exactly if a byte was in neither range.
+//
+// A byte is in a range exactly if its distance from the lowest byte, modulo 256, is at most that of
+// the highest. Distances from the first range are raised by what the second is longer, so that of the
+// two the smaller decides, and of all bytes the largest.
+#[inline(always)]
+fn joined<const N: usize>(
+    largest: Simd<u8, N>,
+    lanes: Simd<u8, N>,
+    kept: u8,
+    first: (u8, u8),
+    second: (u8, u8),
+) -> Simd<u8, N> {
+    let longer = (second.1 - second.0) - (first.1 - first.0);
+    let bytes = lanes & Simd::splat(kept);
+    let from_first = (bytes - Simd::splat(first.0)).saturating_add(Simd::splat(longer));
+    let from_second = bytes - Simd::splat(second.0);
+    largest.simd_max(from_first.simd_min(from_second))
+}
+
+// Whether every one of fewer than 32 bytes is in one of the ranges: 16 are tested at once, if there are
+// as many, and the others one by one.
+#[inline(always)]
+fn few_in_either(bytes: &[u8], kept: u8, first: (u8, u8), second: (u8, u8)) -> bool {
+    let (halves, rest) = bytes.as_chunks::<16>();
+    block_in_either(halves, kept, first, second) & bytes_in_either(rest, kept, first, second)
+}
+
+// Whether every one of a few bytes is in one of the ranges. It looks at all of them, with one test
+// after the last.
+#[inline(always)]
+fn bytes_in_either(bytes: &[u8], kept: u8, first: (u8, u8), second: (u8, u8)) -> bool {
+    let mut all = true;
+    for byte in bytes {
+        let c = *byte & kept;
+        all &= (c >= first.0 && c <= first.1) || (c >= second.0 && c <= second.1);
+    }
+    all
 }

@@ -1,214 +1,411 @@
+// Made by rust/erase from crates/lexical_util/src/edits.rt: change that file.
+
 //! Edits of a format word: lists of setter calls, and the normal form of a word.
 
 use crate::error::Error;
-use crate::ffi;
 use crate::format_builder::{NumberFormatBuilder, OptionU8};
-use crate::rows::with_setters;
-use std::num::NonZeroU8;
-use std::sync::OnceLock;
+use crate::format_flags::{format_error_impl, FLAG_MASK};
 
-macro_rules! setters {
-    (
-        { $($Flag:ident $flag:ident $get:ident $CONST:ident $bit:literal $doc:literal;)* }
-        { $($Group:ident $group:ident $group_doc:literal;)* }
-        $bytes:tt
-    ) => {
-        /// A builder setter that takes a `bool`: one for each flag, and one for each of the nine groups
-        /// of flags. A variant stands for the setter of the same name in snake case.
-        #[derive(Clone, Copy, Debug, PartialEq, Eq, Hash)]
-        #[repr(u8)]
-        pub enum FlagSetter {
-            $(#[doc = concat!("Sets the flag `", stringify!($flag), "`. ", $doc)] $Flag,)*
-            $(#[doc = $group_doc] $Group,)*
-        }
-
-        /// A setter call of a builder, with its argument.
-        ///
-        /// A flag is written, or every flag of a group, or a byte; with `None` the format has no such byte,
-        /// and an exponent base or radix is that of the mantissa. [`Edit::flag`] makes an edit of a
-        /// [`FlagSetter`].
-        #[derive(Clone, Copy, Debug, PartialEq, Eq, Hash)]
-        #[repr(u8)]
-        pub enum Edit {
-            $(#[doc = concat!("Writes the flag `", stringify!($flag), "`. ", $doc)] $Flag(bool),)*
-            $(#[doc = $group_doc] $Group(bool),)*
-            /// Writes the digit separator.
-            DigitSeparator(OptionU8),
-            /// Writes the base prefix.
-            BasePrefix(OptionU8),
-            /// Writes the base suffix.
-            BaseSuffix(OptionU8),
-            /// Writes the mantissa radix, 0 to 255; a lawful format has 2 to 36.
-            MantissaRadix(u8),
-            /// Writes the mantissa radix too: the setter `radix` is another name of it.
-            Radix(u8),
-            /// Writes the exponent base.
-            ExponentBase(OptionU8),
-            /// Writes the exponent radix.
-            ExponentRadix(OptionU8),
-        }
-
-        /// How many setters of flags and of groups there are. Those of bytes are numbered after them.
-        const SETTERS: usize = [$(FlagSetter::$Flag,)* $(FlagSetter::$Group,)*].len();
-
-        /// How many flags and bytes there are.
-        pub(crate) const FIELDS: usize = [$(FlagSetter::$Flag,)*].len() + 6;
-
-        impl FlagSetter {
-            /// All of them, each at its number.
-            pub const ALL: [FlagSetter; SETTERS] = [$(FlagSetter::$Flag,)* $(FlagSetter::$Group,)*];
-        }
-
-        impl Edit {
-            /// Returns the edit that calls `setter` with `value`.
-            #[inline]
-            pub const fn flag(setter: FlagSetter, value: bool) -> Edit {
-                match setter {
-                    $(FlagSetter::$Flag => Edit::$Flag(value),)*
-                    $(FlagSetter::$Group => Edit::$Group(value),)*
-                }
+// Calls `$rows!` with `$args`, a row for each flag, and a row for each group of flags. A row has the
+// variant of `FlagSetter`, and the name that the setter and, for a flag, the getter have.
+macro_rules! with_setters {
+    ($rows:ident $args:tt) => {
+        $rows! {
+            $args
+            {
+                RequiredIntegerDigits required_integer_digits;
+                RequiredFractionDigits required_fraction_digits;
+                RequiredExponentDigits required_exponent_digits;
+                RequiredMantissaDigits required_mantissa_digits;
+                NoPositiveMantissaSign no_positive_mantissa_sign;
+                RequiredMantissaSign required_mantissa_sign;
+                NoExponentNotation no_exponent_notation;
+                NoPositiveExponentSign no_positive_exponent_sign;
+                RequiredExponentSign required_exponent_sign;
+                NoExponentWithoutFraction no_exponent_without_fraction;
+                NoSpecial no_special;
+                CaseSensitiveSpecial case_sensitive_special;
+                NoIntegerLeadingZeros no_integer_leading_zeros;
+                NoFloatLeadingZeros no_float_leading_zeros;
+                RequiredExponentNotation required_exponent_notation;
+                CaseSensitiveExponent case_sensitive_exponent;
+                CaseSensitiveBasePrefix case_sensitive_base_prefix;
+                CaseSensitiveBaseSuffix case_sensitive_base_suffix;
+                IntegerInternalDigitSeparator integer_internal_digit_separator;
+                FractionInternalDigitSeparator fraction_internal_digit_separator;
+                ExponentInternalDigitSeparator exponent_internal_digit_separator;
+                IntegerLeadingDigitSeparator integer_leading_digit_separator;
+                FractionLeadingDigitSeparator fraction_leading_digit_separator;
+                ExponentLeadingDigitSeparator exponent_leading_digit_separator;
+                IntegerTrailingDigitSeparator integer_trailing_digit_separator;
+                FractionTrailingDigitSeparator fraction_trailing_digit_separator;
+                ExponentTrailingDigitSeparator exponent_trailing_digit_separator;
+                IntegerConsecutiveDigitSeparator integer_consecutive_digit_separator;
+                FractionConsecutiveDigitSeparator fraction_consecutive_digit_separator;
+                ExponentConsecutiveDigitSeparator exponent_consecutive_digit_separator;
+                SpecialDigitSeparator special_digit_separator;
             }
-
-            /// Returns the setter and the value of an edit of a flag or of a group, and `None` of any other.
-            #[inline]
-            pub const fn as_flag(self) -> Option<(FlagSetter, bool)> {
-                match self {
-                    $(Edit::$Flag(value) => Some((FlagSetter::$Flag, value)),)*
-                    $(Edit::$Group(value) => Some((FlagSetter::$Group, value)),)*
-                    _ => None,
-                }
+            {
+                RequiredDigits required_digits;
+                InternalDigitSeparator internal_digit_separator;
+                LeadingDigitSeparator leading_digit_separator;
+                TrailingDigitSeparator trailing_digit_separator;
+                ConsecutiveDigitSeparator consecutive_digit_separator;
+                DigitSeparatorFlags digit_separator_flags;
+                IntegerDigitSeparatorFlags integer_digit_separator_flags;
+                FractionDigitSeparatorFlags fraction_digit_separator_flags;
+                ExponentDigitSeparatorFlags exponent_digit_separator_flags;
             }
         }
     };
 }
 
-with_setters!(setters);
+mod listing;
 
-// An edit is its number and its argument, which is what the library takes.
-const _: () = assert!(size_of::<Edit>() == 2 && align_of::<Edit>() == 1);
+pub use listing::{edits_of, is_built};
 
-/// The names of all setters, each at its number.
-fn names() -> &'static [String] {
-    static NAMES: OnceLock<Vec<String>> = OnceLock::new();
-    NAMES.get_or_init(|| (0..SETTERS as u8 + 7).map(ffi::setter_name).collect())
+/// A builder setter that takes a `bool`: one for each flag, and one for each of the nine groups of
+/// flags. A variant stands for the setter that its line names.
+#[derive(Debug, Clone, Copy, PartialEq, Eq, Hash)]
+pub enum FlagSetter {
+    /// `required_integer_digits`
+    RequiredIntegerDigits,
+    /// `required_fraction_digits`
+    RequiredFractionDigits,
+    /// `required_exponent_digits`
+    RequiredExponentDigits,
+    /// `required_mantissa_digits`
+    RequiredMantissaDigits,
+    /// `no_positive_mantissa_sign`
+    NoPositiveMantissaSign,
+    /// `required_mantissa_sign`
+    RequiredMantissaSign,
+    /// `no_exponent_notation`
+    NoExponentNotation,
+    /// `no_positive_exponent_sign`
+    NoPositiveExponentSign,
+    /// `required_exponent_sign`
+    RequiredExponentSign,
+    /// `no_exponent_without_fraction`
+    NoExponentWithoutFraction,
+    /// `no_special`
+    NoSpecial,
+    /// `case_sensitive_special`
+    CaseSensitiveSpecial,
+    /// `no_integer_leading_zeros`
+    NoIntegerLeadingZeros,
+    /// `no_float_leading_zeros`
+    NoFloatLeadingZeros,
+    /// `required_exponent_notation`
+    RequiredExponentNotation,
+    /// `case_sensitive_exponent`
+    CaseSensitiveExponent,
+    /// `case_sensitive_base_prefix`
+    CaseSensitiveBasePrefix,
+    /// `case_sensitive_base_suffix`
+    CaseSensitiveBaseSuffix,
+    /// `integer_internal_digit_separator`
+    IntegerInternalDigitSeparator,
+    /// `fraction_internal_digit_separator`
+    FractionInternalDigitSeparator,
+    /// `exponent_internal_digit_separator`
+    ExponentInternalDigitSeparator,
+    /// `integer_leading_digit_separator`
+    IntegerLeadingDigitSeparator,
+    /// `fraction_leading_digit_separator`
+    FractionLeadingDigitSeparator,
+    /// `exponent_leading_digit_separator`
+    ExponentLeadingDigitSeparator,
+    /// `integer_trailing_digit_separator`
+    IntegerTrailingDigitSeparator,
+    /// `fraction_trailing_digit_separator`
+    FractionTrailingDigitSeparator,
+    /// `exponent_trailing_digit_separator`
+    ExponentTrailingDigitSeparator,
+    /// `integer_consecutive_digit_separator`
+    IntegerConsecutiveDigitSeparator,
+    /// `fraction_consecutive_digit_separator`
+    FractionConsecutiveDigitSeparator,
+    /// `exponent_consecutive_digit_separator`
+    ExponentConsecutiveDigitSeparator,
+    /// `special_digit_separator`
+    SpecialDigitSeparator,
+    /// `required_digits`
+    RequiredDigits,
+    /// `internal_digit_separator`
+    InternalDigitSeparator,
+    /// `leading_digit_separator`
+    LeadingDigitSeparator,
+    /// `trailing_digit_separator`
+    TrailingDigitSeparator,
+    /// `consecutive_digit_separator`
+    ConsecutiveDigitSeparator,
+    /// `digit_separator_flags`
+    DigitSeparatorFlags,
+    /// `integer_digit_separator_flags`
+    IntegerDigitSeparatorFlags,
+    /// `fraction_digit_separator_flags`
+    FractionDigitSeparatorFlags,
+    /// `exponent_digit_separator_flags`
+    ExponentDigitSeparatorFlags,
 }
+
+/// A setter call of a builder, with its argument.
+#[derive(Debug, Clone, Copy, PartialEq, Eq, Hash)]
+pub enum Edit {
+    /// Writes a flag, or every flag of a group.
+    Flag(FlagSetter, bool),
+    /// Writes the digit separator; with `None` the format has none.
+    DigitSeparator(OptionU8),
+    /// Writes the base prefix; with `None` the format has none.
+    BasePrefix(OptionU8),
+    /// Writes the base suffix; with `None` the format has none.
+    BaseSuffix(OptionU8),
+    /// Writes the mantissa radix, 0 to 255; a lawful format has 2 to 36.
+    MantissaRadix(u8),
+    /// Writes the mantissa radix too: the setter `radix` is another name of it.
+    Radix(u8),
+    /// Writes the exponent base; with `None` the mantissa radix is used.
+    ExponentBase(OptionU8),
+    /// Writes the exponent radix; with `None` the mantissa radix is used.
+    ExponentRadix(OptionU8),
+}
+
+// The variants as an array: the flags and then the groups.
+macro_rules! variants {
+    (() { $($Flag:ident $flag:ident;)* } { $($Group:ident $group:ident;)* }) => {
+        [$(FlagSetter::$Flag,)* $(FlagSetter::$Group,)*]
+    };
+}
+
+const FLAGS: usize = u128::count_ones(FLAG_MASK) as usize;
+
+/// How many fields a word has: the flags and six bytes.
+pub const FIELDS: usize = FLAGS + 6;
+
+/// All setters, in the order of the variants: those of the flags, and those of nine groups.
+pub const SETTERS: [FlagSetter; FLAGS + 9] = with_setters!(variants());
 
 impl FlagSetter {
     /// Returns the name of the setter: the variant in snake case.
-    pub fn name(self) -> &'static str {
-        &names()[self as usize]
+    #[must_use]
+    pub const fn name(self) -> &'static str {
+        macro_rules! name_of {
+            (($setter:ident) { $($Flag:ident $flag:ident;)* } { $($Group:ident $group:ident;)* }) => {
+                match $setter {
+                    $(FlagSetter::$Flag => stringify!($flag),)*
+                    $(FlagSetter::$Group => stringify!($group),)*
+                }
+            };
+        }
+        with_setters!(name_of(self))
     }
 
     /// Returns the setter of this name, or `None` if no setter of flags has it.
+    #[must_use]
     pub fn from_name(name: &str) -> Option<FlagSetter> {
-        FlagSetter::ALL.get(usize::from(ffi::setter_of_name(name))).copied()
-    }
-}
-
-impl Edit {
-    /// Returns the edit that calls the setter of this name: one of flags with whether `value` is not 0, one of
-    /// bytes with `value`, of which 0 is none. Returns `None` if there is no such setter.
-    pub fn from_name(name: &str, value: u8) -> Option<Edit> {
-        Edit::from_numbers(ffi::setter_of_name(name), value)
-    }
-
-    /// Returns the name of the setter.
-    pub fn name(self) -> &'static str {
-        let byte = match self {
-            Edit::DigitSeparator(_) => 0,
-            Edit::BasePrefix(_) => 1,
-            Edit::BaseSuffix(_) => 2,
-            Edit::MantissaRadix(_) => 3,
-            Edit::Radix(_) => 4,
-            Edit::ExponentBase(_) => 5,
-            Edit::ExponentRadix(_) => 6,
-            flag => return flag.as_flag().expect("any other edit is of flags").0.name(),
-        };
-        &names()[SETTERS + byte]
-    }
-
-    fn from_numbers(setter: u8, value: u8) -> Option<Edit> {
-        let byte = NonZeroU8::new(value);
-        match usize::from(setter).checked_sub(SETTERS) {
-            None => Some(Edit::flag(FlagSetter::ALL[usize::from(setter)], value != 0)),
-            Some(0) => Some(Edit::DigitSeparator(byte)),
-            Some(1) => Some(Edit::BasePrefix(byte)),
-            Some(2) => Some(Edit::BaseSuffix(byte)),
-            Some(3) => Some(Edit::MantissaRadix(value)),
-            Some(4) => Some(Edit::Radix(value)),
-            Some(5) => Some(Edit::ExponentBase(byte)),
-            Some(6) => Some(Edit::ExponentRadix(byte)),
-            Some(_) => None,
+        for setter in &SETTERS {
+            if setter.name() == name {
+                return Some(*setter);
+            }
         }
+        None
     }
 }
 
 /// Applies one edit: calls the setter that it names.
-#[inline]
-pub fn apply(builder: NumberFormatBuilder, edit: Edit) -> NumberFormatBuilder {
-    builder.with(edit)
+#[must_use]
+#[inline(always)]
+pub const fn apply(builder: NumberFormatBuilder, edit: Edit) -> NumberFormatBuilder {
+    match edit {
+        Edit::Flag(setter, flag) => apply_flag(builder, setter, flag),
+        Edit::DigitSeparator(byte) => builder.digit_separator(byte),
+        Edit::BasePrefix(byte) => builder.base_prefix(byte),
+        Edit::BaseSuffix(byte) => builder.base_suffix(byte),
+        Edit::MantissaRadix(radix) => builder.mantissa_radix(radix),
+        Edit::Radix(radix) => builder.radix(radix),
+        Edit::ExponentBase(base) => builder.exponent_base(base),
+        Edit::ExponentRadix(radix) => builder.exponent_radix(radix),
+    }
 }
 
-/// Applies `edits` in order.
-#[inline]
-pub fn apply_all(builder: NumberFormatBuilder, edits: &[Edit]) -> NumberFormatBuilder {
-    builder.with_all(edits)
+// Calls the setter of a flag or of a group.
+#[inline(always)]
+const fn apply_flag(
+    builder: NumberFormatBuilder,
+    setter: FlagSetter,
+    flag: bool,
+) -> NumberFormatBuilder {
+    macro_rules! call_setter {
+        (($builder:ident, $setter:ident, $value:ident)
+            { $($Flag:ident $flag:ident;)* } { $($Group:ident $group:ident;)* }) => {
+            match $setter {
+                $(FlagSetter::$Flag => $builder.$flag($value),)*
+                $(FlagSetter::$Group => $builder.$group($value),)*
+            }
+        };
+    }
+    with_setters!(call_setter(builder, setter, flag))
+}
+
+/// Applies `edits` in order, as the setter calls that they stand for would be made.
+///
+/// To make a format of settings, apply them to a new builder and pack it strictly: exponent base and
+/// exponent radix then follow the mantissa radix, unless a setting writes them.
+///
+/// # Proved
+///
+/// For all arguments; [`definitions`](crate::definitions) has the words.
+///
+/// ```text
+/// ensures fields { result ≡ after builder (all_writes edits.now) }
+/// ensures legal { All IsLegal (all_writes edits.now) }
+/// ```
+#[must_use]
+pub const fn apply_all(mut builder: NumberFormatBuilder, edits: &[Edit]) -> NumberFormatBuilder {
+    let mut index = 0;
+    while index < edits.len() {
+        builder = apply(builder, edits[index]);
+        index += 1;
+    }
+    builder
 }
 
 /// Applies `edits` in order to any word, lawful or not, and returns the new word.
 ///
+/// This is for a finished format. An edit of the mantissa radix leaves exponent base and exponent radix
+/// as they were, also if they followed the old mantissa radix: for a fresh format see [`apply_all`].
+///
 /// 1. The fields of `format` are read.
 /// 2. An exponent base or exponent radix of 0 is set to the mantissa radix.
-/// 3. Each edit overwrites its fields: of several edits of one field the last counts. An edit to `None`
-///    leaves an exponent byte 0.
-/// 4. The digit separator is set to 0 if no flag allows one anywhere, and the fields are packed. The reserved
-///    bits are 0.
+/// 3. Each edit overwrites its fields: of several edits of one field the last counts. An edit to
+///    `None` leaves an exponent byte 0.
+/// 4. The digit separator is set to 0 if no flag allows one anywhere, and the fields are packed. The
+///    reserved bits are 0.
 ///
-/// Editing twice can differ from editing once with both lists: the first call drops a digit separator that
-/// has no flag yet, and the second fills an exponent byte that the first emptied.
-#[inline]
-pub fn edit_word(format: u128, edits: &[Edit]) -> u128 {
-    ffi::edit_word(format, edits)
+/// Editing twice can differ from editing once with both lists: the first call drops a digit separator
+/// that has no flag yet, and the second fills an exponent byte that the first emptied. If the mantissa
+/// radix of `format` is not 0, two calls are one if the first list leaves no exponent byte `None`, and
+/// the second sets no digit separator flag unless it writes the digit separator too.
+///
+/// # Proved
+///
+/// For all arguments; [`definitions`](crate::definitions) has the words.
+///
+/// ```text
+/// ensures word { result ≡ edited format (all_writes edits.now) }
+/// ensures fields { raw result ≡ trim (after (fill (raw format)) (all_writes edits.now)) }
+/// ensures clean { IsClean result }
+///
+/// // No other word has these fields.
+/// ensures only { (other : ℕ) → other < 2 ^ 128 → IsClean other
+///     → raw other ≡ trim (after (fill (raw format)) (all_writes edits.now)) → other ≡ result }
+///
+/// // Only the last write of each field counts: setters of different fields may change places,
+/// // and a group setter is its single setters in any order.
+/// ensures same_writes { (writes : List Write) → All IsLegal writes
+///     → SameWrites writes (all_writes edits.now) → edited format writes ≡ result }
+///
+/// // Editing the result once more is editing the word with both lists exactly if they compose; on a
+/// // word with a mantissa radix they do if the first list leaves no exponent byte empty, and the
+/// // second sets no separator flag, unless it writes the separator too.
+/// ensures again { (more : List Write) → All IsLegal more
+///     → (edited result more ≡ edited format (all_writes edits.now ++ more))
+///     ↔ Composes format (all_writes edits.now) more }
+/// ensures always { (raw format).mantissa_radix ≢ 0 → (more : List Write) → All IsLegal more
+///     → AlwaysCompose (all_writes edits.now) more
+///     → edited result more ≡ edited format (all_writes edits.now ++ more) }
+/// ensures legal { All IsLegal (all_writes edits.now) }
+/// ```
+#[must_use]
+pub const fn edit_word(format: u128, edits: &[Edit]) -> u128 {
+    apply_all(NumberFormatBuilder::rebuild(format), edits).build_unchecked()
 }
 
 /// Returns the normal form of any word: the canonical one among the words that mean the same.
 ///
 /// Each exponent byte holds its effective value, there is a digit separator only if a flag allows one
 /// somewhere, and the reserved bits are 0.
-#[inline]
-pub fn normal_form(format: u128) -> u128 {
-    ffi::normal_form(format)
+///
+/// # Proved
+///
+/// For all arguments; [`definitions`](crate::definitions) has the words.
+///
+/// ```text
+/// ensures word { result ≡ normal_form_of format }
+/// ensures fields { raw result ≡ trim (fill (raw format)) }
+/// ensures clean { IsClean result }
+///
+/// // No other word has these fields.
+/// ensures only { (other : ℕ) → other < 2 ^ 128 → IsClean other
+///     → raw other ≡ trim (fill (raw format)) → other ≡ result }
+///
+/// // A normal form is its own normal form.
+/// ensures again { normal_form_of result ≡ result }
+/// ensures unchanged { (result ≡ format) ↔ IsNormal format }
+///
+/// // It means the same: all fields agree, except a separator that no flag allows, and so do all
+/// // groups of flags.
+/// ensures same { SameFormat (raw format) (raw result) }
+/// ensures groups { (fs : List Flag) → any_flag format fs ≡ any_flag result fs }
+/// ensures flags { (fs : List Flag) → bits_of format fs ≡ bits_of result fs }
+///
+/// // That of a lawful word is lawful. If no reserved bit and no separator is dropped, both words
+/// // break the same rule first, or none.
+/// ensures lawful { Lawful format → Lawful result }
+/// ensures error { IsClean format → SeparatorIsUsed (raw format)
+///     → (error : Error) → IsErrorOf format error ↔ IsErrorOf result error }
+///
+/// // If no separator is dropped, it does not matter which of the two is edited.
+/// ensures edits { SeparatorIsUsed (raw format) → (writes : List Write) → All IsLegal writes
+///     → edited result writes ≡ edited format writes }
+/// ensures normal { IsNormal result }
+/// ```
+#[must_use]
+#[inline(always)]
+pub const fn normal_form(format: u128) -> u128 {
+    NumberFormatBuilder::rebuild(format).build_unchecked()
 }
 
 /// Returns the normal form of `format` if that is lawful, and else the error of the normal form.
 ///
-/// This is for words that were stored by the Rust crate `lexical-util`. Reserved bits, empty exponent bytes,
-/// and a digit separator that no flag allows are mended; everything else that is wrong is an error.
-#[inline]
-pub fn migrate(format: u128) -> Result<u128, Error> {
-    ffi::migrate(format).map_err(Error::of_word)
+/// This is for words that were stored by the Rust crate, or by this crate before its rules changed.
+/// Reserved bits, empty exponent bytes, and a digit separator that no flag allows are mended, so none
+/// of these is an error; everything else that is wrong is. The error is never `Success` or
+/// `InvalidFlags`.
+///
+/// # Proved
+///
+/// For all arguments; [`definitions`](crate::definitions) has the words.
+///
+/// ```text
+/// ensures lawful { OkIff result (Lawful (normal_form_of format)) (normal_form_of format) }
+/// ensures fields { IfOk result (λ word. raw word ≡ trim (fill (raw format))) }
+/// ensures normal { IfOk result IsNormal }
+/// ensures same { IfOk result (λ word. SameFormat (raw format) (raw word)) }
+/// ensures error { IfErr result (IsErrorOf (normal_form_of format)) }
+/// ensures not_success { result ≢ Err Error.Success }
+/// ensures not_flags { result ≢ Err Error.InvalidFlags }
+/// ```
+pub const fn migrate(format: u128) -> Result<u128, Error> {
+    let word = normal_form(format);
+    match format_error_impl(word) {
+        Error::Success => Ok(word),
+        error => Err(error),
+    }
 }
 
 /// Returns whether two words mean the same, that is, have the same normal form.
-#[inline]
-pub fn same_format(a: u128, b: u128) -> bool {
-    ffi::same_format(a, b)
-}
-
-/// Returns whether `build_unchecked` can return this word: its reserved bits are 0, and it has a digit
-/// separator only if a flag allows one somewhere.
-#[inline]
-pub fn is_built(format: u128) -> bool {
-    ffi::is_built(format)
-}
-
-/// Returns the setter calls that make `format` from a new builder, and how many of them are needed.
 ///
-/// The list has one edit for each field, with the field's value in `format`. The edits that change
-/// a new builder come first, and the number says how many they are; then come the others. The first part
-/// alone makes a builder with exactly the fields of `format`, and no shorter list does.
-pub fn edits_of(format: u128) -> ([Edit; FIELDS], usize) {
-    let (numbers, count) = ffi::edits_of(format);
-    let edit = |(setter, value)| Edit::from_numbers(setter, value).expect("each has a setter");
-    (numbers.map(edit), count)
+/// # Proved
+///
+/// For all arguments; [`definitions`](crate::definitions) has the words.
+///
+/// ```text
+/// ensures normal_forms { IsTrue result ↔ (normal_form_of a ≡ normal_form_of b) }
+/// ensures fields { IsTrue result ↔ SameFormat (raw a) (raw b) }
+/// ```
+#[must_use]
+pub const fn same_format(a: u128, b: u128) -> bool {
+    normal_form(a) == normal_form(b)
 }

@@ -1,96 +1,646 @@
-//! What a parser or a checker found.
+// Made by rust/erase from crates/lexical_base/src/error.rt: change that file.
 
-use crate::ffi;
-use crate::rows::with_outcomes;
-use std::fmt;
-use std::sync::OnceLock;
+//! The errors of parsing a number, and of checking a number format or its options.
+//!
+//! A parser or a checker returns one [`Error`], and [`Error::Success`] if nothing is wrong. This
+//! crate only defines them; the crates above return them.
 
-macro_rules! outcomes {
-    (
-        { $($index_rank:literal $Indexed:ident $is_indexed:ident $index_doc:literal;)* }
-        { $($rank:literal $Error:ident $is_error:ident $doc:literal;)* }
-    ) => {
-        /// What a parser or a checker found: one of 48 errors, or [`Error::Success`].
-        ///
-        /// A parse error holds the index, counted from 0, of the byte at which it was found. Values are
-        /// ordered by variant, in the order of this list, then by index.
-        #[derive(Clone, Copy, Debug, PartialEq, Eq, PartialOrd, Ord, Hash)]
-        pub enum Error {
-            $(#[doc = $index_doc] $Indexed(usize),)*
-            $(#[doc = $doc] $Error,)*
-        }
+use core::cmp::Ordering;
+use core::fmt::{self, Write as _};
 
-        impl Error {
-            $(
-                #[doc = concat!("Returns whether this is [`Error::", stringify!($Indexed), "`], at any index.")]
-                pub const fn $is_indexed(&self) -> bool {
-                    matches!(self, Error::$Indexed(_))
-                }
-            )*
+// The rank of the first error of formats, which follows the parse errors.
+const FIRST_FORMAT_ERROR: u8 = 19;
 
-            $(
-                #[doc = concat!("Returns whether this is [`Error::", stringify!($Error), "`].")]
-                pub const fn $is_error(&self) -> bool {
-                    matches!(self, Error::$Error)
-                }
-            )*
+// The rank of the first error of options.
+const FIRST_OPTIONS_ERROR: u8 = 36;
 
-            /// Returns the index of the byte at which a parser found the error: `Some` of it for a parse
-            /// error, and `None` for every other variant.
-            pub fn index(&self) -> Option<&usize> {
-                match self {
-                    $(Error::$Indexed(index) => Some(index),)*
-                    _ => None,
-                }
-            }
+// The rank of `Success`, which is the last.
+const SUCCESS: u8 = 48;
 
-            /// Returns the rank of the variant: its index in the list of the 49 variants, 0 to 48.
-            pub const fn rank(&self) -> u32 {
-                match self {
-                    $(Error::$Indexed(_) => $index_rank,)*
-                    $(Error::$Error => $rank,)*
-                }
-            }
+/// What a parser or a checker found: one of 48 errors, or [`Error::Success`].
+///
+/// A parse error holds the index, counted from 0, of the byte at which it was found. The other
+/// variants hold nothing.
+///
+/// The variants are listed in the order of their ranks, from 0 to 48. Values are ordered by rank,
+/// then by index. This is a total order, in which two values are equal exactly if they are the same.
+/// Each test `is_..` returns whether the value is of its variant, so exactly one of the 49 returns
+/// true.
+#[derive(Clone, Copy, Debug, PartialEq, Eq, Hash)]
+pub enum Error {
+    // Errors of parsing, each with the index of the byte at which it was found.
+    /// The number is above the largest of its type.
+    Overflow(usize),
+    /// The number is below the smallest of its type.
+    Underflow(usize),
+    /// A byte that is no digit stands at an index that requires one.
+    InvalidDigit(usize),
+    /// The input is empty.
+    Empty(usize),
+    /// There are no significant digits, and the format requires one.
+    EmptyMantissa(usize),
+    /// No digit follows the exponent character.
+    EmptyExponent(usize),
+    /// No digit stands before the decimal point, and the format requires one.
+    EmptyInteger(usize),
+    /// No digit follows the decimal point, and the format requires one.
+    EmptyFraction(usize),
+    /// A `+` before the significant digits, which the format forbids.
+    InvalidPositiveMantissaSign(usize),
+    /// No sign before the significant digits, which the format requires.
+    MissingMantissaSign(usize),
+    /// An exponent, which the format forbids.
+    InvalidExponent(usize),
+    /// A `+` in the exponent, which the format forbids.
+    InvalidPositiveExponentSign(usize),
+    /// No sign in the exponent, which the format requires.
+    MissingExponentSign(usize),
+    /// An exponent without a fraction, which the format forbids.
+    ExponentWithoutFraction(usize),
+    /// A leading zero, which the format forbids.
+    InvalidLeadingZeros(usize),
+    /// No exponent, which the format requires.
+    MissingExponent(usize),
+    /// An integer without the sign that the format requires.
+    MissingSign(usize),
+    /// An integer with a leading `+`, which the format forbids.
+    InvalidPositiveSign(usize),
+    /// A leading `-` for an unsigned type.
+    InvalidNegativeSign(usize),
 
-            /// Returns the outcome of a rank, with `index` if the variant holds one, or `None` for a rank of
-            /// 49 or more.
-            pub const fn from_rank(rank: u32, index: usize) -> Option<Error> {
-                match rank {
-                    $($index_rank => Some(Error::$Indexed(index)),)*
-                    $($rank => Some(Error::$Error),)*
-                    _ => None,
-                }
-            }
-        }
-    };
+    // Errors of number formats. A digit separator, base prefix, base suffix, decimal point or exponent
+    // character is meant by "these bytes".
+    /// The mantissa radix is not 2 to 36.
+    InvalidMantissaRadix,
+    /// The exponent base is not 2 to 36.
+    InvalidExponentBase,
+    /// The exponent radix is not 2 to 36.
+    InvalidExponentRadix,
+    /// The digit separator is a digit, a sign, or not allowed ASCII.
+    InvalidDigitSeparator,
+    /// The decimal point is a digit, a sign, or not allowed ASCII.
+    InvalidDecimalPoint,
+    /// The exponent character is a digit, a sign, or not allowed ASCII.
+    InvalidExponentSymbol,
+    /// The base prefix is a digit, a sign, or not allowed ASCII.
+    InvalidBasePrefix,
+    /// The base suffix is a digit, a sign, or not allowed ASCII.
+    InvalidBaseSuffix,
+    /// Two of the format's characters share a byte: the digit separator, the base prefix and the base
+    /// suffix, or the exponent character and the decimal point beside them. A letter counts in both
+    /// cases where its role is not case-sensitive.
+    InvalidPunctuation,
+    /// Exponents are both required and forbidden.
+    InvalidExponentFlags,
+    /// A mantissa sign is required while `+` is forbidden.
+    InvalidMantissaSign,
+    /// An exponent sign is required while `+` is forbidden.
+    InvalidExponentSign,
+    /// A flag for special values is set while special values are forbidden.
+    InvalidSpecial,
+    /// Consecutive separators are allowed in the integer, but no position for one is.
+    InvalidConsecutiveIntegerDigitSeparator,
+    /// Consecutive separators are allowed in the fraction, but no position for one is.
+    InvalidConsecutiveFractionDigitSeparator,
+    /// Consecutive separators are allowed in the exponent, but no position for one is.
+    InvalidConsecutiveExponentDigitSeparator,
+    /// A reserved bit is set.
+    InvalidFlags,
+
+    // Errors of options.
+    /// The NaN string does not start with `n`.
+    InvalidNanString,
+    /// The NaN string is too long.
+    NanStringTooLong,
+    /// The short infinity string does not start with `i`.
+    InvalidInfString,
+    /// The short infinity string is too long.
+    InfStringTooLong,
+    /// The long infinity string does not start with `i`.
+    InvalidInfinityString,
+    /// The long infinity string is too long.
+    InfinityStringTooLong,
+    /// The long infinity string is shorter than the short one.
+    InfinityStringTooShort,
+    /// Two float algorithms are asked for that exclude each other.
+    InvalidFloatParseAlgorithm,
+    /// The radix is not supported.
+    InvalidRadix,
+    /// The minimum number of digits is above the maximum.
+    InvalidFloatPrecision,
+    /// The negative exponent break is above 0.
+    InvalidNegativeExponentBreak,
+    /// The positive exponent break is below 0.
+    InvalidPositiveExponentBreak,
+
+    // No error.
+    /// Nothing is wrong.
+    Success,
 }
 
-with_outcomes!(outcomes);
-
 impl Error {
-    /// The outcome of a rank that the library returned of a word: none of these holds an index.
-    #[inline]
-    pub(crate) fn of_word(rank: u32) -> Error {
-        Error::from_rank(rank, 0).expect("the library returns ranks below 49")
-    }
-
     /// Returns what went wrong, as text between single quotes and without the index.
     ///
     /// See [`Error::index`] for the index, and `Display` for the whole text.
-    pub fn description(&self) -> &'static str {
-        static DESCRIPTIONS: OnceLock<Vec<String>> = OnceLock::new();
-        let all = DESCRIPTIONS.get_or_init(|| (0..49).map(ffi::description).collect());
-        &all[self.rank() as usize]
+    #[must_use]
+    #[inline(always)]
+    pub const fn description(&self) -> &'static str {
+        match self {
+            Error::Overflow(_) => "'numeric overflow occurred'",
+            Error::Underflow(_) => "'numeric underflow occurred'",
+            Error::InvalidDigit(_) => "'invalid digit found'",
+            Error::Empty(_) => "'the string to parse was empty'",
+            Error::EmptyMantissa(_) => "'no significant digits found'",
+            Error::EmptyExponent(_) => "'exponent notation found without an exponent'",
+            Error::EmptyInteger(_) => "'invalid float with no integer digits'",
+            Error::EmptyFraction(_) => "'invalid float with no fraction digits'",
+            Error::InvalidPositiveMantissaSign(_) => "'invalid `+` sign before significant digits'",
+            Error::MissingMantissaSign(_) => "'missing required `+/-` sign for significant digits'",
+            Error::InvalidExponent(_) => "'exponent found but not allowed'",
+            Error::InvalidPositiveExponentSign(_) => "'invalid `+` sign in exponent'",
+            Error::MissingExponentSign(_) => "'missing required `+/-` sign for exponent'",
+            Error::ExponentWithoutFraction(_) =>
+                "'invalid float containing exponent without fraction'",
+            Error::InvalidLeadingZeros(_) => "'invalid number with leading zeros before digits'",
+            Error::MissingExponent(_) => "'missing required exponent'",
+            Error::MissingSign(_) => "'missing required `+/-` sign for integer'",
+            Error::InvalidPositiveSign(_) => "'invalid `+` sign for an integer was found'",
+            Error::InvalidNegativeSign(_) => "'invalid `-` sign for an unsigned type was found'",
+            Error::InvalidMantissaRadix => "'invalid radix for mantissa digits'",
+            Error::InvalidExponentBase => "'invalid exponent base'",
+            Error::InvalidExponentRadix => "'invalid radix for exponent digits'",
+            Error::InvalidDigitSeparator =>
+                "'invalid digit separator: must be ASCII and not a digit or a `+/-` sign'",
+            Error::InvalidDecimalPoint =>
+                "'invalid decimal point: must be ASCII and not a digit or a `+/-` sign'",
+            Error::InvalidExponentSymbol =>
+                "'invalid exponent symbol: must be ASCII and not a digit or a `+/-` sign'",
+            Error::InvalidBasePrefix => "'invalid base prefix character'",
+            Error::InvalidBaseSuffix => "'invalid base suffix character'",
+            Error::InvalidPunctuation => "'invalid punctuation: multiple characters overlap'",
+            Error::InvalidExponentFlags => "'exponent flags set while disabling exponent notation'",
+            Error::InvalidMantissaSign =>
+                "'disabled the `+` sign while requiring a sign for significant digits'",
+            Error::InvalidExponentSign =>
+                "'disabled the `+` sign while requiring a sign for exponent digits'",
+            Error::InvalidSpecial => "'special flags set while disabling special floats'",
+            Error::InvalidConsecutiveIntegerDigitSeparator =>
+                "'enabled consecutive digit separators in the integer without setting a valid location'",
+            Error::InvalidConsecutiveFractionDigitSeparator =>
+                "'enabled consecutive digit separators in the fraction without setting a valid location'",
+            Error::InvalidConsecutiveExponentDigitSeparator =>
+                "'enabled consecutive digit separators in the exponent without setting a valid location'",
+            Error::InvalidFlags => "'invalid flags enabled without the format feature'",
+            Error::InvalidNanString => "'NaN string must started with `n`'",
+            Error::NanStringTooLong => "'NaN string is too long'",
+            Error::InvalidInfString => "'short infinity string must started with `i`'",
+            Error::InfStringTooLong => "'short infinity string is too long'",
+            Error::InvalidInfinityString => "'long infinity string must started with `i`'",
+            Error::InfinityStringTooLong => "'long infinity string is too long'",
+            Error::InfinityStringTooShort => "'long infinity string is too short'",
+            Error::InvalidFloatParseAlgorithm => "'invalid combination of float parse algorithms'",
+            Error::InvalidRadix => "'invalid radix for significant digits'",
+            Error::InvalidFloatPrecision =>
+                "'invalid float precision: min digits is larger than max digits'",
+            Error::InvalidNegativeExponentBreak =>
+                "'invalid negative exponent break: value is above 0'",
+            Error::InvalidPositiveExponentBreak =>
+                "'invalid positive exponent break: value is below 0'",
+            Error::Success => "'not actually an error'",
+        }
+    }
+
+    /// Returns the index of the byte at which a parser found the error: `Some` of it for a parse
+    /// error, and `None` for every other variant.
+    #[must_use]
+    #[inline(always)]
+    pub const fn index(&self) -> Option<&usize> {
+        match self {
+            Error::Overflow(index) => Some(index),
+            Error::Underflow(index) => Some(index),
+            Error::InvalidDigit(index) => Some(index),
+            Error::Empty(index) => Some(index),
+            Error::EmptyMantissa(index) => Some(index),
+            Error::EmptyExponent(index) => Some(index),
+            Error::EmptyInteger(index) => Some(index),
+            Error::EmptyFraction(index) => Some(index),
+            Error::InvalidPositiveMantissaSign(index) => Some(index),
+            Error::MissingMantissaSign(index) => Some(index),
+            Error::InvalidExponent(index) => Some(index),
+            Error::InvalidPositiveExponentSign(index) => Some(index),
+            Error::MissingExponentSign(index) => Some(index),
+            Error::ExponentWithoutFraction(index) => Some(index),
+            Error::InvalidLeadingZeros(index) => Some(index),
+            Error::MissingExponent(index) => Some(index),
+            Error::MissingSign(index) => Some(index),
+            Error::InvalidPositiveSign(index) => Some(index),
+            Error::InvalidNegativeSign(index) => Some(index),
+            _ => None,
+        }
+    }
+
+    /// Returns whether this is [`Error::Overflow`], at any index.
+    #[must_use]
+    pub const fn is_overflow(&self) -> bool {
+        matches!(self, Error::Overflow(_))
+    }
+
+    /// Returns whether this is [`Error::Underflow`], at any index.
+    #[must_use]
+    pub const fn is_underflow(&self) -> bool {
+        matches!(self, Error::Underflow(_))
+    }
+
+    /// Returns whether this is [`Error::InvalidDigit`], at any index.
+    #[must_use]
+    pub const fn is_invalid_digit(&self) -> bool {
+        matches!(self, Error::InvalidDigit(_))
+    }
+
+    /// Returns whether this is [`Error::Empty`], at any index.
+    #[must_use]
+    pub const fn is_empty(&self) -> bool {
+        matches!(self, Error::Empty(_))
+    }
+
+    /// Returns whether this is [`Error::EmptyMantissa`], at any index.
+    #[must_use]
+    pub const fn is_empty_mantissa(&self) -> bool {
+        matches!(self, Error::EmptyMantissa(_))
+    }
+
+    /// Returns whether this is [`Error::EmptyExponent`], at any index.
+    #[must_use]
+    pub const fn is_empty_exponent(&self) -> bool {
+        matches!(self, Error::EmptyExponent(_))
+    }
+
+    /// Returns whether this is [`Error::EmptyInteger`], at any index.
+    #[must_use]
+    pub const fn is_empty_integer(&self) -> bool {
+        matches!(self, Error::EmptyInteger(_))
+    }
+
+    /// Returns whether this is [`Error::EmptyFraction`], at any index.
+    #[must_use]
+    pub const fn is_empty_fraction(&self) -> bool {
+        matches!(self, Error::EmptyFraction(_))
+    }
+
+    /// Returns whether this is [`Error::InvalidPositiveMantissaSign`], at any index.
+    #[must_use]
+    pub const fn is_invalid_positive_mantissa_sign(&self) -> bool {
+        matches!(self, Error::InvalidPositiveMantissaSign(_))
+    }
+
+    /// Returns whether this is [`Error::MissingMantissaSign`], at any index.
+    #[must_use]
+    pub const fn is_missing_mantissa_sign(&self) -> bool {
+        matches!(self, Error::MissingMantissaSign(_))
+    }
+
+    /// Returns whether this is [`Error::InvalidExponent`], at any index.
+    #[must_use]
+    pub const fn is_invalid_exponent(&self) -> bool {
+        matches!(self, Error::InvalidExponent(_))
+    }
+
+    /// Returns whether this is [`Error::InvalidPositiveExponentSign`], at any index.
+    #[must_use]
+    pub const fn is_invalid_positive_exponent_sign(&self) -> bool {
+        matches!(self, Error::InvalidPositiveExponentSign(_))
+    }
+
+    /// Returns whether this is [`Error::MissingExponentSign`], at any index.
+    #[must_use]
+    pub const fn is_missing_exponent_sign(&self) -> bool {
+        matches!(self, Error::MissingExponentSign(_))
+    }
+
+    /// Returns whether this is [`Error::ExponentWithoutFraction`], at any index.
+    #[must_use]
+    pub const fn is_exponent_without_fraction(&self) -> bool {
+        matches!(self, Error::ExponentWithoutFraction(_))
+    }
+
+    /// Returns whether this is [`Error::InvalidLeadingZeros`], at any index.
+    #[must_use]
+    pub const fn is_invalid_leading_zeros(&self) -> bool {
+        matches!(self, Error::InvalidLeadingZeros(_))
+    }
+
+    /// Returns whether this is [`Error::MissingExponent`], at any index.
+    #[must_use]
+    pub const fn is_missing_exponent(&self) -> bool {
+        matches!(self, Error::MissingExponent(_))
+    }
+
+    /// Returns whether this is [`Error::MissingSign`], at any index.
+    #[must_use]
+    pub const fn is_missing_sign(&self) -> bool {
+        matches!(self, Error::MissingSign(_))
+    }
+
+    /// Returns whether this is [`Error::InvalidPositiveSign`], at any index.
+    #[must_use]
+    pub const fn is_invalid_positive_sign(&self) -> bool {
+        matches!(self, Error::InvalidPositiveSign(_))
+    }
+
+    /// Returns whether this is [`Error::InvalidNegativeSign`], at any index.
+    #[must_use]
+    pub const fn is_invalid_negative_sign(&self) -> bool {
+        matches!(self, Error::InvalidNegativeSign(_))
+    }
+
+    /// Returns whether this is [`Error::InvalidMantissaRadix`].
+    #[must_use]
+    pub const fn is_invalid_mantissa_radix(&self) -> bool {
+        matches!(self, Error::InvalidMantissaRadix)
+    }
+
+    /// Returns whether this is [`Error::InvalidExponentBase`].
+    #[must_use]
+    pub const fn is_invalid_exponent_base(&self) -> bool {
+        matches!(self, Error::InvalidExponentBase)
+    }
+
+    /// Returns whether this is [`Error::InvalidExponentRadix`].
+    #[must_use]
+    pub const fn is_invalid_exponent_radix(&self) -> bool {
+        matches!(self, Error::InvalidExponentRadix)
+    }
+
+    /// Returns whether this is [`Error::InvalidDigitSeparator`].
+    #[must_use]
+    pub const fn is_invalid_digit_separator(&self) -> bool {
+        matches!(self, Error::InvalidDigitSeparator)
+    }
+
+    /// Returns whether this is [`Error::InvalidDecimalPoint`].
+    #[must_use]
+    pub const fn is_invalid_decimal_point(&self) -> bool {
+        matches!(self, Error::InvalidDecimalPoint)
+    }
+
+    /// Returns whether this is [`Error::InvalidExponentSymbol`].
+    #[must_use]
+    pub const fn is_invalid_exponent_symbol(&self) -> bool {
+        matches!(self, Error::InvalidExponentSymbol)
+    }
+
+    /// Returns whether this is [`Error::InvalidBasePrefix`].
+    #[must_use]
+    pub const fn is_invalid_base_prefix(&self) -> bool {
+        matches!(self, Error::InvalidBasePrefix)
+    }
+
+    /// Returns whether this is [`Error::InvalidBaseSuffix`].
+    #[must_use]
+    pub const fn is_invalid_base_suffix(&self) -> bool {
+        matches!(self, Error::InvalidBaseSuffix)
+    }
+
+    /// Returns whether this is [`Error::InvalidPunctuation`].
+    #[must_use]
+    pub const fn is_invalid_punctuation(&self) -> bool {
+        matches!(self, Error::InvalidPunctuation)
+    }
+
+    /// Returns whether this is [`Error::InvalidExponentFlags`].
+    #[must_use]
+    pub const fn is_invalid_exponent_flags(&self) -> bool {
+        matches!(self, Error::InvalidExponentFlags)
+    }
+
+    /// Returns whether this is [`Error::InvalidMantissaSign`].
+    #[must_use]
+    pub const fn is_invalid_mantissa_sign(&self) -> bool {
+        matches!(self, Error::InvalidMantissaSign)
+    }
+
+    /// Returns whether this is [`Error::InvalidExponentSign`].
+    #[must_use]
+    pub const fn is_invalid_exponent_sign(&self) -> bool {
+        matches!(self, Error::InvalidExponentSign)
+    }
+
+    /// Returns whether this is [`Error::InvalidSpecial`].
+    #[must_use]
+    pub const fn is_invalid_special(&self) -> bool {
+        matches!(self, Error::InvalidSpecial)
+    }
+
+    /// Returns whether this is [`Error::InvalidConsecutiveIntegerDigitSeparator`].
+    #[must_use]
+    pub const fn is_invalid_consecutive_integer_digit_separator(&self) -> bool {
+        matches!(self, Error::InvalidConsecutiveIntegerDigitSeparator)
+    }
+
+    /// Returns whether this is [`Error::InvalidConsecutiveFractionDigitSeparator`].
+    #[must_use]
+    pub const fn is_invalid_consecutive_fraction_digit_separator(&self) -> bool {
+        matches!(self, Error::InvalidConsecutiveFractionDigitSeparator)
+    }
+
+    /// Returns whether this is [`Error::InvalidConsecutiveExponentDigitSeparator`].
+    #[must_use]
+    pub const fn is_invalid_consecutive_exponent_digit_separator(&self) -> bool {
+        matches!(self, Error::InvalidConsecutiveExponentDigitSeparator)
+    }
+
+    /// Returns whether this is [`Error::InvalidFlags`].
+    #[must_use]
+    pub const fn is_invalid_flags(&self) -> bool {
+        matches!(self, Error::InvalidFlags)
+    }
+
+    /// Returns whether this is [`Error::InvalidNanString`].
+    #[must_use]
+    pub const fn is_invalid_nan_string(&self) -> bool {
+        matches!(self, Error::InvalidNanString)
+    }
+
+    /// Returns whether this is [`Error::NanStringTooLong`].
+    #[must_use]
+    pub const fn is_nan_string_too_long(&self) -> bool {
+        matches!(self, Error::NanStringTooLong)
+    }
+
+    /// Returns whether this is [`Error::InvalidInfString`].
+    #[must_use]
+    pub const fn is_invalid_inf_string(&self) -> bool {
+        matches!(self, Error::InvalidInfString)
+    }
+
+    /// Returns whether this is [`Error::InfStringTooLong`].
+    #[must_use]
+    pub const fn is_inf_string_too_long(&self) -> bool {
+        matches!(self, Error::InfStringTooLong)
+    }
+
+    /// Returns whether this is [`Error::InvalidInfinityString`].
+    #[must_use]
+    pub const fn is_invalid_infinity_string(&self) -> bool {
+        matches!(self, Error::InvalidInfinityString)
+    }
+
+    /// Returns whether this is [`Error::InfinityStringTooLong`].
+    #[must_use]
+    pub const fn is_infinity_string_too_long(&self) -> bool {
+        matches!(self, Error::InfinityStringTooLong)
+    }
+
+    /// Returns whether this is [`Error::InfinityStringTooShort`].
+    #[must_use]
+    pub const fn is_infinity_string_too_short(&self) -> bool {
+        matches!(self, Error::InfinityStringTooShort)
+    }
+
+    /// Returns whether this is [`Error::InvalidFloatParseAlgorithm`].
+    #[must_use]
+    pub const fn is_invalid_float_parse_algorithm(&self) -> bool {
+        matches!(self, Error::InvalidFloatParseAlgorithm)
+    }
+
+    /// Returns whether this is [`Error::InvalidRadix`].
+    #[must_use]
+    pub const fn is_invalid_radix(&self) -> bool {
+        matches!(self, Error::InvalidRadix)
+    }
+
+    /// Returns whether this is [`Error::InvalidFloatPrecision`].
+    #[must_use]
+    pub const fn is_invalid_float_precision(&self) -> bool {
+        matches!(self, Error::InvalidFloatPrecision)
+    }
+
+    /// Returns whether this is [`Error::InvalidNegativeExponentBreak`].
+    #[must_use]
+    pub const fn is_invalid_negative_exponent_break(&self) -> bool {
+        matches!(self, Error::InvalidNegativeExponentBreak)
+    }
+
+    /// Returns whether this is [`Error::InvalidPositiveExponentBreak`].
+    #[must_use]
+    pub const fn is_invalid_positive_exponent_break(&self) -> bool {
+        matches!(self, Error::InvalidPositiveExponentBreak)
+    }
+
+    /// Returns whether this is [`Error::Success`].
+    #[must_use]
+    pub const fn is_success(&self) -> bool {
+        matches!(self, Error::Success)
+    }
+
+    /// Returns the rank of the variant: its index in the list of the 49 variants, 0 to 48.
+    #[must_use]
+    #[inline(always)]
+    pub const fn rank(&self) -> u8 {
+        match self {
+            Error::Overflow(_) => 0,
+            Error::Underflow(_) => 1,
+            Error::InvalidDigit(_) => 2,
+            Error::Empty(_) => 3,
+            Error::EmptyMantissa(_) => 4,
+            Error::EmptyExponent(_) => 5,
+            Error::EmptyInteger(_) => 6,
+            Error::EmptyFraction(_) => 7,
+            Error::InvalidPositiveMantissaSign(_) => 8,
+            Error::MissingMantissaSign(_) => 9,
+            Error::InvalidExponent(_) => 10,
+            Error::InvalidPositiveExponentSign(_) => 11,
+            Error::MissingExponentSign(_) => 12,
+            Error::ExponentWithoutFraction(_) => 13,
+            Error::InvalidLeadingZeros(_) => 14,
+            Error::MissingExponent(_) => 15,
+            Error::MissingSign(_) => 16,
+            Error::InvalidPositiveSign(_) => 17,
+            Error::InvalidNegativeSign(_) => 18,
+            Error::InvalidMantissaRadix => 19,
+            Error::InvalidExponentBase => 20,
+            Error::InvalidExponentRadix => 21,
+            Error::InvalidDigitSeparator => 22,
+            Error::InvalidDecimalPoint => 23,
+            Error::InvalidExponentSymbol => 24,
+            Error::InvalidBasePrefix => 25,
+            Error::InvalidBaseSuffix => 26,
+            Error::InvalidPunctuation => 27,
+            Error::InvalidExponentFlags => 28,
+            Error::InvalidMantissaSign => 29,
+            Error::InvalidExponentSign => 30,
+            Error::InvalidSpecial => 31,
+            Error::InvalidConsecutiveIntegerDigitSeparator => 32,
+            Error::InvalidConsecutiveFractionDigitSeparator => 33,
+            Error::InvalidConsecutiveExponentDigitSeparator => 34,
+            Error::InvalidFlags => 35,
+            Error::InvalidNanString => 36,
+            Error::NanStringTooLong => 37,
+            Error::InvalidInfString => 38,
+            Error::InfStringTooLong => 39,
+            Error::InvalidInfinityString => 40,
+            Error::InfinityStringTooLong => 41,
+            Error::InfinityStringTooShort => 42,
+            Error::InvalidFloatParseAlgorithm => 43,
+            Error::InvalidRadix => 44,
+            Error::InvalidFloatPrecision => 45,
+            Error::InvalidNegativeExponentBreak => 46,
+            Error::InvalidPositiveExponentBreak => 47,
+            Error::Success => 48,
+        }
+    }
+
+    // The index of a parse error, and 0 for every other variant.
+    #[inline(always)]
+    fn held_index(&self) -> usize {
+        self.index().copied().unwrap_or(0)
     }
 }
 
-/// Writes the class and the description, and for a parse error also the index; for [`Error::Success`] the
-/// description alone. Width, fill and the like are ignored.
+impl Ord for Error {
+    fn cmp(&self, other: &Error) -> Ordering {
+        match self.rank().cmp(&other.rank()) {
+            Ordering::Equal => self.held_index().cmp(&other.held_index()),
+            order => order,
+        }
+    }
+}
+
+impl PartialOrd for Error {
+    fn partial_cmp(&self, other: &Error) -> Option<Ordering> {
+        Some(self.cmp(other))
+    }
+}
+
+/// Writes the class and the description, and for a parse error also the index; for
+/// [`Error::Success`] the description alone.
+///
+/// Width, fill, alignment, sign and precision are ignored. Fails only if the formatter does.
 impl fmt::Display for Error {
-    fn fmt(&self, f: &mut fmt::Formatter) -> fmt::Result {
-        let index = self.index().copied().unwrap_or(0);
-        ffi::with_text(self.rank(), index, |text| f.write_str(text))
+    fn fmt(&self, f: &mut fmt::Formatter<'_>) -> fmt::Result {
+        let rank = self.rank();
+        if rank < FIRST_FORMAT_ERROR {
+            f.write_str("lexical parse error: ")?;
+            f.write_str(self.description())?;
+            f.write_str(" at index ")?;
+            write_decimal(f, self.held_index())
+        } else if rank < FIRST_OPTIONS_ERROR {
+            f.write_str("lexical number format error: ")?;
+            f.write_str(self.description())
+        } else if rank < SUCCESS {
+            f.write_str("lexical options error: ")?;
+            f.write_str(self.description())
+        } else {
+            f.write_str(self.description())
+        }
     }
 }
 
-impl std::error::Error for Error {}
+// Writes `n` in decimal, whatever options `f` has.
+fn write_decimal(f: &mut fmt::Formatter<'_>, n: usize) -> fmt::Result {
+    let has_front = n >= 10;
+    if has_front {
+        write_decimal(f, n / 10)?;
+    }
+    f.write_char(char::from(b'0' + (n % 10) as u8))
+}

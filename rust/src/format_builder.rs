@@ -1,236 +1,350 @@
+// Made by rust/erase from crates/lexical_builder/src/format_builder.rt: change that file.
+
 //! Builds number formats field by field.
 
-use crate::edits::{Edit, FlagSetter};
 use crate::error::Error;
-use crate::ffi::{self, Fields};
-use crate::rows::with_setters;
-use std::fmt;
-use std::num::NonZeroU8;
+use crate::format_flags as flags;
+use crate::format_flags::format_error_impl;
+
+mod getters;
+
+mod setters;
+
+pub use core::num::NonZeroU8;
+
+// The bit at which the digit separator flags of a builder start; those of a format word start at bit 32.
+const FIRST_SEPARATOR: u32 = u128::count_ones(flags::FLAG_MASK % (1 << 32));
+
+// The flags below them, which are at the same bits of a format word, and the digit separator flags.
+const LOW_FLAGS: u32 = (1 << FIRST_SEPARATOR) - 1;
+
+const SEPARATOR_FLAGS: u32 = (flags::DIGIT_SEPARATOR_FLAG_MASK >> (32 - FIRST_SEPARATOR)) as u32;
+
+// The flags of a new builder, at the bits of a format word.
+const NEW_FLAGS: u128 = 0xC;
+
+// 1 in each of mantissa radix, exponent base and exponent radix of a format word.
+const ALL_RADIXES: u128 = 0x01010100_00000000_00000000_00000000;
+
+// The index of each byte of a builder.
+const DIGIT_SEPARATOR: usize = 0;
+
+const BASE_PREFIX: usize = 1;
+
+const BASE_SUFFIX: usize = 2;
+
+const MANTISSA_RADIX: usize = 3;
+
+const EXPONENT_BASE: usize = 4;
+
+const EXPONENT_RADIX: usize = 5;
+
+// The lowest bit of each byte but the separator in the upper half of a format word.
+const PREFIX_SHIFT: i32 = flags::BASE_PREFIX_SHIFT - 64;
+
+const SUFFIX_SHIFT: i32 = flags::BASE_SUFFIX_SHIFT - 64;
+
+const MANTISSA_SHIFT: i32 = flags::MANTISSA_RADIX_SHIFT - 64;
+
+const BASE_SHIFT: i32 = flags::EXPONENT_BASE_SHIFT - 64;
+
+const RADIX_SHIFT: i32 = flags::EXPONENT_RADIX_SHIFT - 64;
 
 /// A byte that may be absent.
 pub type OptionU8 = Option<NonZeroU8>;
 
-/// The most edits that a builder keeps before it applies them.
-const KEPT: usize = 16;
-
 /// The fields of a number format, to be set one by one and packed into a format word.
 ///
-/// A builder has the flags, the mantissa radix, and five bytes that may be absent: digit separator, base
-/// prefix, base suffix, exponent base and exponent radix. A setter takes the builder and returns it with its
-/// field changed; every other field keeps its value. So setters of different fields can be called in any
-/// order, and of several calls for one field the last counts.
-///
-/// Setters are kept, and applied together when a getter or a build asks for the fields.
-#[derive(Clone, Copy)]
+/// A builder has the flags, the mantissa radix, and five bytes that may be absent: digit
+/// separator, base prefix, base suffix, exponent base and exponent radix. A setter takes the
+/// builder and returns it with its field changed; every other field keeps its value. So setters
+/// of different fields can be called in any order, and of several calls for one field the last
+/// counts.
+#[derive(Clone, Copy, PartialEq, Eq, Hash)]
 pub struct NumberFormatBuilder {
-    fields: Fields,
-    edits: [Edit; KEPT],
-    len: u8,
-}
-
-impl NumberFormatBuilder {
-    /// Returns a builder with the default fields: mantissa radix 10, no digit separator, prefix, suffix,
-    /// exponent base or exponent radix, `required_exponent_digits` and `required_mantissa_digits` true, and
-    /// every other flag false.
-    #[inline]
-    pub const fn new() -> Self {
-        Self::of(Fields {
-            flags: 0xC,
-            digit_separator: 0,
-            base_prefix: 0,
-            base_suffix: 0,
-            mantissa_radix: 10,
-            exponent_base: 0,
-            exponent_radix: 0,
-        })
-    }
-
-    /// Returns the format of binary numbers: `from_radix(2)`.
-    pub fn binary() -> u128 {
-        Self::from_radix(2)
-    }
-
-    /// Returns the format of octal numbers: `from_radix(8)`.
-    pub fn octal() -> u128 {
-        Self::from_radix(8)
-    }
-
-    /// Returns the format of decimal numbers: `from_radix(10)`.
-    pub fn decimal() -> u128 {
-        Self::from_radix(10)
-    }
-
-    /// Returns the format of hexadecimal numbers: `from_radix(16)`.
-    pub fn hexadecimal() -> u128 {
-        Self::from_radix(16)
-    }
-
-    /// Returns the format of a new builder with `radix` as mantissa radix, exponent base and exponent radix.
-    /// The radix is not checked; the word is lawful only for 2 to 36.
-    pub fn from_radix(radix: u8) -> u128 {
-        let byte = NonZeroU8::new(radix);
-        Self::new().mantissa_radix(radix).exponent_base(byte).exponent_radix(byte).build_unchecked()
-    }
-
-    /// Returns a builder with the fields of a format word, to be changed and packed again. An exponent base
-    /// or exponent radix of 0 becomes the mantissa radix. The digit separator is read even if no flag allows
-    /// one. The reserved bits are dropped.
-    #[inline]
-    pub fn rebuild(format: u128) -> Self {
-        Self::of(ffi::fields(format))
-    }
-
-    /// Packs the fields into a format word, lawful or not. Every field is written unchanged, except the digit
-    /// separator: it is written only if one of the digit separator flags is set, and is 0 otherwise.
-    #[inline]
-    pub fn build_unchecked(&self) -> u128 {
-        ffi::build(&self.fields, self.kept())
-    }
-
-    /// Packs the fields into a format word. Returns the word if it is lawful, or else what is wrong with it,
-    /// which is never [`Error::Success`].
-    ///
-    /// `lexical-util` panics with the description of the error instead.
-    #[inline]
-    pub fn build_strict(&self) -> Result<u128, Error> {
-        ffi::build_strict(&self.fields()).map_err(Error::of_word)
-    }
-
-    /// Another name of `build_unchecked`. Deprecated in `lexical-util`.
-    #[inline]
-    pub fn build(&self) -> u128 {
-        self.build_unchecked()
-    }
-
-    #[inline]
-    pub(crate) const fn of(fields: Fields) -> Self {
-        NumberFormatBuilder { fields, edits: [Edit::RequiredDigits(false); KEPT], len: 0 }
-    }
-
-    /// The edits that are not applied yet.
-    #[inline]
-    fn kept(&self) -> &[Edit] {
-        &self.edits[..usize::from(self.len)]
-    }
-
-    /// The fields after these edits.
-    #[inline]
-    fn fields(&self) -> Fields {
-        let mut fields = self.fields;
-        if self.len > 0 {
-            ffi::edit_fields(&mut fields, self.kept());
-        }
-        fields
-    }
-
-    #[inline]
-    pub(crate) fn with(mut self, edit: Edit) -> Self {
-        if usize::from(self.len) == KEPT {
-            self = Self::of(self.fields());
-        }
-        self.edits[usize::from(self.len)] = edit;
-        self.len += 1;
-        self
-    }
-
-    #[inline]
-    pub(crate) fn with_all(self, edits: &[Edit]) -> Self {
-        let mut fields = self.fields();
-        ffi::edit_fields(&mut fields, edits);
-        Self::of(fields)
-    }
+    flags: u32,
+    // 0 for a byte that is absent.
+    bytes: [u8; 6],
 }
 
 impl Default for NumberFormatBuilder {
+    #[inline(always)]
     fn default() -> Self {
         Self::new()
     }
 }
 
-impl PartialEq for NumberFormatBuilder {
-    fn eq(&self, other: &Self) -> bool {
-        self.fields() == other.fields()
+impl NumberFormatBuilder {
+    // CONSTRUCTORS
+
+    /// Returns a builder with the default fields: mantissa radix 10, no digit separator, prefix,
+    /// suffix, exponent base or exponent radix, `required_exponent_digits` and
+    /// `required_mantissa_digits` true, and every other flag false.
+    #[must_use]
+    #[inline(always)]
+    pub const fn new() -> Self {
+        NumberFormatBuilder {
+            flags: 0xC,
+            bytes: [0, 0, 0, 10, 0, 0],
+        }
+    }
+
+    /// Returns the format of binary numbers: `from_radix(2)`.
+    #[must_use]
+    #[inline(always)]
+    pub const fn binary() -> u128 {
+        Self::from_radix(2)
+    }
+
+    /// Returns the format of octal numbers: `from_radix(8)`.
+    #[must_use]
+    #[inline(always)]
+    pub const fn octal() -> u128 {
+        Self::from_radix(8)
+    }
+
+    /// Returns the format of decimal numbers: `from_radix(10)`.
+    #[must_use]
+    #[inline(always)]
+    pub const fn decimal() -> u128 {
+        Self::from_radix(10)
+    }
+
+    /// Returns the format of hexadecimal numbers: `from_radix(16)`.
+    #[must_use]
+    #[inline(always)]
+    pub const fn hexadecimal() -> u128 {
+        Self::from_radix(16)
+    }
+
+    /// Returns the format of a new builder with `radix` as mantissa radix, exponent base and
+    /// exponent radix. The radix is not checked; the word is lawful only for 2 to 36.
+    #[must_use]
+    #[inline(always)]
+    pub const fn from_radix(radix: u8) -> u128 {
+        NEW_FLAGS + (radix as u128) * ALL_RADIXES
     }
 }
 
-impl Eq for NumberFormatBuilder {}
+impl NumberFormatBuilder {
+    // BUILDERS
 
-impl fmt::Debug for NumberFormatBuilder {
-    fn fmt(&self, f: &mut fmt::Formatter) -> fmt::Result {
-        self.fields().fmt(f)
+    /// Packs the fields into a format word, lawful or not. Every field is written unchanged,
+    /// except the digit separator: it is written only if one of the digit separator flags
+    /// (`special_digit_separator` included) is set, and is 0 otherwise.
+    ///
+    /// # Proved
+    ///
+    /// For all arguments; [`definitions`](crate::definitions) has the words.
+    ///
+    /// ```text
+    /// ensures word { result ≡ pack self.now }
+    /// ensures fields { raw result ≡ trim self.now }
+    /// ensures clean { IsClean result }
+    /// ensures bytes { HasBytes self.now }
+    ///
+    /// // Another builder packs into the same word exactly if it has the same fields, the
+    /// // separator ignored if neither has a flag for it.
+    /// ensures alike { (s : Record) → HasBytes s → (pack s ≡ result) ↔ (trim s ≡ trim self.now) }
+    /// ```
+    #[must_use]
+    #[inline(always)]
+    pub const fn build_unchecked(&self) -> u128 {
+        self.packed()
+    }
+
+    /// Packs the fields into a format word. Returns the word if it is lawful, or else what is
+    /// wrong with it, which is never `Success`. The builder is not changed.
+    ///
+    /// The Rust crate panics with the description of the error instead.
+    ///
+    /// # Proved
+    ///
+    /// For all arguments; [`definitions`](crate::definitions) has the words.
+    ///
+    /// ```text
+    /// ensures lawful { OkIff result (Lawful (pack self.now)) (pack self.now) }
+    /// ensures fields { IfOk result (λ word. raw word ≡ trim self.now) }
+    /// ensures error { IfErr result (IsErrorOf (pack self.now)) }
+    /// ensures not_success { result ≢ Err Error.Success }
+    ///
+    /// // What is packed has no reserved bit set.
+    /// ensures not_flags { result ≢ Err Error.InvalidFlags }
+    /// ```
+    #[inline(always)]
+    pub const fn build_strict(&self) -> Result<u128, Error> {
+        let word = self.build_unchecked();
+        match format_error_impl(word) {
+            Error::Success => Ok(word),
+            error => Err(error),
+        }
+    }
+
+    /// Another name of `build_unchecked`. Deprecated in the Rust crate.
+    ///
+    /// # Proved
+    ///
+    /// For all arguments; [`definitions`](crate::definitions) has the words.
+    ///
+    /// ```text
+    /// ensures { result ≡ pack self.now }
+    /// ```
+    #[must_use]
+    #[inline(always)]
+    pub const fn build(&self) -> u128 {
+        self.build_unchecked()
+    }
+
+    /// Returns a builder with the fields of a format word, to be changed and packed again. An
+    /// exponent base or exponent radix of 0 becomes the mantissa radix, so that a later change
+    /// of the mantissa radix does not change it; if the mantissa radix is 0 too, it stays 0. The
+    /// digit separator is read even if no flag allows one. The reserved bits are dropped.
+    ///
+    /// # Proved
+    ///
+    /// For all arguments; [`definitions`](crate::definitions) has the words.
+    ///
+    /// ```text
+    /// ensures { result ≡ fill (raw format) }
+    /// ```
+    #[must_use]
+    #[inline(always)]
+    pub const fn rebuild(format: u128) -> Self {
+        let high = fill_radix(fill_base((format >> 64) as u64));
+        NumberFormatBuilder {
+            flags: builder_flags(format),
+            bytes: [
+                (high % 256) as u8,
+                ((high >> PREFIX_SHIFT) % 256) as u8,
+                ((high >> SUFFIX_SHIFT) % 256) as u8,
+                ((high >> MANTISSA_SHIFT) % 256) as u8,
+                ((high >> BASE_SHIFT) % 256) as u8,
+                (high >> RADIX_SHIFT) as u8,
+            ],
+        }
+    }
+
+    // PARTS
+
+    /// Returns a builder with these flags and bytes, as [`to_parts`][Self::to_parts] returns them. The bits
+    /// above the flags are ignored.
+    #[must_use]
+    #[inline(always)]
+    pub const fn from_parts(flags: u32, bytes: [u8; 6]) -> Self {
+        NumberFormatBuilder {
+            flags: flags & (LOW_FLAGS | SEPARATOR_FLAGS),
+            bytes,
+        }
+    }
+
+    /// Returns the flags, the first in bit 0, and the bytes digit separator, base prefix, base suffix,
+    /// mantissa radix, exponent base and exponent radix, each 0 if it is absent.
+    #[must_use]
+    #[inline(always)]
+    pub const fn to_parts(&self) -> (u32, [u8; 6]) {
+        (self.flags, self.bytes)
+    }
+
+    // Packs the fields. The separator is joined last, since it has to wait for a test.
+    #[inline(always)]
+    const fn packed(&self) -> u128 {
+        let [separator, prefix, suffix, radix, exponent_base, exponent_radix] = self.bytes;
+        let flags = word_flags(self.flags);
+        let separator = used_separator(flags, separator);
+        flags
+            | (prefix as u128) << flags::BASE_PREFIX_SHIFT
+            | (suffix as u128) << flags::BASE_SUFFIX_SHIFT
+            | (radix as u128) << flags::MANTISSA_RADIX_SHIFT
+            | (exponent_base as u128) << flags::EXPONENT_BASE_SHIFT
+            | (exponent_radix as u128) << flags::EXPONENT_RADIX_SHIFT
+            | (separator as u128) << flags::DIGIT_SEPARATOR_SHIFT
+    }
+
+    // Whether the flag with this mask is set.
+    #[inline(always)]
+    const fn has_flag(&self, mask: u128) -> bool {
+        self.flags & builder_flags(mask) != 0
+    }
+
+    // Sets all flags of a mask to one value.
+    #[inline(always)]
+    const fn with_flags(mut self, mask: u128, value: bool) -> Self {
+        self.flags = replace_bits(self.flags, builder_flags(mask), value);
+        self
+    }
+
+    // Sets the byte at an index.
+    #[inline(always)]
+    const fn with_byte(mut self, index: usize, value: u8) -> Self {
+        self.bytes[index] = value;
+        self
     }
 }
 
-macro_rules! setters {
-    (
-        { $($Flag:ident $flag:ident $get:ident $CONST:ident $bit:literal $doc:literal;)* }
-        { $($Group:ident $group:ident $group_doc:literal;)* }
-        { $($Byte:ident $byte:ident $get_byte:ident $byte_doc:literal;)* }
-    ) => {
-        /// Flags.
-        impl NumberFormatBuilder {
-            $(
-                #[doc = concat!("Returns the flag `", stringify!($flag), "`. ", $doc)]
-                #[inline]
-                pub fn $get(&self) -> bool {
-                    self.fields().has(FlagSetter::$Flag)
-                }
-
-                #[doc = concat!("Sets the flag `", stringify!($flag), "`. ", $doc)]
-                #[inline]
-                pub fn $flag(self, flag: bool) -> Self {
-                    self.with(Edit::$Flag(flag))
-                }
-            )*
-        }
-
-        /// Groups of flags.
-        impl NumberFormatBuilder {
-            $(
-                #[doc = $group_doc]
-                #[inline]
-                pub fn $group(self, flag: bool) -> Self {
-                    self.with(Edit::$Group(flag))
-                }
-            )*
-        }
-
-        /// Bytes.
-        impl NumberFormatBuilder {
-            $(
-                #[doc = concat!("Returns the byte `", stringify!($byte), "`, or `None` if it is absent.")]
-                #[inline]
-                pub fn $get_byte(&self) -> OptionU8 {
-                    NonZeroU8::new(self.fields().$byte)
-                }
-
-                #[doc = $byte_doc]
-                #[inline]
-                pub fn $byte(self, $byte: OptionU8) -> Self {
-                    self.with(Edit::$Byte($byte))
-                }
-            )*
-
-            /// Returns the mantissa radix: the radix of the integer and fraction digits.
-            #[inline]
-            pub fn get_mantissa_radix(&self) -> u8 {
-                self.fields().mantissa_radix
-            }
-
-            /// Sets the mantissa radix: the radix of the integer and fraction digits, 2 to 36 in a lawful
-            /// format. An exponent base or exponent radix that is absent follows it. Default: 10.
-            #[inline]
-            pub fn mantissa_radix(self, radix: u8) -> Self {
-                self.with(Edit::MantissaRadix(radix))
-            }
-
-            /// Another name of `mantissa_radix`.
-            #[inline]
-            pub fn radix(self, radix: u8) -> Self {
-                self.with(Edit::Radix(radix))
-            }
-        }
-    };
+// The upper half of a format word, with the mantissa radix as exponent base if that is 0.
+#[inline(always)]
+const fn fill_base(high: u64) -> u64 {
+    if high & (0xFF << BASE_SHIFT) == 0 {
+        high | (high & (0xFF << MANTISSA_SHIFT)) << (BASE_SHIFT - MANTISSA_SHIFT)
+    } else {
+        high
+    }
 }
 
-with_setters!(setters);
+// The upper half of a format word, with the mantissa radix as exponent radix if that is 0.
+#[inline(always)]
+const fn fill_radix(high: u64) -> u64 {
+    if high < 1 << RADIX_SHIFT {
+        high | (high & (0xFF << MANTISSA_SHIFT)) << (RADIX_SHIFT - MANTISSA_SHIFT)
+    } else {
+        high
+    }
+}
+
+// The flags of a format word, at the bits of a builder.
+#[inline(always)]
+const fn builder_flags(format: u128) -> u32 {
+    (format & (LOW_FLAGS as u128) | (format >> (32 - FIRST_SEPARATOR)) & (SEPARATOR_FLAGS as u128))
+        as u32
+}
+
+// The flags of a builder, at the bits of a format word.
+#[inline(always)]
+const fn word_flags(flags: u32) -> u128 {
+    (flags & LOW_FLAGS) as u128 | ((flags >> FIRST_SEPARATOR) as u128) << 32
+}
+
+// The bits with all bits of a mask set to one value.
+#[inline(always)]
+const fn replace_bits(bits: u32, mask: u32, value: bool) -> u32 {
+    (bits & !mask) | bits_if(value, mask)
+}
+
+// The bits if the condition holds, or else 0.
+#[inline(always)]
+const fn bits_if(condition: bool, bits: u32) -> u32 {
+    if condition {
+        bits
+    } else {
+        0
+    }
+}
+
+// The digit separator, or 0 if none of these flags of a format word allows one.
+#[inline(always)]
+const fn used_separator(flags: u128, separator: u8) -> u8 {
+    if flags & flags::DIGIT_SEPARATOR_FLAG_MASK != 0 {
+        separator
+    } else {
+        0
+    }
+}
+
+// The byte, or 0 if it is absent.
+#[inline(always)]
+const fn byte_or_zero(byte: OptionU8) -> u8 {
+    match byte {
+        Some(byte) => byte.get(),
+        None => 0,
+    }
+}

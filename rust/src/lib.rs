@@ -1,41 +1,77 @@
-//! Number formats in a `u128`: what their fields are, how they are built, edited and checked.
+//! Number formats in a `u128`: how a number may be written, as 31 flags and six bytes, built field by field, read, checked
+//! and edited.
 //!
-//! Each call is one of a library that is written in Rattle and proved; this crate declares and calls it.
-//! Names of modules, types and methods are those of `lexical-util` 1.0.7. What differs:
-//!
-//! - No call can stand in a `const`, except [`NumberFormatBuilder::new`][format::NumberFormatBuilder::new].
-//! - [`NumberFormat`][format::NumberFormat], `format_error` and `format_is_valid` take the word as an argument,
-//!   not as a type parameter.
-//! - `build_strict` returns a `Result`, where `lexical-util` panics.
-//! - A letter that is base prefix, base suffix or exponent character stands for both its cases unless a flag
-//!   says that case counts, and a reserved bit makes a word unlawful.
-//! - [`edits`] is new.
+//! A format is for parsers and writers of numbers. It is a [`u128`], the *format word*, so it can be a const argument. A
+//! word that breaks no rule is *lawful*: each radix is 2 to 36, no two flags contradict, and no byte has two meanings.
 //!
 //! ```
-//! use peltzivar::edits::{edit_word, Edit};
-//! use peltzivar::format::{format_error, NumberFormatBuilder};
-//! use std::num::NonZeroU8;
+//! use core::num::NonZeroU8;
+//! use peltzivar::format::{NumberFormat, NumberFormatBuilder};
 //!
-//! let format = NumberFormatBuilder::new()
+//! /// Hexadecimal numbers such as `0x00_ff`. A format that is not lawful does not compile.
+//! const HEXADECIMAL: u128 = NumberFormatBuilder::new()
+//!     .mantissa_radix(16)
+//!     .base_prefix(NonZeroU8::new(b'x'))
 //!     .digit_separator(NonZeroU8::new(b'_'))
 //!     .internal_digit_separator(true)
-//!     .build_strict()?;
-//! let hexadecimal = edit_word(format, &[Edit::Radix(16), Edit::BasePrefix(NonZeroU8::new(b'x'))]);
-//! assert!(format_error(hexadecimal).is_success());
-//! # Ok::<(), peltzivar::error::Error>(())
+//!     .build_or_panic();
+//!
+//! /// Returns the digits of a text, without separators, or `None` if it has another byte.
+//! fn digits<const FORMAT: u128>(text: &[u8]) -> Option<usize> {
+//!     let format = NumberFormat::<FORMAT>::new();
+//!     let is_separator = |byte: u8| format.internal_digit_separator() && byte == format.digit_separator();
+//!     let digits = text.iter().filter(|byte| !is_separator(**byte));
+//!     digits.clone().all(|byte| format.is_digit(*byte)).then(|| digits.count())
+//! }
+//! assert_eq!(digits::<HEXADECIMAL>(b"00_ff"), Some(4));
+//! assert_eq!(digits::<HEXADECIMAL>(b"00-ff"), None);
 //! ```
-#![deny(unsafe_code, missing_docs)]
+//!
+//! # Where to begin
+//!
+//! | To | Use |
+//! |---|---|
+//! | write a format down as a constant | [`format::NumberFormatBuilder`], and its [`build_or_panic`][format::NumberFormatBuilder::build_or_panic] |
+//! | read settings when the program runs | [`edits::apply_all`] on a new builder, then [`build_strict`][format::NumberFormatBuilder::build_strict] |
+//! | read a word that is known when the program is compiled | [`format::NumberFormat`] |
+//! | read a word that is known only when the program runs | [`word::FormatView`] |
+//! | change a finished format, or compare two | [`edits::edit_word`], [`edits::same_format`] |
+//! | take words that `lexical-util` wrote | [`edits::migrate`] |
+//!
+//! # From `lexical-util`
+//!
+//! Modules, types and methods have the names that they have in `lexical-util` 1.0.7: a program changes the name of the
+//! crate in its `use` lines. These differ:
+//!
+//! - `build_strict` returns a `Result`; in a constant take `build_or_panic`.
+//! - A letter that is base prefix, base suffix or exponent character stands for both its cases unless a flag says that
+//!   case counts, and a reserved bit makes a word unlawful.
+//! - The slice tests of [`ascii`] are not `const`, and `build` is not deprecated.
+//! - The formats that `lexical-util` has ready made, such as `JSON`, are not here.
+//!
+//! [`word`] and [`edits`] are new.
+//!
+//! # What is proved
+//!
+//! The library is written in Rattle, Rust with contracts, and a prover has accepted every function. `rust/erase` in the
+//! repository leaves out what only the prover reads; the rest are these files, word for word, which begin with `Made by`.
+//! Written by hand are `format`, `feature_format`, `{:?}` of builders and views, and lanes of bytes in place of
+//! `std::simd`. Nothing is proved when you build this crate: you trust the eraser and `rustc`.
+#![no_std]
+#![forbid(unsafe_code)]
 
 pub mod ascii;
+mod debug;
+pub mod definitions;
 pub mod digit;
 pub mod edits;
 pub mod error;
 pub mod feature_format;
-#[allow(unsafe_code)]
-mod ffi;
 pub mod format;
 pub mod format_builder;
 pub mod format_flags;
-mod rows;
-#[cfg(test)]
-mod tests;
+mod lanes;
+mod view;
+pub mod word;
+
+impl core::error::Error for error::Error {}

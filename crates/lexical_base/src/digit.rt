@@ -84,6 +84,11 @@ pub const fn char_is_digit_const(c: u8, radix: u32) -> bool
 ///
 /// `digit` must be below 36, and should be below `radix`; any `radix` is allowed. Up to radix 10 it
 /// returns `b'0' + digit` even for a digit of 10 or more, which is then not a digit character.
+///
+/// # Panics
+///
+/// A call with a `digit` of 36 or more is not proved. In plain Rust it returns some byte, or panics if
+/// overflow is checked.
 #[inline(always)]
 #[tactic(auto, using(crate::proofs::ValueLemmas::values))]
 pub const fn digit_to_char_const(digit: u32, radix: u32) -> u8
@@ -125,6 +130,10 @@ pub const fn char_is_digit(c: u8, radix: u32) -> bool
 /// Returns the digit character of `digit`: `0` to `9`, or from 10 on an uppercase letter.
 ///
 /// `digit` must be below 36. Every radix above `digit` reads the character as `digit`.
+///
+/// # Panics
+///
+/// A call with a `digit` of 36 or more is not proved. In plain Rust it panics.
 #[inline(always)]
 pub const fn digit_to_char(digit: u32) -> u8
     requires { digit < 36 }

@@ -10,7 +10,8 @@ ghost use Rattle.lexical_util.specs.Options.{AreAccepted, HaveOneRole, LeavesRoo
 ghost use Rattle.lexical_c.specs.Outcomes.{IsRankOfOne};
 
 use crate::words::Word;
-use lexical_util::{format, format_flags as flags};
+use lexical_util::format::format_error;
+use lexical_util::format_flags as flags;
 
 /// Writes a word and returns 48 if it is lawful; else writes nothing and returns the rank of its error.
 #[inline(always)]
@@ -20,7 +21,7 @@ pub fn checked(word: u128, out: &mut Word) -> u32
     ensures written { result ≡ 48 → out.new ≡ word }
     ensures unchanged { (result ≡ 48 → ⊥) → out.new ≡ out.old }
 {
-    let error = format::format_error(word);
+    let error = format_error(word);
     if error.is_success() {
         *out = Word::new(word);
     }
@@ -33,7 +34,7 @@ pub extern "C" fn peltzivar_format_error(format: Word) -> u32
     ensures first { IsRankOfOne (IsErrorOf format) result }
     ensures lawful { (result ≡ 48) ↔ Lawful format }
 {
-    format::format_error(format.number()).rank() as u32
+    format_error(format.number()).rank() as u32
 }
 
 /// Returns the rank of the error of the first of the three radixes that is not 2 to 36, or 48.

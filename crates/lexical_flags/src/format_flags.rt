@@ -275,6 +275,11 @@ pub const fn exponent_radix(format: u128) -> u32
 /// the mantissa radix if these are 0. `shift` must be 0 to 127.
 ///
 /// With the mask and the shift of a byte, that is the byte, or the mantissa radix if the byte is 0.
+///
+/// # Panics
+///
+/// A call with another `shift` is not proved. In plain Rust it returns some number, or panics if overflow
+/// is checked.
 #[inline(always)]
 #[tactic(auto, using(crate::proofs::ByteParts::byte_parts, crate::proofs::CommonLemmas::common_part))]
 pub const fn radix_from_flags(format: u128, mask: u128, shift: i32) -> u32

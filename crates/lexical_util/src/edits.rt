@@ -77,53 +77,93 @@ mod listing;
 pub use listing::{edits_of, is_built};
 
 /// A builder setter that takes a `bool`: one for each flag, and one for each of the nine groups of
-/// flags. A variant stands for the setter of the same name in snake case.
-#[derive(Debug, Clone, Copy, PartialEq, Eq)]
+/// flags. A variant stands for the setter that its line names.
+#[derive(Debug, Clone, Copy, PartialEq, Eq, Hash)]
 pub enum FlagSetter {
+    /// `required_integer_digits`
     RequiredIntegerDigits,
+    /// `required_fraction_digits`
     RequiredFractionDigits,
+    /// `required_exponent_digits`
     RequiredExponentDigits,
+    /// `required_mantissa_digits`
     RequiredMantissaDigits,
+    /// `no_positive_mantissa_sign`
     NoPositiveMantissaSign,
+    /// `required_mantissa_sign`
     RequiredMantissaSign,
+    /// `no_exponent_notation`
     NoExponentNotation,
+    /// `no_positive_exponent_sign`
     NoPositiveExponentSign,
+    /// `required_exponent_sign`
     RequiredExponentSign,
+    /// `no_exponent_without_fraction`
     NoExponentWithoutFraction,
+    /// `no_special`
     NoSpecial,
+    /// `case_sensitive_special`
     CaseSensitiveSpecial,
+    /// `no_integer_leading_zeros`
     NoIntegerLeadingZeros,
+    /// `no_float_leading_zeros`
     NoFloatLeadingZeros,
+    /// `required_exponent_notation`
     RequiredExponentNotation,
+    /// `case_sensitive_exponent`
     CaseSensitiveExponent,
+    /// `case_sensitive_base_prefix`
     CaseSensitiveBasePrefix,
+    /// `case_sensitive_base_suffix`
     CaseSensitiveBaseSuffix,
+    /// `integer_internal_digit_separator`
     IntegerInternalDigitSeparator,
+    /// `fraction_internal_digit_separator`
     FractionInternalDigitSeparator,
+    /// `exponent_internal_digit_separator`
     ExponentInternalDigitSeparator,
+    /// `integer_leading_digit_separator`
     IntegerLeadingDigitSeparator,
+    /// `fraction_leading_digit_separator`
     FractionLeadingDigitSeparator,
+    /// `exponent_leading_digit_separator`
     ExponentLeadingDigitSeparator,
+    /// `integer_trailing_digit_separator`
     IntegerTrailingDigitSeparator,
+    /// `fraction_trailing_digit_separator`
     FractionTrailingDigitSeparator,
+    /// `exponent_trailing_digit_separator`
     ExponentTrailingDigitSeparator,
+    /// `integer_consecutive_digit_separator`
     IntegerConsecutiveDigitSeparator,
+    /// `fraction_consecutive_digit_separator`
     FractionConsecutiveDigitSeparator,
+    /// `exponent_consecutive_digit_separator`
     ExponentConsecutiveDigitSeparator,
+    /// `special_digit_separator`
     SpecialDigitSeparator,
+    /// `required_digits`
     RequiredDigits,
+    /// `internal_digit_separator`
     InternalDigitSeparator,
+    /// `leading_digit_separator`
     LeadingDigitSeparator,
+    /// `trailing_digit_separator`
     TrailingDigitSeparator,
+    /// `consecutive_digit_separator`
     ConsecutiveDigitSeparator,
+    /// `digit_separator_flags`
     DigitSeparatorFlags,
+    /// `integer_digit_separator_flags`
     IntegerDigitSeparatorFlags,
+    /// `fraction_digit_separator_flags`
     FractionDigitSeparatorFlags,
+    /// `exponent_digit_separator_flags`
     ExponentDigitSeparatorFlags,
 }
 
 /// A setter call of a builder, with its argument.
-#[derive(Debug, Clone, Copy, PartialEq, Eq)]
+#[derive(Debug, Clone, Copy, PartialEq, Eq, Hash)]
 pub enum Edit {
     /// Writes a flag, or every flag of a group.
     Flag(FlagSetter, bool),
@@ -226,7 +266,10 @@ const fn apply_flag(
     with_setters!(call_setter(builder, setter, flag))
 }
 
-/// Applies `edits` in order.
+/// Applies `edits` in order, as the setter calls that they stand for would be made.
+///
+/// To make a format of settings, apply them to a new builder and pack it strictly: exponent base and
+/// exponent radix then follow the mantissa radix, unless a setting writes them.
 pub const fn apply_all(mut builder: NumberFormatBuilder, edits: &[Edit]) -> NumberFormatBuilder
     ensures fields { result ≡ after builder (all_writes edits.now) }
     ensures legal { All IsLegal (all_writes edits.now) }
@@ -240,6 +283,9 @@ pub const fn apply_all(mut builder: NumberFormatBuilder, edits: &[Edit]) -> Numb
 }
 
 /// Applies `edits` in order to any word, lawful or not, and returns the new word.
+///
+/// This is for a finished format. An edit of the mantissa radix leaves exponent base and exponent radix
+/// as they were, also if they followed the old mantissa radix: for a fresh format see [`apply_all`].
 ///
 /// 1. The fields of `format` are read.
 /// 2. An exponent base or exponent radix of 0 is set to the mantissa radix.

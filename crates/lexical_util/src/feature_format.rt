@@ -26,9 +26,9 @@ mod getters;
 
 /// A format word, to be read field by field and checked.
 ///
-/// Every getter works on any word, lawful or not. In the Rust crate the word is a const generic
-/// argument of the type, and each field is also an associated constant; here there is only the
-/// getter.
+/// Every getter works on any word, lawful or not. The word is a value, which may be known only when the
+/// program runs; in the Rust crate it is a const generic argument of the type, and each field is also an
+/// associated constant.
 #[derive(Clone, Copy)]
 pub struct NumberFormat {
     format: u128,
@@ -77,6 +77,14 @@ impl NumberFormat {
         ensures { result ≡ format }
     {
         NumberFormat { format }
+    }
+
+    /// Returns the word. The Rust crate has no such function, since its word is part of the type.
+    #[inline(always)]
+    pub const fn word(&self) -> u128
+        ensures { result ≡ self.now }
+    {
+        self.format
     }
 
     // CHECKS

@@ -6,7 +6,7 @@ ghost use Rattle.lexical_builder.specs.OptionByte.{option_of_byte};
 use std::marker::Model;
 
 /// A nonzero byte. In a format word 0 means that the byte is absent.
-#[derive(Debug, Clone, Copy, PartialEq, Eq, PartialOrd, Ord)]
+#[derive(Debug, Clone, Copy, PartialEq, Eq, PartialOrd, Ord, Hash)]
 pub struct NonZeroU8 {
     value: u8,
 }

@@ -1,0 +1,61 @@
+// Made by rust/erase from crates/lexical_c/src/builders.rt: change that file.
+
+//! Builders, which are structs of fields here.
+
+use crate::changes::Change;
+use crate::edits::apply_changes;
+use crate::rules::checked;
+use crate::words::{Fields, Word};
+use peltzivar::format_builder::NumberFormatBuilder;
+
+/// Returns the fields of a word, empty exponent bytes filled from its mantissa radix.
+#[unsafe(no_mangle)]
+pub extern "C" fn peltzivar_fields_of(format: Word) -> Fields {
+    Fields::new(&NumberFormatBuilder::rebuild(format.number()))
+}
+
+/// Applies the changes to the fields in order and returns `true`. If one of them has no setter, it returns
+/// `false` and leaves the fields as they were.
+#[unsafe(no_mangle)]
+pub unsafe extern "C" fn peltzivar_edit_fields(
+    fields: &mut Fields,
+    changes: *const Change,
+    changes_len: usize,
+) -> bool {
+    let changes = unsafe { crate::slices::of(changes, changes_len) };
+    let Some(builder) = apply_changes(fields.builder(), changes) else {
+        return false;
+    };
+    *fields = Fields::new(&builder);
+    true
+}
+
+/// Packs the fields into a word, lawful or not.
+#[unsafe(no_mangle)]
+pub extern "C" fn peltzivar_pack(fields: &Fields) -> Word {
+    Word::new(fields.builder().build_unchecked())
+}
+
+/// Applies the changes to the fields in order, writes the word that they are packed into and returns `true`.
+/// If one of them has no setter, it returns `false` and writes nothing.
+#[unsafe(no_mangle)]
+pub unsafe extern "C" fn peltzivar_build(
+    fields: &Fields,
+    changes: *const Change,
+    changes_len: usize,
+    out: &mut Word,
+) -> bool {
+    let changes = unsafe { crate::slices::of(changes, changes_len) };
+    let Some(builder) = apply_changes(fields.builder(), changes) else {
+        return false;
+    };
+    *out = Word::new(builder.build_unchecked());
+    true
+}
+
+/// Packs the fields into a word. If it is lawful, writes it and returns 48; else writes nothing and returns
+/// the rank of its error.
+#[unsafe(no_mangle)]
+pub extern "C" fn peltzivar_build_strict(fields: &Fields, out: &mut Word) -> u32 {
+    checked(fields.builder().build_unchecked(), out)
+}

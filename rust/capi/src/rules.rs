@@ -1,0 +1,93 @@
+// Made by rust/erase from crates/lexical_c/src/rules.rt: change that file.
+
+//! The rules of words.
+
+use crate::words::Word;
+use peltzivar::format_flags as flags;
+use peltzivar::word::format_error;
+
+/// Writes a word and returns 48 if it is lawful; else writes nothing and returns the rank of its error.
+#[must_use]
+#[inline(always)]
+pub fn checked(word: u128, out: &mut Word) -> u32 {
+    let error = format_error(word);
+    if error.is_success() {
+        *out = Word::new(word);
+    }
+    error.rank() as u32
+}
+
+/// Returns the rank of the error of the first rule that a word breaks, or 48 if it is lawful.
+#[unsafe(no_mangle)]
+pub extern "C" fn peltzivar_format_error(format: Word) -> u32 {
+    format_error(format.number()).rank() as u32
+}
+
+/// Returns the rank of the error of the first of the three radixes that is not 2 to 36, or 48.
+#[unsafe(no_mangle)]
+pub extern "C" fn peltzivar_radix_error(format: Word) -> u32 {
+    flags::radix_error_impl(format.number()).rank() as u32
+}
+
+/// Returns whether a number is 2 to 36.
+#[unsafe(no_mangle)]
+pub extern "C" fn peltzivar_is_valid_radix(radix: u32) -> bool {
+    flags::is_valid_radix(radix)
+}
+
+/// Returns whether exponents are not both required and forbidden.
+#[unsafe(no_mangle)]
+pub extern "C" fn peltzivar_is_valid_exponent_flags(format: Word) -> bool {
+    flags::is_valid_exponent_flags(format.number())
+}
+
+/// Returns whether the digit separator is absent, or allowed ASCII that is no sign and no digit.
+#[unsafe(no_mangle)]
+pub extern "C" fn peltzivar_is_valid_digit_separator(format: Word) -> bool {
+    flags::is_valid_digit_separator(format.number())
+}
+
+/// Returns whether the base prefix is absent, or allowed ASCII that is no sign and no digit.
+#[unsafe(no_mangle)]
+pub extern "C" fn peltzivar_is_valid_base_prefix(format: Word) -> bool {
+    flags::is_valid_base_prefix(format.number())
+}
+
+/// Returns whether the base suffix is absent, or allowed ASCII that is no sign and no digit.
+#[unsafe(no_mangle)]
+pub extern "C" fn peltzivar_is_valid_base_suffix(format: Word) -> bool {
+    flags::is_valid_base_suffix(format.number())
+}
+
+/// Returns whether no byte is two of digit separator, base prefix and base suffix.
+#[unsafe(no_mangle)]
+pub extern "C" fn peltzivar_is_valid_punctuation(format: Word) -> bool {
+    flags::is_valid_punctuation(format.number())
+}
+
+/// Returns whether an exponent character and a decimal point fit a word.
+#[unsafe(no_mangle)]
+pub extern "C" fn peltzivar_is_valid_options_punctuation(
+    format: Word,
+    exponent: u8,
+    decimal_point: u8,
+) -> bool {
+    flags::is_valid_options_punctuation(format.number(), exponent, decimal_point)
+}
+
+/// Returns whether a byte is a digit of the mantissa radix or of the exponent radix.
+#[unsafe(no_mangle)]
+pub extern "C" fn peltzivar_is_digit(format: Word, byte: u8) -> bool {
+    flags::is_digit(format.number(), byte)
+}
+
+/// Returns the bits that a word and a mask have in common, shifted right, low 32 bits; the mantissa radix if
+/// these are 0; and `u32::MAX` for a shift of 128 or more.
+#[unsafe(no_mangle)]
+pub extern "C" fn peltzivar_radix_from_flags(format: Word, mask: Word, shift: u32) -> u32 {
+    if shift < 128 {
+        flags::radix_from_flags(format.number(), mask.number(), shift as i32)
+    } else {
+        u32::MAX
+    }
+}

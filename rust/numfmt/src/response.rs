@@ -1,0 +1,123 @@
+// Made by rust/erase from crates/numfmt/src/response.rt: change that file.
+
+//! The responses of the program: answers and refusals, their texts and their exit statuses.
+
+use crate::output::Output;
+use crate::source::write_source;
+use crate::word::word_text;
+use peltzivar::error::Error;
+use peltzivar::format_flags as flags;
+use std::io;
+use std::io::Write;
+
+/// The result of a command.
+#[derive(Clone, Copy)]
+pub enum Answer {
+    /// The fields of a format word.
+    Fields(u128),
+    /// A format word.
+    Word(u128),
+    /// Whether two format words mean the same.
+    Sameness(bool),
+    /// The first rule that a format word breaks, or `Success`.
+    Outcome(Error),
+    /// Whether an exponent byte and a point byte fit a format word.
+    Acceptance(bool),
+    /// The builder expression of a format word, and whether it makes the word itself.
+    Source(u128, bool),
+}
+
+/// Why arguments are refused.
+#[derive(Clone, Copy)]
+pub enum Refusal {
+    /// The first argument is not the name of a command.
+    UnknownCommand,
+    /// The command has another number of arguments.
+    WrongNumberOfArguments,
+    /// There are more than 64 edits.
+    TooManyEdits,
+    /// An argument is not the text of a format word.
+    BadWord,
+    /// An argument is not an edit.
+    BadEdit,
+    /// An argument is not a byte.
+    BadByte,
+}
+
+/// The exit status of a run that printed `response`: 0, 1 if the answer is no, or 2 for a refusal.
+#[must_use]
+pub fn exit_status(response: Result<Answer, Refusal>) -> u8 {
+    match response {
+        Ok(Answer::Sameness(false) | Answer::Acceptance(false) | Answer::Source(_, false)) => 1,
+        Ok(Answer::Outcome(error)) if error != Error::Success => 1,
+        Ok(_) => 0,
+        Err(_) => 2,
+    }
+}
+
+/// Writes the text of `response` to `out` and flushes it. After an error nothing more is written.
+pub fn print<W: Output>(response: Result<Answer, Refusal>, out: &mut W) -> io::Result<()> {
+    match response {
+        Ok(answer) => answer.print(out)?,
+        Err(refusal) => writeln!(out, "numfmt: {}", refusal.reason())?,
+    }
+    out.pass_on()
+}
+
+impl Refusal {
+    // The message after `numfmt: `.
+    fn reason(self) -> &'static str {
+        match self {
+            Refusal::UnknownCommand => "unknown command",
+            Refusal::WrongNumberOfArguments => "wrong number of arguments",
+            Refusal::TooManyEdits => "too many edits",
+            Refusal::BadWord => "bad word",
+            Refusal::BadEdit => "bad edit",
+            Refusal::BadByte => "bad byte",
+        }
+    }
+}
+
+impl Answer {
+    fn print<W: Write>(self, out: &mut W) -> io::Result<()> {
+        match self {
+            Answer::Fields(format) => print_fields(format, out),
+            Answer::Word(format) => print_word(format, out),
+            Answer::Sameness(true) => out.write_all(b"same\n"),
+            Answer::Sameness(false) => out.write_all(b"different\n"),
+            Answer::Outcome(error) => writeln!(out, "{error}"),
+            Answer::Acceptance(true) => out.write_all(b"accepted\n"),
+            Answer::Acceptance(false) => out.write_all(b"refused\n"),
+            Answer::Source(format, _) => print_source(format, out),
+        }
+    }
+}
+
+fn print_fields<W: Write>(format: u128, out: &mut W) -> io::Result<()> {
+    out.write_all(b"flags ")?;
+    print_word(format & flags::FLAG_MASK, out)?;
+    print_field(
+        "digit_separator",
+        u32::from(flags::digit_separator(format)),
+        out,
+    )?;
+    print_field("base_prefix", u32::from(flags::base_prefix(format)), out)?;
+    print_field("base_suffix", u32::from(flags::base_suffix(format)), out)?;
+    print_field("mantissa_radix", flags::mantissa_radix(format), out)?;
+    print_field("exponent_base", flags::exponent_base(format), out)?;
+    print_field("exponent_radix", flags::exponent_radix(format), out)
+}
+
+fn print_field<W: Write>(name: &str, value: u32, out: &mut W) -> io::Result<()> {
+    writeln!(out, "{name} {value}")
+}
+
+fn print_word<W: Write>(format: u128, out: &mut W) -> io::Result<()> {
+    out.write_all(&word_text(format))?;
+    out.write_all(b"\n")
+}
+
+fn print_source<W: Write>(format: u128, out: &mut W) -> io::Result<()> {
+    write_source(format, out)?;
+    out.write_all(b"\n")
+}

@@ -1,0 +1,63 @@
+//! What `{:?}` prints of a builder and of a view: the format word, and each field that differs from a new builder's.
+
+use core::fmt;
+
+use crate::edits::{edits_of, Edit};
+use crate::feature_format::NumberFormat;
+use crate::format_builder::{NumberFormatBuilder, OptionU8};
+use crate::format_flags::DIGIT_SEPARATOR_SHIFT;
+use crate::view::FormatView;
+
+/// A byte as its character; a byte of 0 is absent.
+fn character(byte: OptionU8) -> char {
+    char::from(byte.map_or(0, |byte| byte.get()))
+}
+
+fn number(byte: OptionU8) -> u8 {
+    byte.map_or(0, |byte| byte.get())
+}
+
+/// Writes a struct with the word and the fields of `fields`, a word too.
+fn write(f: &mut fmt::Formatter<'_>, name: &str, word: u128, fields: u128) -> fmt::Result {
+    let mut text = f.debug_struct(name);
+    text.field("word", &format_args!("{word:#034X}"));
+    let (edits, count) = edits_of(fields);
+    for edit in &edits[..count] {
+        match *edit {
+            Edit::Flag(setter, flag) => text.field(setter.name(), &flag),
+            Edit::DigitSeparator(byte) => text.field("digit_separator", &character(byte)),
+            Edit::BasePrefix(byte) => text.field("base_prefix", &character(byte)),
+            Edit::BaseSuffix(byte) => text.field("base_suffix", &character(byte)),
+            Edit::MantissaRadix(radix) | Edit::Radix(radix) => text.field("mantissa_radix", &radix),
+            Edit::ExponentBase(base) => text.field("exponent_base", &number(base)),
+            Edit::ExponentRadix(radix) => text.field("exponent_radix", &number(radix)),
+        };
+    }
+    text.finish()
+}
+
+/// Writes the word that the builder packs and its fields, also a digit separator that it does not pack.
+impl fmt::Debug for NumberFormatBuilder {
+    fn fmt(&self, f: &mut fmt::Formatter<'_>) -> fmt::Result {
+        let word = self.build_unchecked();
+        let separator = u128::from(number(self.get_digit_separator()));
+        write(
+            f,
+            "NumberFormatBuilder",
+            word,
+            word | separator << DIGIT_SEPARATOR_SHIFT,
+        )
+    }
+}
+
+impl fmt::Debug for FormatView {
+    fn fmt(&self, f: &mut fmt::Formatter<'_>) -> fmt::Result {
+        write(f, "FormatView", self.word(), self.word())
+    }
+}
+
+impl<const FORMAT: u128> fmt::Debug for NumberFormat<FORMAT> {
+    fn fmt(&self, f: &mut fmt::Formatter<'_>) -> fmt::Result {
+        write(f, "NumberFormat", FORMAT, FORMAT)
+    }
+}

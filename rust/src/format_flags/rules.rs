@@ -1,0 +1,445 @@
+// Made by rust/erase from crates/lexical_flags/src/format_flags/rules.rt: change that file.
+
+//! The rules of a format word: a test for each, and the error of the first that a word breaks.
+//!
+//! A word that breaks no rule is *lawful*; the view of a word calls it valid.
+
+use crate::ascii::is_valid_letter;
+use crate::digit::char_is_digit;
+use crate::error::Error;
+use crate::format_flags::*;
+
+// BYTES
+
+// For each byte, at its index, how many radixes leave it free: those below the entry. A digit is free in the
+// radixes up to its value, 0 and other text in all 256, and a sign and every other byte in none.
+const LIMITS: [u16; 256] = [
+    256, 0, 0, 0, 0, 0, 0, 0, 0, 256, 256, 256, 256, 256, 0, 0, 0, 0, 0, 0, 0, 0, 0, 0, 0, 0, 0, 0,
+    0, 0, 0, 0, 256, 256, 256, 256, 256, 256, 256, 256, 256, 256, 256, 0, 256, 0, 256, 256, 1, 2,
+    3, 4, 5, 6, 7, 8, 9, 10, 256, 256, 256, 256, 256, 256, 256, 11, 12, 13, 14, 15, 16, 17, 18, 19,
+    20, 21, 22, 23, 24, 25, 26, 27, 28, 29, 30, 31, 32, 33, 34, 35, 36, 256, 256, 256, 256, 256,
+    256, 11, 12, 13, 14, 15, 16, 17, 18, 19, 20, 21, 22, 23, 24, 25, 26, 27, 28, 29, 30, 31, 32,
+    33, 34, 35, 36, 256, 256, 256, 256, 0, 0, 0, 0, 0, 0, 0, 0, 0, 0, 0, 0, 0, 0, 0, 0, 0, 0, 0, 0,
+    0, 0, 0, 0, 0, 0, 0, 0, 0, 0, 0, 0, 0, 0, 0, 0, 0, 0, 0, 0, 0, 0, 0, 0, 0, 0, 0, 0, 0, 0, 0, 0,
+    0, 0, 0, 0, 0, 0, 0, 0, 0, 0, 0, 0, 0, 0, 0, 0, 0, 0, 0, 0, 0, 0, 0, 0, 0, 0, 0, 0, 0, 0, 0, 0,
+    0, 0, 0, 0, 0, 0, 0, 0, 0, 0, 0, 0, 0, 0, 0, 0, 0, 0, 0, 0, 0, 0, 0, 0, 0, 0, 0, 0, 0, 0, 0, 0,
+    0, 0, 0, 0, 0, 0, 0, 0, 0, 0, 0, 0, 0,
+];
+
+// The larger of two radixes: `max` of a trait cannot be called in a `const fn`.
+#[inline(always)]
+const fn larger(a: u32, b: u32) -> u32 {
+    if a < b {
+        b
+    } else {
+        a
+    }
+}
+
+/// Returns whether `byte` is a digit of numbers in this format: a digit of the mantissa radix or of
+/// the exponent radix. Letters are digits in both cases.
+///
+/// If the exponent radix of the format is 0, the mantissa radix stands for it. The exponent base
+/// has no digits. Any word and any byte may be passed. The Rust crate has no such function.
+#[must_use]
+#[inline(always)]
+pub const fn is_digit(format: u128, byte: u8) -> bool {
+    char_is_digit(byte, larger(mantissa_radix(format), exponent_radix(format)))
+}
+
+// Whether a byte is absent, or text that is no digit and no sign.
+#[inline(always)]
+const fn is_free(format: u128, byte: u8) -> bool {
+    let radix = larger(mantissa_radix(format), exponent_radix(format));
+    radix < LIMITS[byte as usize] as u32
+}
+
+// Whether a byte is such text.
+#[inline(always)]
+const fn is_punctuation(format: u128, byte: u8) -> bool {
+    byte != 0 && is_free(format, byte)
+}
+
+// Whether two bytes are the two cases of one letter.
+#[inline(always)]
+const fn are_cases(a: u8, b: u8) -> bool {
+    a ^ 0x20 == b && is_valid_letter(a)
+}
+
+// Whether no byte plays both of two roles. A role that is not case-sensitive is played by both
+// cases of its letter. A byte of 0 is absent: no byte plays its role.
+#[inline(always)]
+const fn are_disjoint(a: u8, a_case_counts: bool, b: u8, b_case_counts: bool) -> bool {
+    a == 0 || (a != b && (!are_cases(a, b) || (a_case_counts & b_case_counts)))
+}
+
+// The same, quicker: the two cases of a letter differ in the bit 0x20 alone, and most bytes differ
+// in another.
+#[inline(always)]
+const fn are_apart(a: u8, a_case_counts: bool, b: u8, b_case_counts: bool) -> bool {
+    (a | 0x20) != (b | 0x20) || are_disjoint(a, a_case_counts, b, b_case_counts)
+}
+
+// Whether two bytes, of which the first is there, have all bits but 0x20 in common. If not, their roles are
+// disjoint, whether case counts or not.
+#[inline(always)]
+const fn are_near(a: u8, b: u8) -> bool {
+    (a != 0) & (a | 0x20 == b | 0x20)
+}
+
+// Whether the base prefix is case-sensitive.
+#[inline(always)]
+const fn prefix_case_counts(format: u128) -> bool {
+    format & CASE_SENSITIVE_BASE_PREFIX != 0
+}
+
+// Whether the base suffix is case-sensitive.
+#[inline(always)]
+const fn suffix_case_counts(format: u128) -> bool {
+    format & CASE_SENSITIVE_BASE_SUFFIX != 0
+}
+
+// Whether the exponent character is case-sensitive.
+#[inline(always)]
+const fn exponent_case_counts(format: u128) -> bool {
+    format & CASE_SENSITIVE_EXPONENT != 0
+}
+
+// RADIXES
+
+/// Returns whether numbers can be written in a radix, that is, whether it is 2 to 36.
+#[must_use]
+#[inline(always)]
+pub const fn is_valid_radix(radix: u32) -> bool {
+    radix >= 2 && radix <= 36
+}
+
+// Whether the mantissa radix is 2 to 36.
+#[inline(always)]
+const fn is_valid_mantissa_radix(format: u128) -> bool {
+    is_valid_radix(mantissa_radix(format))
+}
+
+// Whether the exponent base, or the mantissa radix if that is 0, is 2 to 36.
+#[inline(always)]
+const fn is_valid_exponent_base(format: u128) -> bool {
+    is_valid_radix(exponent_base(format))
+}
+
+// Whether the exponent radix, or the mantissa radix if that is 0, is 2 to 36.
+#[inline(always)]
+const fn is_valid_exponent_radix(format: u128) -> bool {
+    is_valid_radix(exponent_radix(format))
+}
+
+// PUNCTUATION
+
+/// Returns whether the digit separator is 0, or allowed ASCII that is no sign and no digit of the
+/// mantissa or of the exponent.
+///
+/// The raw byte is tested: a digit is rejected even if no flag allows a separator, and 0 is accepted
+/// even if one does.
+#[must_use]
+#[inline(always)]
+pub const fn is_valid_digit_separator(format: u128) -> bool {
+    is_free(format, digit_separator(format))
+}
+
+/// Returns whether the base prefix is 0, or allowed ASCII that is no sign and no digit of the
+/// mantissa or of the exponent.
+#[must_use]
+#[inline(always)]
+pub const fn is_valid_base_prefix(format: u128) -> bool {
+    is_free(format, base_prefix(format))
+}
+
+/// Returns whether the base suffix is 0, or allowed ASCII that is no sign and no digit of the
+/// mantissa or of the exponent.
+#[must_use]
+#[inline(always)]
+pub const fn is_valid_base_suffix(format: u128) -> bool {
+    is_free(format, base_suffix(format))
+}
+
+/// Returns whether digit separator, base prefix and base suffix differ from each other.
+///
+/// A byte of 0 is absent and equals no other. A base prefix that is a letter stands for both cases
+/// of it unless [`CASE_SENSITIVE_BASE_PREFIX`] is set, and a base suffix unless
+/// [`CASE_SENSITIVE_BASE_SUFFIX`] is set: the prefix `h` and the suffix `H` clash unless both flags
+/// are set. The digit separator is always one byte. The Rust crate compares the raw bytes, so it
+/// accepts such a prefix and suffix with any flags.
+#[must_use]
+#[inline(always)]
+pub const fn is_valid_punctuation(format: u128) -> bool {
+    let separator = digit_separator(format);
+    let prefix = base_prefix(format);
+    let suffix = base_suffix(format);
+    let prefix_case = prefix_case_counts(format);
+    let suffix_case = suffix_case_counts(format);
+    let is_near =
+        are_near(separator, prefix) | are_near(separator, suffix) | are_near(prefix, suffix);
+    !is_near
+        || (are_disjoint(separator, true, prefix, prefix_case)
+            && are_disjoint(separator, true, suffix, suffix_case)
+            && are_disjoint(prefix, prefix_case, suffix, suffix_case))
+}
+
+// Whether a byte clashes with none of digit separator, base prefix and base suffix.
+#[inline(always)]
+const fn is_apart_from_own(format: u128, byte: u8, case_counts: bool) -> bool {
+    let prefix_case = prefix_case_counts(format);
+    let suffix_case = suffix_case_counts(format);
+    are_apart(byte, case_counts, digit_separator(format), true)
+        && are_apart(byte, case_counts, base_prefix(format), prefix_case)
+        && are_apart(byte, case_counts, base_suffix(format), suffix_case)
+}
+
+// Whether both bytes are punctuation that is not in use yet.
+#[inline(always)]
+const fn are_accepted(format: u128, exponent: u8, decimal_point: u8) -> bool {
+    let exponent_case = exponent_case_counts(format);
+    are_apart(exponent, exponent_case, decimal_point, true)
+        && is_punctuation(format, decimal_point)
+        && is_punctuation(format, exponent)
+        && is_apart_from_own(format, decimal_point, true)
+        && is_apart_from_own(format, exponent, exponent_case)
+}
+
+/// Returns whether `exponent` can be the exponent character and `decimal_point` the decimal point in
+/// numbers of this format.
+///
+/// Both have to be allowed ASCII that is no sign and no digit of the mantissa or of the exponent, so
+/// neither may be 0. They have to differ from each other and from digit separator, base prefix and
+/// base suffix. An exponent character that is a letter stands for both cases of it unless
+/// [`CASE_SENSITIVE_EXPONENT`] is set; base prefix and base suffix are compared as in
+/// [`is_valid_punctuation`]. The decimal point is always one byte. In a lawful format, no byte then
+/// has two meanings, and for every lawful format some such pair exists. The Rust crate compares the
+/// raw bytes.
+///
+/// # Proved
+///
+/// For all arguments; [`definitions`](crate::definitions) has the words.
+///
+/// ```text
+/// ensures accepted { IsTrue result ↔ AreAccepted format exponent decimal_point }
+/// // In a lawful format this is all that it takes for each byte to play at most one role.
+/// ensures roles { Lawful format → (IsTrue result ↔ HaveOneRole format exponent decimal_point) }
+/// ensures some { Lawful format → LeavesRoom format }
+/// ```
+#[must_use]
+#[inline(always)]
+pub const fn is_valid_options_punctuation(format: u128, exponent: u8, decimal_point: u8) -> bool {
+    are_accepted(format, exponent, decimal_point)
+}
+
+// FLAGS
+
+/// Returns whether [`NO_EXPONENT_NOTATION`] and [`REQUIRED_EXPONENT_NOTATION`] are not both set.
+#[must_use]
+#[inline(always)]
+pub const fn is_valid_exponent_flags(format: u128) -> bool {
+    format & NO_EXPONENT_NOTATION == 0 || format & REQUIRED_EXPONENT_NOTATION == 0
+}
+
+// Not both NO_POSITIVE_MANTISSA_SIGN and REQUIRED_MANTISSA_SIGN.
+#[inline(always)]
+const fn is_valid_mantissa_sign_flags(format: u128) -> bool {
+    format & NO_POSITIVE_MANTISSA_SIGN == 0 || format & REQUIRED_MANTISSA_SIGN == 0
+}
+
+// Not both NO_POSITIVE_EXPONENT_SIGN and REQUIRED_EXPONENT_SIGN.
+#[inline(always)]
+const fn is_valid_exponent_sign_flags(format: u128) -> bool {
+    format & NO_POSITIVE_EXPONENT_SIGN == 0 || format & REQUIRED_EXPONENT_SIGN == 0
+}
+
+// Not both NO_SPECIAL and CASE_SENSITIVE_SPECIAL.
+#[inline(always)]
+const fn is_valid_special_case_flags(format: u128) -> bool {
+    format & NO_SPECIAL == 0 || format & CASE_SENSITIVE_SPECIAL == 0
+}
+
+// Not both NO_SPECIAL and SPECIAL_DIGIT_SEPARATOR.
+#[inline(always)]
+const fn is_valid_special_separator_flags(format: u128) -> bool {
+    format & NO_SPECIAL == 0 || format & SPECIAL_DIGIT_SEPARATOR == 0
+}
+
+// Not INTEGER_CONSECUTIVE_DIGIT_SEPARATOR alone among the four separator flags of the integer.
+#[inline(always)]
+const fn is_valid_integer_consecutive_flags(format: u128) -> bool {
+    format & INTEGER_DIGIT_SEPARATOR_FLAG_MASK != INTEGER_CONSECUTIVE_DIGIT_SEPARATOR
+}
+
+// The same for the fraction.
+#[inline(always)]
+const fn is_valid_fraction_consecutive_flags(format: u128) -> bool {
+    format & FRACTION_DIGIT_SEPARATOR_FLAG_MASK != FRACTION_CONSECUTIVE_DIGIT_SEPARATOR
+}
+
+// The same for the exponent.
+#[inline(always)]
+const fn is_valid_exponent_consecutive_flags(format: u128) -> bool {
+    format & EXPONENT_DIGIT_SEPARATOR_FLAG_MASK != EXPONENT_CONSECUTIVE_DIGIT_SEPARATOR
+}
+
+/// Returns whether all reserved bits of `format` are 0. The Rust crate has no such function.
+#[must_use]
+#[inline(always)]
+pub const fn is_clean(format: u128) -> bool {
+    format & RESERVED_MASK == 0
+}
+
+// THE FIRST BROKEN RULE
+
+// The error of the first broken rule of radixes, or `Success`.
+#[inline(always)]
+const fn first_broken_radix(format: u128) -> Error {
+    if !is_valid_mantissa_radix(format) {
+        Error::InvalidMantissaRadix
+    } else if !is_valid_exponent_base(format) {
+        Error::InvalidExponentBase
+    } else if !is_valid_exponent_radix(format) {
+        Error::InvalidExponentRadix
+    } else {
+        Error::Success
+    }
+}
+
+// Whether all rules of punctuation are kept.
+#[inline(always)]
+const fn keeps_punctuation_rules(format: u128) -> bool {
+    let are_free = is_valid_digit_separator(format)
+        & is_valid_base_prefix(format)
+        & is_valid_base_suffix(format);
+    are_free && is_valid_punctuation(format)
+}
+
+// The same for the rules of punctuation. Most words keep them all, which takes fewer branches to see.
+#[inline(always)]
+const fn first_broken_punctuation(format: u128) -> Error {
+    if keeps_punctuation_rules(format) {
+        Error::Success
+    } else if !is_valid_digit_separator(format) {
+        Error::InvalidDigitSeparator
+    } else if !is_valid_base_prefix(format) {
+        Error::InvalidBasePrefix
+    } else if !is_valid_base_suffix(format) {
+        Error::InvalidBaseSuffix
+    } else {
+        Error::InvalidPunctuation
+    }
+}
+
+// Whether all rules of flags are kept.
+#[inline(always)]
+const fn keeps_flag_rules(format: u128) -> bool {
+    is_valid_exponent_flags(format)
+        & is_valid_mantissa_sign_flags(format)
+        & is_valid_exponent_sign_flags(format)
+        & is_valid_special_case_flags(format)
+        & is_valid_special_separator_flags(format)
+        & is_valid_integer_consecutive_flags(format)
+        & is_valid_fraction_consecutive_flags(format)
+        & is_valid_exponent_consecutive_flags(format)
+}
+
+// The same for the rules of flags.
+#[inline(always)]
+const fn first_broken_flags(format: u128) -> Error {
+    if keeps_flag_rules(format) {
+        Error::Success
+    } else if !is_valid_exponent_flags(format) {
+        Error::InvalidExponentFlags
+    } else if !is_valid_mantissa_sign_flags(format) {
+        Error::InvalidMantissaSign
+    } else if !is_valid_exponent_sign_flags(format) {
+        Error::InvalidExponentSign
+    } else if !is_valid_special_case_flags(format) || !is_valid_special_separator_flags(format) {
+        Error::InvalidSpecial
+    } else if !is_valid_integer_consecutive_flags(format) {
+        Error::InvalidConsecutiveIntegerDigitSeparator
+    } else if !is_valid_fraction_consecutive_flags(format) {
+        Error::InvalidConsecutiveFractionDigitSeparator
+    } else {
+        Error::InvalidConsecutiveExponentDigitSeparator
+    }
+}
+
+// The same for the rule of reserved bits.
+#[inline(always)]
+const fn first_broken_reserved(format: u128) -> Error {
+    if is_clean(format) {
+        Error::Success
+    } else {
+        Error::InvalidFlags
+    }
+}
+
+// The same for all rules.
+const fn first_broken(format: u128) -> Error {
+    match first_broken_radix(format) {
+        Error::Success => {}
+        error => return error,
+    }
+    match first_broken_punctuation(format) {
+        Error::Success => {}
+        error => return error,
+    }
+    match first_broken_flags(format) {
+        Error::Success => {}
+        error => return error,
+    }
+    first_broken_reserved(format)
+}
+
+/// Returns the error of the first of mantissa radix, exponent base and exponent radix that is not
+/// 2 to 36, and `Success` if all are.
+///
+/// If the exponent base or the exponent radix is 0, the mantissa radix stands for it.
+#[must_use]
+pub const fn radix_error_impl(format: u128) -> Error {
+    first_broken_radix(format)
+}
+
+/// Returns the error of the first rule that a format breaks, and `Success` if it breaks none, that
+/// is, if it is lawful.
+///
+/// The rules in their order, each with its error:
+///
+/// 1. The mantissa radix is 2 to 36: `InvalidMantissaRadix`.
+/// 2. The exponent base, or the mantissa radix if that is 0, is 2 to 36: `InvalidExponentBase`.
+/// 3. The exponent radix, or the mantissa radix if that is 0, is 2 to 36: `InvalidExponentRadix`.
+/// 4. The digit separator is valid ([`is_valid_digit_separator`]): `InvalidDigitSeparator`.
+/// 5. The base prefix is valid ([`is_valid_base_prefix`]): `InvalidBasePrefix`.
+/// 6. The base suffix is valid ([`is_valid_base_suffix`]): `InvalidBaseSuffix`.
+/// 7. These three differ ([`is_valid_punctuation`]): `InvalidPunctuation`.
+/// 8. Not both [`NO_EXPONENT_NOTATION`] and [`REQUIRED_EXPONENT_NOTATION`]: `InvalidExponentFlags`.
+/// 9. Not both [`NO_POSITIVE_MANTISSA_SIGN`] and [`REQUIRED_MANTISSA_SIGN`]: `InvalidMantissaSign`.
+/// 10. Not both [`NO_POSITIVE_EXPONENT_SIGN`] and [`REQUIRED_EXPONENT_SIGN`]: `InvalidExponentSign`.
+/// 11. Not both [`NO_SPECIAL`] and [`CASE_SENSITIVE_SPECIAL`]: `InvalidSpecial`.
+/// 12. Not both [`NO_SPECIAL`] and [`SPECIAL_DIGIT_SEPARATOR`]: `InvalidSpecial`.
+/// 13. Not [`INTEGER_CONSECUTIVE_DIGIT_SEPARATOR`] without an internal, leading or trailing flag of
+///     the integer: `InvalidConsecutiveIntegerDigitSeparator`.
+/// 14. The same for the fraction: `InvalidConsecutiveFractionDigitSeparator`.
+/// 15. The same for the exponent: `InvalidConsecutiveExponentDigitSeparator`.
+/// 16. All reserved bits are 0: `InvalidFlags`.
+///
+/// The Rust crate compares raw bytes in the seventh rule, and has no rule on reserved bits.
+///
+/// # Proved
+///
+/// For all arguments; [`definitions`](crate::definitions) has the words.
+///
+/// ```text
+/// ensures first { IsErrorOf format result }
+/// ensures lawful { (result ≡ Error.Success) ↔ Lawful format }
+/// ensures only { (other : Error) → IsErrorOf format other → other ≡ result }
+///
+/// // The error of reserved bits needs one that is set.
+/// ensures clean { IsClean format → result ≢ Error.InvalidFlags }
+/// ```
+#[must_use]
+pub const fn format_error_impl(format: u128) -> Error {
+    first_broken(format)
+}

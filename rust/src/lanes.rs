@@ -1,0 +1,122 @@
+//! Lanes of bytes: the part of `std::simd` that `ascii` uses, which stable Rust lacks. The compiler makes vector
+//! instructions of these loops, whose lengths it knows.
+
+use core::array;
+use core::ops::{BitAnd, Sub};
+
+/// `N` lanes.
+#[derive(Clone, Copy)]
+pub(crate) struct Simd<T, const N: usize>([T; N]);
+
+/// Whether something holds of each of `N` lanes.
+pub(crate) struct Mask<const N: usize>([bool; N]);
+
+impl<const N: usize> Simd<u8, N> {
+    /// Returns lanes that all have this value.
+    #[inline(always)]
+    pub(crate) fn splat(value: u8) -> Self {
+        Simd([value; N])
+    }
+
+    /// Returns lanes with these values.
+    #[inline(always)]
+    pub(crate) fn from_array(values: [u8; N]) -> Self {
+        Simd(values)
+    }
+
+    /// Returns what `of` gives of each lane and the lane of `other` at the same index.
+    #[inline(always)]
+    fn zip(mut self, other: Self, of: impl Fn(u8, u8) -> u8) -> Self {
+        for (lane, other) in self.0.iter_mut().zip(other.0) {
+            *lane = of(*lane, other);
+        }
+        self
+    }
+
+    /// Adds lane by lane; a sum above 255 is 255.
+    #[inline(always)]
+    pub(crate) fn saturating_add(self, other: Self) -> Self {
+        self.zip(other, u8::saturating_add)
+    }
+
+    /// Returns the larger of each two lanes.
+    #[inline(always)]
+    pub(crate) fn simd_max(self, other: Self) -> Self {
+        self.zip(other, u8::max)
+    }
+
+    /// Returns the smaller of each two lanes.
+    #[inline(always)]
+    pub(crate) fn simd_min(self, other: Self) -> Self {
+        self.zip(other, u8::min)
+    }
+
+    /// Returns for each lane whether it is above the lane of `other`.
+    #[inline(always)]
+    pub(crate) fn simd_gt(self, other: Self) -> Mask<N> {
+        Mask(array::from_fn(|index| self.0[index] > other.0[index]))
+    }
+}
+
+impl<const N: usize> BitAnd for Simd<u8, N> {
+    type Output = Self;
+
+    #[inline(always)]
+    fn bitand(self, other: Self) -> Self {
+        self.zip(other, |a, b| a & b)
+    }
+}
+
+/// Subtracts lane by lane, modulo 256.
+impl<const N: usize> Sub for Simd<u8, N> {
+    type Output = Self;
+
+    #[inline(always)]
+    fn sub(self, other: Self) -> Self {
+        self.zip(other, u8::wrapping_sub)
+    }
+}
+
+impl<const N: usize> Mask<N> {
+    /// Returns whether it holds of any lane.
+    #[inline(always)]
+    pub(crate) fn any(self) -> bool {
+        // It looks at all of them: a test after each would be slower.
+        self.0.into_iter().fold(false, |any, lane| any | lane)
+    }
+}
+
+#[cfg(test)]
+mod tests {
+    use super::Simd;
+
+    /// Each operation on each pair of bytes, in the last of three lanes, beside the same on numbers.
+    #[test]
+    fn each_pair_of_bytes() {
+        for a in 0..=255u8 {
+            for b in 0..=255u8 {
+                let lanes = |byte| Simd::from_array([0, 0, byte]);
+                let number = |byte| u32::from(byte);
+                let rows = [
+                    (
+                        lanes(a).saturating_add(lanes(b)),
+                        255.min(number(a) + number(b)),
+                    ),
+                    (lanes(a).simd_max(lanes(b)), number(a).max(number(b))),
+                    (lanes(a).simd_min(lanes(b)), number(a).min(number(b))),
+                    (lanes(a) & lanes(b), number(a) & number(b)),
+                    (lanes(a) - lanes(b), (256 + number(a) - number(b)) % 256),
+                ];
+                for (row, (lanes, wanted)) in rows.into_iter().enumerate() {
+                    assert_eq!(
+                        lanes.0.map(u32::from),
+                        [0, 0, wanted],
+                        "row {row} of {a} and {b}"
+                    );
+                }
+                assert_eq!(lanes(a).simd_gt(lanes(b)).any(), a > b, "{a} above {b}");
+            }
+        }
+        assert_eq!(Simd::<u8, 3>::splat(7).0, [7; 3]);
+    }
+}

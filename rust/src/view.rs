@@ -1,0 +1,230 @@
+// Made by rust/erase from crates/lexical_util/src/feature_format.rt: change that file.
+
+//! The view of a format word: reads each field, and checks the word.
+
+use crate::error::Error;
+use crate::format_builder::NumberFormatBuilder;
+use crate::format_flags as flags;
+use crate::format_flags::{format_error_impl, radix_error_impl};
+use crate::word::STANDARD;
+
+// Whether the word of a view has any bit of a mask.
+macro_rules! has_any {
+    ($view:ident, $MASK:ident) => {
+        $view.format & flags::$MASK != 0
+    };
+}
+
+mod getters;
+
+/// A format word, to be read field by field and checked.
+///
+/// Every getter works on any word, lawful or not. The word is a value, which may be known only when the
+/// program runs; in the Rust crate it is a const generic argument of the type, and each field is also an
+/// associated constant.
+#[derive(Clone, Copy, PartialEq, Eq, Hash)]
+pub struct FormatView {
+    format: u128,
+}
+
+impl Default for FormatView {
+    /// Returns the view of the standard format, which is what a new builder packs.
+    #[inline(always)]
+    fn default() -> Self {
+        FormatView { format: STANDARD }
+    }
+}
+
+impl FormatView {
+    // CONSTRUCTORS
+
+    /// Returns the view of `format`, which may be any word.
+    #[must_use]
+    #[inline(always)]
+    pub const fn new(format: u128) -> Self {
+        FormatView { format }
+    }
+
+    /// Returns the word. The Rust crate has no such function, since its word is part of the type.
+    #[must_use]
+    #[inline(always)]
+    pub const fn word(&self) -> u128 {
+        self.format
+    }
+
+    // CHECKS
+
+    /// Returns whether the word is lawful, that is, breaks none of the rules of
+    /// [`error`][Self::error].
+    #[must_use]
+    #[inline(always)]
+    pub const fn is_valid(&self) -> bool {
+        self.error().is_success()
+    }
+
+    /// Returns the error of the first rule that the word breaks, in the order of
+    /// [`format_error_impl`], or `Success` if it is lawful.
+    #[must_use]
+    #[inline(always)]
+    pub const fn error(&self) -> Error {
+        format_error_impl(self.format)
+    }
+
+    /// Returns whether the mantissa radix, the exponent base and the exponent radix are each 2 to
+    /// 36; an exponent byte of 0 counts as the mantissa radix.
+    #[must_use]
+    #[inline(always)]
+    pub const fn is_valid_radix(&self) -> bool {
+        self.error_radix().is_success()
+    }
+
+    /// Returns the error of the first of mantissa radix, exponent base and exponent radix that is
+    /// not 2 to 36, or `Success` if there is none.
+    #[must_use]
+    #[inline(always)]
+    pub const fn error_radix(&self) -> Error {
+        radix_error_impl(self.format)
+    }
+
+    // BYTES
+
+    /// Returns the raw digit separator byte, even if no flag allows a separator; 0 if there is
+    /// none. A parser skips it wherever a flag allows it, so that digits can be grouped, such as
+    /// the `_` in `1_000`. Default: 0.
+    #[must_use]
+    #[inline(always)]
+    pub const fn digit_separator(&self) -> u8 {
+        flags::digit_separator(self.format)
+    }
+
+    /// Returns whether the digit separator byte is not 0.
+    #[must_use]
+    #[inline(always)]
+    pub const fn has_digit_separator(&self) -> bool {
+        has_any!(self, DIGIT_SEPARATOR)
+    }
+
+    /// Returns the base prefix, 0 if there is none. A parser accepts it after a leading zero, such
+    /// as the `x` in `0x1F`. Default: 0.
+    #[must_use]
+    #[inline(always)]
+    pub const fn base_prefix(&self) -> u8 {
+        flags::base_prefix(self.format)
+    }
+
+    /// Returns whether the base prefix byte is not 0.
+    #[must_use]
+    #[inline(always)]
+    pub const fn has_base_prefix(&self) -> bool {
+        has_any!(self, BASE_PREFIX)
+    }
+
+    /// Returns the base suffix, 0 if there is none. A parser accepts it after the digits, such as
+    /// the `h` in `1Fh`. Default: 0.
+    #[must_use]
+    #[inline(always)]
+    pub const fn base_suffix(&self) -> u8 {
+        flags::base_suffix(self.format)
+    }
+
+    /// Returns whether the base suffix byte is not 0.
+    #[must_use]
+    #[inline(always)]
+    pub const fn has_base_suffix(&self) -> bool {
+        has_any!(self, BASE_SUFFIX)
+    }
+
+    // RADIXES
+
+    /// Returns the radix of the integer and fraction digits, 0 to 255; a lawful format has 2 to 36.
+    /// Default: 10.
+    #[must_use]
+    #[inline(always)]
+    pub const fn mantissa_radix(&self) -> u32 {
+        flags::mantissa_radix(self.format)
+    }
+
+    /// Returns the same as `mantissa_radix`.
+    #[must_use]
+    #[inline(always)]
+    pub const fn radix(&self) -> u32 {
+        self.mantissa_radix()
+    }
+
+    /// Returns the second power of the mantissa radix.
+    #[must_use]
+    #[inline(always)]
+    pub const fn radix2(&self) -> u32 {
+        let radix = self.mantissa_radix();
+        radix * radix
+    }
+
+    /// Returns the fourth power of the mantissa radix.
+    #[must_use]
+    #[inline(always)]
+    pub const fn radix4(&self) -> u32 {
+        let square = self.radix2();
+        square * square
+    }
+
+    /// Returns the eighth power of the mantissa radix modulo 2^32. It is exact up to radix 15; for
+    /// 16 it is 0.
+    #[must_use]
+    #[inline(always)]
+    pub const fn radix8(&self) -> u32 {
+        let fourth = self.radix4();
+        fourth.wrapping_mul(fourth)
+    }
+
+    /// Returns the base of the exponent: with base b, an exponent e multiplies by b^e. It is the
+    /// byte of the format, or the mantissa radix if that is 0; a lawful format has 2 to 36.
+    /// Default: the mantissa radix.
+    #[must_use]
+    #[inline(always)]
+    pub const fn exponent_base(&self) -> u32 {
+        flags::exponent_base(self.format)
+    }
+
+    /// Returns the radix of the exponent's digits: the byte of the format, or the mantissa radix if
+    /// that is 0; a lawful format has 2 to 36. Default: the mantissa radix.
+    #[must_use]
+    #[inline(always)]
+    pub const fn exponent_radix(&self) -> u32 {
+        flags::exponent_radix(self.format)
+    }
+
+    // DIGITS
+
+    /// Returns whether `byte` is a digit of numbers in this format: a digit of the mantissa radix or
+    /// of the exponent radix. Letters are digits in both cases.
+    #[must_use]
+    #[inline(always)]
+    pub const fn is_digit(&self, byte: u8) -> bool {
+        flags::is_digit(self.format, byte)
+    }
+
+    // BUILDERS
+
+    /// Returns a new builder, the same for every word.
+    #[must_use]
+    #[inline(always)]
+    pub const fn builder() -> NumberFormatBuilder {
+        NumberFormatBuilder::new()
+    }
+
+    /// Returns a builder with the fields of the word; an exponent base or exponent radix of 0
+    /// becomes the mantissa radix.
+    ///
+    /// # Proved
+    ///
+    /// For all arguments; [`definitions`](crate::definitions) has the words.
+    ///
+    /// ```text
+    /// ensures { result ≡ fill (raw self.now) }
+    /// ```
+    #[must_use]
+    #[inline(always)]
+    pub const fn rebuild(&self) -> NumberFormatBuilder {
+        NumberFormatBuilder::rebuild(self.format)
+    }
+}

@@ -1,0 +1,62 @@
+// Made by rust/erase from crates/lexical_util/src/format.rt: change that file.
+
+//! The standard format, the check of a word, and all names of `format_flags`, `format_builder` and
+//! `feature_format`.
+
+use crate::error::Error;
+pub use crate::format_builder::{NonZeroU8, NumberFormatBuilder, OptionU8};
+pub use crate::format_flags::{
+    base_prefix, base_suffix, digit_separator, exponent_base, exponent_radix, format_error_impl,
+    is_digit, is_valid_base_prefix, is_valid_base_suffix, is_valid_digit_separator,
+    is_valid_exponent_flags, is_valid_options_punctuation, is_valid_punctuation, is_valid_radix,
+    mantissa_radix, radix_error_impl, radix_from_flags, BASE_PREFIX, BASE_PREFIX_SHIFT,
+    BASE_SUFFIX, BASE_SUFFIX_SHIFT, CASE_SENSITIVE_BASE_PREFIX, CASE_SENSITIVE_BASE_SUFFIX,
+    CASE_SENSITIVE_EXPONENT, CASE_SENSITIVE_SPECIAL, CONSECUTIVE_DIGIT_SEPARATOR, DIGIT_SEPARATOR,
+    DIGIT_SEPARATOR_FLAG_MASK, DIGIT_SEPARATOR_SHIFT, EXPONENT_BASE, EXPONENT_BASE_SHIFT,
+    EXPONENT_CONSECUTIVE_DIGIT_SEPARATOR, EXPONENT_DIGIT_SEPARATOR_FLAG_MASK, EXPONENT_FLAG_MASK,
+    EXPONENT_INTERNAL_DIGIT_SEPARATOR, EXPONENT_LEADING_DIGIT_SEPARATOR, EXPONENT_RADIX,
+    EXPONENT_RADIX_SHIFT, EXPONENT_TRAILING_DIGIT_SEPARATOR, FLAG_MASK,
+    FRACTION_CONSECUTIVE_DIGIT_SEPARATOR, FRACTION_DIGIT_SEPARATOR_FLAG_MASK,
+    FRACTION_INTERNAL_DIGIT_SEPARATOR, FRACTION_LEADING_DIGIT_SEPARATOR,
+    FRACTION_TRAILING_DIGIT_SEPARATOR, INTEGER_CONSECUTIVE_DIGIT_SEPARATOR,
+    INTEGER_DIGIT_SEPARATOR_FLAG_MASK, INTEGER_INTERNAL_DIGIT_SEPARATOR,
+    INTEGER_LEADING_DIGIT_SEPARATOR, INTEGER_TRAILING_DIGIT_SEPARATOR, INTERFACE_FLAG_MASK,
+    INTERNAL_DIGIT_SEPARATOR, LEADING_DIGIT_SEPARATOR, MANTISSA_RADIX, MANTISSA_RADIX_SHIFT,
+    NO_EXPONENT_NOTATION, NO_EXPONENT_WITHOUT_FRACTION, NO_FLOAT_LEADING_ZEROS,
+    NO_INTEGER_LEADING_ZEROS, NO_POSITIVE_EXPONENT_SIGN, NO_POSITIVE_MANTISSA_SIGN, NO_SPECIAL,
+    RADIX, RADIX_MASK, RADIX_SHIFT, REQUIRED_DIGITS, REQUIRED_EXPONENT_DIGITS,
+    REQUIRED_EXPONENT_NOTATION, REQUIRED_EXPONENT_SIGN, REQUIRED_FRACTION_DIGITS,
+    REQUIRED_INTEGER_DIGITS, REQUIRED_MANTISSA_DIGITS, REQUIRED_MANTISSA_SIGN,
+    SPECIAL_DIGIT_SEPARATOR, TRAILING_DIGIT_SEPARATOR,
+};
+pub use crate::view::FormatView;
+
+/// The standard format: radix 10, digits required in the mantissa and in an exponent, and nothing
+/// else. It is what a new builder packs; its exponent base and exponent radix are 0, that is, they
+/// follow the mantissa radix.
+pub const STANDARD: u128 = 0x00000A00_00000000_00000000_0000000C;
+
+/// Returns whether `format` is lawful, as [`FormatView::is_valid`] does.
+#[must_use]
+#[inline(always)]
+pub const fn format_is_valid(format: u128) -> bool {
+    FormatView::new(format).is_valid()
+}
+
+/// Returns the error of the first rule that `format` breaks, or `Success`, as [`FormatView::error`]
+/// does.
+///
+/// # Proved
+///
+/// For all arguments; [`definitions`](crate::definitions) has the words.
+///
+/// ```text
+/// ensures first { IsErrorOf format result }
+/// ensures lawful { (result ≡ Error.Success) ↔ Lawful format }
+/// ensures only { (other : Error) → IsErrorOf format other → other ≡ result }
+/// ```
+#[must_use]
+#[inline(always)]
+pub const fn format_error(format: u128) -> Error {
+    FormatView::new(format).error()
+}
