@@ -75,3 +75,7 @@ mod view;
 pub mod word;
 
 impl core::error::Error for error::Error {}
+
+#[cfg(doctest)]
+#[doc = include_str!("../README.md")]
+struct Readme;
