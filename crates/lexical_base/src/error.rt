@@ -3,8 +3,8 @@
 //! A parser or a checker returns one [`Error`], and [`Error::Success`] if nothing is wrong. This
 //! crate only defines them; the crates above return them.
 
-ghost use Rattle.std.specs.Prelude.{◌≡◌, ◌↔◌, ◌<◌, IsTrue, IsSome, Some};
-ghost use Rattle.std.specs.Fmt.{WritesStyledOnOk, decimal};
+ghost use Rattle.std.specs.Prelude.{◌≡◌, ◌↔◌, ◌<◌, ◌∷◌, [], ◌+◌, ℕ, List, IsTrue, IsSome, IsErr, OnOk, Some, ⊤};
+ghost use Rattle.std.specs.Fmt.{HasWrittenStyled, IsFlush, WritesInCalls, decimal};
 ghost use Rattle.std.specs.Option.{option_copied};
 ghost use Rattle.std.specs.Cmp.{partial_order_from_own_ties};
 ghost use Rattle.std.specs.Cmp.Rules.{comparing};
@@ -721,31 +721,86 @@ impl fmt::Display for Error {
     ghost styled_output = { λ error spec. Some (printed_text error) };
 
     fn fmt<W: fmt::Write>(&self, f: &mut fmt::Formatter<W>) -> fmt::Result {
-        let rank = self.rank();
-        if rank < FIRST_FORMAT_ERROR {
-            f.write_str("lexical parse error: ")?;
-            f.write_str(self.description())?;
-            f.write_str(" at index ")?;
-            write_decimal(f, self.held_index())
-        } else if rank < FIRST_OPTIONS_ERROR {
-            f.write_str("lexical number format error: ")?;
-            f.write_str(self.description())
-        } else if rank < SUCCESS {
-            f.write_str("lexical options error: ")?;
-            f.write_str(self.description())
-        } else {
-            f.write_str(self.description())
-        }
+        put_error(f, self)
     }
 }
 
-// Writes `n` in decimal, whatever options `f` has.
-fn write_decimal<W: fmt::Write>(f: &mut fmt::Formatter<W>, n: usize) -> fmt::Result
-    ensures { WritesStyledOnOk W.write_str_gives f.old result (decimal n) f.new }
+// What a text is put into, piece by piece.
+//
+// What a piece does to it, and when it has failed, is up to the sink. So a function over any `Sink` knows that
+// it has failed only from a piece that failed, and no longer after the next one.
+trait Sink {
+    // Relates the sink before a piece that succeeds, the bytes of the piece, and the sink after it.
+    ghost takes: { Self → List ℕ → Self → Type 0 };
+
+    // The last piece failed.
+    ghost has_failed: { Self → Type 0 };
+
+    fn put(&mut self, piece: &str) -> fmt::Result
+        ensures taken { OnOk result (takes self.old piece.now self.new) }
+        ensures failed { IsErr result → has_failed self.new };
+}
+
+// Std says nothing of a formatter that failed.
+impl<W: fmt::Write> Sink for fmt::Formatter<W> {
+    ghost takes = { λ f text g. IsFlush f → HasWrittenStyled W.write_str_gives f text g };
+
+    ghost has_failed = { λ _. ⊤ };
+
+    fn put(&mut self, piece: &str) -> fmt::Result {
+        self.write_str(piece)
+    }
+}
+
+// Puts the text of an error, whatever options the sink has. Fails only if the sink does.
+fn put_error<S: Sink>(out: &mut S, error: &Error) -> fmt::Result
+    ensures text { OnOk result (WritesInCalls S.takes out.old (printed_text error.now) out.new) }
+    ensures failed { IsErr result → S.has_failed out.new }
+{
+    let rank = error.rank();
+    if rank < FIRST_FORMAT_ERROR {
+        out.put("lexical parse error: ")?;
+        out.put(error.description())?;
+        out.put(" at index ")?;
+        put_decimal(out, error.held_index())
+    } else if rank < FIRST_OPTIONS_ERROR {
+        out.put("lexical number format error: ")?;
+        out.put(error.description())
+    } else if rank < SUCCESS {
+        out.put("lexical options error: ")?;
+        out.put(error.description())
+    } else {
+        out.put(error.description())
+    }
+}
+
+// Puts `n` in decimal.
+fn put_decimal<S: Sink>(out: &mut S, n: usize) -> fmt::Result
+    ensures text { OnOk result (WritesInCalls S.takes out.old (decimal n) out.new) }
+    ensures failed { IsErr result → S.has_failed out.new }
 {
     let has_front = n >= 10;
     if has_front {
-        write_decimal(f, n / 10)?;
+        put_decimal(out, n / 10)?;
     }
-    f.write_char(char::from(b'0' + (n % 10) as u8))
+    out.put(digit_text(n % 10))
+}
+
+// The digit character of `digit`, which is below 10.
+#[inline(always)]
+const fn digit_text(digit: usize) -> &'static str
+    ensures { digit < 10 → result.now ≡ (48 + digit) ∷ [] }
+{
+    match digit {
+        0 => "0",
+        1 => "1",
+        2 => "2",
+        3 => "3",
+        4 => "4",
+        5 => "5",
+        6 => "6",
+        7 => "7",
+        8 => "8",
+        _ => "9",
+    }
 }
