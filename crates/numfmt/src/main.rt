@@ -19,7 +19,7 @@
 //! printed.
 #![tactic(auto)]
 
-ghost use Rattle.std.specs.Prelude.{◌≡◌, ◌≤◌, IsErr};
+ghost use Rattle.std.specs.Prelude.{◌≡◌, ◌≤◌, IsErr, IsOk};
 
 mod command;
 mod edit;
@@ -31,10 +31,10 @@ mod response;
 mod source;
 mod word;
 
+use output::Output;
 use program::run;
 use std::alloc::AllocError;
 use std::env;
-use std::io::Write;
 use std::process::ExitCode;
 
 fn main(rt: HostRuntime) -> ExitCode {
@@ -48,9 +48,10 @@ fn main(rt: HostRuntime) -> ExitCode {
 
 // The exit status of a run with these arguments; 3 if there was no memory to collect them, and then
 // nothing is printed.
-fn run_collected<W: Write>(args: Result<Vec<String>, AllocError>, out: &mut W) -> u8
+fn run_collected<W: Output>(args: Result<Vec<String>, AllocError>, out: &mut W) -> u8
     ensures no_memory { IsErr args → (result ≡ 3) × (W.contents out.new ≡ W.contents out.old) }
     ensures status { result ≤ 3 }
+    ensures failed { IsOk args → result ≡ 3 → W.has_failed out.new }
 {
     match args {
         Ok(args) => run(args.as_slice(), out),

@@ -1,6 +1,6 @@
 //! The responses of the program: answers and refusals, their texts and their exit statuses.
 
-ghost use Rattle.std.specs.Prelude.{◌≡◌, ◌++◌, OnOk, codes, decimal};
+ghost use Rattle.std.specs.Prelude.{◌≡◌, ◌++◌, IsErr, OnOk, codes, decimal};
 ghost use Rattle.std.specs.Io.KnownBytes.{Appends};
 ghost use Rattle.numfmt.specs.WordText.{printed};
 ghost use Rattle.numfmt.specs.Source.{source_text};
@@ -12,7 +12,6 @@ use crate::word::word_text;
 use lexical_util::error::Error;
 use lexical_util::format_flags as flags;
 use std::io;
-use std::io::Write;
 
 /// The result of a command.
 #[derive(Clone, Copy)]
@@ -64,12 +63,13 @@ pub fn exit_status(response: Result<Answer, Refusal>) -> u8
 pub fn print<W: Output>(response: Result<Answer, Refusal>, out: &mut W) -> io::Result<()>
     ensures text { OnOk result (Appends (W.contents out.old) (W.contents out.new) (text_of response)) }
     ensures flushed { OnOk result (W.is_flushed out.new) }
+    ensures failed { IsErr result → W.has_failed out.new }
 {
     match response {
         Ok(answer) => answer.print(out)?,
         Err(refusal) => writeln!(out, "numfmt: {}", refusal.reason())?,
     }
-    out.pass_on()
+    out.flush()
 }
 
 impl Refusal {
@@ -89,8 +89,9 @@ impl Refusal {
 }
 
 impl Answer {
-    fn print<W: Write>(self, out: &mut W) -> io::Result<()>
-        ensures { OnOk result (Appends (W.contents out.old) (W.contents out.new) (answer_text self)) }
+    fn print<W: Output>(self, out: &mut W) -> io::Result<()>
+        ensures text { OnOk result (Appends (W.contents out.old) (W.contents out.new) (answer_text self)) }
+        ensures failed { IsErr result → W.has_failed out.new }
     {
         match self {
             Answer::Fields(format) => print_fields(format, out),
@@ -105,8 +106,9 @@ impl Answer {
     }
 }
 
-fn print_fields<W: Write>(format: u128, out: &mut W) -> io::Result<()>
-    ensures { OnOk result (Appends (W.contents out.old) (W.contents out.new) (fields format)) }
+fn print_fields<W: Output>(format: u128, out: &mut W) -> io::Result<()>
+    ensures text { OnOk result (Appends (W.contents out.old) (W.contents out.new) (fields format)) }
+    ensures failed { IsErr result → W.has_failed out.new }
 {
     out.write_all(b"flags ")?;
     print_word(format & flags::FLAG_MASK, out)?;
@@ -122,21 +124,24 @@ fn print_fields<W: Write>(format: u128, out: &mut W) -> io::Result<()>
     print_field("exponent_radix", flags::exponent_radix(format), out)
 }
 
-fn print_field<W: Write>(name: &str, value: u32, out: &mut W) -> io::Result<()>
-    ensures { OnOk result (Appends (W.contents out.old) (W.contents out.new) (line (field name.now (decimal value)))) }
+fn print_field<W: Output>(name: &str, value: u32, out: &mut W) -> io::Result<()>
+    ensures text { OnOk result (Appends (W.contents out.old) (W.contents out.new) (line (field name.now (decimal value)))) }
+    ensures failed { IsErr result → W.has_failed out.new }
 {
     writeln!(out, "{name} {value}")
 }
 
-fn print_word<W: Write>(format: u128, out: &mut W) -> io::Result<()>
-    ensures { OnOk result (Appends (W.contents out.old) (W.contents out.new) (line (printed format))) }
+fn print_word<W: Output>(format: u128, out: &mut W) -> io::Result<()>
+    ensures text { OnOk result (Appends (W.contents out.old) (W.contents out.new) (line (printed format))) }
+    ensures failed { IsErr result → W.has_failed out.new }
 {
     out.write_all(&word_text(format))?;
     out.write_all(b"\n")
 }
 
-fn print_source<W: Write>(format: u128, out: &mut W) -> io::Result<()>
-    ensures { OnOk result (Appends (W.contents out.old) (W.contents out.new) (line (source_text format))) }
+fn print_source<W: Output>(format: u128, out: &mut W) -> io::Result<()>
+    ensures text { OnOk result (Appends (W.contents out.old) (W.contents out.new) (line (source_text format))) }
+    ensures failed { IsErr result → W.has_failed out.new }
 {
     write_source(format, out)?;
     out.write_all(b"\n")

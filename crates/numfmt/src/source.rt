@@ -1,22 +1,23 @@
 //! The builder expression of a format word: the fewest setter calls that make its fields, as Rust code.
 
-ghost use Rattle.std.specs.Prelude.{◌≡◌, OnOk, decimal};
+ghost use Rattle.std.specs.Prelude.{◌≡◌, IsErr, OnOk, decimal};
 ghost use Rattle.std.specs.Io.KnownBytes.{Appends};
 ghost use Rattle.numfmt.specs.EditText.{truth_text};
 ghost use Rattle.numfmt.specs.Source.{call, call_text, option_text, source_text};
 
+use crate::output::Output;
 use lexical_util::edits::{Edit, edits_of};
 use lexical_util::format_builder::OptionU8;
 use std::io;
-use std::io::Write;
 
 /// Writes `word` as Rust code: a new builder, the fewest setter calls that make the word's fields, and
 /// the packing, such as `NumberFormatBuilder::new().mantissa_radix(16).build_unchecked()`.
 ///
 /// Any word may be passed. The expression makes the word itself exactly if `is_built` is true of it.
 /// After an error nothing is known of what was written.
-pub fn write_source<W: Write>(word: u128, out: &mut W) -> io::Result<()>
-    ensures { OnOk result (Appends (W.contents out.old) (W.contents out.new) (source_text word)) }
+pub fn write_source<W: Output>(word: u128, out: &mut W) -> io::Result<()>
+    ensures text { OnOk result (Appends (W.contents out.old) (W.contents out.new) (source_text word)) }
+    ensures failed { IsErr result → W.has_failed out.new }
 {
     let (edits, count) = edits_of(word);
     out.write_all(b"NumberFormatBuilder::new()")?;
@@ -27,8 +28,9 @@ pub fn write_source<W: Write>(word: u128, out: &mut W) -> io::Result<()>
 }
 
 // Writes the setter call that an edit stands for.
-fn write_call<W: Write>(edit: Edit, out: &mut W) -> io::Result<()>
-    ensures { OnOk result (Appends (W.contents out.old) (W.contents out.new) (call_text edit)) }
+fn write_call<W: Output>(edit: Edit, out: &mut W) -> io::Result<()>
+    ensures text { OnOk result (Appends (W.contents out.old) (W.contents out.new) (call_text edit)) }
+    ensures failed { IsErr result → W.has_failed out.new }
 {
     match edit {
         Edit::Flag(setter, true) => write!(out, ".{}(true)", setter.name()),
@@ -44,8 +46,9 @@ fn write_call<W: Write>(edit: Edit, out: &mut W) -> io::Result<()>
 }
 
 // Writes the call of a setter whose byte may be absent.
-fn write_option<W: Write>(name: &str, byte: OptionU8, out: &mut W) -> io::Result<()>
-    ensures { OnOk result (Appends (W.contents out.old) (W.contents out.new) (call name.now (option_text byte))) }
+fn write_option<W: Output>(name: &str, byte: OptionU8, out: &mut W) -> io::Result<()>
+    ensures text { OnOk result (Appends (W.contents out.old) (W.contents out.new) (call name.now (option_text byte))) }
+    ensures failed { IsErr result → W.has_failed out.new }
 {
     match byte {
         Some(byte) => write!(out, ".{name}(NonZeroU8::new({}))", byte.get()),

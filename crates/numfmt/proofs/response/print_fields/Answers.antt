@@ -15,14 +15,14 @@ end : {T E : Type 0} (r : Result T E) (a b : Option (List ℕ)) (text : List ℕ
     → OnOk r (Appends a b (text ++ []))
 end r a b text written = rw (append-nil text) written
 
-pub returns : goal.returns
-returns g c =
+pub returns-clause-text : goal.returns-clause-text
+returns-clause-text g c =
     let last = c.print_field-6.result in
-    let flags = Appends-trans _ _ _ (codes "flags ") _ c.in_ok-write_all.ensures.bytes c.in_ok-print_word.ensures in
+    let flags = Appends-trans _ _ _ (codes "flags ") _ c.in_ok-write_all.ensures.bytes c.in_ok-print_word.ensures.text in
     then last _ _ _ _ _ flags (
-    then last _ _ _ _ _ (rw (c.from.ensures ∙ c.digit_separator.ensures) at c.in_ok-print_field.ensures) (
-    then last _ _ _ _ _ (rw (c.from-2.ensures ∙ c.base_prefix.ensures) at c.in_ok-print_field-2.ensures) (
-    then last _ _ _ _ _ (rw (c.from-3.ensures ∙ c.base_suffix.ensures) at c.in_ok-print_field-3.ensures) (
-    then last _ _ _ _ _ (rw c.mantissa_radix.ensures.value at c.in_ok-print_field-4.ensures) (
-    then last _ _ _ _ _ (rw c.exponent_base.ensures.value at c.in_ok-print_field-5.ensures) (
-    end last _ _ _ (rw c.exponent_radix.ensures.value at c.print_field-6.ensures)))))))
+    then last _ _ _ _ _ (rw (c.from.ensures ∙ c.digit_separator.ensures) at c.in_ok-print_field.ensures.text) (
+    then last _ _ _ _ _ (rw (c.from-2.ensures ∙ c.base_prefix.ensures) at c.in_ok-print_field-2.ensures.text) (
+    then last _ _ _ _ _ (rw (c.from-3.ensures ∙ c.base_suffix.ensures) at c.in_ok-print_field-3.ensures.text) (
+    then last _ _ _ _ _ (rw c.mantissa_radix.ensures.value at c.in_ok-print_field-4.ensures.text) (
+    then last _ _ _ _ _ (rw c.exponent_base.ensures.value at c.in_ok-print_field-5.ensures.text) (
+    end last _ _ _ (rw c.exponent_radix.ensures.value at c.print_field-6.ensures.text)))))))

@@ -10,7 +10,7 @@ use Rattle.numfmt.proofs.SourceLemmas.{calls_more, all_written}
 use Rattle.numfmt.proofs.source.write_source.Goals as goal
 
 pub loop-edit-init : goal.loop-edit-init
-loop-edit-init g c = Appends-nil (g.W.Write.contents c.write_all.new.self)
+loop-edit-init g c = Appends-nil (g.W.Output.contents c.write_all.new.self)
 
 pub loop-edit-preserved : goal.loop-edit-preserved
 loop-edit-preserved g c =
@@ -20,12 +20,12 @@ loop-edit-preserved g c =
     let item : get_or list i edit ≡ edit = cc in
     let more : calls_text (take (i + 1) list) ≡ calls_text (take i list) ++ call_text edit =
     calls_more list i edit c.loop-edit-test.true ∙ ap (λ e. calls_text (take i list) ++ call_text e) item in
-    subst (Appends (g.W.Write.contents c.write_all.new.self) (g.W.Write.contents c.write_call.new.out)) (sym more)
-    (Appends-trans _ _ _ _ _ c.loop-edit.invariant c.in_ok-write_call.ensures)
+    subst (Appends (g.W.Output.contents c.write_all.new.self) (g.W.Output.contents c.write_call.new.out)) (sym more)
+    (Appends-trans _ _ _ _ _ c.loop-edit.invariant c.in_ok-write_call.ensures.text)
 
-pub returns : goal.returns
+pub returns-clause-text : goal.returns-clause-text
 unfolding source_text
-returns g c =
+returns-clause-text g c =
     let edits = c.edits_of-edits in
     let list = take edits.result.1 edits.result.0 in
     let fields = raw c.args.word in

@@ -5,5 +5,5 @@ use Rattle.numfmt.proofs.source.write_source.Given as goal
 
 abbrev pub invariant-loop-edit : goal.invariant-loop-edit
 invariant-loop-edit g l =
-    let contents = g.W.Write.contents in
+    let contents = g.W.Output.contents in
     Appends (contents l.initial.out) (contents l.out) (calls_text (take l.edit-index l.edit-items))
