@@ -1,5 +1,5 @@
-//! That `Display` fails only if its formatter fails, which no clause says; and the tests, the order and
-//! some texts of outcomes. `recorded` has the text of each.
+//! That `Display` has no error of its own at any of many indexes, and fails exactly if its formatter does, of which
+//! std says nothing; and the tests, the order and some texts of outcomes. `recorded` has the text of each.
 
 use lexical_util::error::Error;
 use std::fmt;
@@ -139,6 +139,25 @@ fn fails_only_if_its_formatter_fails(rt: HostRuntime) {
     for index in INDEXES {
         for error in &outcomes(index) {
             assert!(rt; fails_exactly_without_room(error));
+        }
+    }
+}
+
+// Whether all 49 outcomes can be printed, the parse errors at this index.
+fn print_at(index: usize) -> bool {
+    outcomes(index).iter().all(|error| write!(&mut FullWriter { room: 200 }, "{error}").is_ok())
+}
+
+#[test]
+fn prints_at_every_index(rt: HostRuntime) {
+    for index in 0..10_000 {
+        assert!(rt; print_at(index));
+    }
+    let mut power = 1usize;
+    for _ in 1..20 {
+        power = power.saturating_mul(10);
+        for index in [power.saturating_sub(1), power, power.saturating_add(1)] {
+            assert!(rt; print_at(index));
         }
     }
 }
