@@ -1,8 +1,8 @@
 //! Builders, which are structs of fields here.
 
-ghost use Rattle.std.specs.Prelude.{◌≡◌, ◌↔◌, IsTrue, IsFalse, All};
+ghost use Rattle.std.specs.Prelude.{◌≡◌, ◌↔◌, ◌<◌, ◌^◌, IsTrue, IsFalse, All, length};
 ghost use Rattle.lexical_util.specs.Record.{raw, fill, trim, pack};
-ghost use Rattle.lexical_util.specs.Layout.{IsClean};
+ghost use Rattle.lexical_util.specs.Layout.{IsClean, flags};
 ghost use Rattle.lexical_util.specs.Rules.{IsErrorOf, Lawful};
 ghost use Rattle.lexical_util.specs.Writes.{after};
 ghost use Rattle.lexical_util.specs.Edits.{all_writes};
@@ -16,21 +16,23 @@ use crate::rules::checked;
 use crate::words::{Fields, Word};
 use lexical_util::format_builder::NumberFormatBuilder;
 
-/// Returns the fields of a word, empty exponent bytes filled from its mantissa radix.
+/// Returns the fields of a word, empty exponent bytes filled from its mantissa radix. The bits above the flags are 0.
 #[unsafe(no_mangle)]
 pub extern "C" fn peltzivar_fields_of(format: Word) -> Fields
-    ensures { fields_of result ≡ fill (raw format) }
+    ensures fields { fields_of result ≡ fill (raw format) }
+    ensures clear { result.flags < 2 ^ length flags }
 {
     Fields::new(&NumberFormatBuilder::rebuild(format.number()))
 }
 
-/// Applies the changes to the fields in order and returns `true`. If one of them has no setter, it returns
-/// `false` and leaves the fields as they were.
+/// Applies the changes to the fields in order, clears the bits above the flags and returns `true`. If one of the
+/// changes has no setter, it returns `false` and leaves the fields as they were.
 #[unsafe(no_mangle)]
 pub extern "C" fn peltzivar_edit_fields(fields: &mut Fields, changes: &[Change]) -> bool
     ensures known { IsTrue result ↔ All HasSetter changes.now }
     ensures fields { IsTrue result → fields_of fields.new
         ≡ after (fields_of fields.old) (all_writes (known changes.now)) }
+    ensures clear { IsTrue result → fields.new.flags < 2 ^ length flags }
     ensures unchanged { IsFalse result → fields.new ≡ fields.old }
 {
     let Some(builder) = apply_changes(fields.builder(), changes) else {

@@ -4,10 +4,12 @@ ghost use Rattle.std.specs.Prelude.{◌≡◌, ◌+◌, ◌-◌, ◌^◌, true, 
 ghost use Rattle.lexical_util.specs.Layout.{special_digit_separator};
 ghost use Rattle.lexical_util.specs.Record.{pack};
 ghost use Rattle.lexical_util.specs.Fields.{builder_bit, record_of_parts};
+ghost use Rattle.lexical_util.specs.declared.error.Error.TheVariants as errors;
 ghost use Rattle.lexical_util.specs.declared.edits.Edit.TheVariants as edits;
 ghost use Rattle.lexical_util.specs.declared.edits.FlagSetter.TheVariants as setters;
 ghost use Rattle.lexical_c.specs.Edits.{first_byte, setter_count, edit_of_numbers, name_of_setter};
-ghost use Rattle.lexical_c.specs.Texts.{written_over};
+ghost use Rattle.lexical_c.specs.Outcomes.{IsRankOfOne};
+ghost use Rattle.lexical_c.specs.Texts.{IsWritten, written_over};
 
 /// What numbers stand for, and what of a text has room.
 #[tactic(auto, unfolding(lexical_util::specs::Unfoldable::word_of))]
@@ -27,4 +29,15 @@ pub fn crossing_examples()
     // The front of a longer text, and a shorter one whole.
     ensures front { written_over (1 ∷ 2 ∷ 3 ∷ []) (9 ∷ 9 ∷ []) ≡ 1 ∷ 2 ∷ [] }
     ensures whole { written_over (1 ∷ 2 ∷ []) (9 ∷ 9 ∷ 9 ∷ []) ≡ 1 ∷ 2 ∷ 9 ∷ [] }
+{}
+
+/// The rank of an outcome with a property, and a text with its length, as they are returned.
+pub fn returned_examples()
+    ensures rank { IsRankOfOne (λ error. error ≡ errors.Success) 48 }
+    ensures other_rank { IsRankOfOne (λ error. error ≡ errors.Success) 47 → ⊥ }
+    ensures no_outcome { IsRankOfOne (λ error. ⊥) 48 → ⊥ }
+
+    ensures written { IsWritten (1 ∷ 2 ∷ []) 2 (9 ∷ []) (1 ∷ []) }
+    ensures other_byte { IsWritten (1 ∷ 2 ∷ []) 2 (9 ∷ []) (8 ∷ []) → ⊥ }
+    ensures other_length { IsWritten (1 ∷ 2 ∷ []) 1 (9 ∷ []) (1 ∷ []) → ⊥ }
 {}

@@ -1,6 +1,7 @@
 //! The structs that stand for a word and for the fields of a builder.
 
-ghost use Rattle.std.specs.Prelude.{◌≡◌};
+ghost use Rattle.std.specs.Prelude.{◌≡◌, ◌<◌, ◌^◌, length};
+ghost use Rattle.lexical_util.specs.Layout.{flags};
 ghost use Rattle.lexical_c.specs.Words.{fields_of};
 
 use lexical_util::format_builder::NumberFormatBuilder;
@@ -70,7 +71,8 @@ impl Fields {
     #[inline(always)]
     #[tactic(auto, using(crate::proofs::FieldLemmas::same_fields))]
     pub fn new(builder: &NumberFormatBuilder) -> Fields
-        ensures { fields_of result ≡ builder.now }
+        ensures fields { fields_of result ≡ builder.now }
+        ensures clear { result.flags < 2 ^ length flags }
     {
         let (flags, bytes) = builder.to_parts();
         Fields {
