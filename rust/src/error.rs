@@ -6,7 +6,7 @@
 //! crate only defines them; the crates above return them.
 
 use core::cmp::Ordering;
-use core::fmt::{self, Write as _};
+use core::fmt;
 
 // The rank of the first error of formats, which follows the parse errors.
 const FIRST_FORMAT_ERROR: u8 = 19;
@@ -618,29 +618,66 @@ impl PartialOrd for Error {
 /// Width, fill, alignment, sign and precision are ignored. Fails only if the formatter does.
 impl fmt::Display for Error {
     fn fmt(&self, f: &mut fmt::Formatter<'_>) -> fmt::Result {
-        let rank = self.rank();
-        if rank < FIRST_FORMAT_ERROR {
-            f.write_str("lexical parse error: ")?;
-            f.write_str(self.description())?;
-            f.write_str(" at index ")?;
-            write_decimal(f, self.held_index())
-        } else if rank < FIRST_OPTIONS_ERROR {
-            f.write_str("lexical number format error: ")?;
-            f.write_str(self.description())
-        } else if rank < SUCCESS {
-            f.write_str("lexical options error: ")?;
-            f.write_str(self.description())
-        } else {
-            f.write_str(self.description())
-        }
+        put_error(f, self)
     }
 }
 
-// Writes `n` in decimal, whatever options `f` has.
-fn write_decimal(f: &mut fmt::Formatter<'_>, n: usize) -> fmt::Result {
+// What a text is put into, piece by piece.
+//
+// What a piece does to it, and when it has failed, is up to the sink. So a function over any `Sink` knows that
+// it has failed only from a piece that failed, and no longer after the next one.
+trait Sink {
+    fn put(&mut self, piece: &str) -> fmt::Result;
+}
+
+// Std says nothing of a formatter that failed.
+impl Sink for fmt::Formatter<'_> {
+    fn put(&mut self, piece: &str) -> fmt::Result {
+        self.write_str(piece)
+    }
+}
+
+// Puts the text of an error, whatever options the sink has. Fails only if the sink does.
+fn put_error<S: Sink>(out: &mut S, error: &Error) -> fmt::Result {
+    let rank = error.rank();
+    if rank < FIRST_FORMAT_ERROR {
+        out.put("lexical parse error: ")?;
+        out.put(error.description())?;
+        out.put(" at index ")?;
+        put_decimal(out, error.held_index())
+    } else if rank < FIRST_OPTIONS_ERROR {
+        out.put("lexical number format error: ")?;
+        out.put(error.description())
+    } else if rank < SUCCESS {
+        out.put("lexical options error: ")?;
+        out.put(error.description())
+    } else {
+        out.put(error.description())
+    }
+}
+
+// Puts `n` in decimal.
+fn put_decimal<S: Sink>(out: &mut S, n: usize) -> fmt::Result {
     let has_front = n >= 10;
     if has_front {
-        write_decimal(f, n / 10)?;
+        put_decimal(out, n / 10)?;
     }
-    f.write_char(char::from(b'0' + (n % 10) as u8))
+    out.put(digit_text(n % 10))
+}
+
+// The digit character of `digit`, which is below 10.
+#[inline(always)]
+const fn digit_text(digit: usize) -> &'static str {
+    match digit {
+        0 => "0",
+        1 => "1",
+        2 => "2",
+        3 => "3",
+        4 => "4",
+        5 => "5",
+        6 => "6",
+        7 => "7",
+        8 => "8",
+        _ => "9",
+    }
 }

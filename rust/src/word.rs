@@ -7,7 +7,7 @@ use crate::error::Error;
 pub use crate::format_builder::{NonZeroU8, NumberFormatBuilder, OptionU8};
 pub use crate::format_flags::{
     base_prefix, base_suffix, digit_separator, exponent_base, exponent_radix, format_error_impl,
-    is_digit, is_valid_base_prefix, is_valid_base_suffix, is_valid_digit_separator,
+    is_clean, is_digit, is_valid_base_prefix, is_valid_base_suffix, is_valid_digit_separator,
     is_valid_exponent_flags, is_valid_options_punctuation, is_valid_punctuation, is_valid_radix,
     mantissa_radix, radix_error_impl, radix_from_flags, BASE_PREFIX, BASE_PREFIX_SHIFT,
     BASE_SUFFIX, BASE_SUFFIX_SHIFT, CASE_SENSITIVE_BASE_PREFIX, CASE_SENSITIVE_BASE_SUFFIX,

@@ -8,14 +8,14 @@ use crate::rules::checked;
 use crate::words::{Fields, Word};
 use peltzivar::format_builder::NumberFormatBuilder;
 
-/// Returns the fields of a word, empty exponent bytes filled from its mantissa radix.
+/// Returns the fields of a word, empty exponent bytes filled from its mantissa radix. The bits above the flags are 0.
 #[unsafe(no_mangle)]
 pub extern "C" fn peltzivar_fields_of(format: Word) -> Fields {
     Fields::new(&NumberFormatBuilder::rebuild(format.number()))
 }
 
-/// Applies the changes to the fields in order and returns `true`. If one of them has no setter, it returns
-/// `false` and leaves the fields as they were.
+/// Applies the changes to the fields in order, clears the bits above the flags and returns `true`. If one of the
+/// changes has no setter, it returns `false` and leaves the fields as they were.
 #[unsafe(no_mangle)]
 pub unsafe extern "C" fn peltzivar_edit_fields(
     fields: &mut Fields,

@@ -1,22 +1,36 @@
 // Made by rust/erase from crates/numfmt/src/output.rt: change that file.
 
-//! Writers and what a flush of them does, of which std's `Write` says nothing.
+//! What the program writes to, with words for what std's `Write` leaves open: an error, and a flush.
 
+use std::fmt::Arguments;
 use std::io;
 use std::io::Write;
 
-/// A writer that may hold back what was written.
+/// A writer that may fail, and that may hold back what was written.
 ///
-/// What `is_flushed` means is up to the writer. So a function over any `Output` knows it only after
-/// `pass_on`, and no longer after the next write.
-pub trait Output: Write {
+/// What `has_failed` and `is_flushed` mean is up to the writer. So a function over any `Output` knows that it has
+/// failed only from a call that failed, that it is flushed only from a flush, and neither after the next call.
+pub trait Output {
+    fn write_all(&mut self, bytes: &[u8]) -> io::Result<()>;
+
+    /// What `write!` and `writeln!` call.
+    fn write_fmt(&mut self, text: Arguments<'_>) -> io::Result<()>;
+
     /// Passes on all that was written.
-    fn pass_on(&mut self) -> io::Result<()>;
+    fn flush(&mut self) -> io::Result<()>;
 }
 
-// Each writer passes on by its flush; what that did is not known here.
+// Of each writer std knows the contents alone.
 impl<W: Write> Output for W {
-    fn pass_on(&mut self) -> io::Result<()> {
-        self.flush()
+    fn write_all(&mut self, bytes: &[u8]) -> io::Result<()> {
+        Write::write_all(self, bytes)
+    }
+
+    fn write_fmt(&mut self, text: Arguments<'_>) -> io::Result<()> {
+        Write::write_fmt(self, text)
+    }
+
+    fn flush(&mut self) -> io::Result<()> {
+        Write::flush(self)
     }
 }

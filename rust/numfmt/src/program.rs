@@ -3,8 +3,8 @@
 //! The program over its arguments and a writer.
 
 use crate::command::response_to;
+use crate::output::Output;
 use crate::response::{exit_status, print};
-use std::io::Write;
 
 /// Runs the command in `args`, the program's arguments without its name, and returns the exit
 /// status: 0 for success or yes, 1 for no, 2 for refused arguments, and 3 if `out` failed.
@@ -12,7 +12,7 @@ use std::io::Write;
 /// All text is written to `out`, which is flushed at the end. After a write or a flush that fails
 /// nothing more is written.
 #[must_use]
-pub fn run<W: Write>(args: &[String], out: &mut W) -> u8 {
+pub fn run<W: Output>(args: &[String], out: &mut W) -> u8 {
     let response = response_to(args);
     match print(response, out) {
         Ok(()) => exit_status(response),

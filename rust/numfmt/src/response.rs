@@ -8,7 +8,6 @@ use crate::word::word_text;
 use peltzivar::error::Error;
 use peltzivar::format_flags as flags;
 use std::io;
-use std::io::Write;
 
 /// The result of a command.
 #[derive(Clone, Copy)]
@@ -61,7 +60,7 @@ pub fn print<W: Output>(response: Result<Answer, Refusal>, out: &mut W) -> io::R
         Ok(answer) => answer.print(out)?,
         Err(refusal) => writeln!(out, "numfmt: {}", refusal.reason())?,
     }
-    out.pass_on()
+    out.flush()
 }
 
 impl Refusal {
@@ -79,7 +78,7 @@ impl Refusal {
 }
 
 impl Answer {
-    fn print<W: Write>(self, out: &mut W) -> io::Result<()> {
+    fn print<W: Output>(self, out: &mut W) -> io::Result<()> {
         match self {
             Answer::Fields(format) => print_fields(format, out),
             Answer::Word(format) => print_word(format, out),
@@ -93,7 +92,7 @@ impl Answer {
     }
 }
 
-fn print_fields<W: Write>(format: u128, out: &mut W) -> io::Result<()> {
+fn print_fields<W: Output>(format: u128, out: &mut W) -> io::Result<()> {
     out.write_all(b"flags ")?;
     print_word(format & flags::FLAG_MASK, out)?;
     print_field(
@@ -108,16 +107,16 @@ fn print_fields<W: Write>(format: u128, out: &mut W) -> io::Result<()> {
     print_field("exponent_radix", flags::exponent_radix(format), out)
 }
 
-fn print_field<W: Write>(name: &str, value: u32, out: &mut W) -> io::Result<()> {
+fn print_field<W: Output>(name: &str, value: u32, out: &mut W) -> io::Result<()> {
     writeln!(out, "{name} {value}")
 }
 
-fn print_word<W: Write>(format: u128, out: &mut W) -> io::Result<()> {
+fn print_word<W: Output>(format: u128, out: &mut W) -> io::Result<()> {
     out.write_all(&word_text(format))?;
     out.write_all(b"\n")
 }
 
-fn print_source<W: Write>(format: u128, out: &mut W) -> io::Result<()> {
+fn print_source<W: Output>(format: u128, out: &mut W) -> io::Result<()> {
     write_source(format, out)?;
     out.write_all(b"\n")
 }

@@ -2,17 +2,17 @@
 
 //! The builder expression of a format word: the fewest setter calls that make its fields, as Rust code.
 
+use crate::output::Output;
 use peltzivar::edits::{edits_of, Edit};
 use peltzivar::format_builder::OptionU8;
 use std::io;
-use std::io::Write;
 
 /// Writes `word` as Rust code: a new builder, the fewest setter calls that make the word's fields, and
 /// the packing, such as `NumberFormatBuilder::new().mantissa_radix(16).build_unchecked()`.
 ///
 /// Any word may be passed. The expression makes the word itself exactly if `is_built` is true of it.
 /// After an error nothing is known of what was written.
-pub fn write_source<W: Write>(word: u128, out: &mut W) -> io::Result<()> {
+pub fn write_source<W: Output>(word: u128, out: &mut W) -> io::Result<()> {
     let (edits, count) = edits_of(word);
     out.write_all(b"NumberFormatBuilder::new()")?;
     for edit in &edits[..count] {
@@ -22,7 +22,7 @@ pub fn write_source<W: Write>(word: u128, out: &mut W) -> io::Result<()> {
 }
 
 // Writes the setter call that an edit stands for.
-fn write_call<W: Write>(edit: Edit, out: &mut W) -> io::Result<()> {
+fn write_call<W: Output>(edit: Edit, out: &mut W) -> io::Result<()> {
     match edit {
         Edit::Flag(setter, true) => write!(out, ".{}(true)", setter.name()),
         Edit::Flag(setter, false) => write!(out, ".{}(false)", setter.name()),
@@ -37,7 +37,7 @@ fn write_call<W: Write>(edit: Edit, out: &mut W) -> io::Result<()> {
 }
 
 // Writes the call of a setter whose byte may be absent.
-fn write_option<W: Write>(name: &str, byte: OptionU8, out: &mut W) -> io::Result<()> {
+fn write_option<W: Output>(name: &str, byte: OptionU8, out: &mut W) -> io::Result<()> {
     match byte {
         Some(byte) => write!(out, ".{name}(NonZeroU8::new({}))", byte.get()),
         None => write!(out, ".{name}(None)"),
