@@ -63,7 +63,7 @@
 //! pub record HaveOneRole (word exponent_byte point_byte : ℕ) : Type 0 where
 //!   pub exponent_is_text : IsTrue (allowed_ascii exponent_byte)
 //!   pub point_is_text : IsTrue (allowed_ascii point_byte)
-//!   pub roles : ArePairwise Disjoint (seven_roles (raw word) exponent_byte point_byte)
+//!   pub roles : AreDisjoint (seven_roles (raw word) exponent_byte point_byte)
 //! ```
 //!
 //! # `LeavesRoom`

@@ -18,7 +18,7 @@ pub fn role_examples()
     ensures other_role { IsRoleOf 0x0A0A0A00_00000000_00000000_0000000C 0x65 0x2E 0x2B (Some roles.Digit) → ⊥ }
     ensures one_role { IsRoleOf 0x0A0A0A00_00000000_00000000_0000000C 0x65 0x2E 0x2B None → ⊥ }
 {
-    flags::examples::role_examples();
+    flags::role_facts();
 }
 
 /// Texts that are read up to an index, in decimal.

@@ -15,7 +15,6 @@ ghost use Rattle.callers.specs.Reading.{number_of, IsNumeral, IsRefusal};
 
 use crate::read::read_digits;
 use lexical_util::error::Error;
-use lexical_util::laws;
 
 /// Decimal numbers with `_` between digits, such as `1_000.000_1e1_0`.
 pub const DECIMAL: u128 = 0x0A0A0A00_0000005F_00000007_0000000C;
@@ -52,9 +51,7 @@ pub fn decimal_facts()
     ensures after_digits { (raw DECIMAL).integer_trailing_digit_separator ≡ false }
     ensures lawful { Lawful DECIMAL }
     ensures options { AreAccepted DECIMAL EXPONENT POINT }
-{
-    laws::flags::literal_facts();
-}
+{}
 
 /// What is known of [`RUST_INTEGER`].
 #[tactic(auto, unfolding(lexical_util::specs::Unfoldable::on_literals))]
@@ -71,9 +68,7 @@ pub fn rust_integer_facts()
     ensures no_exponent { (raw RUST_INTEGER).no_exponent_notation ≡ true }
     ensures lawful { Lawful RUST_INTEGER }
     ensures options { AreAccepted RUST_INTEGER EXPONENT POINT }
-{
-    laws::flags::literal_facts();
-}
+{}
 
 /// What is known of [`HEXADECIMAL_FLOAT`].
 #[tactic(auto, unfolding(lexical_util::specs::Unfoldable::on_literals))]
@@ -89,9 +84,7 @@ pub fn hexadecimal_float_facts()
     ensures no_separator { (raw HEXADECIMAL_FLOAT).digit_separator ≡ 0 }
     ensures lawful { Lawful HEXADECIMAL_FLOAT }
     ensures options { AreAccepted HEXADECIMAL_FLOAT HEXADECIMAL_EXPONENT POINT }
-{
-    laws::flags::literal_facts();
-}
+{}
 
 /// What is known of [`OCTAL`].
 #[tactic(auto, unfolding(lexical_util::specs::Unfoldable::on_literals))]
@@ -103,9 +96,7 @@ pub fn octal_facts()
     ensures no_separator { (raw OCTAL).digit_separator ≡ 0 }
     ensures lawful { Lawful OCTAL }
     ensures options { AreAccepted OCTAL EXPONENT POINT }
-{
-    laws::flags::literal_facts();
-}
+{}
 
 /// Reads a decimal number of 64 bits with `_` between digits, such as `1_000`. The error names the
 /// index of the first byte that may not stand there, as [`read_digits`] does.

@@ -2,10 +2,10 @@
 
 ghost use Rattle.std.specs.Prelude.{◌≡◌, ◌↔◌, ◌⊎◌, IsTrue, IsOk, IfOk, IfErr, Some};
 ghost use Rattle.lexical_util.specs.Record.{raw};
-ghost use Rattle.lexical_util.specs.Roles.{cased, exponent as exponent_set, prefix, role_set, signs, suffix};
+ghost use Rattle.lexical_util.specs.Roles.{cased, exponent as exponent_set, prefix, signs, suffix};
 ghost use Rattle.lexical_util.specs.Rules.{Lawful, IsErrorOf};
 ghost use Rattle.lexical_util.specs.Options.{AreAccepted};
-ghost use Rattle.callers.specs.Playing.{IsRoleOf, named};
+ghost use Rattle.callers.specs.Playing.{IsRoleOf, role_set};
 ghost use Rattle.callers.specs.declared.roles.Role as roles;
 
 use crate::read::is_separator;
@@ -88,7 +88,7 @@ pub fn checked_role_of(
 fn one_role(format: u128, exponent: u8, decimal_point: u8, byte: u8)
     requires lawful { Lawful format }
     requires accepted { AreAccepted format exponent decimal_point }
-    ensures { (role : roles.Role) → IsTrue (role_set (raw format) exponent decimal_point (named role) byte)
+    ensures { (role : roles.Role) → IsTrue (role_set (raw format) exponent decimal_point role byte)
         → IsRoleOf format exponent decimal_point byte (Some role) }
 {
     laws::flags::role_facts();

@@ -1,34 +1,45 @@
--- The format of one radix passes the tests of the rules exactly if numbers can be written in that radix.
-use Rattle.std.proofs.Common.{ℕ, ◌≡◌, ◌↔◌, ◌<◌, Bool, true, false, Decides, refl, sym, ap, ◌∙◌}
-use Rattle.std.proofs.lemmas.Bool.{false≢true, leb-true, le-leb, agree_below_at}
-use Rattle.std.proofs.lemmas.Bool.Decides.{Decides-and}
-use Rattle.lexical_base.specs.declared.error.Error.{Error}
-use Rattle.lexical_base.specs.declared.error.Error.TheVariants.{Success}
-use Rattle.lexical_flags.specs.Computed.{is_radix, error_at, on_literals}
-use Rattle.lexical_flags.specs.Record.{pack}
-use Rattle.lexical_flags.specs.Rules.{IsRadix}
+-- The format of one radix is lawful exactly if numbers can be written in that radix.
+use Rattle.std.proofs.Common.{ℕ, ◌≡◌, ◌↔◌, ◌<◌, inl, refl, sym, subst, arith}
+use Rattle.std.proofs.lemmas.Bool.Decides.{nat_tests}
+use Rattle.lexical_flags.specs.Layout as layout
+use Rattle.lexical_flags.specs.Literals.{on_literals}
+use Rattle.lexical_flags.specs.Record.{Record, HasBytes, raw, pack, byte_of}
+use Rattle.lexical_flags.specs.Rules as rules
+use Rattle.lexical_flags.specs.Rules.{Rule, IsRadix, Demands, Holds, Lawful}
+use Rattle.lexical_flags.proofs.Packing.{raw-pack, pack-clean}
 use Rattle.lexical_builder.specs.Writes.{radix_record}
 
--- whether an error is Success
-abbrev is_success : Error → Bool
-is_success Success = true
-is_success _ = false
+-- each byte of its record is 0 to 255
+radix-bytes : (radix : ℕ) → radix < 256 → HasBytes (radix_record radix)
+radix-bytes radix fits = record { each = each } where
+  each : (b : layout.Byte) → byte_of (radix_record radix) b < 256
+  each layout.digit_separator = omega arith
+  each _ = omega arith
 
-success_from : (error : Error) → is_success error ≡ true → error ≡ Success
-success_from Success e = refl
-success_from _ e = absurd (false≢true e)
+raw-radix : (radix : ℕ) → radix < 256 → raw (pack (radix_record radix)) ≡ radix_record radix
+raw-radix radix fits = raw-pack (radix_record radix) (radix-bytes radix fits)
 
--- each of the 256 bytes is tried
-tried : (radix : ℕ) → radix < 256 → is_success (error_at (pack (radix_record radix))) ≡ is_radix radix
+-- its fields meet what each rule demands
+radix-demands : (radix : ℕ) → IsRadix radix → (rule : Rule) → Demands rule (radix_record radix)
 unfolding on_literals
-tried radix fits = agree_below_at (λ n. is_success (error_at (pack (radix_record n)))) is_radix 256 radix refl fits
+radix-demands radix h rules.exponent_base_in_range = grind (arith, nat_tests)
+radix-demands radix h rules.exponent_radix_in_range = grind (arith, nat_tests)
+radix-demands radix h rules.digit_separator_is_free = inl refl
+radix-demands radix h rules.base_prefix_is_free = inl refl
+radix-demands radix h rules.base_suffix_is_free = inl refl
+radix-demands radix h _ = search
 
-IsRadix-test : (radix : ℕ) → Decides (is_radix radix) (IsRadix radix)
-IsRadix-test radix = Decides-and _ _ (leb-true 2 radix, le-leb 2 radix) (leb-true radix 36, le-leb radix 36)
+radix-kept : (radix : ℕ) → radix < 256 → IsRadix radix → (rule : Rule) → Holds rule (pack (radix_record radix))
+unfolding Holds
+radix-kept radix fits h rules.reserved_bits_are_zero = pack-clean (radix_record radix) (radix-bytes radix fits)
+radix-kept radix fits h rule = subst (Demands rule) (sym (raw-radix radix fits)) (radix-demands radix h rule)
 
--- so the error of the format is Success exactly for a radix
-pub radix-success : (radix : ℕ) → radix < 256 → (error_at (pack (radix_record radix)) ≡ Success) ↔ IsRadix radix
-radix-success radix fits = (
-  λ e. (IsRadix-test radix).0 (sym (tried radix fits) ∙ ap is_success e),
-  λ h. success_from _ (tried radix fits ∙ (IsRadix-test radix).1 h),
+-- so the format is lawful exactly for a radix
+pub radix-lawful : (radix : ℕ) → radix < 256 → ((word : ℕ) → Lawful word ↔ ((rule : Rule) → Holds rule word))
+    → Lawful (pack (radix_record radix)) ↔ IsRadix radix
+unfolding Holds
+radix-lawful radix fits law = (
+  λ lawful. subst (λ (r : Record). IsRadix r.mantissa_radix) (raw-radix radix fits)
+      ((law (pack (radix_record radix))).0 lawful rules.mantissa_radix_in_range),
+  λ h. (law (pack (radix_record radix))).1 (radix-kept radix fits h),
 )

@@ -13,7 +13,7 @@ ghost use Rattle.lexical_builder.specs.Writes.{new_record, radix_record};
 use lexical_base::error::Error;
 use lexical_flags::format_flags as flags;
 use lexical_flags::format_flags::format_error_impl;
-use lexical_flags::laws::literal_facts;
+use lexical_flags::laws::rule_facts;
 use std::marker::Model;
 
 mod getters;
@@ -101,7 +101,7 @@ impl Default for NumberFormatBuilder {
     }
 }
 
-#[tactic(auto, unfolding(lexical_flags::specs::Computed::on_literals))]
+#[tactic(auto, unfolding(lexical_flags::specs::Literals::on_literals))]
 impl NumberFormatBuilder {
     // CONSTRUCTORS
 
@@ -114,7 +114,6 @@ impl NumberFormatBuilder {
         ensures packed { pack result ≡ 0x00000A00_00000000_00000000_0000000C }
         ensures lawful { Lawful (pack result) }
     {
-        literal_facts();
         NumberFormatBuilder {
             flags: 0xC,
             bytes: [0, 0, 0, 10, 0, 0],
@@ -165,7 +164,7 @@ impl NumberFormatBuilder {
         ensures word { result ≡ pack (radix_record radix) }
         ensures lawful { Lawful result ↔ IsRadix radix }
     {
-        literal_facts();
+        rule_facts();
         NEW_FLAGS + (radix as u128) * ALL_RADIXES
     }
 }

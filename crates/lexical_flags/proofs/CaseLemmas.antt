@@ -2,13 +2,13 @@
 use Rattle.std.proofs.Common.{ℕ, [], ◌∷◌, ◌≡◌, ◌≢◌, ◌<◌, ◌⊎◌, inl, inr, ◌∙◌, ◌↔◌, ◌==◌, ◌||◌, ◌&&◌, Bool, true, false}
 use Rattle.std.proofs.Common.{not, IsTrue, bit_or, bit_xor, eqb-true, refl, ap, sym, subst, arith, min, nat_lt}
 use Rattle.std.specs.Prelude.{position, unwrap_or}
-use Rattle.std.proofs.lemmas.Bool.{false≢true, or_parts, agree_below_at, cases_eq}
+use Rattle.std.proofs.lemmas.Bool.{false≢true, or_parts, agree_below_at}
 use Rattle.std.proofs.lemmas.Bool.Decides.{nat_tests}
 use Rattle.lexical_base.specs.Ascii.{letters}
 use Rattle.lexical_base.specs.Digits.{value, digit_characters, uppercase}
 use Rattle.lexical_flags.specs.Record.{Record, effective_exponent_radix}
-use Rattle.lexical_flags.specs.Pairs.{ArePairwise}
-use Rattle.lexical_flags.specs.Roles.{Disjoint, cased, other_case, digits, signs, own_roles}
+use Rattle.lexical_flags.specs.Roles.{Disjoint, AreDisjoint, cased, other_case, digits, signs, own_roles}
+use Rattle.lexical_flags.proofs.DisjointLemmas.{Disjoint-at, Disjoint-from}
 
 -- the other case of a letter has the bit 32 flipped
 letter_flipped : (letter same : Bool) → (not letter || same) ≡ true → IsTrue letter → same ≡ true
@@ -31,21 +31,23 @@ cased-cases counts own byte inside = grind (arith, nat_tests)
 other_case-twice : (byte : ℕ) → other_case (other_case byte) ≡ byte
 other_case-twice byte = grind (arith, nat_tests)
 
--- bytes that differ, and are not the two cases of a letter, have disjoint roles
-pub differ_apart : (a_counts : Bool) (a : ℕ) (b_counts : Bool) (b : ℕ) → a ≢ b → b ≢ other_case a
+-- bytes that differ, and are not the two cases of a letter, have disjoint roles; so has an absent byte and any other
+pub differ_apart : (a_counts : Bool) (a : ℕ) (b_counts : Bool) (b : ℕ) → (a ≢ 0 → (a ≢ b) × (b ≢ other_case a))
     → Disjoint (cased a_counts a) (cased b_counts b)
-unfolding Disjoint
-differ_apart a_counts a b_counts b differ other byte is_a is_b =
-    elim ((cased-cases a_counts a byte is_a).1) [
-      | inl a_same ↦ elim ((cased-cases b_counts b byte is_b).1) [
-        | inl b_same ↦ differ (sym a_same ∙ b_same)
-        | inr b_other ↦ other (sym (other_case-twice b) ∙ ap other_case (sym b_other ∙ a_same))
+differ_apart a_counts a b_counts b differ = Disjoint-from _ _ (λ byte below is_a is_b.
+    let of_a = cased-cases a_counts a byte is_a in
+    let of_b = cased-cases b_counts b byte is_b in
+    let apart = differ of_a.0 in
+    elim of_a.1 [
+      | inl a_same ↦ elim of_b.1 [
+        | inl b_same ↦ apart.0 (sym a_same ∙ b_same)
+        | inr b_other ↦ apart.1 (sym (other_case-twice b) ∙ ap other_case (sym b_other ∙ a_same))
       ]
-      | inr a_other ↦ elim ((cased-cases b_counts b byte is_b).1) [
-        | inl b_same ↦ other (sym b_same ∙ a_other)
-        | inr b_other ↦ differ (sym (other_case-twice a) ∙ ap other_case (sym a_other ∙ b_other) ∙ other_case-twice b)
+      | inr a_other ↦ elim of_b.1 [
+        | inl b_same ↦ apart.1 (sym b_same ∙ a_other)
+        | inr b_other ↦ apart.0 (sym (other_case-twice a) ∙ ap other_case (sym a_other ∙ b_other) ∙ other_case-twice b)
       ]
-    ]
+    ])
 
 -- the two cases of a letter have all bits in common but one
 other_case-bits : (byte : ℕ) → byte < 256 → bit_or (other_case byte) 32 ≡ bit_or byte 32
@@ -53,27 +55,26 @@ other_case-bits byte below =
     eqb-true _ _ (agree_below_at (λ b. bit_or (other_case b) 32 == bit_or b 32) (λ _. true) 256 byte refl below)
 
 -- so bytes that differ in another bit have disjoint roles
-pub other_bits_apart : (a_counts : Bool) (a : ℕ) (b_counts : Bool) (b : ℕ) → a < 256 → bit_or a 32 ≢ bit_or b 32
-    → Disjoint (cased a_counts a) (cased b_counts b)
-other_bits_apart a_counts a b_counts b below differ =
-    differ_apart a_counts a b_counts b (λ same. differ (ap (λ n. bit_or n 32) same))
-    (λ other. differ (sym (ap (λ n. bit_or n 32) other ∙ other_case-bits a below)))
+pub other_bits_apart : (a_counts : Bool) (a : ℕ) (b_counts : Bool) (b : ℕ) → a < 256
+    → (a ≢ 0 → bit_or a 32 ≢ bit_or b 32) → Disjoint (cased a_counts a) (cased b_counts b)
+other_bits_apart a_counts a b_counts b below differ = differ_apart a_counts a b_counts b (λ some. (
+  λ same. differ some (ap (λ n. bit_or n 32) same),
+  λ other. differ some (sym (ap (λ n. bit_or n 32) other ∙ other_case-bits a below)),
+))
 
--- no byte plays the role of an absent one
-none_apart : (a_counts b_counts : Bool) (b : ℕ) → Disjoint (cased a_counts 0) (cased b_counts b)
-unfolding Disjoint cased
-none_apart a_counts b_counts b byte is_none is_b = false≢true is_none
+-- two roles of one byte are not, unless it is absent
+pub same_clash : (a_counts : Bool) (a : ℕ) (b_counts : Bool) → a < 256 → a ≢ 0
+    → Disjoint (cased a_counts a) (cased b_counts a) → ⊥
+unfolding cased
+same_clash a_counts a b_counts below some apart =
+    Disjoint-at _ _ apart a below (grind (arith, nat_tests)) (grind (arith, nat_tests))
 
 -- bytes that are not near have disjoint roles, whether case counts or not
 far_apart : (a_counts : Bool) (a : ℕ) (b_counts : Bool) (b : ℕ) {near : Bool} → a < 256
     → (IsTrue near ↔ ((a ≢ 0) × (bit_or a 32 ≡ bit_or b 32))) → near ≡ false
     → Disjoint (cased a_counts a) (cased b_counts b)
 far_apart a_counts a b_counts b below told far =
-    elim (cases_eq a 0) [
-      | inl none ↦ subst (λ n. Disjoint (cased a_counts n) (cased b_counts b)) (sym none)
-          (none_apart a_counts b_counts b)
-      | inr some ↦ other_bits_apart a_counts a b_counts b below (λ same. false≢true (sym far ∙ told.1 (some, same)))
-    ]
+    other_bits_apart a_counts a b_counts b below (λ some same. false≢true (sym far ∙ told.1 (some, same)))
 
 -- if no two of the bytes that a format names are near, their roles are disjoint
 pub own_roles_apart : (r : Record) {a b c : ℕ} {ab ac bc : Bool}
@@ -81,7 +82,7 @@ pub own_roles_apart : (r : Record) {a b c : ℕ} {ab ac bc : Bool}
     → (IsTrue ab ↔ ((a ≢ 0) × (bit_or a 32 ≡ bit_or b 32)))
     → (IsTrue ac ↔ ((a ≢ 0) × (bit_or a 32 ≡ bit_or c 32)))
     → (IsTrue bc ↔ ((b ≢ 0) × (bit_or b 32 ≡ bit_or c 32)))
-    → ((ab || ac) || bc) ≡ false → ArePairwise Disjoint (own_roles r)
+    → ((ab || ac) || bc) ≡ false → AreDisjoint (own_roles r)
 own_roles_apart r {a} {b} {c} {ab} {ac} {bc} a_is b_is c_is a_fits b_fits ab_told ac_told bc_told none =
     let prefix = r.case_sensitive_base_prefix in
     let suffix = r.case_sensitive_base_suffix in
@@ -92,25 +93,27 @@ own_roles_apart r {a} {b} {c} {ab} {ac} {bc} a_is b_is c_is a_fits b_fits ab_tol
     let a_b : Disjoint (cased true a) (cased prefix b) = far_apart true a prefix b a_below ab_told first.0 in
     let a_c : Disjoint (cased true a) (cased suffix c) = far_apart true a suffix c a_below ac_told first.1 in
     let b_c : Disjoint (cased prefix b) (cased suffix c) = far_apart prefix b suffix c b_below bc_told front.1 in
-    subst (λ n. ArePairwise Disjoint (cased true n ∷ cased prefix r.base_prefix ∷ cased suffix r.base_suffix ∷ [])) a_is
-    (subst (λ n. ArePairwise Disjoint (cased true a ∷ cased prefix n ∷ cased suffix r.base_suffix ∷ [])) b_is
-    (subst (λ n. ArePairwise Disjoint (cased true a ∷ cased prefix b ∷ cased suffix n ∷ [])) c_is
+    subst (λ n. AreDisjoint (cased true n ∷ cased prefix r.base_prefix ∷ cased suffix r.base_suffix ∷ [])) a_is
+    (subst (λ n. AreDisjoint (cased true a ∷ cased prefix n ∷ cased suffix r.base_suffix ∷ [])) b_is
+    (subst (λ n. AreDisjoint (cased true a ∷ cased prefix b ∷ cased suffix n ∷ [])) c_is
     ((a_b, (a_c, tt)), ((b_c, tt), (tt, tt)))))
 
 -- the two cases of a letter have disjoint roles if both roles are case-sensitive
 both_count : (a b : ℕ) → a ≢ b → Disjoint (cased true a) (cased true b)
-unfolding Disjoint cased
-both_count a b differ byte is_a is_b = grind (arith, nat_tests)
+unfolding cased
+both_count a b differ = Disjoint-from _ _ (λ byte below is_a is_b. grind (arith, nat_tests))
 
 -- and else not
 first_counts_not : (a : ℕ) (b_counts : Bool) (b : ℕ) → IsTrue (letters a) → b ≡ other_case a
     → Disjoint (cased false a) (cased b_counts b) → ⊥
-unfolding Disjoint cased
-first_counts_not a b_counts b letter other apart = apart b (grind (arith, nat_tests)) (grind (arith, nat_tests))
+unfolding cased
+first_counts_not a b_counts b letter other apart =
+    Disjoint-at _ _ apart b (grind (arith, nat_tests)) (grind (arith, nat_tests)) (grind (arith, nat_tests))
 
 second_counts_not : (a b : ℕ) → IsTrue (letters a) → b ≡ other_case a → Disjoint (cased true a) (cased false b) → ⊥
-unfolding Disjoint cased
-second_counts_not a b letter other apart = apart a (grind (arith, nat_tests)) (grind (arith, nat_tests))
+unfolding cased
+second_counts_not a b letter other apart =
+    Disjoint-at _ _ apart a (grind (arith, nat_tests)) (grind (arith, nat_tests)) (grind (arith, nat_tests))
 
 pub cases_apart : (a : ℕ) (a_counts : Bool) (b : ℕ) (b_counts : Bool) → a ≢ b → IsTrue (letters a) → b ≡ other_case a →
     IsTrue (a_counts && b_counts) ↔ Disjoint (cased a_counts a) (cased b_counts b)

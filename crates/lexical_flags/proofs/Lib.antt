@@ -6,14 +6,10 @@ pub mod Masks
 pub mod FlagBits
 pub mod CommonLemmas
 mod RuleLemmas
-mod LawfulTest
 mod NormalRules
-mod PairLemmas
-mod OneRole
+mod DisjointLemmas
 mod CaseLemmas
 mod FreeBytes
 mod RoleLemmas
 mod OptionLemmas
-mod OptionTest
 mod ReservedBits
-mod ExampleLemmas

@@ -12,6 +12,7 @@ use Rattle.lexical_flags.specs.Roles.{Disjoint, cased, only, signs, prefix, suff
 use Rattle.lexical_base.specs.Digits.{digits_of}
 use Rattle.lexical_flags.specs.Rules as rules
 use Rattle.lexical_flags.specs.Rules.{Rule, IsRadix, IsFree, IsPunctuation, Demands, Holds, IsErrorOf, Lawful}
+use Rattle.lexical_flags.proofs.DisjointLemmas.{Disjoint-from}
 use Rattle.lexical_flags.proofs.Packing.{trim-same}
 use Rattle.lexical_flags.proofs.RuleLemmas.{Holds-from_lawful, Lawful-from_all, IsErrorOf-same}
 
@@ -37,8 +38,8 @@ Demands-fill rules.base_suffix_is_free r = IsFree-fill r r.base_suffix
 Demands-fill _ r = refl
 
 Disjoint-nothing : (A : ByteSet) → Disjoint (only 0) A
-unfolding Disjoint cased
-Disjoint-nothing A byte is_zero in_a = absurd (false≢true is_zero)
+unfolding cased
+Disjoint-nothing A = Disjoint-from _ _ (λ byte below is_zero in_a. absurd (false≢true is_zero))
 
 -- fields without their separator still meet the rules that they met
 Demands-bare : (rule : Rule) (r : Record) → Demands rule r → Demands rule (record r { digit_separator = 0 })

@@ -6,27 +6,24 @@ use Rattle.lexical_base.specs.Digits.{value}
 use Rattle.lexical_base.proofs.ValueLemmas.{value_is}
 use Rattle.lexical_flags.specs.Record.{Record, effective_exponent_radix}
 use Rattle.lexical_flags.specs.Roles.{Disjoint, cased, other_case, digits, signs}
+use Rattle.lexical_flags.proofs.DisjointLemmas.{Disjoint-at, Disjoint-from}
 use Rattle.lexical_flags.proofs.CaseLemmas.{cased-cases, digits-other_case, signs-other_case}
-
-pub Disjoint-sym : (A B : ByteSet) → Disjoint A B → Disjoint B A
-unfolding Disjoint
-Disjoint-sym A B apart byte in_b in_a = apart byte in_a in_b
 
 -- a set that has a letter in both cases or in none is apart from the role of a byte that is not in it
 Disjoint-cased : (A : ByteSet) → ((b : ℕ) → IsTrue (A (other_case b)) → IsTrue (A b)) →
     (counts : Bool) (own : ℕ) → (own ≢ 0 → IsTrue (A own) → ⊥) → Disjoint A (cased counts own)
-unfolding Disjoint
-Disjoint-cased A both_cases counts own out byte inside is_own =
+Disjoint-cased A both_cases counts own out = Disjoint-from _ _ (λ byte below inside is_own.
     let found = cased-cases counts own byte is_own in
     out found.0 (elim found.1 [
       | inl same ↦ subst (λ b. IsTrue (A b)) same inside
       | inr other ↦ both_cases own (subst (λ b. IsTrue (A b)) other inside)
-    ])
+    ]))
 
 -- and a byte whose role is apart from a set is not in it
-pub not_in : (A : ByteSet) (counts : Bool) (own : ℕ) → Disjoint A (cased counts own) → own ≢ 0 → IsTrue (A own) → ⊥
-unfolding Disjoint cased
-not_in A counts own apart positive inside = apart own inside (grind (arith, nat_tests))
+pub not_in : (A : ByteSet) (counts : Bool) (own : ℕ) → Disjoint A (cased counts own) → own < 256 → own ≢ 0
+    → IsTrue (A own) → ⊥
+unfolding cased
+not_in A counts own apart below positive inside = Disjoint-at _ _ apart own below inside (grind (arith, nat_tests))
 
 -- digits and signs are apart from the role of a byte that is neither
 pub Disjoint-digits-cased : (r : Record) (counts : Bool) (own : ℕ) → (own ≢ 0 → IsTrue (digits r own) → ⊥)
@@ -50,7 +47,6 @@ no_digit r byte before = below_neither (value byte) r.mantissa_radix (effective_
 
 -- and no sign is one
 pub Disjoint-digits-signs : (r : Record) → Disjoint (digits r) signs
-unfolding Disjoint
-Disjoint-digits-signs r byte is_digit is_sign =
+Disjoint-digits-signs r = Disjoint-from _ _ (λ byte below is_digit is_sign.
     let before : byte < 48 = grind (arith, nat_tests) in
-    no_digit r byte before is_digit
+    no_digit r byte before is_digit)

@@ -1,5 +1,5 @@
 -- A word is lawful exactly if it keeps every rule, and has one error.
-use Rattle.std.proofs.Common.{◌≡◌, ℕ, ◌≢◌, ◌↔◌, inl, inr, Bool, true, IsTrue, List, [], ◌∷◌, refl, sym, ◌∙◌}
+use Rattle.std.proofs.Common.{◌≡◌, ℕ, ◌≢◌, ◌↔◌, inl, inr, Bool, true, IsTrue, List, [], ◌∷◌, sym, ◌∙◌}
 use Rattle.std.proofs.Common.{subst, arith}
 use Rattle.std.specs.List.{AllByRecursion}
 use Rattle.std.proofs.lemmas.Bool.{cases_eq}
@@ -9,13 +9,10 @@ use Rattle.lexical_base.specs.declared.error.Error.{Error}
 use Rattle.lexical_base.specs.declared.error.Error.TheVariants.{InvalidFlags, Success}
 use Rattle.lexical_flags.specs.Layout.{IsClean}
 use Rattle.lexical_flags.specs.Record.{Record, raw, effective}
-use Rattle.lexical_flags.specs.Pairs.{ArePairwise}
-use Rattle.lexical_flags.specs.Roles as roles
-use Rattle.lexical_flags.specs.Roles.{Disjoint, Role, cased, digits, signs, role_set, own_roles, five_roles}
+use Rattle.lexical_flags.specs.Roles.{Disjoint, AreDisjoint, cased, digits, signs, own_roles, five_roles}
 use Rattle.lexical_flags.specs.Rules as rules
 use Rattle.lexical_flags.specs.Rules.{Rule, IsRadix, IsFree, IsTextOrNone, IsPunctuation, Holds, IsFirstError}
 use Rattle.lexical_flags.specs.Rules.{IsErrorOf, Lawful, error_of, flag_rules, rules_in_order}
-use Rattle.lexical_flags.proofs.OneRole.{before, among, Disjoint-at}
 use Rattle.lexical_flags.proofs.RoleLemmas.{Disjoint-digits-cased, Disjoint-signs-cased, Disjoint-digits-signs, not_in}
 
 -- what a free byte is
@@ -44,21 +41,11 @@ IsFree-from r counts byte text digits_apart signs_apart =
         | inl none ↦ inl none
         | inr ascii ↦ inr (
           ascii,
-          not_in (digits r) counts byte digits_apart positive,
-          not_in signs counts byte signs_apart positive,
+          not_in (digits r) counts byte digits_apart (grind (arith, nat_tests)) positive,
+          not_in signs counts byte signs_apart (grind (arith, nat_tests)) positive,
         )
       ]
     ]
-
--- the roles of the bytes that a format names are among the five
-own_apart : (r : Record) → ArePairwise Disjoint (five_roles r) → ArePairwise Disjoint (own_roles r)
-own_apart r (digits_apart, (signs_apart, own)) = own
-
--- two roles of a lawful word, beside any two bytes
-pub Disjoint-from_lawful : (word e p : ℕ) → Lawful word → (a b : Role) → before a b ≡ true → among 5 b ≡ true
-    → Disjoint (role_set (raw word) e p a) (role_set (raw word) e p b)
-unfolding Lawful
-Disjoint-from_lawful word e p h = Disjoint-at 5 (omega arith) (role_set (raw word) e p) h.roles
 
 -- a lawful word keeps every rule
 pub Holds-from_lawful : (rule : Rule) (word : ℕ) → Lawful word → Holds rule word
@@ -67,18 +54,15 @@ Holds-from_lawful rules.mantissa_radix_in_range word h = h.mantissa_radix
 Holds-from_lawful rules.exponent_base_in_range word h = h.exponent_base
 Holds-from_lawful rules.exponent_radix_in_range word h = h.exponent_radix
 Holds-from_lawful rules.digit_separator_is_free word h =
-    let apart = Disjoint-from_lawful word 0 0 h in
-    IsFree-from (raw word) true _ h.digit_separator (apart roles.digit roles.digit_separator refl refl)
-    (apart roles.sign roles.digit_separator refl refl)
+    let pairs = h.roles in
+    IsFree-from (raw word) true _ h.digit_separator (assumption pairs) (assumption pairs)
 Holds-from_lawful rules.base_prefix_is_free word h =
-    let apart = Disjoint-from_lawful word 0 0 h in
-    IsFree-from (raw word) _ _ h.base_prefix (apart roles.digit roles.base_prefix refl refl)
-    (apart roles.sign roles.base_prefix refl refl)
+    let pairs = h.roles in
+    IsFree-from (raw word) (raw word).case_sensitive_base_prefix _ h.base_prefix (assumption pairs) (assumption pairs)
 Holds-from_lawful rules.base_suffix_is_free word h =
-    let apart = Disjoint-from_lawful word 0 0 h in
-    IsFree-from (raw word) _ _ h.base_suffix (apart roles.digit roles.base_suffix refl refl)
-    (apart roles.sign roles.base_suffix refl refl)
-Holds-from_lawful rules.punctuation_differs word h = own_apart (raw word) h.roles
+    let pairs = h.roles in
+    IsFree-from (raw word) (raw word).case_sensitive_base_suffix _ h.base_suffix (assumption pairs) (assumption pairs)
+Holds-from_lawful rules.punctuation_differs word h = let pairs = h.roles in let others = pairs.1 in others.1
 Holds-from_lawful rules.reserved_bits_are_zero word h = h.clean
 Holds-from_lawful _ word h = let flags = h.flags in assumption flags
 
@@ -100,7 +84,7 @@ Lawful-exponent_radix word h some = own_radix _ (raw word).mantissa_radix some h
 
 -- the five roles, if the bytes are free and differ
 five_apart : (r : Record) → IsFree r r.digit_separator → IsFree r r.base_prefix → IsFree r r.base_suffix
-    → ArePairwise Disjoint (own_roles r) → ArePairwise Disjoint (five_roles r)
+    → AreDisjoint (own_roles r) → AreDisjoint (five_roles r)
 five_apart r separator prefix suffix own =
     let digits_apart : (counts : Bool) (byte : ℕ) → IsFree r byte
     → Disjoint (digits r) (cased counts byte) = λ counts byte free. Disjoint-digits-cased r counts byte

@@ -6,6 +6,6 @@ pub mod Common
 pub mod Roles
 pub mod Rules
 pub mod Options
-pub mod Computed
+pub mod Literals
 pub use Rattle.lexical_base.specs.Ascii
 pub use Rattle.lexical_base.specs.Digits

@@ -3,8 +3,7 @@ use Rattle.std.specs.Prelude.{ℕ, IsTrue}
 use Rattle.std.specs.List.{AllByRecursion}
 use Rattle.lexical_base.specs.Ascii.{allowed_ascii}
 use Rattle.lexical_flags.specs.Record.{raw}
-use Rattle.lexical_flags.specs.Pairs.{ArePairwise}
-use Rattle.lexical_flags.specs.Roles.{Disjoint, exponent, point, own_roles, seven_roles}
+use Rattle.lexical_flags.specs.Roles.{Disjoint, AreDisjoint, exponent, point, own_roles, seven_roles}
 use Rattle.lexical_flags.specs.Rules.{IsPunctuation}
 
 -- both bytes are punctuation, and neither role shares a byte with the other or with one that the format names
@@ -19,7 +18,7 @@ pub record AreAccepted (word exponent_byte point_byte : ℕ) : Type 0 where
 pub record HaveOneRole (word exponent_byte point_byte : ℕ) : Type 0 where
   pub exponent_is_text : IsTrue (allowed_ascii exponent_byte)
   pub point_is_text : IsTrue (allowed_ascii point_byte)
-  pub roles : ArePairwise Disjoint (seven_roles (raw word) exponent_byte point_byte)
+  pub roles : AreDisjoint (seven_roles (raw word) exponent_byte point_byte)
 
 -- some pair of bytes fits
 pub record LeavesRoom (word : ℕ) : Type 0 where

@@ -1,13 +1,18 @@
 -- The roles that bytes play in the numbers of a format, each as the set of the bytes that play it.
-use Rattle.std.specs.Prelude.{ℕ, ◌≡◌, ◌+◌, ◌-◌, Bool, true, IsTrue, if◌then◌else◌, ◌==◌, ◌&&◌, ◌||◌, not, List, [], ◌∷◌}
-use Rattle.std.specs.Prelude.{map}
+use Rattle.std.specs.Prelude.{ℕ, ◌+◌, ◌-◌, Bool, true, IsTrue, if◌then◌else◌, ◌==◌, ◌&&◌, ◌||◌, not, List, [], ◌∷◌}
+use Rattle.std.specs.List.{list_all, range_with_len}
 use Rattle.lexical_base.specs.Ascii.{ByteSet, between}
 use Rattle.lexical_base.specs.Digits.{digits_of}
+use Rattle.lexical_flags.specs.Pairs.{ArePairwise}
 use Rattle.lexical_flags.specs.Record.{Record, effective_exponent_radix}
 
--- no byte is in both sets
+-- no byte is in both sets: none of the 256 is
 unfoldable pub Disjoint : ByteSet → ByteSet → Type 0
-Disjoint A B = (byte : ℕ) → IsTrue (A byte) → IsTrue (B byte) → ⊥
+Disjoint A B = IsTrue (list_all (λ byte. not (A byte && B byte)) (range_with_len 0 256))
+
+-- no byte is in two of these sets
+abbrev pub AreDisjoint : List ByteSet → Type 0
+AreDisjoint sets = ArePairwise Disjoint sets
 
 -- a letter in the other case; any other byte as it is
 abbrev pub other_case : ℕ → ℕ
@@ -58,36 +63,6 @@ own_roles r = separator r ∷ prefix r ∷ suffix r ∷ []
 abbrev pub five_roles : Record → List ByteSet
 five_roles r = digits r ∷ signs ∷ own_roles r
 
--- the roles by name: those of a format, and the two that are chosen beside it
-pub data Role : Type 0 where
-  digit : Role
-  sign : Role
-  digit_separator : Role
-  base_prefix : Role
-  base_suffix : Role
-  exponent_character : Role
-  decimal_point : Role
-
--- all of them
-abbrev pub roles : List Role
-roles = digit ∷ sign ∷ digit_separator ∷ base_prefix ∷ base_suffix ∷ exponent_character ∷ decimal_point ∷ []
-
--- the bytes that play a role, beside this exponent character and this decimal point
-abbrev pub role_set : Record → ℕ → ℕ → Role → ByteSet
-role_set r exponent_byte point_byte digit = digits r
-role_set r exponent_byte point_byte sign = signs
-role_set r exponent_byte point_byte digit_separator = separator r
-role_set r exponent_byte point_byte base_prefix = prefix r
-role_set r exponent_byte point_byte base_suffix = suffix r
-role_set r exponent_byte point_byte exponent_character = exponent r exponent_byte
-role_set r exponent_byte point_byte decimal_point = point point_byte
-
--- the sets of all roles
+-- those and the two that are chosen beside it
 abbrev pub seven_roles : Record → ℕ → ℕ → List ByteSet
-seven_roles r exponent_byte point_byte = map (role_set r exponent_byte point_byte) roles
-
--- two roles that a byte plays are one
-abbrev pub AtMostOneRole : Record → ℕ → ℕ → Type 0
-AtMostOneRole r exponent_byte point_byte =
-    (byte : ℕ) → (a b : Role)
-    → IsTrue (role_set r exponent_byte point_byte a byte) → IsTrue (role_set r exponent_byte point_byte b byte) → a ≡ b
+seven_roles r exponent_byte point_byte = exponent r exponent_byte ∷ point point_byte ∷ five_roles r

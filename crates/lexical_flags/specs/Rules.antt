@@ -6,8 +6,7 @@ use Rattle.lexical_base.specs.declared.error.Error.{Error}
 use Rattle.lexical_base.specs.declared.error.Error.TheVariants as errors
 use Rattle.lexical_flags.specs.Layout.{IsClean}
 use Rattle.lexical_flags.specs.Record.{Record, raw, effective_exponent_base, effective_exponent_radix}
-use Rattle.lexical_flags.specs.Pairs.{ArePairwise}
-use Rattle.lexical_flags.specs.Roles.{Disjoint, digits, signs, own_roles, five_roles}
+use Rattle.lexical_flags.specs.Roles.{AreDisjoint, digits, signs, own_roles, five_roles}
 
 -- numbers can be written in this radix
 abbrev pub IsRadix : ℕ → Type 0
@@ -60,7 +59,7 @@ Demands exponent_radix_in_range r = IsRadix (effective_exponent_radix r)
 Demands digit_separator_is_free r = IsFree r r.digit_separator
 Demands base_prefix_is_free r = IsFree r r.base_prefix
 Demands base_suffix_is_free r = IsFree r r.base_suffix
-Demands punctuation_differs r = ArePairwise Disjoint (own_roles r)
+Demands punctuation_differs r = AreDisjoint (own_roles r)
 Demands exponent_flags_agree r = NotBoth r.no_exponent_notation r.required_exponent_notation
 Demands mantissa_sign_flags_agree r = NotBoth r.no_positive_mantissa_sign r.required_mantissa_sign
 Demands exponent_sign_flags_agree r = NotBoth r.no_positive_exponent_sign r.required_exponent_sign
@@ -144,7 +143,7 @@ pub record LawfulParts (word : ℕ) : Type 0 where
   pub digit_separator : IsTextOrNone (raw word).digit_separator
   pub base_prefix : IsTextOrNone (raw word).base_prefix
   pub base_suffix : IsTextOrNone (raw word).base_suffix
-  pub roles : ArePairwise Disjoint (five_roles (raw word))
+  pub roles : AreDisjoint (five_roles (raw word))
   pub clean : IsClean word
 
 -- a word that breaks no rule: the parts above under one word, so that a search does not take it apart

@@ -4,15 +4,15 @@
 ghost use Rattle.std.specs.Prelude.{◌≡◌, ℕ, ◌*◌, ◌/◌, ◌^◌, ◌<◌, ◌↔◌, [], ◌∷◌, ◌+◌, ◌-◌, length, map, pos, bit_or, Bool, true, false, IsTrue};
 ghost use Rattle.lexical_base.specs.declared.error.Error.{Error};
 ghost use Rattle.lexical_base.specs.declared.error.Error.TheVariants as errors;
+ghost use Rattle.lexical_base.specs.Ascii.{ByteSet};
 ghost use Rattle.lexical_flags.specs.Layout as layout;
 ghost use Rattle.lexical_flags.specs.Layout.{Flag, Byte, bit, shift, IsClean};
 ghost use Rattle.lexical_flags.specs.Record.{Record, raw, fill, trim, pack, HasBytes, IsBuilt, SeparatorIsUsed};
 ghost use Rattle.lexical_flags.specs.Record.{effective_exponent_base, effective_exponent_radix, separator_on};
 ghost use Rattle.lexical_flags.specs.Pairs.{ArePairwise};
-ghost use Rattle.lexical_flags.specs.Roles.{Disjoint, cased, seven_roles, AtMostOneRole, digits};
-ghost use Rattle.lexical_flags.specs.Rules.{Rule, Demands, IsPunctuation, Lawful, IsErrorOf};
-ghost use Rattle.lexical_flags.specs.Options.{AreAccepted};
-ghost use Rattle.lexical_flags.specs.Computed.{error_at, accepts, is_punctuation, are_apart};
+ghost use Rattle.lexical_flags.specs.Roles.{Disjoint, digits};
+ghost use Rattle.lexical_flags.specs.Rules.{Rule, Demands, Holds, Lawful, IsErrorOf};
+ghost use Rattle.lexical_flags.specs.Options.{AreAccepted, HaveOneRole};
 ghost use Rattle.lexical_flags.specs.Constants.{flag_constant, byte_mask, byte_shift, mask_of, doublings, AreApart};
 
 use crate::format_flags::*;
@@ -98,6 +98,9 @@ pub const fn rule_facts()
         → IsClean word → SeparatorIsUsed (raw word)
         → (error : Error) → IsErrorOf word error ↔ IsErrorOf normal error }
 
+    // A word is lawful exactly if it keeps every rule.
+    ensures lawful { (word : ℕ) → Lawful word ↔ ((rule : Rule) → Holds rule word) }
+
     // A word has at most one error.
     ensures one_error { (word : ℕ) → (error other : Error) → IsErrorOf word error → IsErrorOf word other
         → error ≡ other }
@@ -105,27 +108,13 @@ pub const fn rule_facts()
 
 /// Which bytes play which roles.
 pub fn role_facts()
-    // A byte plays at most one role exactly if the sets of any two roles are disjoint.
-    ensures pairs { (r : Record) → (exponent_byte point_byte : ℕ)
-        → ArePairwise Disjoint (seven_roles r exponent_byte point_byte) ↔ AtMostOneRole r exponent_byte point_byte }
+    // Two sets are disjoint exactly if no byte is in both.
+    ensures disjoint { (A B : ByteSet)
+        → Disjoint A B ↔ ((byte : ℕ) → byte < 256 → IsTrue (A byte) → IsTrue (B byte) → ⊥) }
 
     // In a lawful format with accepted options a byte plays at most one role.
     ensures lawful { (word exponent_byte point_byte : ℕ) → Lawful word → AreAccepted word exponent_byte point_byte
-        → AtMostOneRole (raw word) exponent_byte point_byte }
-{}
-
-/// The error of a word, and whether it accepts options, by computation: for words that are literals.
-#[inline(always)]
-pub const fn literal_facts()
-    ensures error { (word : ℕ) → IsErrorOf word (error_at word) }
-    ensures lawful { (word : ℕ) → (error_at word ≡ errors.Success) ↔ Lawful word }
-    ensures accepted { (word exponent_byte point_byte : ℕ)
-        → IsTrue (accepts (raw word) exponent_byte point_byte) ↔ AreAccepted word exponent_byte point_byte }
-
-    // The parts of which options that are accepted consist, for the search.
-    ensures punctuation { (r : Record) → (byte : ℕ) → IsTrue (is_punctuation r byte) ↔ IsPunctuation r byte }
-    ensures apart { (a_counts : Bool) → (a : ℕ) → (b_counts : Bool) → (b : ℕ)
-        → IsTrue (are_apart a_counts a b_counts b) ↔ Disjoint (cased a_counts a) (cased b_counts b) }
+        → HaveOneRole word exponent_byte point_byte }
 {}
 
 /// Examples of the fields of words.
@@ -179,7 +168,7 @@ pub fn digit_examples()
 {}
 
 /// Examples of the first broken rule of a word: each rule, two broken ones, and lawful words.
-#[tactic(auto, using(crate::proofs::LawfulTest::error_tested, crate::proofs::LawfulTest::lawful_tested), unfolding(lexical_base::specs::Digits::value))]
+#[tactic(auto, unfolding(crate::specs::Literals::on_literals))]
 pub fn error_examples()
     // Each rule, broken by a word that keeps those before it.
     ensures mantissa_radix { IsErrorOf 0x25252500_00000000_00000000_0000000C errors.InvalidMantissaRadix }
@@ -222,6 +211,7 @@ pub fn error_examples()
 {}
 
 /// Examples of options: an exponent character and a decimal point that a format accepts or refuses.
+#[tactic(auto, unfolding(crate::specs::Literals::on_literals))]
 pub fn option_examples()
     // e and . in decimal, and in hexadecimal, in which e is a digit; ^ and . there.
     ensures decimal { AreAccepted 0x0A0A0A00_00000000_00000000_0000000C 0x65 0x2E }

@@ -12,7 +12,6 @@ use lexical_base::error::Error;
 use lexical_builder::format_builder::NumberFormatBuilder;
 use lexical_flags::format_flags as flags;
 use lexical_flags::format_flags::{format_error_impl, radix_error_impl};
-use lexical_flags::laws::literal_facts;
 use std::marker::Model;
 
 // Whether the word of a view has any bit of a mask.
@@ -63,7 +62,6 @@ impl Default for NumberFormat {
         // Its normal form is the format of decimal numbers.
         ensures normal { normal_form_of result ≡ 0x0A0A0A00_00000000_00000000_0000000C }
     {
-        literal_facts();
         NumberFormat { format: STANDARD }
     }
 }

@@ -87,7 +87,7 @@ const fn are_cases(a: u8, b: u8) -> bool
 // Whether no byte plays both of two roles. A role that is not case-sensitive is played by both
 // cases of its letter. A byte of 0 is absent: no byte plays its role.
 #[inline(always)]
-#[tactic(auto, unfolding(crate::specs::Roles::Disjoint, crate::specs::Roles::cased))]
+#[tactic(auto, using(crate::proofs::CaseLemmas::same_clash, crate::proofs::CaseLemmas::differ_apart))]
 const fn are_disjoint(a: u8, a_case_counts: bool, b: u8, b_case_counts: bool) -> bool
     ensures { IsTrue result ↔ Disjoint (cased a_case_counts a) (cased b_case_counts b) }
 {

@@ -1,5 +1,6 @@
 //! Of each predicate of the definitions an example that it holds of and one that it does not hold of,
 //! so that none of them can say more or less unseen.
+#![tactic(auto, unfolding(crate::specs::Literals::on_literals))]
 
 ghost use Rattle.std.specs.Prelude.{[], ◌∷◌, ◌+◌, ◌^◌, length, false};
 ghost use Rattle.lexical_base.specs.declared.error.Error.TheVariants as errors;
@@ -9,7 +10,7 @@ ghost use Rattle.lexical_flags.specs.Layout.{IsClean};
 ghost use Rattle.lexical_flags.specs.Options.{HaveOneRole, LeavesRoom};
 ghost use Rattle.lexical_flags.specs.Pairs.{ArePairwise};
 ghost use Rattle.lexical_flags.specs.Record.{raw, tabulate, HasBytes, IsBuilt, SeparatorIsUsed};
-ghost use Rattle.lexical_flags.specs.Roles.{Disjoint, AtMostOneRole, cased, only, signs};
+ghost use Rattle.lexical_flags.specs.Roles.{Disjoint, AreDisjoint, cased, only, signs, seven_roles};
 ghost use Rattle.lexical_flags.specs.Rules as rules;
 ghost use Rattle.lexical_flags.specs.Rules.{Holds, IsErrorOf, IsPunctuation, Lawful};
 
@@ -62,9 +63,9 @@ pub fn role_examples()
     ensures sign { Disjoint signs (only 0x2D) → ⊥ }
 
     // Decimal numbers with e and the point; with e as both; with the prefix E beside the exponent e.
-    ensures one_role { AtMostOneRole (raw 0x0A0A0A00_00000000_00000000_0000000C) 0x65 0x2E }
-    ensures two_roles { AtMostOneRole (raw 0x0A0A0A00_00000000_00000000_0000000C) 0x65 0x65 → ⊥ }
-    ensures prefix { AtMostOneRole (raw 0x0A0A0A00_45000000_00000000_0000000C) 0x65 0x2E → ⊥ }
+    ensures one_role { AreDisjoint (seven_roles (raw 0x0A0A0A00_00000000_00000000_0000000C) 0x65 0x2E) }
+    ensures two_roles { AreDisjoint (seven_roles (raw 0x0A0A0A00_00000000_00000000_0000000C) 0x65 0x65) → ⊥ }
+    ensures prefix { AreDisjoint (seven_roles (raw 0x0A0A0A00_45000000_00000000_0000000C) 0x65 0x2E) → ⊥ }
 {}
 
 /// Punctuation: text that is no digit and no sign.

@@ -2,8 +2,8 @@
 use Rattle.std.proofs.Common.{IsTrue, sym, ◌∙◌}
 use Rattle.std.proofs.lemmas.Bool.{false≢true}
 use Rattle.lexical_util.specs.Record.{raw}
-use Rattle.lexical_util.specs.Roles.{Role, role_set}
-use Rattle.lexical_util.specs.Roles as library
+use Rattle.callers.specs.Playing.{role_set}
+use Rattle.callers.specs.declared.roles.Role.{Role}
 use Rattle.callers.specs.declared.roles.Role.TheVariants as roles
 use Rattle.callers.proofs.RoleLemmas.{no_role}
 use Rattle.callers.proofs.roles.role_of.Goals as goal
@@ -33,10 +33,10 @@ pub returns-else-is_byte : goal.returns-else-is_byte
 returns-else-is_byte c = no_role (raw c.args.format) c.args.exponent c.args.decimal_point c.args.byte in_no_set where
   in_no_set : (role : Role) → IsTrue (role_set (raw c.args.format) c.args.exponent c.args.decimal_point role
       c.args.byte) → ⊥
-  in_no_set library.digit plays = false≢true (sym c.if-is_digit.false ∙ c.is_digit.ensures.1 plays)
-  in_no_set library.sign plays = false≢true (sym c.if-is_sign.false ∙ c.is_sign.ensures ∙ plays)
-  in_no_set library.digit_separator plays = false≢true (sym c.if-is_separator.false ∙ c.is_separator.ensures ∙ plays)
-  in_no_set library.base_prefix plays = false≢true (sym c.if-is_prefix.false ∙ c.is_prefix.ensures ∙ plays)
-  in_no_set library.base_suffix plays = false≢true (sym c.if-is_suffix.false ∙ c.is_suffix.ensures ∙ plays)
-  in_no_set library.exponent_character plays = false≢true (sym c.if-is_exponent.false ∙ c.is_exponent.ensures ∙ plays)
-  in_no_set library.decimal_point plays = false≢true (sym c.if-is_byte.false ∙ c.is_byte.ensures ∙ plays)
+  in_no_set roles.Digit plays = false≢true (sym c.if-is_digit.false ∙ c.is_digit.ensures.1 plays)
+  in_no_set roles.Sign plays = false≢true (sym c.if-is_sign.false ∙ c.is_sign.ensures ∙ plays)
+  in_no_set roles.Separator plays = false≢true (sym c.if-is_separator.false ∙ c.is_separator.ensures ∙ plays)
+  in_no_set roles.Prefix plays = false≢true (sym c.if-is_prefix.false ∙ c.is_prefix.ensures ∙ plays)
+  in_no_set roles.Suffix plays = false≢true (sym c.if-is_suffix.false ∙ c.is_suffix.ensures ∙ plays)
+  in_no_set roles.Exponent plays = false≢true (sym c.if-is_exponent.false ∙ c.is_exponent.ensures ∙ plays)
+  in_no_set roles.Point plays = false≢true (sym c.if-is_byte.false ∙ c.is_byte.ensures ∙ plays)

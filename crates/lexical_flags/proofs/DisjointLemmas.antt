@@ -1,0 +1,39 @@
+-- Disjoint sets of bytes, by each byte.
+use Rattle.std.proofs.Common.{ℕ, ◌≡◌, ◌<◌, ◌↔◌, ◌&&◌, Bool, true, IsTrue, not, sym, subst, ◌∙◌, arith}
+use Rattle.std.specs.List.{list_all, range_with_len}
+use Rattle.std.proofs.lemmas.List.Sums.{AllPass-from_list_all, list_all-from_AllPass}
+use Rattle.std.proofs.lemmas.List.FromFn.{length-range_with_len, get_or-range_with_len}
+use Rattle.lexical_base.specs.Ascii.{ByteSet}
+use Rattle.lexical_flags.specs.Roles.{Disjoint}
+
+-- a test of all numbers below n
+each_below : (p : ℕ → Bool) (n : ℕ) → (list_all p (range_with_len 0 n) ≡ true) ↔ ((i : ℕ) → i < n → p i ≡ true)
+each_below p n = (
+  λ test i below. subst (λ k. p k ≡ true) (get_or-range_with_len 0 n i 0 below ∙ omega arith)
+      (AllPass-from_list_all p (range_with_len 0 n) test i 0 (subst (λ k. i < k) (sym (length-range_with_len 0 n)) below)),
+  λ all. list_all-from_AllPass p (range_with_len 0 n) (λ i d inside.
+      let below : i < n = subst (λ k. i < k) (length-range_with_len 0 n) inside in
+      subst (λ k. p k ≡ true) (sym (get_or-range_with_len 0 n i d below ∙ omega arith)) (all i below)),
+)
+
+not_both : (a b : Bool) → (not (a && b) ≡ true) ↔ (IsTrue a → IsTrue b → ⊥)
+not_both a b = grind arith
+
+-- sets are disjoint exactly if no byte is in both
+pub disjoint_bytes : (A B : ByteSet)
+    → Disjoint A B ↔ ((byte : ℕ) → byte < 256 → IsTrue (A byte) → IsTrue (B byte) → ⊥)
+unfolding Disjoint
+disjoint_bytes A B =
+    let each = each_below (λ byte. not (A byte && B byte)) 256 in (
+      λ test byte below. (not_both (A byte) (B byte)).0 (each.0 test byte below),
+      λ apart. each.1 (λ byte below. (not_both (A byte) (B byte)).1 (apart byte below)),
+    )
+
+pub Disjoint-at : (A B : ByteSet) → Disjoint A B → (byte : ℕ) → byte < 256 → IsTrue (A byte) → IsTrue (B byte) → ⊥
+Disjoint-at A B = (disjoint_bytes A B).0
+
+pub Disjoint-from : (A B : ByteSet) → ((byte : ℕ) → byte < 256 → IsTrue (A byte) → IsTrue (B byte) → ⊥) → Disjoint A B
+Disjoint-from A B = (disjoint_bytes A B).1
+
+pub Disjoint-sym : (A B : ByteSet) → Disjoint A B → Disjoint B A
+Disjoint-sym A B apart = Disjoint-from B A (λ byte below in_b in_a. Disjoint-at A B apart byte below in_a in_b)
