@@ -288,6 +288,17 @@ pub const fn apply_all(mut builder: NumberFormatBuilder, edits: &[Edit]) -> Numb
 /// radix of `format` is not 0, two calls are one if the first list leaves no exponent byte `None`, and
 /// the second sets no digit separator flag unless it writes the digit separator too.
 ///
+/// In plain Rust:
+///
+/// ```
+/// use peltzivar::edits::{edit_word, Edit, FlagSetter};
+/// use peltzivar::word::STANDARD;
+///
+/// // The exponent keeps base and radix 10, which are now written in the word.
+/// let edits = [Edit::MantissaRadix(16), Edit::Flag(FlagSetter::NoSpecial, true)];
+/// assert_eq!(edit_word(STANDARD, &edits), 0x0A0A1000_00000000_00000000_0000040C);
+/// ```
+///
 /// # Proved
 ///
 /// For all arguments; [`definitions`](crate::definitions) has the words.
@@ -373,6 +384,16 @@ pub const fn normal_form(format: u128) -> u128 {
 /// Reserved bits, empty exponent bytes, and a digit separator that no flag allows are mended, so none
 /// of these is an error; everything else that is wrong is. The error is never `Success` or
 /// `InvalidFlags`.
+///
+/// In plain Rust:
+///
+/// ```
+/// use peltzivar::{edits::migrate, error::Error};
+///
+/// // The reserved bit 31 is cleared, and the exponent bytes are filled; flags 4 and 5 exclude each other.
+/// assert_eq!(migrate(0x00000A00_00000000_00000000_8000000C), Ok(0x0A0A0A00_00000000_00000000_0000000C));
+/// assert_eq!(migrate(0x00000A00_00000000_00000000_0000003C), Err(Error::InvalidMantissaSign));
+/// ```
 ///
 /// # Proved
 ///

@@ -70,6 +70,15 @@ pub type OptionU8 = Option<NonZeroU8>;
 /// builder and returns it with its field changed; every other field keeps its value. So setters
 /// of different fields can be called in any order, and of several calls for one field the last
 /// counts.
+///
+/// In plain Rust:
+///
+/// ```
+/// use peltzivar::format_builder::{NonZeroU8, NumberFormatBuilder};
+///
+/// let grouped = NumberFormatBuilder::new().digit_separator(NonZeroU8::new(b'_')).internal_digit_separator(true);
+/// assert_eq!(grouped.build_strict(), Ok(0x00000A00_0000005F_00000007_0000000C));
+/// ```
 #[derive(Drop)]
 pub struct NumberFormatBuilder {
     flags: u32,

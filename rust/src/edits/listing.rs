@@ -43,6 +43,17 @@ const fn is_separator_used(format: u128) -> bool {
 /// `format`, and so does the whole list; `build_unchecked` of it returns `format` if [`is_built`] is
 /// true of it. No shorter list of setter calls of single fields does.
 ///
+/// In plain Rust:
+///
+/// ```
+/// use peltzivar::edits::{edits_of, Edit, FlagSetter};
+///
+/// // Base 16, and no digits required after an exponent character.
+/// let (edits, count) = edits_of(0x00001000_00000000_00000000_00000008);
+/// let needed = [Edit::Flag(FlagSetter::RequiredExponentDigits, false), Edit::MantissaRadix(16)];
+/// assert_eq!(edits[..count], needed);
+/// ```
+///
 /// # Proved
 ///
 /// For all arguments; [`definitions`](crate::definitions) has the words.

@@ -216,6 +216,16 @@ const fn are_accepted(format: u128, exponent: u8, decimal_point: u8) -> bool {
 /// has two meanings, and for every lawful format some such pair exists. The Rust crate compares the
 /// raw bytes.
 ///
+/// In plain Rust:
+///
+/// ```
+/// use peltzivar::{format_flags::is_valid_options_punctuation, word::STANDARD};
+///
+/// assert!(is_valid_options_punctuation(STANDARD, b'e', b'.'));
+/// assert!(!is_valid_options_punctuation(STANDARD, b'5', b'.')); // a digit
+/// assert!(!is_valid_options_punctuation(STANDARD, b'.', b'.')); // one byte for both
+/// ```
+///
 /// # Proved
 ///
 /// For all arguments; [`definitions`](crate::definitions) has the words.

@@ -263,6 +263,16 @@ const fn are_accepted(format: u128, exponent: u8, decimal_point: u8) -> bool
 /// [`is_valid_punctuation`]. The decimal point is always one byte. In a lawful format, no byte then
 /// has two meanings, and for every lawful format some such pair exists. The Rust crate compares the
 /// raw bytes.
+///
+/// In plain Rust:
+///
+/// ```
+/// use peltzivar::{format_flags::is_valid_options_punctuation, word::STANDARD};
+///
+/// assert!(is_valid_options_punctuation(STANDARD, b'e', b'.'));
+/// assert!(!is_valid_options_punctuation(STANDARD, b'5', b'.')); // a digit
+/// assert!(!is_valid_options_punctuation(STANDARD, b'.', b'.')); // one byte for both
+/// ```
 #[inline(always)]
 pub const fn is_valid_options_punctuation(format: u128, exponent: u8, decimal_point: u8) -> bool
     ensures accepted { IsTrue result ↔ AreAccepted format exponent decimal_point }

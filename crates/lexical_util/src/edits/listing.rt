@@ -45,6 +45,17 @@ const fn is_separator_used(format: u128) -> bool
 /// in the order of the fields' bits. The first part alone makes a builder with exactly the fields of
 /// `format`, and so does the whole list; `build_unchecked` of it returns `format` if [`is_built`] is
 /// true of it. No shorter list of setter calls of single fields does.
+///
+/// In plain Rust:
+///
+/// ```
+/// use peltzivar::edits::{edits_of, Edit, FlagSetter};
+///
+/// // Base 16, and no digits required after an exponent character.
+/// let (edits, count) = edits_of(0x00001000_00000000_00000000_00000008);
+/// let needed = [Edit::Flag(FlagSetter::RequiredExponentDigits, false), Edit::MantissaRadix(16)];
+/// assert_eq!(edits[..count], needed);
+/// ```
 pub fn edits_of(format: u128) -> ([Edit; FIELDS], usize)
     ensures list { result.0 ≡ changing (raw format) ++ unchanging (raw format) }
     ensures number { result.1 ≡ length (changing (raw format)) }
