@@ -1,0 +1,54 @@
+//! What `{:?}` prints of builders and views: the word, and the fields that differ from a new builder's.
+
+use peltzivar::feature_format::NumberFormat;
+use peltzivar::format_builder::{NonZeroU8, NumberFormatBuilder};
+use peltzivar::word::{FormatView, STANDARD};
+
+const WORD: u128 = 0x221C1068_7800005F_00000001_80000408;
+
+const FIELDS: &str = "required_exponent_digits: false, no_special: true, integer_internal_digit_separator: true, \
+    digit_separator: '_', base_prefix: 'x', base_suffix: 'h', mantissa_radix: 16, exponent_base: 28, exponent_radix: 34";
+
+#[test]
+fn a_word_and_its_fields_are_printed() {
+    let separator = NumberFormatBuilder::new().digit_separator(NonZeroU8::new(b'\''));
+    for (text, wanted) in [
+        (format!("{:?}", FormatView::new(WORD)), format!("FormatView {{ word: {WORD:#034X}, {FIELDS} }}")),
+        (format!("{:?}", NumberFormat::<WORD>::new()), format!("NumberFormat {{ word: {WORD:#034X}, {FIELDS} }}")),
+        (
+            format!("{:?}", NumberFormatBuilder::rebuild(WORD)),
+            // A builder has no reserved bits.
+            format!("NumberFormatBuilder {{ word: {:#034X}, {FIELDS} }}", WORD & !(1 << 31)),
+        ),
+        (
+            format!("{:?}", NumberFormatBuilder::new()),
+            "NumberFormatBuilder { word: 0x00000A0000000000000000000000000C }".to_string(),
+        ),
+        (
+            // The separator is shown though no flag lets it be packed.
+            format!("{separator:?}"),
+            r"NumberFormatBuilder { word: 0x00000A0000000000000000000000000C, digit_separator: '\'' }".to_string(),
+        ),
+    ] {
+        assert_eq!(text, wanted);
+    }
+    assert_eq!(
+        format!("{:#?}", FormatView::new(1 << 108)),
+        "FormatView {\n    word: 0x00001000000000000000000000000000,\n    required_exponent_digits: false,\n    \
+        required_mantissa_digits: false,\n    mantissa_radix: 16,\n}"
+    );
+}
+
+macro_rules! texts {
+    (() $($bit:literal $name:ident $NAME:ident $get:ident;)*) => {
+        [$((stringify!($name), STANDARD ^ 1 << $bit, $bit == 2 || $bit == 3)),*]
+    };
+}
+
+#[test]
+fn each_flag_is_printed_by_its_name() {
+    for (name, word, was) in with_flags!(texts()) {
+        let text = format!("FormatView {{ word: {word:#034X}, {name}: {} }}", !was);
+        assert_eq!(format!("{:?}", FormatView::new(word)), text);
+    }
+}

@@ -1,0 +1,213 @@
+//! The getters of both views: of the one at run time, and of the one whose word is a const argument.
+
+use peltzivar::error::Error;
+use peltzivar::feature_format::NumberFormat;
+use peltzivar::format::STANDARD;
+use peltzivar::format_builder::NumberFormatBuilder;
+use peltzivar::word::FormatView;
+
+/// A word whose six bytes differ: `_`, `x`, `h`, 16, 28 and 34.
+const BYTES: u128 = 0x221C1068_7800005F_00000000_00000000;
+
+/// What the getters of a flag read, by each of their names, in a word.
+macro_rules! flag {
+    ($word:expr, $name:ident $NAME:ident $get:ident) => {
+        [
+            FormatView::new($word).$name(),
+            NumberFormat::<{ $word }>::new().$name(),
+            NumberFormat::<{ $word }>::$NAME,
+            NumberFormatBuilder::rebuild($word).$get(),
+        ]
+    };
+}
+
+macro_rules! flags {
+    (() $($bit:literal $name:ident $NAME:ident $get:ident;)*) => {
+        [$((
+            stringify!($name),
+            flag!(1 << $bit, $name $NAME $get),
+            flag!(!(1 << $bit), $name $NAME $get),
+        )),*]
+    };
+}
+
+#[test]
+fn each_flag_is_its_bit() {
+    for (name, in_its_bit, in_all_others) in with_flags!(flags()) {
+        assert_eq!(
+            (in_its_bit, in_all_others),
+            ([true; 4], [false; 4]),
+            "{name}"
+        );
+    }
+}
+
+macro_rules! group {
+    ($word:expr, $name:ident $NAME:ident) => {
+        [
+            FormatView::new($word).$name(),
+            NumberFormat::<{ $word }>::new().$name(),
+            NumberFormat::<{ $word }>::$NAME,
+        ]
+    };
+}
+
+macro_rules! groups {
+    ($($name:ident $NAME:ident $($bit:literal)*;)*) => {
+        [$((
+            stringify!($name),
+            vec![$(group!(1 << $bit, $name $NAME)),*],
+            group!(!(0 $(| 1 << $bit)*), $name $NAME),
+        )),*]
+    };
+}
+
+#[test]
+fn each_group_is_any_of_its_bits() {
+    let groups = groups! {
+        required_digits REQUIRED_DIGITS 0 1 2 3;
+        internal_digit_separator INTERNAL_DIGIT_SEPARATOR 32 33 34;
+        leading_digit_separator LEADING_DIGIT_SEPARATOR 35 36 37;
+        trailing_digit_separator TRAILING_DIGIT_SEPARATOR 38 39 40;
+        consecutive_digit_separator CONSECUTIVE_DIGIT_SEPARATOR 41 42 43;
+    };
+    for (name, in_each_bit, in_all_others) in groups {
+        assert!(in_each_bit.iter().all(|read| *read == [true; 3]), "{name}");
+        assert_eq!(in_all_others, [false; 3], "{name}");
+    }
+}
+
+/// What a getter returns of some words, in each of the views.
+macro_rules! read {
+    (($($word:expr),*) $name:ident) => {
+        [
+            [$(FormatView::new($word).$name()),*],
+            [$(NumberFormat::<{ $word }>::new().$name()),*],
+        ]
+    };
+}
+
+/// Compares getters with what they must return of some words.
+macro_rules! both_views {
+    ($words:tt $($name:ident $wanted:expr;)*) => {
+        $(assert_eq!(read!($words $name), [$wanted; 2], stringify!($name));)*
+    };
+}
+
+#[test]
+fn masks_of_flags() {
+    both_views! {
+        (u128::MAX, 0)
+        flags [0x1FFF_0003_FFFF, 0];
+        interface_flags [0xFFF_0000_63CF, 0];
+        digit_separator_flags [0x1FFF_0000_0000, 0];
+        exponent_flags [0x924_0000_43C4, 0];
+        integer_digit_separator_flags [0x249_0000_0000, 0];
+        fraction_digit_separator_flags [0x492_0000_0000, 0];
+        exponent_digit_separator_flags [0x924_0000_0000, 0];
+    }
+}
+
+#[test]
+fn bytes_and_radixes() {
+    both_views! {
+        (BYTES, STANDARD, 0x1100 << 96)
+        digit_separator [0x5F, 0, 0];
+        base_prefix [0x78, 0, 0];
+        base_suffix [0x68, 0, 0];
+        mantissa_radix [16, 10, 17];
+        radix [16, 10, 17];
+        radix2 [256, 100, 289];
+        radix4 [65_536, 10_000, 83_521];
+        radix8 [0, 100_000_000, 2_680_790_145]; // 17^8 modulo 2^32
+        exponent_base [28, 10, 17];
+        exponent_radix [34, 10, 17];
+    }
+    both_views! {
+        (0x01 << 64, 0x80 << 88, 0x10 << 96, !(0xFF << 64 | 0xFF << 88 | 0xFF << 96))
+        has_digit_separator [true, false, false, false];
+        has_base_prefix [false, true, false, false];
+        has_base_suffix [false, false, true, false];
+    }
+}
+
+macro_rules! constants {
+    ($($NAME:ident)*) => { [$(NumberFormat::<BYTES>::$NAME as u32),*] };
+}
+
+#[test]
+fn constants_of_bytes_and_radixes() {
+    let read = constants! { DIGIT_SEPARATOR BASE_PREFIX BASE_SUFFIX MANTISSA_RADIX RADIX EXPONENT_BASE EXPONENT_RADIX };
+    assert_eq!(read, [0x5F, 0x78, 0x68, 16, 16, 28, 34]);
+}
+
+macro_rules! digits {
+    ($word:expr) => {{
+        let runtime = FormatView::new($word);
+        let [own, constant, free] = [
+            (0..=255).filter(|byte| runtime.is_digit(*byte)).collect(),
+            (0..=255)
+                .filter(|byte| NumberFormat::<{ $word }>::new().is_digit(*byte))
+                .collect(),
+            (0..=255)
+                .filter(|byte| peltzivar::format::is_digit($word, *byte))
+                .collect::<Vec<u8>>(),
+        ];
+        assert_eq!((&own, &constant), (&free, &free));
+        String::from_utf8(own).expect("text")
+    }};
+}
+
+#[test]
+fn digits_are_of_the_larger_radix() {
+    assert_eq!(digits!(STANDARD), "0123456789");
+    assert_eq!(digits!(0x02001000 << 96), "0123456789ABCDEFabcdef");
+    assert_eq!(digits!(0x0C000200 << 96), "0123456789ABab");
+    assert_eq!(digits!(0x02020200 << 96), "01");
+}
+
+#[test]
+fn a_view_is_made_of_a_word_and_gives_it() {
+    const VIEW: NumberFormat<BYTES> = NumberFormat::new();
+    let view = FormatView::new(BYTES);
+    assert_eq!(
+        [VIEW.view(), VIEW.into(), BYTES.into(), VIEW.view()],
+        [view; 4]
+    );
+    assert_eq!([view.word(), view.into()], [BYTES; 2]);
+    assert_eq!(VIEW, Default::default());
+    assert_eq!(
+        FormatView::default().word(),
+        0x00000A00_00000000_00000000_0000000C
+    );
+}
+
+#[test]
+fn a_view_gives_builders() {
+    let new = NumberFormatBuilder::new();
+    assert_eq!(
+        [FormatView::builder(), NumberFormat::<BYTES>::builder()],
+        [new; 2]
+    );
+    // Exponent base and exponent radix of 0 become the mantissa radix, and the reserved bit 31 is lost.
+    const WORD: u128 = 0x00001068_7800005F_00000001_80000400;
+    let built = [
+        FormatView::new(WORD).rebuild().build_unchecked(),
+        NumberFormat::<WORD>::rebuild().build_unchecked(),
+        NumberFormatBuilder::rebuild(WORD).build_unchecked(),
+    ];
+    assert_eq!(built, [0x10101068_7800005F_00000001_00000400; 3]);
+}
+
+#[test]
+fn the_views_can_be_asked_when_the_program_is_compiled() {
+    type Standard = NumberFormat<STANDARD>;
+    const {
+        assert!(
+            Standard::REQUIRED_MANTISSA_DIGITS && !Standard::NO_SPECIAL && Standard::RADIX == 10
+        )
+    };
+    const { assert!(Standard::new().is_valid() && FormatView::new(STANDARD).is_valid()) };
+    const ERROR: Error = NumberFormat::<0>::new().error();
+    assert!(matches!(FormatView::new(0).error(), ERROR));
+}

@@ -1,0 +1,139 @@
+//! Replays what `lexical-util` 1.0.7 returned. The form of a line is told in `crates/recorded/src/reading.rt`.
+
+mod outcomes;
+
+use outcomes::outcome;
+use peltzivar::ascii::{is_valid_ascii, is_valid_letter};
+use peltzivar::digit::{char_to_digit, char_to_digit_const};
+use peltzivar::edits::{apply_all, edit_word, Edit, FlagSetter};
+use peltzivar::error::Error;
+use peltzivar::format_builder::{NonZeroU8, NumberFormatBuilder};
+use peltzivar::format_flags::is_valid_options_punctuation;
+use peltzivar::word::{format_error, FormatView};
+
+/// How many lines of each kind the file has.
+const COUNTS: [(&str, usize); 8] = [
+    ("byte", 256),
+    ("digit", 2048),
+    ("printed", 87),
+    ("fields", 4000),
+    ("check", 6049),
+    ("options", 2600),
+    ("edit", 2594),
+    ("build", 2500),
+];
+
+fn word(text: &str) -> Option<u128> {
+    u128::from_str_radix(text, 16).ok()
+}
+
+fn error(name: &str) -> Option<Error> {
+    outcome(name, 0)
+}
+
+/// The edit that `SETTER=VALUE` stands for.
+fn edit(call: &str) -> Option<Edit> {
+    let (name, value) = call.split_once('=')?;
+    if let Some(setter) = FlagSetter::from_name(name) {
+        return Some(Edit::Flag(setter, value.parse().ok()?));
+    }
+    let byte: u8 = value.parse().ok()?;
+    Some(match name {
+        "digit_separator" => Edit::DigitSeparator(NonZeroU8::new(byte)),
+        "base_prefix" => Edit::BasePrefix(NonZeroU8::new(byte)),
+        "base_suffix" => Edit::BaseSuffix(NonZeroU8::new(byte)),
+        "mantissa_radix" => Edit::MantissaRadix(byte),
+        "radix" => Edit::Radix(byte),
+        "exponent_base" => Edit::ExponentBase(NonZeroU8::new(byte)),
+        "exponent_radix" => Edit::ExponentRadix(NonZeroU8::new(byte)),
+        _ => return None,
+    })
+}
+
+fn edits(calls: &[&str]) -> Option<Vec<Edit>> {
+    calls.iter().map(|call| edit(call)).collect()
+}
+
+fn keeps_digit(byte: u8, radix: u32, digit: &str) -> Option<bool> {
+    let wanted = match digit {
+        "none" => None,
+        digit => Some(digit.parse().ok()?),
+    };
+    Some([char_to_digit(byte, radix), char_to_digit_const(byte, radix)] == [wanted; 2])
+}
+
+fn keeps_fields(view: FormatView, flags: &str, numbers: &[&str]) -> Option<bool> {
+    let numbers: Option<Vec<u32>> = numbers.iter().map(|number| number.parse().ok()).collect();
+    let read = [
+        view.digit_separator().into(),
+        view.base_prefix().into(),
+        view.base_suffix().into(),
+        view.mantissa_radix(),
+        view.exponent_base(),
+        view.exponent_radix(),
+    ];
+    Some(view.flags() == word(flags)? && numbers? == read)
+}
+
+fn keeps_build(packed: u128, error: Error, edits: &[Edit]) -> bool {
+    let wanted = match error {
+        Error::Success => Ok(packed),
+        error => Err(error),
+    };
+    let builder = apply_all(NumberFormatBuilder::new(), edits);
+    builder.build_unchecked() == packed && builder.build_strict() == wanted
+}
+
+/// Whether the library still returns what a line records, or `None` if the line cannot be read.
+fn keeps(line: &str) -> Option<bool> {
+    if let Some(printed) = line.strip_prefix("printed ") {
+        let (index, printed) = printed.split_once(' ')?;
+        let (name, text) = printed.split_once(' ')?;
+        return Some(outcome(name, index.parse().ok()?)?.to_string() == text);
+    }
+    let parts: Vec<&str> = line.split(' ').collect();
+    Some(match parts[..] {
+        ["byte", byte, ascii, letter] => {
+            let byte = byte.parse().ok()?;
+            is_valid_ascii(byte) == ascii.parse().ok()?
+                && is_valid_letter(byte) == letter.parse().ok()?
+        }
+        ["digit", byte, radix, digit] => {
+            keeps_digit(byte.parse().ok()?, radix.parse().ok()?, digit)?
+        }
+        ["fields", format, flags, ref numbers @ ..] => {
+            keeps_fields(FormatView::new(word(format)?), flags, numbers)?
+        }
+        ["check", format, name] => format_error(word(format)?) == error(name)?,
+        ["options", format, exponent, point, accepted] => {
+            let (exponent, point) = (exponent.parse().ok()?, point.parse().ok()?);
+            is_valid_options_punctuation(word(format)?, exponent, point) == accepted.parse().ok()?
+        }
+        ["edit", format, edited, ref calls @ ..] => {
+            edit_word(word(format)?, &edits(calls)?) == word(edited)?
+        }
+        ["build", packed, name, ref calls @ ..] => {
+            keeps_build(word(packed)?, error(name)?, &edits(calls)?)
+        }
+        _ => return None,
+    })
+}
+
+#[test]
+fn recorded_results_are_kept() {
+    let path = concat!(
+        env!("CARGO_MANIFEST_DIR"),
+        "/../crates/recorded/data/results.txt"
+    );
+    let text = std::fs::read_to_string(path).expect("the recorded results");
+    let mut counts = COUNTS.map(|(kind, _)| (kind, 0));
+    for line in text.lines() {
+        // Behind ` crate: ` stands what the Rust crate returns where this library differs on purpose.
+        let fact = line.split_once(" crate: ").map_or(line, |(fact, _)| fact);
+        assert_eq!(keeps(fact), Some(true), "{line}");
+        let kind = fact.split(' ').next();
+        let count = counts.iter_mut().find(|count| kind == Some(count.0));
+        count.expect("a known kind").1 += 1;
+    }
+    assert_eq!(counts, COUNTS);
+}
