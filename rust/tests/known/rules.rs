@@ -211,6 +211,8 @@ fn exponent_character_and_decimal_point_have_bytes_of_their_own() {
         (WORD, b'H', b'.', false),
         (CASED, b'H', b'.', true),
         (CASED, b'h', b'.', false),
+        (WORD | 1 << 16, b'X', b'.', false),
+        (WORD | 1 << 16, b'.', b'X', true),
         (0x0D000A00 << 96, b'c', b'.', false),
     ] {
         let accepted = [

@@ -6,8 +6,8 @@ use peltzivar::format::STANDARD;
 use peltzivar::format_builder::NumberFormatBuilder;
 use peltzivar::word::FormatView;
 
-/// A word whose six bytes differ: `_`, `x`, `h`, 16, 28 and 34.
-const BYTES: u128 = 0x221C1068_7800005F_00000000_00000000;
+/// A word whose six bytes differ and have their highest bits set: 143, 152, 168, 145, 220 and 226.
+const BYTES: u128 = 0xE2DC91A8_9800008F_00000000_00000000;
 
 /// What the getters of a flag read, by each of their names, in a word.
 macro_rules! flag {
@@ -112,16 +112,16 @@ fn masks_of_flags() {
 fn bytes_and_radixes() {
     both_views! {
         (BYTES, STANDARD, 0x1100 << 96)
-        digit_separator [0x5F, 0, 0];
-        base_prefix [0x78, 0, 0];
-        base_suffix [0x68, 0, 0];
-        mantissa_radix [16, 10, 17];
-        radix [16, 10, 17];
-        radix2 [256, 100, 289];
-        radix4 [65_536, 10_000, 83_521];
-        radix8 [0, 100_000_000, 2_680_790_145]; // 17^8 modulo 2^32
-        exponent_base [28, 10, 17];
-        exponent_radix [34, 10, 17];
+        digit_separator [143, 0, 0];
+        base_prefix [152, 0, 0];
+        base_suffix [168, 0, 0];
+        mantissa_radix [145, 10, 17];
+        radix [145, 10, 17];
+        radix2 [21_025, 100, 289];
+        radix4 [442_050_625, 10_000, 83_521];
+        radix8 [931_553_409, 100_000_000, 2_680_790_145]; // modulo 2^32
+        exponent_base [220, 10, 17];
+        exponent_radix [226, 10, 17];
     }
     both_views! {
         (0x01 << 64, 0x80 << 88, 0x10 << 96, !(0xFF << 64 | 0xFF << 88 | 0xFF << 96))
@@ -138,7 +138,7 @@ macro_rules! constants {
 #[test]
 fn constants_of_bytes_and_radixes() {
     let read = constants! { DIGIT_SEPARATOR BASE_PREFIX BASE_SUFFIX MANTISSA_RADIX RADIX EXPONENT_BASE EXPONENT_RADIX };
-    assert_eq!(read, [0x5F, 0x78, 0x68, 16, 16, 28, 34]);
+    assert_eq!(read, [143, 152, 168, 145, 145, 220, 226]);
 }
 
 macro_rules! digits {
@@ -168,17 +168,15 @@ fn digits_are_of_the_larger_radix() {
 
 #[test]
 fn a_view_is_made_of_a_word_and_gives_it() {
-    const VIEW: NumberFormat<BYTES> = NumberFormat::new();
-    let view = FormatView::new(BYTES);
-    assert_eq!(
-        [VIEW.view(), VIEW.into(), BYTES.into(), VIEW.view()],
-        [view; 4]
-    );
-    assert_eq!([view.word(), view.into()], [BYTES; 2]);
+    const ALL: u128 = u128::MAX;
+    const VIEW: NumberFormat<ALL> = NumberFormat::new();
+    let view = FormatView::new(ALL);
+    assert_eq!([VIEW.view(), VIEW.into(), ALL.into()], [view; 3]);
+    assert_eq!([view.word(), view.into()], [ALL; 2]);
     assert_eq!(VIEW, Default::default());
     assert_eq!(
-        FormatView::default().word(),
-        0x00000A00_00000000_00000000_0000000C
+        FormatView::default(),
+        FormatView::new(0x00000A00_00000000_00000000_0000000C)
     );
 }
 
