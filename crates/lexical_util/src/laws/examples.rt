@@ -1,13 +1,28 @@
 //! Of each predicate of the definitions an example that it holds of and one that it does not hold of,
-//! so that none of them can say more or less unseen.
+//! so that none of them can say more or less unseen; and uses of the laws, for the same reason.
 
-ghost use Rattle.std.specs.Prelude.{[], ◌∷◌, true, false};
+ghost use Rattle.std.specs.Prelude.{◌≡◌, ◌↔◌, ◌⊎◌, ◌<◌, ◌*◌, ◌/◌, ◌^◌, ◌||◌, ◌++◌, ℕ, max, pos, [], ◌∷◌, true, false, IsSome, IsTrue};
+ghost use Rattle.lexical_base.specs.Digits.{value, digit_of, digits_of};
+ghost use Rattle.lexical_base.specs.declared.error.Error.TheVariants as errors;
+ghost use Rattle.lexical_flags.specs.Computed.{error_at, accepts, is_punctuation, are_apart};
+ghost use Rattle.lexical_flags.specs.Constants.{flag_constant, byte_mask, byte_shift, AreApart};
 ghost use Rattle.lexical_flags.specs.Layout as layout;
-ghost use Rattle.lexical_flags.specs.Record.{raw};
+ghost use Rattle.lexical_flags.specs.Layout.{Flag, Byte, bit, shift, IsClean};
+ghost use Rattle.lexical_flags.specs.Options.{AreAccepted};
+ghost use Rattle.lexical_flags.specs.Pairs.{ArePairwise};
+ghost use Rattle.lexical_flags.specs.Record.{raw, fill, trim, pack, IsBuilt};
+ghost use Rattle.lexical_flags.specs.Roles.{Disjoint, AtMostOneRole, cased, seven_roles};
+ghost use Rattle.lexical_flags.specs.Rules as rules;
+ghost use Rattle.lexical_flags.specs.Rules.{Demands, IsErrorOf, IsPunctuation, Lawful};
+ghost use Rattle.lexical_flags.specs.declared.format_flags.TheConstants.{FLAG_MASK};
 ghost use Rattle.lexical_builder.specs.Writes.{write_flag, write_byte, IsLegal, SameWrites};
 ghost use Rattle.lexical_util.specs.Compose.{Composes, AlwaysCompose};
+ghost use Rattle.lexical_util.specs.Edits.{all_writes, edited};
 ghost use Rattle.lexical_util.specs.Listing.{IsBuiltByWrites};
-ghost use Rattle.lexical_util.specs.Normal.{SameFormat, IsNormal};
+ghost use Rattle.lexical_util.specs.Normal.{normal_form_of, SameFormat, IsNormal};
+ghost use Rattle.lexical_util.specs.declared.edits.Edit.TheVariants as edits;
+
+use crate::laws::{base, edit_facts, flags, normal_form_facts, write_facts};
 
 /// Writes: legal values, and lists that write the same.
 pub fn write_examples()
@@ -105,3 +120,71 @@ pub fn always_examples()
         (write_byte layout.exponent_radix 0 ∷ []) (write_flag layout.no_special true ∷ []) → ⊥ }
     ensures flag_alone { AlwaysCompose [] (write_flag layout.integer_internal_digit_separator true ∷ []) → ⊥ }
 {}
+
+/// The laws of digits and of the layout, each at a byte, a radix or a flag.
+pub fn layout_law_examples()
+    ensures digit { (value 0x41 < 36) ⊎ (value 0x41 ≡ 255) }
+    ensures digits { IsSome (digit_of 0x41 16) ↔ IsTrue (digits_of 16 0x41) }
+    ensures larger { IsSome (digit_of 0x41 (max 10 16)) ↔ IsTrue (digits_of 10 0x41 || digits_of 16 0x41) }
+
+    ensures flag { flag_constant layout.no_special ≡ 2 ^ bit layout.no_special }
+    ensures shift { byte_shift layout.base_prefix ≡ pos (shift layout.base_prefix) }
+    ensures mask { byte_mask layout.base_prefix ≡ 255 * 2 ^ shift layout.base_prefix }
+    ensures shifted_mask { byte_mask layout.base_prefix / 2 ^ shift layout.base_prefix ≡ 255 }
+    ensures apart { AreApart (byte_mask layout.base_prefix) FLAG_MASK }
+    ensures one_flag { (f : Flag) → bit f ≡ bit layout.no_special → f ≡ layout.no_special }
+    ensures one_byte { (b : Byte) → shift b ≡ shift layout.base_prefix → b ≡ layout.base_prefix }
+{
+    base::digit_facts();
+    flags::layout_facts();
+}
+
+/// The laws of words, each at words that are literals.
+pub fn word_law_examples()
+    // A word with a separator that no flag allows, and the word without it.
+    ensures fields { raw (pack (raw 0x0A0A0A00_0000005F_00000000_0000000C))
+        ≡ trim (raw 0x0A0A0A00_0000005F_00000000_0000000C) }
+    ensures clean { IsClean (pack (raw 0x0A0A0A00_0000005F_00000000_8000000C)) }
+    ensures fits { pack (raw 0x0A0A0A00_0000005F_00000000_0000000C) < 2 ^ 128 }
+    ensures alike { (pack (raw 0x0A0A0A00_0000005F_00000000_0000000C)
+        ≡ pack (raw 0x0A0A0A00_00000000_00000000_0000000C))
+        ↔ (trim (raw 0x0A0A0A00_0000005F_00000000_0000000C) ≡ trim (raw 0x0A0A0A00_00000000_00000000_0000000C)) }
+    ensures built { (pack (raw 0x0A0A0A00_0000005F_00000000_0000000C) ≡ 0x0A0A0A00_0000005F_00000000_0000000C)
+        ↔ IsBuilt 0x0A0A0A00_0000005F_00000000_0000000C }
+    ensures only { (word : ℕ) → word < 2 ^ 128 → IsClean word → raw word ≡ raw 0 → word ≡ 0 }
+
+    // The rule of the separator: a normal form keeps it, and if the separator stays it keeps no more.
+    ensures kept { Demands rules.digit_separator_is_free (raw 0x0A0A0A00_0000005F_00000000_0000000C)
+        → Demands rules.digit_separator_is_free (trim (fill (raw 0x0A0A0A00_0000005F_00000000_0000000C))) }
+    ensures same { Demands rules.digit_separator_is_free (raw 0)
+        ↔ Demands rules.digit_separator_is_free (trim (fill (raw 0))) }
+
+    // The error of a word, whether it accepts options, and the tests of which these consist.
+    ensures error { IsErrorOf 0x25252500_00000000_00000000_0000000C errors.InvalidMantissaRadix }
+    ensures lawful { (error_at 0x0A0A0A00_00000000_00000000_0000000C ≡ errors.Success)
+        ↔ Lawful 0x0A0A0A00_00000000_00000000_0000000C }
+    ensures accepted { IsTrue (accepts (raw 0x0A0A0A00_00000000_00000000_0000000C) 0x65 0x2E)
+        ↔ AreAccepted 0x0A0A0A00_00000000_00000000_0000000C 0x65 0x2E }
+    ensures punctuation { IsTrue (is_punctuation (raw 0x0A0A0A00_00000000_00000000_0000000C) 0x5F)
+        ↔ IsPunctuation (raw 0x0A0A0A00_00000000_00000000_0000000C) 0x5F }
+    ensures sets { IsTrue (are_apart false 0x65 true 0x45) ↔ Disjoint (cased false 0x65) (cased true 0x45) }
+    ensures roles { ArePairwise Disjoint (seven_roles (raw 0x0A0A0A00_00000000_00000000_0000000C) 0x65 0x2E)
+        ↔ AtMostOneRole (raw 0x0A0A0A00_00000000_00000000_0000000C) 0x65 0x2E }
+{
+    flags::packing_facts();
+    flags::rule_facts();
+    flags::role_facts();
+    flags::literal_facts();
+}
+
+/// The laws of edits that no call states, each at a literal.
+pub fn edit_law_examples()
+    ensures edits { all_writes ((edits.Radix 16 ∷ []) ++ (edits.Radix 8 ∷ []))
+        ≡ all_writes (edits.Radix 16 ∷ []) ++ all_writes (edits.Radix 8 ∷ []) }
+    ensures normal { normal_form_of 0x0A0A0A00_0000005F_00000000_8000000C < 2 ^ 128 }
+    ensures edited { edited 0x0A0A0A00_0000005F_00000000_8000000C [] < 2 ^ 128 }
+{
+    write_facts();
+    normal_form_facts();
+    edit_facts();
+}
