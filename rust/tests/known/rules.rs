@@ -6,92 +6,71 @@ use peltzivar::format_flags::{self, format_error_impl, is_clean, radix_error_imp
 use peltzivar::word::{format_error, format_is_valid, FormatView};
 use peltzivar::{format, word};
 
-/// A word, its error, and which of the tests of single rules it fails: those of bytes are 0 to 3, that of exponent flags is
-/// 4, that of reserved bits 5.
-type Row = (u128, Error, Option<usize>);
-
-/// What the calls return that take the word as a const argument.
-struct Constant {
-    is_valid: [bool; 2],
-    error: [Error; 2],
-    is_valid_radix: bool,
-    error_radix: Error,
+/// A word, what is wanted of it, and what the calls return that take it as a const argument.
+struct Row {
+    word: u128,
+    error: Error,
+    /// The only test of a single rule that the word fails, or `none`.
+    fails: &'static str,
+    constant_is_valid: [bool; 2],
+    constant_error: [Error; 2],
+    constant_is_valid_radix: bool,
+    constant_error_radix: Error,
 }
 
 macro_rules! rows {
-    ($($word:literal $Error:ident $test:expr;)*) => {
-        [$((
-            ($word, Error::$Error, $test),
-            Constant {
-                is_valid: [NumberFormat::<$word>::new().is_valid(), format::format_is_valid::<$word>()],
-                error: [NumberFormat::<$word>::new().error(), format::format_error::<$word>()],
-                is_valid_radix: NumberFormat::<$word>::new().is_valid_radix(),
-                error_radix: NumberFormat::<$word>::new().error_radix(),
-            },
-        )),*]
+    ($($word:literal $Error:ident $fails:ident;)*) => {
+        [$(Row {
+            word: $word,
+            error: Error::$Error,
+            fails: stringify!($fails),
+            constant_is_valid: [NumberFormat::<$word>::new().is_valid(), format::format_is_valid::<$word>()],
+            constant_error: [NumberFormat::<$word>::new().error(), format::format_error::<$word>()],
+            constant_is_valid_radix: NumberFormat::<$word>::new().is_valid_radix(),
+            constant_error_radix: NumberFormat::<$word>::new().error_radix(),
+        }),*]
     };
 }
 
-fn words() -> [(Row, Constant); 20] {
+/// A smallest word that breaks each of the 16 rules, and four more.
+fn rows() -> [Row; 20] {
     rows! {
-        0x00000000000000000000000000000000 InvalidMantissaRadix None;
-        0x00010200000000000000000000000000 InvalidExponentBase None;
-        0x01000200000000000000000000000000 InvalidExponentRadix None;
-        0x00000200000000010000000000000000 InvalidDigitSeparator Some(0);
-        0x00000200010000000000000000000000 InvalidBasePrefix Some(1);
-        0x00000201000000000000000000000000 InvalidBaseSuffix Some(2);
-        0x00000200090000090000000000000000 InvalidPunctuation Some(3);
-        0x00000200000000000000000000004040 InvalidExponentFlags Some(4);
-        0x00000200000000000000000000000030 InvalidMantissaSign None;
-        0x00000200000000000000000000000180 InvalidExponentSign None;
-        0x00000200000000000000000000000C00 InvalidSpecial None;
-        0x00000200000000000000100000000400 InvalidSpecial None;
-        0x00000200000000000000020000000000 InvalidConsecutiveIntegerDigitSeparator None;
-        0x00000200000000000000040000000000 InvalidConsecutiveFractionDigitSeparator None;
-        0x00000200000000000000080000000000 InvalidConsecutiveExponentDigitSeparator None;
-        0x00000200000000000000000080000000 InvalidFlags Some(5);
-        0x00000A0000000000000000000000000C Success None;
-        0x0A0A1068780000FF0000000000000000 InvalidDigitSeparator Some(0);
-        0x2424245F2E00002C00001FFF00010280 Success None;
-        0x25240200000000000000000000000000 InvalidExponentRadix None;
+        0x00000000000000000000000000000000 InvalidMantissaRadix none;
+        0x00010200000000000000000000000000 InvalidExponentBase none;
+        0x01000200000000000000000000000000 InvalidExponentRadix none;
+        0x00000200000000010000000000000000 InvalidDigitSeparator is_valid_digit_separator;
+        0x00000200010000000000000000000000 InvalidBasePrefix is_valid_base_prefix;
+        0x00000201000000000000000000000000 InvalidBaseSuffix is_valid_base_suffix;
+        0x00000200090000090000000000000000 InvalidPunctuation is_valid_punctuation;
+        0x00000200000000000000000000004040 InvalidExponentFlags is_valid_exponent_flags;
+        0x00000200000000000000000000000030 InvalidMantissaSign none;
+        0x00000200000000000000000000000180 InvalidExponentSign none;
+        0x00000200000000000000000000000C00 InvalidSpecial none;
+        0x00000200000000000000100000000400 InvalidSpecial none;
+        0x00000200000000000000020000000000 InvalidConsecutiveIntegerDigitSeparator none;
+        0x00000200000000000000040000000000 InvalidConsecutiveFractionDigitSeparator none;
+        0x00000200000000000000080000000000 InvalidConsecutiveExponentDigitSeparator none;
+        0x00000200000000000000000080000000 InvalidFlags is_clean;
+        0x00000A0000000000000000000000000C Success none;
+        0x2424245F2E00002C00001FFF00010280 Success none;
+        0x0A0A1068780000FF0000000000000000 InvalidDigitSeparator is_valid_digit_separator;
+        0x25240200000000000000000000000000 InvalidExponentRadix none;
     }
-}
-
-/// The tests of single rules, by their path.
-macro_rules! tests {
-    ($module:ident, $word:expr) => {
-        [
-            $module::is_valid_digit_separator($word),
-            $module::is_valid_base_prefix($word),
-            $module::is_valid_base_suffix($word),
-            $module::is_valid_punctuation($word),
-            $module::is_valid_exponent_flags($word),
-        ]
-    };
-}
-
-fn is_of_radix(error: Error) -> bool {
-    matches!(
-        error,
-        Error::InvalidMantissaRadix | Error::InvalidExponentBase | Error::InvalidExponentRadix
-    )
 }
 
 #[test]
 fn each_word_has_the_error_of_the_first_rule_that_it_breaks() {
-    for ((word, error, _), constant) in words() {
+    for row in rows() {
+        let (word, error) = (row.word, row.error);
         let view = FormatView::new(word);
+        assert_eq!(row.constant_error, [error; 2], "{word:034X}");
         let errors = [view.error(), format_error(word), format_error_impl(word)];
+        assert_eq!(errors, [error; 3], "{word:034X}");
+        let is_valid = [error == Error::Success; 2];
+        assert_eq!(row.constant_is_valid, is_valid, "{word:034X}");
         assert_eq!(
-            (errors, constant.error),
-            ([error; 3], [error; 2]),
-            "{word:034X}"
-        );
-        let is_valid = error == Error::Success;
-        let valid = [view.is_valid(), format_is_valid(word)];
-        assert_eq!(
-            (valid, constant.is_valid),
-            ([is_valid; 2], [is_valid; 2]),
+            [view.is_valid(), format_is_valid(word)],
+            is_valid,
             "{word:034X}"
         );
     }
@@ -99,51 +78,58 @@ fn each_word_has_the_error_of_the_first_rule_that_it_breaks() {
 
 #[test]
 fn the_rules_of_radixes_are_tested_apart() {
-    for ((word, error, _), constant) in words() {
-        let of_radix = is_of_radix(error);
-        let error = if of_radix { error } else { Error::Success };
+    use Error::{InvalidExponentBase, InvalidExponentRadix, InvalidMantissaRadix, Success};
+    for row in rows() {
+        let (word, view) = (row.word, FormatView::new(row.word));
+        let error = match row.error {
+            error @ (InvalidMantissaRadix | InvalidExponentBase | InvalidExponentRadix) => error,
+            _ => Success,
+        };
         let errors = [
             radix_error_impl(word),
-            FormatView::new(word).error_radix(),
-            constant.error_radix,
+            view.error_radix(),
+            row.constant_error_radix,
         ];
         assert_eq!(errors, [error; 3], "{word:034X}");
-        let valid = [
-            FormatView::new(word).is_valid_radix(),
-            constant.is_valid_radix,
-        ];
-        assert_eq!(valid, [!of_radix; 2], "{word:034X}");
+        let is_valid = [view.is_valid_radix(), row.constant_is_valid_radix];
+        assert_eq!(is_valid, [error == Success; 2], "{word:034X}");
     }
-    for (radix, wanted) in [
-        (0, false),
-        (1, false),
-        (2, true),
-        (36, true),
-        (37, false),
-        (258, false),
-    ] {
-        let valid = [format::is_valid_radix(radix), word::is_valid_radix(radix)];
-        assert_eq!(valid, [wanted; 2], "{radix}");
+    for radix in [0, 1, 2, 36, 37, 258] {
+        let is_valid = [format::is_valid_radix(radix), word::is_valid_radix(radix)];
+        assert_eq!(is_valid, [radix == 2 || radix == 36; 2], "{radix}");
     }
+}
+
+/// What the tests of single rules return, by the path of the module.
+macro_rules! tests {
+    ($module:ident, $word:ident: $($test:ident)*) => {
+        [$((stringify!($test), $module::$test($word))),*]
+    };
+    ($module:ident, $word:ident) => {
+        tests!($module, $word: is_valid_digit_separator is_valid_base_prefix is_valid_base_suffix is_valid_punctuation
+            is_valid_exponent_flags)
+    };
 }
 
 #[test]
 fn each_test_of_a_rule_refuses_the_words_that_break_it_alone() {
-    for ((word, _, broken), _) in words() {
-        let wanted: [bool; 5] = std::array::from_fn(|test| broken != Some(test));
-        let read = [
+    for Row { word, fails, .. } in rows() {
+        for tests in [
             tests!(format, word),
             tests!(format_flags, word),
             tests!(word, word),
-        ];
-        assert_eq!(read, [wanted; 3], "{word:034X}");
-        assert_eq!(is_clean(word), broken != Some(5), "{word:034X}");
+        ] {
+            for (test, is_kept) in tests {
+                assert_eq!(is_kept, test != fails, "{test} of {word:034X}");
+            }
+        }
+        assert_eq!(is_clean(word), fails != "is_clean", "{word:034X}");
     }
 }
 
 #[test]
 fn no_bit_of_a_smallest_word_can_be_left_out() {
-    for ((word, error, _), _) in &words()[..16] {
+    for Row { word, error, .. } in &rows()[..16] {
         for bit in (0..128)
             .map(|index| 1 << index)
             .filter(|bit| word & bit != 0)

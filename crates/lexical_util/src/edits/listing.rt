@@ -51,7 +51,7 @@ const fn is_separator_used(format: u128) -> bool
 /// ```
 /// use peltzivar::edits::{edits_of, Edit, FlagSetter};
 ///
-/// // Base 16, and no digits required after an exponent character.
+/// // Radix 16, and no digits required after an exponent character.
 /// let (edits, count) = edits_of(0x00001000_00000000_00000000_00000008);
 /// let needed = [Edit::Flag(FlagSetter::RequiredExponentDigits, false), Edit::MantissaRadix(16)];
 /// assert_eq!(edits[..count], needed);
