@@ -1,9 +1,9 @@
 //! Lists of edits, and what is asked of whole words.
 
 use peltzivar::edits::{
-    apply_all, edit_word, edits_of, is_built, migrate, normal_form, same_format,
+    apply_all, edit_word, edits_of, is_built, migrate, normal_form, same_format, Edit, FlagSetter,
+    FIELDS,
 };
-use peltzivar::edits::{Edit, FlagSetter, FIELDS};
 use peltzivar::error::Error;
 use peltzivar::format_builder::{NonZeroU8, NumberFormatBuilder};
 use peltzivar::word::STANDARD;

@@ -158,6 +158,33 @@ fn consecutive_separators_need_a_place() {
 }
 
 #[test]
+fn punctuation_is_text_that_is_no_sign_and_no_digit() {
+    let radixes = (0..=37).chain([255]);
+    for (radix, byte) in radixes.flat_map(|radix| (1..=255_u8).map(move |byte| (radix, byte))) {
+        let is_text = matches!(byte, 9..=13 | 32..=126);
+        let digit = char::from(byte).to_digit(36).map(u128::from);
+        let is_digit = digit.is_some_and(|digit| digit < radix);
+        let wanted = is_text && !is_digit && byte != b'+' && byte != b'-';
+        // The larger of the radixes of mantissa and exponent counts.
+        for (mantissa, exponent) in [(radix, 0), (radix / 2, radix), (radix, radix / 2)] {
+            let word = mantissa << 104 | exponent << 120;
+            let tests = [
+                format::is_valid_digit_separator(word | u128::from(byte) << 64),
+                format::is_valid_base_prefix(word | u128::from(byte) << 88),
+                format::is_valid_base_suffix(word | u128::from(byte) << 96),
+            ];
+            assert_eq!(tests, [wanted; 3], "{byte} in {word:034X}");
+            let other = if byte == b'.' { b',' } else { b'.' };
+            let options = [
+                format::is_valid_options_punctuation(word, byte, other),
+                format::is_valid_options_punctuation(word, other, byte),
+            ];
+            assert_eq!(options, [wanted; 2], "{byte} in {word:034X}");
+        }
+    }
+}
+
+#[test]
 fn a_letter_stands_for_both_cases_unless_its_flag_is_set() {
     const PREFIX: u128 = 0x78 << 88;
     const SUFFIX: u128 = 0x58 << 96;

@@ -69,25 +69,20 @@ fn each_setter_of_flags_writes_its_bits() {
 
 #[test]
 fn each_setter_has_its_name_and_its_edit() {
-    for (
-        index,
-        Setter {
-            name, set, cleared, ..
-        },
-    ) in setters().into_iter().enumerate()
-    {
-        let setter = FlagSetter::from_name(name).expect(name);
-        assert_eq!((setter.name(), setter), (name, SETTERS[index]));
-        let variant = format!("{setter:?}").to_lowercase();
-        assert_eq!(variant, name.replace('_', ""));
-        assert_eq!(apply(NO_FLAGS, Edit::Flag(setter, true)), set, "{name}");
+    assert_eq!(setters().len(), SETTERS.len());
+    for (row, setter) in setters().iter().zip(SETTERS) {
+        let name = row.name;
         assert_eq!(
-            apply(ALL_FLAGS, Edit::Flag(setter, false)),
-            cleared,
-            "{name}"
+            (setter.name(), FlagSetter::from_name(name)),
+            (name, Some(setter))
         );
+        assert_eq!(format!("{setter:?}").to_lowercase(), name.replace('_', ""));
+        let applied = [
+            apply(NO_FLAGS, Edit::Flag(setter, true)),
+            apply(ALL_FLAGS, Edit::Flag(setter, false)),
+        ];
+        assert_eq!(applied, [row.set, row.cleared], "{name}");
     }
-    assert_eq!(SETTERS.len(), 40);
     for name in ["", "mantissa_radix", "no_specials", "NoSpecial"] {
         assert_eq!(FlagSetter::from_name(name), None, "{name}");
     }
