@@ -359,23 +359,6 @@ pub const fn is_clean(format: u128) -> bool
 
 // THE FIRST BROKEN RULE
 
-// The error of the first broken rule of radixes, or `Success`.
-#[inline(always)]
-#[tactic(auto)]
-const fn first_broken_radix(format: u128) -> Error
-    ensures { IsFirstError rules.radix_rules format result }
-{
-    if !is_valid_mantissa_radix(format) {
-        Error::InvalidMantissaRadix
-    } else if !is_valid_exponent_base(format) {
-        Error::InvalidExponentBase
-    } else if !is_valid_exponent_radix(format) {
-        Error::InvalidExponentRadix
-    } else {
-        Error::Success
-    }
-}
-
 // Whether all rules of punctuation are kept.
 #[inline(always)]
 const fn keeps_punctuation_rules(format: u128) -> bool
@@ -464,7 +447,7 @@ const fn first_broken_reserved(format: u128) -> Error
 const fn first_broken(format: u128) -> Error
     ensures { IsErrorOf format result }
 {
-    match first_broken_radix(format) {
+    match radix_error_impl(format) {
         Error::Success => {}
         error => return error,
     }
@@ -483,11 +466,21 @@ const fn first_broken(format: u128) -> Error
 /// 2 to 36, and `Success` if all are.
 ///
 /// If the exponent base or the exponent radix is 0, the mantissa radix stands for it.
+#[inline(always)]
+#[tactic(auto)]
 pub const fn radix_error_impl(format: u128) -> Error
     ensures first { IsFirstError rules.radix_rules format result }
     ensures only { (other : Error) → IsFirstError rules.radix_rules format other → other ≡ result }
 {
-    first_broken_radix(format)
+    if !is_valid_mantissa_radix(format) {
+        Error::InvalidMantissaRadix
+    } else if !is_valid_exponent_base(format) {
+        Error::InvalidExponentBase
+    } else if !is_valid_exponent_radix(format) {
+        Error::InvalidExponentRadix
+    } else {
+        Error::Success
+    }
 }
 
 /// Returns the error of the first rule that a format breaks, and `Success` if it breaks none, that
