@@ -1,6 +1,6 @@
 -- An exponent character and a decimal point beside the five roles of a word.
 use Rattle.std.proofs.Common.{ℕ, ◌≡◌, ◌+◌, ◌≤◌, ◌≢◌, ◌⊎◌, ◌==◌, ◌||◌, not, if◌then◌else◌, Bool, true, false, IsTrue}
-use Rattle.std.proofs.Common.{arith}
+use Rattle.std.proofs.Common.{◌↔◌, arith}
 use Rattle.std.specs.List.{AllByRecursion}
 use Rattle.std.proofs.lemmas.Bool.Decides.{nat_tests}
 use Rattle.lexical_base.specs.Ascii.{ByteSet, allowed_ascii}
@@ -39,8 +39,8 @@ five_from_own r counts b free own = (
 )
 
 -- bytes that keep each to one role are accepted
-pub AreAccepted-from_roles : (word e p : ℕ) → HaveOneRole word e p → AreAccepted word e p
-AreAccepted-from_roles word e p h =
+accepted_from_roles : (word e p : ℕ) → HaveOneRole word e p → AreAccepted word e p
+accepted_from_roles word e p h =
     let r : Record = raw word in
     let pairs = h.roles in
     let of_exponent = pairs.0 in
@@ -54,9 +54,9 @@ AreAccepted-from_roles word e p h =
     }
 
 -- and in a lawful word those that are accepted keep each to one role
-pub HaveOneRole-from_accepted : (word e p : ℕ) → Lawful word → AreAccepted word e p → HaveOneRole word e p
+roles_from_accepted : (word e p : ℕ) → Lawful word → AreAccepted word e p → HaveOneRole word e p
 unfolding IsPunctuation Lawful
-HaveOneRole-from_accepted word e p lawful h =
+roles_from_accepted word e p lawful h =
     let r : Record = raw word in
     record {
       exponent_is_text = h.exponent_is_punctuation.0;
@@ -66,6 +66,9 @@ HaveOneRole-from_accepted word e p lawful h =
         (five_from_own r true p h.point_is_punctuation h.point_is_new, lawful.roles),
       );
     }
+
+pub accepted_roles : (word e p : ℕ) → Lawful word → AreAccepted word e p ↔ HaveOneRole word e p
+accepted_roles word e p lawful = (roles_from_accepted word e p lawful, accepted_from_roles word e p)
 
 -- the first of four bytes in a row that is none of three
 is_other : ℕ → ℕ → ℕ → ℕ → Bool
@@ -115,8 +118,8 @@ is_new r byte counts low high separator prefix suffix = (
 )
 
 -- of each four such bytes one is left
-pub LeavesRoom-from_lawful : (word : ℕ) → Lawful word → LeavesRoom word
-LeavesRoom-from_lawful word lawful =
+pub room_from_lawful : (word : ℕ) → Lawful word → LeavesRoom word
+room_from_lawful word lawful =
     let r : Record = raw word in
     let e : ℕ = free_from 33 r.digit_separator r.base_prefix r.base_suffix in
     let p : ℕ = free_from 37 r.digit_separator r.base_prefix r.base_suffix in
@@ -129,4 +132,4 @@ LeavesRoom-from_lawful word lawful =
       exponent_is_new = is_new r e r.case_sensitive_exponent e_free.0 (omega arith) e_free.2 e_free.3 e_free.4;
       point_is_new = is_new r p true (omega arith) p_free.1 p_free.2 p_free.3 p_free.4;
     } in
-    record { exponent_byte = e; point_byte = p; fit = HaveOneRole-from_accepted word e p lawful accepted }
+    record { exponent_byte = e; point_byte = p; fit = roles_from_accepted word e p lawful accepted }

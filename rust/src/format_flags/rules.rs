@@ -194,17 +194,6 @@ const fn is_apart_from_own(format: u128, byte: u8, case_counts: bool) -> bool {
         && are_apart(byte, case_counts, base_suffix(format), suffix_case)
 }
 
-// Whether both bytes are punctuation that is not in use yet.
-#[inline(always)]
-const fn are_accepted(format: u128, exponent: u8, decimal_point: u8) -> bool {
-    let exponent_case = exponent_case_counts(format);
-    are_apart(exponent, exponent_case, decimal_point, true)
-        && is_punctuation(format, decimal_point)
-        && is_punctuation(format, exponent)
-        && is_apart_from_own(format, decimal_point, true)
-        && is_apart_from_own(format, exponent, exponent_case)
-}
-
 /// Returns whether `exponent` can be the exponent character and `decimal_point` the decimal point in
 /// numbers of this format.
 ///
@@ -239,7 +228,12 @@ const fn are_accepted(format: u128, exponent: u8, decimal_point: u8) -> bool {
 #[must_use]
 #[inline(always)]
 pub const fn is_valid_options_punctuation(format: u128, exponent: u8, decimal_point: u8) -> bool {
-    are_accepted(format, exponent, decimal_point)
+    let exponent_case = exponent_case_counts(format);
+    are_apart(exponent, exponent_case, decimal_point, true)
+        && is_punctuation(format, decimal_point)
+        && is_punctuation(format, exponent)
+        && is_apart_from_own(format, decimal_point, true)
+        && is_apart_from_own(format, exponent, exponent_case)
 }
 
 // FLAGS
@@ -301,20 +295,6 @@ pub const fn is_clean(format: u128) -> bool {
 }
 
 // THE FIRST BROKEN RULE
-
-// The error of the first broken rule of radixes, or `Success`.
-#[inline(always)]
-const fn first_broken_radix(format: u128) -> Error {
-    if !is_valid_mantissa_radix(format) {
-        Error::InvalidMantissaRadix
-    } else if !is_valid_exponent_base(format) {
-        Error::InvalidExponentBase
-    } else if !is_valid_exponent_radix(format) {
-        Error::InvalidExponentRadix
-    } else {
-        Error::Success
-    }
-}
 
 // Whether all rules of punctuation are kept.
 #[inline(always)]
@@ -388,7 +368,7 @@ const fn first_broken_reserved(format: u128) -> Error {
 
 // The same for all rules.
 const fn first_broken(format: u128) -> Error {
-    match first_broken_radix(format) {
+    match radix_error_impl(format) {
         Error::Success => {}
         error => return error,
     }
@@ -408,8 +388,17 @@ const fn first_broken(format: u128) -> Error {
 ///
 /// If the exponent base or the exponent radix is 0, the mantissa radix stands for it.
 #[must_use]
+#[inline(always)]
 pub const fn radix_error_impl(format: u128) -> Error {
-    first_broken_radix(format)
+    if !is_valid_mantissa_radix(format) {
+        Error::InvalidMantissaRadix
+    } else if !is_valid_exponent_base(format) {
+        Error::InvalidExponentBase
+    } else if !is_valid_exponent_radix(format) {
+        Error::InvalidExponentRadix
+    } else {
+        Error::Success
+    }
 }
 
 /// Returns the error of the first rule that a format breaks, and `Success` if it breaks none, that

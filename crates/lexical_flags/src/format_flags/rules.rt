@@ -240,19 +240,6 @@ const fn is_apart_from_own(format: u128, byte: u8, case_counts: bool) -> bool
         && are_apart(byte, case_counts, base_suffix(format), suffix_case)
 }
 
-// Whether both bytes are punctuation that is not in use yet.
-#[inline(always)]
-const fn are_accepted(format: u128, exponent: u8, decimal_point: u8) -> bool
-    ensures { IsTrue result ↔ AreAccepted format exponent decimal_point }
-{
-    let exponent_case = exponent_case_counts(format);
-    are_apart(exponent, exponent_case, decimal_point, true)
-        && is_punctuation(format, decimal_point)
-        && is_punctuation(format, exponent)
-        && is_apart_from_own(format, decimal_point, true)
-        && is_apart_from_own(format, exponent, exponent_case)
-}
-
 /// Returns whether `exponent` can be the exponent character and `decimal_point` the decimal point in
 /// numbers of this format.
 ///
@@ -274,13 +261,19 @@ const fn are_accepted(format: u128, exponent: u8, decimal_point: u8) -> bool
 /// assert!(!is_valid_options_punctuation(STANDARD, b'.', b'.')); // one byte for both
 /// ```
 #[inline(always)]
+#[tactic(auto, using(crate::proofs::OptionLemmas::accepted_roles, crate::proofs::OptionLemmas::room_from_lawful))]
 pub const fn is_valid_options_punctuation(format: u128, exponent: u8, decimal_point: u8) -> bool
     ensures accepted { IsTrue result ↔ AreAccepted format exponent decimal_point }
     // In a lawful format this is all that it takes for each byte to play at most one role.
     ensures roles { Lawful format → (IsTrue result ↔ HaveOneRole format exponent decimal_point) }
     ensures some { Lawful format → LeavesRoom format }
 {
-    are_accepted(format, exponent, decimal_point)
+    let exponent_case = exponent_case_counts(format);
+    are_apart(exponent, exponent_case, decimal_point, true)
+        && is_punctuation(format, decimal_point)
+        && is_punctuation(format, exponent)
+        && is_apart_from_own(format, decimal_point, true)
+        && is_apart_from_own(format, exponent, exponent_case)
 }
 
 // FLAGS
