@@ -1,5 +1,5 @@
 -- The words that a builder can pack, and the least number of writes to one.
-use Rattle.std.proofs.Common.{◌≡◌, ℕ, ◌<◌, ◌≤◌, ◌^◌, ◌⊎◌, inl, inr, Bool, true, false, if◌then◌else◌, IsTrue}
+use Rattle.std.proofs.Common.{◌≡◌, ℕ, ◌<◌, ◌≤◌, ◌^◌, ◌↔◌, ◌⊎◌, inl, inr, Bool, true, false, if◌then◌else◌, IsTrue}
 use Rattle.std.proofs.Common.{length, List, refl, sym, ap, ◌∙◌, subst, All, le_trans}
 use Rattle.lexical_flags.specs.Record.{Record, raw, trim, pack, separator_on, HasBytes, IsBuilt}
 use Rattle.lexical_flags.proofs.Packing.{raw-pack, pack-clean, pack-raw, HasBytes-raw}
@@ -42,3 +42,6 @@ IsBuiltByWrites-built w fits built = record {
 pub IsBuilt-by_writes : (w : ℕ) → IsBuiltByWrites w → IsBuilt w
 IsBuilt-by_writes w made = subst IsBuilt made.makes (IsBuilt-pack (after new_record made.writes)
     (HasBytes-after new_record made.writes HasBytes-new made.legal))
+
+pub built_by_writes : (w : ℕ) → w < 2 ^ 128 → IsBuilt w ↔ IsBuiltByWrites w
+built_by_writes w fits = (IsBuiltByWrites-built w fits, IsBuilt-by_writes w)

@@ -14,18 +14,12 @@ use lexical_flags::format_flags as flags;
 
 /// Returns whether `build_unchecked` can return this word: its reserved bits are 0, and it has a digit
 /// separator only if a flag allows one somewhere.
+#[tactic(auto, using(crate::proofs::ImageLemmas::built_by_writes))]
 pub const fn is_built(format: u128) -> bool
     ensures rule { IsTrue result ↔ IsBuilt format }
 
     // Exactly these words are made by setter calls on a new builder.
     ensures image { IsTrue result ↔ IsBuiltByWrites format }
-{
-    has_built_form(format)
-}
-
-// Whether the reserved bits are 0, and a separator is there only if a flag allows one.
-const fn has_built_form(format: u128) -> bool
-    ensures { IsTrue result ↔ IsBuilt format }
 {
     flags::is_clean(format) && is_separator_used(format)
 }

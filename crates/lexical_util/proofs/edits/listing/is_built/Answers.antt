@@ -1,9 +1,11 @@
 use Rattle.std.proofs.Common.{arith}
-use Rattle.lexical_util.proofs.ImageLemmas.{IsBuiltByWrites-built, IsBuilt-by_writes}
+use Rattle.lexical_util.proofs.ImageLemmas.{built_by_writes}
 use Rattle.lexical_util.proofs.edits.listing.is_built.Goals as goal
 
-pub returns-clause-image : goal.returns-clause-image
-returns-clause-image c = (
-  λ yes. IsBuiltByWrites-built c.args.format (omega arith) (c.has_built_form.ensures.0 yes),
-  λ made. c.has_built_form.ensures.1 (IsBuilt-by_writes c.args.format made),
-)
+pub returns-then-is_clean-clause-image : goal.returns-then-is_clean-clause-image
+returns-then-is_clean-clause-image c =
+    let image = built_by_writes c.args.format (omega arith) in
+    let clean = c.is_clean.ensures.0 c.if-is_clean.true in (
+      λ used. image.0 (record { clean = clean; separator_used = c.is_separator_used.ensures.0 used }),
+      λ made. c.is_separator_used.ensures.1 (image.1 made).separator_used,
+    )
