@@ -159,7 +159,17 @@ impl NumberFormatBuilder {
     #[must_use]
     #[inline(always)]
     pub const fn build_unchecked(&self) -> u128 {
-        self.packed()
+        let [separator, prefix, suffix, radix, exponent_base, exponent_radix] = self.bytes;
+        let flags = word_flags(self.flags);
+        let separator = used_separator(flags, separator);
+        // The separator is joined last, since it has to wait for a test.
+        flags
+            | (prefix as u128) << flags::BASE_PREFIX_SHIFT
+            | (suffix as u128) << flags::BASE_SUFFIX_SHIFT
+            | (radix as u128) << flags::MANTISSA_RADIX_SHIFT
+            | (exponent_base as u128) << flags::EXPONENT_BASE_SHIFT
+            | (exponent_radix as u128) << flags::EXPONENT_RADIX_SHIFT
+            | (separator as u128) << flags::DIGIT_SEPARATOR_SHIFT
     }
 
     /// Packs the fields into a format word. Returns the word if it is lawful, or else what is
@@ -252,21 +262,6 @@ impl NumberFormatBuilder {
     #[inline(always)]
     pub const fn to_parts(&self) -> (u32, [u8; 6]) {
         (self.flags, self.bytes)
-    }
-
-    // Packs the fields. The separator is joined last, since it has to wait for a test.
-    #[inline(always)]
-    const fn packed(&self) -> u128 {
-        let [separator, prefix, suffix, radix, exponent_base, exponent_radix] = self.bytes;
-        let flags = word_flags(self.flags);
-        let separator = used_separator(flags, separator);
-        flags
-            | (prefix as u128) << flags::BASE_PREFIX_SHIFT
-            | (suffix as u128) << flags::BASE_SUFFIX_SHIFT
-            | (radix as u128) << flags::MANTISSA_RADIX_SHIFT
-            | (exponent_base as u128) << flags::EXPONENT_BASE_SHIFT
-            | (exponent_radix as u128) << flags::EXPONENT_RADIX_SHIFT
-            | (separator as u128) << flags::DIGIT_SEPARATOR_SHIFT
     }
 
     // Whether the flag with this mask is set.

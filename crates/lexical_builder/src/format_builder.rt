@@ -195,7 +195,24 @@ impl NumberFormatBuilder {
         // separator ignored if neither has a flag for it.
         ensures alike { (s : Record) → HasBytes s → (pack s ≡ result) ↔ (trim s ≡ trim self.now) }
     {
-        self.packed()
+        let [
+            separator,
+            prefix,
+            suffix,
+            radix,
+            exponent_base,
+            exponent_radix,
+        ] = self.bytes;
+        let flags = word_flags(self.flags);
+        let separator = used_separator(flags, separator);
+        // The separator is joined last, since it has to wait for a test.
+        flags
+            | (prefix as u128) << flags::BASE_PREFIX_SHIFT
+            | (suffix as u128) << flags::BASE_SUFFIX_SHIFT
+            | (radix as u128) << flags::MANTISSA_RADIX_SHIFT
+            | (exponent_base as u128) << flags::EXPONENT_BASE_SHIFT
+            | (exponent_radix as u128) << flags::EXPONENT_RADIX_SHIFT
+            | (separator as u128) << flags::DIGIT_SEPARATOR_SHIFT
     }
 
     /// Packs the fields into a format word. Returns the word if it is lawful, or else what is
@@ -271,31 +288,6 @@ impl NumberFormatBuilder {
         ensures flags { result.0 < 2 ^ length layout.flags }
     {
         (self.flags, self.bytes)
-    }
-
-    // Packs the fields. The separator is joined last, since it has to wait for a test.
-    #[inline(always)]
-    const fn packed(&self) -> u128
-        ensures word { result ≡ pack self.now }
-        ensures bytes { HasBytes self.now }
-    {
-        let [
-            separator,
-            prefix,
-            suffix,
-            radix,
-            exponent_base,
-            exponent_radix,
-        ] = self.bytes;
-        let flags = word_flags(self.flags);
-        let separator = used_separator(flags, separator);
-        flags
-            | (prefix as u128) << flags::BASE_PREFIX_SHIFT
-            | (suffix as u128) << flags::BASE_SUFFIX_SHIFT
-            | (radix as u128) << flags::MANTISSA_RADIX_SHIFT
-            | (exponent_base as u128) << flags::EXPONENT_BASE_SHIFT
-            | (exponent_radix as u128) << flags::EXPONENT_RADIX_SHIFT
-            | (separator as u128) << flags::DIGIT_SEPARATOR_SHIFT
     }
 
     // Whether the flag with this mask is set.

@@ -22,11 +22,6 @@ use crate::view::FormatView;
 /// ```
 #[must_use]
 pub const fn is_built(format: u128) -> bool {
-    has_built_form(format)
-}
-
-// Whether the reserved bits are 0, and a separator is there only if a flag allows one.
-const fn has_built_form(format: u128) -> bool {
     flags::is_clean(format) && is_separator_used(format)
 }
 
