@@ -228,11 +228,11 @@
 //!
 //! # `Composes`
 //!
-//! of the fields that the first list makes of a word's, all that is still wanted under the second stays
+//! what the first list makes of the fields of a word survives packing, but for what the second list writes
 //!
 //! ```text
 //! abbrev pub Composes : ℕ → List Write → List Write → Type 0
-//! Composes word first second = WantedStay (after (fill (raw word)) first) second
+//! Composes word first second = SurvivesPacking (after (fill (raw word)) first) second
 //! ```
 //!
 //! # `AlwaysCompose`

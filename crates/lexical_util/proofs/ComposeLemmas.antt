@@ -1,4 +1,4 @@
--- Two edits one after the other are one edit exactly if nothing that is packed and filled between them is still wanted.
+-- Two edits one after the other are one edit exactly if what the first makes survives packing, but for the second.
 use Rattle.std.proofs.Common.{◌≡◌, ◌≢◌, ℕ, ◌↔◌, inl, inr, Bool, true, IsTrue, Option, Some, None, unwrap_or}
 use Rattle.std.proofs.Common.{refl, sym, ap, ◌∙◌, subst, List, [], ◌∷◌, ◌++◌, All, arith}
 use Rattle.std.specs.List.{list_any, AllByRecursion}
@@ -16,7 +16,7 @@ use Rattle.lexical_builder.proofs.WriteLemmas.{left_by, flag_of-after, byte_of-a
 use Rattle.lexical_builder.proofs.WriteLemmas.{HasBytes-after}
 use Rattle.lexical_util.specs.Edits.{edited}
 use Rattle.lexical_util.specs.Normal.{normal_form_of}
-use Rattle.lexical_util.specs.Compose.{LeavesByte, Counts, WantedStay, Composes, AlwaysCompose}
+use Rattle.lexical_util.specs.Compose.{LeavesByte, IsPacked, SurvivesPacking, Composes, AlwaysCompose}
 use Rattle.lexical_util.proofs.NormalLemmas.{flag_of-trim-fill, list_any_same, use_same, used_same, full, kept}
 
 -- what is written is the same over both values; what is not is each value
@@ -49,8 +49,8 @@ module _ (R : Record) (L : List Write) where
   byte_back b e = from_both (last_byte L b) (byte_of back b) (byte_of R b)
       (sym (byte_of-after back L b) ∙ e ∙ byte_of-after R L b)
 
-  same_from_stay : WantedStay R L → trim (after back L) ≡ trim (after R L)
-  same_from_stay stay = record_same _ _ (λ f. flag_of-trim (after back L) f ∙ same_flags f
+  same_from_survival : SurvivesPacking R L → trim (after back L) ≡ trim (after R L)
+  same_from_survival stay = record_same _ _ (λ f. flag_of-trim (after back L) f ∙ same_flags f
       ∙ sym (flag_of-trim (after R L) f)) on_byte where
         flag_of-trim : (S : Record) (f : Flag) → flag_of (trim S) f ≡ flag_of S f
         flag_of-trim S layout.required_integer_digits = refl
@@ -62,13 +62,13 @@ module _ (R : Record) (L : List Write) where
             (λ on. same_byte layout.digit_separator (λ left. stay.byte layout.digit_separator left (sym same_on ∙ on)))
         on_byte b = same_byte b (λ left. stay.byte b left tt)
 
-  stay_from_same : trim (after back L) ≡ trim (after R L) → WantedStay R L
-  stay_from_same e = record { byte = on_byte } where
-    on_byte : (b : Byte) → LeavesByte L b → Counts (after R L) b → byte_of back b ≡ byte_of R b
+  survival_from_same : trim (after back L) ≡ trim (after R L) → SurvivesPacking R L
+  survival_from_same e = record { byte = on_byte } where
+    on_byte : (b : Byte) → LeavesByte L b → IsPacked (after R L) b → byte_of back b ≡ byte_of R b
     on_byte layout.digit_separator left on = byte_back layout.digit_separator
         (used_same (separator_on (after back L)) (separator_on (after R L)) (after back L).digit_separator
         (after R L).digit_separator same_on (ap (λ (S : Record). S.digit_separator) e) (same_on ∙ on)) left
-    on_byte b left counts = byte_back b (ap (λ S. byte_of S b) e) left
+    on_byte b left packed = byte_back b (ap (λ S. byte_of S b) e) left
 
 -- two edits are one exactly if they compose
 pub edited-again : (w : ℕ) (K L : List Write) → All IsLegal K → All IsLegal L
@@ -81,8 +81,8 @@ edited-again w K L legal_first legal =
     let once : pack (after R L) ≡ edited w (K ++ L) = ap pack (after-append (fill (raw w)) K L) in
     let alike = pack-injective (after R L) (after (back R L) L) (HasBytes-after R L bytes legal)
     (HasBytes-after (back R L) L (HasBytes-fill (trim R) (HasBytes-trim R bytes)) legal) in (
-      λ e. stay_from_same R L (alike.0 (sym twice ∙ e ∙ sym once)),
-      λ stay. twice ∙ alike.1 (same_from_stay R L stay) ∙ once,
+      λ e. survival_from_same R L (alike.0 (sym twice ∙ e ∙ sym once)),
+      λ stay. twice ∙ alike.1 (same_from_survival R L stay) ∙ once,
     )
 
 -- what an empty exponent byte was filled from
@@ -116,20 +116,21 @@ not_empty w K b own filled radix kept empty = stays_full (last_byte K b) (byte_o
     (λ e. radix (filled_once own (raw w).mantissa_radix (sym filled ∙ e)))
     (sym (byte_of-after (fill (raw w)) K b) ∙ empty)
 
--- what is wanted stays if the separator is used or not wanted, and no exponent byte is empty beside a mantissa radix
-pub wanted_stay : (R : Record) (L : List Write)
+-- a record survives packing if its separator is used, written or not packed, and no exponent byte is empty beside a
+-- mantissa radix
+pub survives_packing : (R : Record) (L : List Write)
     → (LeavesByte L layout.digit_separator → IsTrue (separator_on (after R L)) → SeparatorIsUsed R)
-    → (R.exponent_base ≡ 0 → R.mantissa_radix ≡ 0) → (R.exponent_radix ≡ 0 → R.mantissa_radix ≡ 0) → WantedStay R L
-wanted_stay R L used base radix = record { byte = on_byte } where
-  on_byte : (b : Byte) → LeavesByte L b → Counts (after R L) b → byte_of (fill (trim R)) b ≡ byte_of R b
+    → (R.exponent_base ≡ 0 → R.mantissa_radix ≡ 0) → (R.exponent_radix ≡ 0 → R.mantissa_radix ≡ 0) → SurvivesPacking R L
+survives_packing R L used base radix = record { byte = on_byte } where
+  on_byte : (b : Byte) → LeavesByte L b → IsPacked (after R L) b → byte_of (fill (trim R)) b ≡ byte_of R b
   on_byte layout.digit_separator left on = kept (separator_on R) R.digit_separator (used left on)
-  on_byte layout.exponent_base left counts = full R.exponent_base R.mantissa_radix base
-  on_byte layout.exponent_radix left counts = full R.exponent_radix R.mantissa_radix radix
-  on_byte _ left counts = refl
+  on_byte layout.exponent_base left packed = full R.exponent_base R.mantissa_radix base
+  on_byte layout.exponent_radix left packed = full R.exponent_radix R.mantissa_radix radix
+  on_byte _ left packed = refl
 
 -- lists that compose on every word with a mantissa radix
 pub Composes-always : (w : ℕ) (K L : List Write) → (raw w).mantissa_radix ≢ 0 → AlwaysCompose K L → Composes w K L
-Composes-always w K L radix always = wanted_stay (after (fill (raw w)) K) L
+Composes-always w K L radix always = survives_packing (after (fill (raw w)) K) L
     (λ left on. inl (any_before (after (fill (raw w)) K) L digit_separator_flags (always.digit_separator left) on))
     (λ e. absurd (not_empty w K layout.exponent_base (raw w).exponent_base refl radix always.exponent_base e))
     (λ e. absurd (not_empty w K layout.exponent_radix (raw w).exponent_radix refl radix always.exponent_radix e))
@@ -138,6 +139,6 @@ Composes-always w K L radix always = wanted_stay (after (fill (raw w)) K) L
 pub edited-normal : (w : ℕ) (L : List Write) → SeparatorIsUsed (raw w) → All IsLegal L
     → edited (normal_form_of w) L ≡ edited w L
 edited-normal w L used legal = (edited-again w [] L (All-nil IsLegal) legal).1
-    (subst (λ R. WantedStay R L) (sym (after_none (fill (raw w)))) (wanted_stay (fill (raw w)) L (λ left on. used)
+    (subst (λ R. SurvivesPacking R L) (sym (after_none (fill (raw w)))) (survives_packing (fill (raw w)) L (λ left on. used)
     (filled_once (raw w).exponent_base (raw w).mantissa_radix)
     (filled_once (raw w).exponent_radix (raw w).mantissa_radix)))

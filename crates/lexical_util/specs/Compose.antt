@@ -10,19 +10,19 @@ use Rattle.lexical_builder.specs.Writes.{Write, last_flag, last_byte, after}
 abbrev pub LeavesByte : List Write → Byte → Type 0
 LeavesByte writes b = last_byte writes b ≡ None
 
--- the byte counts in a record: a digit separator does only if a flag allows one
-abbrev pub Counts : Record → Byte → Type 0
-Counts r layout.digit_separator = IsTrue (separator_on r)
-Counts r _ = ⊤
+-- the byte is packed: a digit separator only if a flag allows one
+abbrev pub IsPacked : Record → Byte → Type 0
+IsPacked r layout.digit_separator = IsTrue (separator_on r)
+IsPacked r _ = ⊤
 
--- nothing that packing drops or filling restores is still wanted: each byte of the record that the writes leave, and
--- that counts after them, is the same when the record is packed and filled before them
-pub record WantedStay (r : Record) (writes : List Write) : Type 0 where
-  pub byte : (b : Byte) → LeavesByte writes b → Counts (after r writes) b → byte_of (fill (trim r)) b ≡ byte_of r b
+-- each byte that the writes leave, and that is packed after them, is the same if the record is packed and filled before
+-- them
+pub record SurvivesPacking (r : Record) (writes : List Write) : Type 0 where
+  pub byte : (b : Byte) → LeavesByte writes b → IsPacked (after r writes) b → byte_of (fill (trim r)) b ≡ byte_of r b
 
--- of the fields that the first list makes of a word's, all that is still wanted under the second stays
+-- what the first list makes of the fields of a word survives packing, but for what the second list writes
 abbrev pub Composes : ℕ → List Write → List Write → Type 0
-Composes word first second = WantedStay (after (fill (raw word)) first) second
+Composes word first second = SurvivesPacking (after (fill (raw word)) first) second
 
 -- lists that compose on every word whose mantissa radix is not 0
 pub record AlwaysCompose (first second : List Write) : Type 0 where
