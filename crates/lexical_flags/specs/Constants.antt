@@ -66,5 +66,5 @@ doublings first zero = []
 doublings first (suc count) = first ∷ doublings (2 * first) count
 
 -- two masks have no bit in common
-abbrev pub AreApart : ℕ → ℕ → Type 0
-AreApart a b = bit_and a b ≡ 0
+abbrev pub ShareNoBit : ℕ → ℕ → Type 0
+ShareNoBit a b = bit_and a b ≡ 0

@@ -13,7 +13,7 @@ ghost use Rattle.lexical_flags.specs.Pairs.{ArePairwise};
 ghost use Rattle.lexical_flags.specs.Roles.{Disjoint, digits};
 ghost use Rattle.lexical_flags.specs.Rules.{Rule, Demands, Holds, Lawful, IsErrorOf};
 ghost use Rattle.lexical_flags.specs.Options.{AreAccepted, HaveOneRole};
-ghost use Rattle.lexical_flags.specs.Constants.{flag_constant, byte_mask, byte_shift, mask_of, doublings, AreApart};
+ghost use Rattle.lexical_flags.specs.Constants.{flag_constant, byte_mask, byte_shift, mask_of, doublings, ShareNoBit};
 
 use crate::format_flags::*;
 
@@ -31,8 +31,8 @@ pub fn layout_facts()
     ensures shift { (b : Byte) → byte_shift b ≡ pos (shift b) }
     ensures mask { (b : Byte) → byte_mask b ≡ 255 * 2 ^ shift b }
     ensures shifted_mask { (b : Byte) → byte_mask b / 2 ^ shift b ≡ 255 }
-    ensures masks_are_apart { ArePairwise AreApart (map byte_mask layout.bytes) }
-    ensures masks_are_apart_from_flags { (b : Byte) → AreApart (byte_mask b) FLAG_MASK }
+    ensures masks_share_no_bit { ArePairwise ShareNoBit (map byte_mask layout.bytes) }
+    ensures masks_share_no_flag { (b : Byte) → ShareNoBit (byte_mask b) FLAG_MASK }
     ensures radix { RADIX ≡ MANTISSA_RADIX }
     ensures radix_shift { RADIX_SHIFT ≡ MANTISSA_RADIX_SHIFT }
     ensures radix_mask { RADIX_MASK ≡ bit_or MANTISSA_RADIX EXPONENT_RADIX }
@@ -56,7 +56,7 @@ pub fn layout_facts()
     ensures exponent { EXPONENT_DIGIT_SEPARATOR_FLAG_MASK ≡ mask_of layout.exponent_digit_separator_flags }
 
     // The digit separator flags are those of the integer, the fraction, the exponent and special values.
-    ensures separators_are_apart { ArePairwise AreApart (INTEGER_DIGIT_SEPARATOR_FLAG_MASK
+    ensures separators_share_no_bit { ArePairwise ShareNoBit (INTEGER_DIGIT_SEPARATOR_FLAG_MASK
         ∷ FRACTION_DIGIT_SEPARATOR_FLAG_MASK ∷ EXPONENT_DIGIT_SEPARATOR_FLAG_MASK ∷ SPECIAL_DIGIT_SEPARATOR ∷ []) }
     ensures separators_together { bit_or INTEGER_DIGIT_SEPARATOR_FLAG_MASK (bit_or FRACTION_DIGIT_SEPARATOR_FLAG_MASK
         (bit_or EXPONENT_DIGIT_SEPARATOR_FLAG_MASK SPECIAL_DIGIT_SEPARATOR)) ≡ DIGIT_SEPARATOR_FLAG_MASK }

@@ -4,7 +4,7 @@
 
 ghost use Rattle.std.specs.Prelude.{[], ◌∷◌, ◌+◌, ◌^◌, length, false};
 ghost use Rattle.lexical_base.specs.declared.error.Error.TheVariants as errors;
-ghost use Rattle.lexical_flags.specs.Constants.{AreApart};
+ghost use Rattle.lexical_flags.specs.Constants.{ShareNoBit};
 ghost use Rattle.lexical_flags.specs.Layout as layout;
 ghost use Rattle.lexical_flags.specs.Layout.{IsClean};
 ghost use Rattle.lexical_flags.specs.Options.{HaveOneRole, LeavesRoom};
@@ -18,14 +18,14 @@ use crate::format_flags::FLAG_MASK;
 
 /// Masks that have a bit in common, and masks that have none.
 pub fn mask_examples()
-    ensures apart { AreApart 0x55 0xAA }
-    ensures common { AreApart 1 3 → ⊥ }
+    ensures no_bit { ShareNoBit 0x55 0xAA }
+    ensures common { ShareNoBit 1 3 → ⊥ }
 
     // In a list each mask is compared with every later one.
-    ensures all_apart { ArePairwise AreApart (1 ∷ 2 ∷ 4 ∷ []) }
-    ensures first_and_second { ArePairwise AreApart (1 ∷ 3 ∷ 4 ∷ []) → ⊥ }
-    ensures first_and_third { ArePairwise AreApart (1 ∷ 2 ∷ 5 ∷ []) → ⊥ }
-    ensures second_and_third { ArePairwise AreApart (1 ∷ 2 ∷ 6 ∷ []) → ⊥ }
+    ensures list { ArePairwise ShareNoBit (1 ∷ 2 ∷ 4 ∷ []) }
+    ensures first_and_second { ArePairwise ShareNoBit (1 ∷ 3 ∷ 4 ∷ []) → ⊥ }
+    ensures first_and_third { ArePairwise ShareNoBit (1 ∷ 2 ∷ 5 ∷ []) → ⊥ }
+    ensures second_and_third { ArePairwise ShareNoBit (1 ∷ 2 ∷ 6 ∷ []) → ⊥ }
 {}
 
 /// Reserved bits: a word with all other bits set, and the first and the last bit of each range.
