@@ -24,7 +24,7 @@ const SEPARATOR_FLAGS: u32 = (flags::DIGIT_SEPARATOR_FLAG_MASK >> (32 - FIRST_SE
 const NEW_FLAGS: u128 = 0xC;
 
 // 1 in each of mantissa radix, exponent base and exponent radix of a format word.
-const ALL_RADIXES: u128 = 0x01010100_00000000_00000000_00000000;
+const ONE_IN_EACH_RADIX: u128 = 0x01010100_00000000_00000000_00000000;
 
 // The index of each byte of a builder.
 const DIGIT_SEPARATOR: usize = 0;
@@ -131,7 +131,7 @@ impl NumberFormatBuilder {
     #[must_use]
     #[inline(always)]
     pub const fn from_radix(radix: u8) -> u128 {
-        NEW_FLAGS + (radix as u128) * ALL_RADIXES
+        NEW_FLAGS + (radix as u128) * ONE_IN_EACH_RADIX
     }
 }
 

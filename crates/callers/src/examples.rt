@@ -1,5 +1,4 @@
-//! Of each predicate of the callers' definitions an example that it holds of and one that it does not
-//! hold of, so that none of them can say more or less unseen.
+//! For each predicate of the callers' definitions one case that holds and one that does not.
 
 ghost use Rattle.std.specs.Prelude.{codes, Some, None};
 ghost use Rattle.lexical_util.specs.Record.{raw};

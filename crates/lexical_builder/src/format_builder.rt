@@ -34,7 +34,7 @@ const SEPARATOR_FLAGS: u32 = (flags::DIGIT_SEPARATOR_FLAG_MASK >> (32 - FIRST_SE
 const NEW_FLAGS: u128 = 0xC;
 
 // 1 in each of mantissa radix, exponent base and exponent radix of a format word.
-const ALL_RADIXES: u128 = 0x01010100_00000000_00000000_00000000;
+const ONE_IN_EACH_RADIX: u128 = 0x01010100_00000000_00000000_00000000;
 
 // The index of each byte of a builder.
 const DIGIT_SEPARATOR: usize = 0;
@@ -174,7 +174,7 @@ impl NumberFormatBuilder {
         ensures lawful { Lawful result ↔ IsRadix radix }
     {
         rule_facts();
-        NEW_FLAGS + (radix as u128) * ALL_RADIXES
+        NEW_FLAGS + (radix as u128) * ONE_IN_EACH_RADIX
     }
 }
 

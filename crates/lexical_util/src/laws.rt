@@ -23,7 +23,7 @@ pub mod examples;
 pub use lexical_base::laws as base;
 pub use lexical_flags::laws as flags;
 
-/// What lists of writes and of edits do one after another.
+/// Writing two lists in turn is writing both, and the writes of two lists of edits are those of both.
 pub fn write_facts()
     ensures none { (r : Record) → after r [] ≡ r }
     ensures append { (r : Record) → (first second : List Write)

@@ -94,8 +94,8 @@ const fn are_disjoint(a: u8, a_case_counts: bool, b: u8, b_case_counts: bool) ->
     a == 0 || (a != b && (!are_cases(a, b) || (a_case_counts & b_case_counts)))
 }
 
-// The same, quicker: the two cases of a letter differ in the bit 0x20 alone, and most bytes differ
-// in another.
+// Returns what `are_disjoint` returns. Two bytes that differ in a bit other than 0x20, as most do, are
+// settled by one comparison.
 #[inline(always)]
 #[tactic(auto, using(crate::proofs::CaseLemmas::other_bits_apart))]
 const fn are_apart(a: u8, a_case_counts: bool, b: u8, b_case_counts: bool) -> bool
@@ -326,7 +326,7 @@ const fn is_valid_integer_consecutive_flags(format: u128) -> bool
     format & INTEGER_DIGIT_SEPARATOR_FLAG_MASK != INTEGER_CONSECUTIVE_DIGIT_SEPARATOR
 }
 
-// The same for the fraction.
+// Not FRACTION_CONSECUTIVE_DIGIT_SEPARATOR alone among the four separator flags of the fraction.
 #[inline(always)]
 const fn is_valid_fraction_consecutive_flags(format: u128) -> bool
     ensures { IsTrue result ↔ Holds rules.fraction_consecutive_is_allowed format }
@@ -334,7 +334,7 @@ const fn is_valid_fraction_consecutive_flags(format: u128) -> bool
     format & FRACTION_DIGIT_SEPARATOR_FLAG_MASK != FRACTION_CONSECUTIVE_DIGIT_SEPARATOR
 }
 
-// The same for the exponent.
+// Not EXPONENT_CONSECUTIVE_DIGIT_SEPARATOR alone among the four separator flags of the exponent.
 #[inline(always)]
 const fn is_valid_exponent_consecutive_flags(format: u128) -> bool
     ensures { IsTrue result ↔ Holds rules.exponent_consecutive_is_allowed format }
@@ -363,7 +363,8 @@ const fn keeps_punctuation_rules(format: u128) -> bool
     are_free && is_valid_punctuation(format)
 }
 
-// The same for the rules of punctuation. Most words keep them all, which takes fewer branches to see.
+// The error of the first broken rule of punctuation, or `Success`. All are tested at once first, since most
+// words keep them.
 #[inline(always)]
 #[tactic(auto)]
 const fn first_broken_punctuation(format: u128) -> Error
@@ -397,7 +398,7 @@ const fn keeps_flag_rules(format: u128) -> bool
         & is_valid_exponent_consecutive_flags(format)
 }
 
-// The same for the rules of flags.
+// The error of the first broken rule of flags, or `Success`. All are tested at once first.
 #[inline(always)]
 #[tactic(auto)]
 const fn first_broken_flags(format: u128) -> Error
@@ -422,7 +423,7 @@ const fn first_broken_flags(format: u128) -> Error
     }
 }
 
-// The same for the rule of reserved bits.
+// The error of the rule of reserved bits if it is broken, or `Success`.
 #[inline(always)]
 #[tactic(auto, unfolding(crate::specs::Rules::Holds))]
 const fn first_broken_reserved(format: u128) -> Error
@@ -435,7 +436,8 @@ const fn first_broken_reserved(format: u128) -> Error
     }
 }
 
-// The same for all rules.
+// The error of the first broken rule of all, or `Success`, by one clause, from which `format_error_impl`
+// has its others.
 #[tactic(auto, unfolding(crate::specs::Rules::IsErrorOf))]
 const fn first_broken(format: u128) -> Error
     ensures { IsErrorOf format result }
@@ -495,8 +497,10 @@ pub const fn radix_error_impl(format: u128) -> Error
 /// 12. Not both [`NO_SPECIAL`] and [`SPECIAL_DIGIT_SEPARATOR`]: `InvalidSpecial`.
 /// 13. Not [`INTEGER_CONSECUTIVE_DIGIT_SEPARATOR`] without an internal, leading or trailing flag of
 ///     the integer: `InvalidConsecutiveIntegerDigitSeparator`.
-/// 14. The same for the fraction: `InvalidConsecutiveFractionDigitSeparator`.
-/// 15. The same for the exponent: `InvalidConsecutiveExponentDigitSeparator`.
+/// 14. Not [`FRACTION_CONSECUTIVE_DIGIT_SEPARATOR`] without such a flag of the fraction:
+///     `InvalidConsecutiveFractionDigitSeparator`.
+/// 15. Not [`EXPONENT_CONSECUTIVE_DIGIT_SEPARATOR`] without such a flag of the exponent:
+///     `InvalidConsecutiveExponentDigitSeparator`.
 /// 16. All reserved bits are 0: `InvalidFlags`.
 ///
 /// The Rust crate compares raw bytes in the seventh rule, and has no rule on reserved bits.

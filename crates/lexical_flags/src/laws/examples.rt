@@ -1,5 +1,4 @@
-//! Of each predicate of the definitions an example that it holds of and one that it does not hold of,
-//! so that none of them can say more or less unseen.
+//! For each predicate of the definitions one case that holds and one that does not.
 #![tactic(auto, unfolding(crate::specs::Literals::on_literals))]
 
 ghost use Rattle.std.specs.Prelude.{[], ◌∷◌, ◌+◌, ◌^◌, length, false};

@@ -1,5 +1,4 @@
-//! Of each predicate of the definitions an example that it holds of and one that it does not hold of,
-//! so that none of them can say more or less unseen; and uses of the laws, for the same reason.
+//! For each predicate of the definitions one case that holds and one that does not; and uses of the laws.
 
 ghost use Rattle.std.specs.Prelude.{◌≡◌, ◌↔◌, ◌⊎◌, ◌<◌, ◌*◌, ◌/◌, ◌^◌, ◌||◌, ◌++◌, ℕ, max, pos, [], ◌∷◌, true, false, IsSome, IsTrue};
 ghost use Rattle.lexical_base.specs.Digits.{value, digit_of, digits_of};
