@@ -1,5 +1,5 @@
 pub mod OptionByte
-pub mod Fields
+pub mod BuilderBits
 pub mod NewRecord
 pub mod Writes
 pub use Rattle.lexical_flags.specs.Layout

@@ -7,7 +7,7 @@ ghost use Rattle.lexical_flags.specs.Layout.{IsClean, bit, part};
 ghost use Rattle.lexical_flags.specs.Record.{Record, HasBytes, raw, fill, trim, pack, flag_of, byte_of, tabulate, effective, separator_on};
 ghost use Rattle.lexical_flags.specs.Rules.{IsErrorOf, IsRadix, Lawful};
 ghost use Rattle.lexical_builder.specs.OptionByte.{byte_of_option};
-ghost use Rattle.lexical_builder.specs.Fields.{builder_bit, flags_in, index_of, flag_with, record_of_parts};
+ghost use Rattle.lexical_builder.specs.BuilderBits.{builder_bit, flags_in, index_of, flag_with, record_of_parts};
 ghost use Rattle.lexical_builder.specs.Writes.{new_record, radix_record};
 
 use lexical_base::error::Error;
@@ -91,7 +91,7 @@ impl Model for NumberFormatBuilder {
 
     ghost Value = { Record };
 
-    ghost use Rattle.lexical_builder.specs.Fields.{record_of, HasClearTop};
+    ghost use Rattle.lexical_builder.specs.BuilderBits.{record_of, HasClearTop};
 
     ghost view = { record_of };
 

@@ -3,7 +3,7 @@ use Rattle.std.proofs.Common.{◌≡◌, ℕ, ◌<◌, ◌%◌, List, [], ◌∷
 use Rattle.std.proofs.Math.Nat.{mod-eq_of_lt}
 use Rattle.std.specs.Prelude.{slice_index}
 use Rattle.lexical_util.specs.Record.{Record}
-use Rattle.lexical_util.specs.Fields.{record_of_parts}
+use Rattle.lexical_util.specs.BuilderBits.{record_of_parts}
 
 -- six bytes taken one by one make the same record
 pub same_fields : (bound flags : ℕ) (bytes : List ℕ) (r : Record) → flags < bound → record_of_parts flags bytes ≡ r

@@ -1,7 +1,7 @@
 -- The numbers and records that the structs which cross to C stand for.
 use Rattle.std.specs.Prelude.{ℕ, ◌+◌, ◌*◌, ◌^◌, ◌%◌, length, [], ◌∷◌}
 use Rattle.lexical_util.specs.Layout.{flags}
-use Rattle.lexical_util.specs.Fields.{record_of_parts}
+use Rattle.lexical_util.specs.BuilderBits.{record_of_parts}
 use Rattle.lexical_util.specs.Record.{Record}
 use Rattle.lexical_c.specs.declared.words.Word.TheInside as word
 use Rattle.lexical_c.specs.declared.words.Fields as fields

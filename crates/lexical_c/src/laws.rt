@@ -3,7 +3,7 @@
 ghost use Rattle.std.specs.Prelude.{◌≡◌, ◌+◌, ◌-◌, ◌^◌, true, false, Some, None, [], ◌∷◌, codes};
 ghost use Rattle.lexical_util.specs.Layout.{special_digit_separator};
 ghost use Rattle.lexical_util.specs.Record.{pack};
-ghost use Rattle.lexical_util.specs.Fields.{builder_bit, record_of_parts};
+ghost use Rattle.lexical_util.specs.BuilderBits.{builder_bit, record_of_parts};
 ghost use Rattle.lexical_util.specs.declared.error.Error.TheVariants as errors;
 ghost use Rattle.lexical_util.specs.declared.edits.Edit.TheVariants as edits;
 ghost use Rattle.lexical_util.specs.declared.edits.FlagSetter.TheVariants as setters;

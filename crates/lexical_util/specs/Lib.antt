@@ -17,6 +17,6 @@ pub use Rattle.lexical_flags.specs.Pairs
 pub use Rattle.lexical_flags.specs.Roles
 pub use Rattle.lexical_flags.specs.Rules
 pub use Rattle.lexical_flags.specs.Options
-pub use Rattle.lexical_builder.specs.Fields
+pub use Rattle.lexical_builder.specs.BuilderBits
 pub use Rattle.lexical_builder.specs.OptionByte
 pub use Rattle.lexical_builder.specs.Writes

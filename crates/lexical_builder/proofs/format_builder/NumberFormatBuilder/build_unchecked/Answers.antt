@@ -7,7 +7,7 @@ use Rattle.lexical_flags.specs.Layout as layout
 use Rattle.lexical_flags.specs.Record.{Record, pack, flag_bits, separator_on, raw, trim, HasBytes}
 use Rattle.lexical_flags.proofs.Packing.{HasBytes-by_name, HasBytes-trim, raw-pack, pack-clean, pack-injective}
 use Rattle.lexical_flags.proofs.FlagBits.{fields_joined, separator_on-flags}
-use Rattle.lexical_builder.specs.Fields.{index_of, record_of}
+use Rattle.lexical_builder.specs.BuilderBits.{index_of, record_of}
 use Rattle.lexical_builder.proofs.format_builder.NumberFormatBuilder.build_unchecked.Goals as goal
 
 or_swapped : (a b s : ℕ) → bit_or (bit_or a b) s ≡ bit_or (bit_or a s) b

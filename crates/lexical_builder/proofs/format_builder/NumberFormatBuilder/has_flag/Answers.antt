@@ -3,7 +3,7 @@ use Rattle.lexical_flags.specs.Layout.{Flag, part}
 use Rattle.lexical_flags.specs.Record.{flag_of}
 use Rattle.lexical_flags.proofs.FlagBits.{flag_test}
 use Rattle.lexical_flags.proofs.RecordLemmas.{flag_of-tabulate}
-use Rattle.lexical_builder.specs.Fields.{builder_bit, index_of, flag_with, flags_in}
+use Rattle.lexical_builder.specs.BuilderBits.{builder_bit, index_of, flag_with, flags_in}
 use Rattle.lexical_builder.proofs.BuilderFlags.{flags_in-mask}
 use Rattle.lexical_builder.proofs.format_builder.NumberFormatBuilder.has_flag.Goals as goal
 

@@ -1,7 +1,7 @@
 use Rattle.std.proofs.Common.{ℕ, ◌≡◌, ◌∙◌, ◌==◌, ◌/◌, ◌%◌, ◌^◌, ap, arith}
 use Rattle.lexical_flags.specs.Layout.{Flag, part, bit}
 use Rattle.lexical_flags.specs.Record.{raw, tabulate, byte_of, effective}
-use Rattle.lexical_builder.specs.Fields.{builder_bit}
+use Rattle.lexical_builder.specs.BuilderBits.{builder_bit}
 use Rattle.lexical_builder.proofs.BuilderFlags.{part-flags_in}
 use Rattle.lexical_builder.proofs.ExponentBytes.{part-upper}
 use Rattle.lexical_builder.proofs.format_builder.NumberFormatBuilder.rebuild.Goals as goal

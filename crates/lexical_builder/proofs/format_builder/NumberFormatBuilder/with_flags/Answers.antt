@@ -1,7 +1,7 @@
 use Rattle.std.proofs.Common.{ℕ, arith, ◌∙◌, ◌≡◌, ap, ◌==◌, if◌then◌else◌, length, slice_index}
 use Rattle.lexical_flags.specs.Layout.{Flag, Byte, part, bit, flags}
 use Rattle.lexical_flags.specs.Record.{tabulate, flag_of, byte_of}
-use Rattle.lexical_builder.specs.Fields.{builder_bit, index_of}
+use Rattle.lexical_builder.specs.BuilderBits.{builder_bit, index_of}
 use Rattle.lexical_builder.proofs.BuilderFlags.{builder_bit-lt, part-flags_in}
 use Rattle.lexical_builder.proofs.format_builder.NumberFormatBuilder.with_flags.Goals as goal
 
