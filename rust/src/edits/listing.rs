@@ -67,11 +67,11 @@ const fn is_separator_used(format: u128) -> bool {
 /// ```
 #[must_use]
 pub fn edits_of(format: u128) -> ([Edit; FIELDS], usize) {
-    // The first array keeps the needed edits, and then takes the others from the second.
+    // The first array has the needed edits in front, and then takes the others from the second.
     let mut edits = field_edits_of(format);
     let mut others = field_edits_of(format);
-    let count = keep_where(&mut edits, true);
-    let rest = keep_where(&mut others, false);
+    let count = move_to_front(&mut edits, true);
+    let rest = move_to_front(&mut others, false);
     let (all, others) = (&mut edits[..], &others[..]);
     all[count..].copy_from_slice(&others[..rest]);
     (edits, count)
@@ -130,7 +130,7 @@ const fn is_change(edit: Edit) -> bool {
 
 // Moves those edits that change a new builder, or those that do not, to the front in their order, and
 // returns how many there are.
-fn keep_where(edits: &mut [Edit], changed: bool) -> usize {
+fn move_to_front(edits: &mut [Edit], changed: bool) -> usize {
     let mut count = 0;
     for index in 0..edits.len() {
         if is_change(edits[index]) == changed {

@@ -62,11 +62,11 @@ pub fn edits_of(format: u128) -> ([Edit; FIELDS], usize)
     ensures fewest { (writes : List Write) → All IsLegal writes
         → pack (after new_record writes) ≡ format → result.1 ≤ length writes }
 {
-    // The first array keeps the needed edits, and then takes the others from the second.
+    // The first array has the needed edits in front, and then takes the others from the second.
     let mut edits = field_edits_of(format);
     let mut others = field_edits_of(format);
-    let count = keep_where(&mut edits, true);
-    let rest = keep_where(&mut others, false);
+    let count = move_to_front(&mut edits, true);
+    let rest = move_to_front(&mut others, false);
     let (all, others) = (&mut edits[..], &others[..]);
     all[count..].copy_from_slice(&others[..rest]);
     (edits, count)
@@ -134,9 +134,9 @@ const fn is_change(edit: Edit) -> bool
 
 // Moves those edits that change a new builder, or those that do not, to the front in their order, and
 // returns how many there are.
-fn keep_where(edits: &mut [Edit], changed: bool) -> usize
+fn move_to_front(edits: &mut [Edit], changed: bool) -> usize
     ensures count { result ≡ length (filter (λ e. if changed then changes_new e else not (changes_new e)) edits.old) }
-    ensures kept { take result edits.new
+    ensures front { take result edits.new
         ≡ filter (λ e. if changed then changes_new e else not (changes_new e)) edits.old }
 {
     let mut count = 0;

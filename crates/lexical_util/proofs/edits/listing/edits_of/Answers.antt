@@ -16,22 +16,22 @@ use Rattle.lexical_util.proofs.edits.listing.edits_of.Goals as goal
 -- the edits that are left out of the first part are as many as the second has
 pub copy_from_slice-requires : goal.copy_from_slice-requires
 copy_from_slice-requires c =
-    let first = c.keep_where-count.new.edits in
-    let count = c.keep_where-count.result in
+    let first = c.move_to_front-count.new.edits in
+    let count = c.move_to_front-count.result in
     let both = c.field_edits_of-edits.ensures ∙ sym c.field_edits_of-others.ensures in
     omega (
       arith,
       length-take (length first - count) (drop count first),
       length-drop count first,
-      length-take c.keep_where-rest.result c.keep_where-rest.new.edits,
-      c.keep_where-count.ensures.count,
-      c.keep_where-rest.ensures.count,
+      length-take c.move_to_front-rest.result c.move_to_front-rest.new.edits,
+      c.move_to_front-count.ensures.count,
+      c.move_to_front-rest.ensures.count,
       ap (λ es. length (filter (λ e. not (changes_new e)) es)) both,
       length-filter_both changes_new (λ e. not (changes_new e)) (λ e. refl) c.field_edits_of-edits.result,
     )
 
 pub returns-clause-number : goal.returns-clause-number
-returns-clause-number c = c.keep_where-count.ensures.count
+returns-clause-number c = c.move_to_front-count.ensures.count
     ∙ ap (λ es. length (filter changes_new es)) c.field_edits_of-edits.ensures
 
 -- a list whose end is written over
@@ -42,11 +42,11 @@ overwritten a k xs ys long =
 
 pub returns-clause-list : goal.returns-clause-list
 returns-clause-list c =
-    let first = c.keep_where-count.ensures.kept ∙ ap (filter changes_new) c.field_edits_of-edits.ensures in
-    let second = c.copy_from_slice.ensures.after ∙ c.keep_where-rest.ensures.kept
+    let first = c.move_to_front-count.ensures.front ∙ ap (filter changes_new) c.field_edits_of-edits.ensures in
+    let second = c.copy_from_slice.ensures.after ∙ c.move_to_front-rest.ensures.front
     ∙ ap (filter (λ e. not (changes_new e))) c.field_edits_of-others.ensures in
-    overwritten c.keep_where-count.result (length c.keep_where-count.new.edits - c.keep_where-count.result)
-    c.keep_where-count.new.edits c.copy_from_slice.new.self (omega arith) ∙ (λ i. first i ++ second i)
+    overwritten c.move_to_front-count.result (length c.move_to_front-count.new.edits - c.move_to_front-count.result)
+    c.move_to_front-count.new.edits c.copy_from_slice.new.self (omega arith) ∙ (λ i. first i ++ second i)
 
 pub returns-clause-legal : goal.returns-clause-legal
 returns-clause-legal c =
@@ -55,7 +55,7 @@ returns-clause-legal c =
 pub returns-clause-first : goal.returns-clause-first
 returns-clause-first c =
     let R = raw c.args.format in
-    ap (λ es. after new_record (all_writes es)) (ap (take c.keep_where-count.result) (returns-clause-list c)
+    ap (λ es. after new_record (all_writes es)) (ap (take c.move_to_front-count.result) (returns-clause-list c)
     ∙ ap (λ n. take n (changing R ++ unchanging R)) (returns-clause-number c)
     ∙ take-append_seam (changing R) (unchanging R)) ∙ after-changing R
 

@@ -2,7 +2,7 @@ use Rattle.std.proofs.Common.{◌≡◌, length, Bool, true, false, not, if◌th
 use Rattle.std.proofs.Math.Bool.{beq}
 use Rattle.std.proofs.lemmas.List.{length-take-le}
 use Rattle.std.proofs.lemmas.List.Filters.{FiltersInPlace-all, FiltersInPlace-more_no, FiltersInPlace-more_swap}
-use Rattle.lexical_util.proofs.edits.listing.keep_where.Goals as goal
+use Rattle.lexical_util.proofs.edits.listing.move_to_front.Goals as goal
 
 -- whether a test comes out as it should
 passes : (changed t : Bool) → (if changed then t else not t) ≡ beq t changed
@@ -25,5 +25,5 @@ pub returns-clause-count : goal.returns-clause-count
 returns-clause-count c = sym (length-take-le c.loop-index.count c.loop-index.edits (omega arith))
     ∙ ap length (FiltersInPlace-all c.loop-index.invariant (omega arith))
 
-pub returns-clause-kept : goal.returns-clause-kept
-returns-clause-kept c = FiltersInPlace-all c.loop-index.invariant (omega arith)
+pub returns-clause-front : goal.returns-clause-front
+returns-clause-front c = FiltersInPlace-all c.loop-index.invariant (omega arith)
