@@ -2,17 +2,14 @@
 
 ghost use Rattle.std.specs.Prelude.{◌≡◌, ◌↔◌, ◌⊎◌, ◌<◌, ◌*◌, ◌/◌, ◌^◌, ◌||◌, ◌++◌, ℕ, max, pos, [], ◌∷◌, true, false, IsSome, IsTrue};
 ghost use Rattle.lexical_base.specs.Digits.{value, digit_of, digits_of};
-ghost use Rattle.lexical_base.specs.declared.error.Error.TheVariants as errors;
-ghost use Rattle.lexical_flags.specs.Computed.{error_at, accepts, is_punctuation, are_apart};
-ghost use Rattle.lexical_flags.specs.Constants.{flag_constant, byte_mask, byte_shift, AreApart};
+ghost use Rattle.lexical_flags.specs.Constants.{flag_constant, byte_mask, byte_shift, ShareNoBit};
 ghost use Rattle.lexical_flags.specs.Layout as layout;
 ghost use Rattle.lexical_flags.specs.Layout.{Flag, Byte, bit, shift, IsClean};
-ghost use Rattle.lexical_flags.specs.Options.{AreAccepted};
-ghost use Rattle.lexical_flags.specs.Pairs.{ArePairwise};
+ghost use Rattle.lexical_flags.specs.Options.{AreAccepted, HaveOneRole};
 ghost use Rattle.lexical_flags.specs.Record.{raw, fill, trim, pack, IsBuilt};
-ghost use Rattle.lexical_flags.specs.Roles.{Disjoint, AtMostOneRole, cased, seven_roles};
+ghost use Rattle.lexical_flags.specs.Roles.{Disjoint, cased};
 ghost use Rattle.lexical_flags.specs.Rules as rules;
-ghost use Rattle.lexical_flags.specs.Rules.{Demands, IsErrorOf, IsPunctuation, Lawful};
+ghost use Rattle.lexical_flags.specs.Rules.{Rule, Demands, Holds, Lawful};
 ghost use Rattle.lexical_flags.specs.declared.format_flags.TheConstants.{FLAG_MASK};
 ghost use Rattle.lexical_builder.specs.Writes.{write_flag, write_byte, IsLegal, SameWrites};
 ghost use Rattle.lexical_util.specs.Compose.{Composes, AlwaysCompose};
@@ -130,7 +127,7 @@ pub fn layout_law_examples()
     ensures shift { byte_shift layout.base_prefix ≡ pos (shift layout.base_prefix) }
     ensures mask { byte_mask layout.base_prefix ≡ 255 * 2 ^ shift layout.base_prefix }
     ensures shifted_mask { byte_mask layout.base_prefix / 2 ^ shift layout.base_prefix ≡ 255 }
-    ensures apart { AreApart (byte_mask layout.base_prefix) FLAG_MASK }
+    ensures apart { ShareNoBit (byte_mask layout.base_prefix) FLAG_MASK }
     ensures one_flag { (f : Flag) → bit f ≡ bit layout.no_special → f ≡ layout.no_special }
     ensures one_byte { (b : Byte) → shift b ≡ shift layout.base_prefix → b ≡ layout.base_prefix }
 {
@@ -158,22 +155,18 @@ pub fn word_law_examples()
     ensures same { Demands rules.digit_separator_is_free (raw 0)
         ↔ Demands rules.digit_separator_is_free (trim (fill (raw 0))) }
 
-    // The error of a word, whether it accepts options, and the tests of which these consist.
-    ensures error { IsErrorOf 0x25252500_00000000_00000000_0000000C errors.InvalidMantissaRadix }
-    ensures lawful { (error_at 0x0A0A0A00_00000000_00000000_0000000C ≡ errors.Success)
-        ↔ Lawful 0x0A0A0A00_00000000_00000000_0000000C }
-    ensures accepted { IsTrue (accepts (raw 0x0A0A0A00_00000000_00000000_0000000C) 0x65 0x2E)
-        ↔ AreAccepted 0x0A0A0A00_00000000_00000000_0000000C 0x65 0x2E }
-    ensures punctuation { IsTrue (is_punctuation (raw 0x0A0A0A00_00000000_00000000_0000000C) 0x5F)
-        ↔ IsPunctuation (raw 0x0A0A0A00_00000000_00000000_0000000C) 0x5F }
-    ensures sets { IsTrue (are_apart false 0x65 true 0x45) ↔ Disjoint (cased false 0x65) (cased true 0x45) }
-    ensures roles { ArePairwise Disjoint (seven_roles (raw 0x0A0A0A00_00000000_00000000_0000000C) 0x65 0x2E)
-        ↔ AtMostOneRole (raw 0x0A0A0A00_00000000_00000000_0000000C) 0x65 0x2E }
+    // The rules that a lawful word keeps, two sets that share a byte, and the roles of options that fit.
+    ensures lawful { Lawful 0x0A0A0A00_00000000_00000000_0000000C
+        ↔ ((rule : Rule) → Holds rule 0x0A0A0A00_00000000_00000000_0000000C) }
+    ensures disjoint { Disjoint (cased false 0x65) (cased true 0x45)
+        ↔ ((byte : ℕ) → byte < 256 → IsTrue (cased false 0x65 byte) → IsTrue (cased true 0x45 byte) → ⊥) }
+    ensures roles { Lawful 0x0A0A0A00_00000000_00000000_0000000C
+        → AreAccepted 0x0A0A0A00_00000000_00000000_0000000C 0x65 0x2E
+        → HaveOneRole 0x0A0A0A00_00000000_00000000_0000000C 0x65 0x2E }
 {
     flags::packing_facts();
     flags::rule_facts();
     flags::role_facts();
-    flags::literal_facts();
 }
 
 /// The laws of edits that no call states, each at a literal.

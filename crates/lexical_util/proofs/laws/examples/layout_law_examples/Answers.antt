@@ -15,7 +15,7 @@ returns c =
       shift = facts.shift layout.base_prefix;
       mask = facts.mask layout.base_prefix;
       shifted_mask = facts.shifted_mask layout.base_prefix;
-      apart = facts.masks_are_apart_from_flags layout.base_prefix;
+      apart = facts.masks_share_no_flag layout.base_prefix;
       one_flag = λ f. facts.bit_is_injective f layout.no_special;
       one_byte = λ b. facts.shift_is_injective b layout.base_prefix;
     }

@@ -2,6 +2,7 @@
 use Rattle.std.proofs.Common.{false, true, inr, refl, arith}
 use Rattle.lexical_flags.specs.Layout.{IsClean}
 use Rattle.lexical_flags.specs.Record.{raw}
+use Rattle.lexical_flags.specs.Roles.{cased}
 use Rattle.lexical_flags.specs.Rules as rules
 use Rattle.lexical_flags.proofs.Packing.{HasBytes-raw}
 use Rattle.lexical_util.proofs.laws.examples.word_law_examples.Goals as goal
@@ -10,7 +11,6 @@ pub returns : goal.returns
 returns c =
     let packing = c.packing_facts.ensures in
     let rule = c.rule_facts.ensures in
-    let literal = c.literal_facts.ensures in
     let decimal = raw 0x0A0A0A00_00000000_00000000_0000000C in
     let unused = raw 0x0A0A0A00_0000005F_00000000_0000000C in
     let unused_bytes = HasBytes-raw 0x0A0A0A00_0000005F_00000000_0000000C in
@@ -24,10 +24,7 @@ returns c =
       only = λ word fits clean. packing.only word 0 fits (omega arith) clean nothing;
       kept = rule.kept rules.digit_separator_is_free unused;
       same = rule.same rules.digit_separator_is_free (raw 0) (inr refl);
-      error = literal.error 0x25252500_00000000_00000000_0000000C;
-      lawful = literal.lawful 0x0A0A0A00_00000000_00000000_0000000C;
-      accepted = literal.accepted 0x0A0A0A00_00000000_00000000_0000000C 0x65 0x2E;
-      punctuation = literal.punctuation decimal 0x5F;
-      sets = literal.apart false 0x65 true 0x45;
-      roles = c.role_facts.ensures.pairs decimal 0x65 0x2E;
+      lawful = rule.lawful 0x0A0A0A00_00000000_00000000_0000000C;
+      disjoint = c.role_facts.ensures.disjoint (cased false 0x65) (cased true 0x45);
+      roles = c.role_facts.ensures.lawful 0x0A0A0A00_00000000_00000000_0000000C 0x65 0x2E;
     }
