@@ -70,7 +70,7 @@ def flag_text(mask):
 
 def rows(tests):
     """Returns the rows of FORMAT.md that the tables of the tests stand for, without their last columns."""
-    for bit, name, default in re.findall(r"(\d+) (\w+) \w+ (true|false) get_", tests):
+    for bit, name, default in re.findall(r"(\d+) (\w+) (true|false) get_", tests):
         yield f"| {bit} | `{name}` | {default} |"
     for name, mask in re.findall(r'\(b"(\w+)", \w+, (0x\w+)\)', tests):
         yield f"| `{name}` | {flag_text(int(mask, 16))} |"

@@ -6,9 +6,8 @@ ghost use Rattle.lexical_util.specs.Record.{raw};
 ghost use Rattle.lexical_util.specs.Rules.{Lawful, IsErrorOf};
 ghost use Rattle.lexical_util.specs.Normal.{normal_form_of, SameFormat, IsNormal};
 
-use lexical_util::edits::normal_form;
+use lexical_util::edits::migrate;
 use lexical_util::error::Error;
-use lexical_util::format::format_error;
 use lexical_util::laws;
 
 /// Returns the word to keep for a stored `word`: its normal form if that is lawful, else the first
@@ -28,9 +27,5 @@ pub fn keep(word: u128) -> Result<u128, Error>
     ensures refused { IsErr result ↔ ((other : ℕ) → SameFormat (raw word) (raw other) → Lawful other → ⊥) }
 {
     laws::normal_form_facts();
-    let kept = normal_form(word);
-    match format_error(kept) {
-        Error::Success => Ok(kept),
-        error => Err(error),
-    }
+    migrate(word)
 }

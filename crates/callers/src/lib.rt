@@ -2,11 +2,9 @@
 //!
 //! [`digits`] is the smallest: read it first. [`formats`] has formats that are constants, proved lawful,
 //! [`roles`] tells what a byte stands for in a number, [`keep`] says which word to keep for a stored
-//! one, [`read`] reads whole numbers, and [`calls`] makes a word by setter calls. docs/CALLING.md
-//! explains them.
+//! one, and [`read`] reads whole numbers. docs/CALLING.md explains them.
 #![tactic(auto)]
 
-pub mod calls;
 pub mod digits;
 pub mod examples;
 pub mod formats;

@@ -14,37 +14,31 @@ const UNUSED_SEPARATOR: u128 = 0x0A0A0A00_0000005F_00000000_0000000C;
 
 const ALL_ONES: u128 = 0xFFFFFFFF_FFFFFFFF_FFFFFFFF_FFFFFFFF;
 
+const BETWEEN: Edit = Edit::Flag(FlagSetter::IntegerInternalDigitSeparator, true);
+
 fn underscore() -> Edit {
     Edit::DigitSeparator(NonZeroU8::new(95))
 }
 
 #[test]
+#[rattlefmt::skip]
 fn edits_a_word_once_with_all_edits(rt: HostRuntime) {
     let zero = 0x00000000_00000000_00000000_0000000C;
-    let cases: [(u128, &[Edit], u128); 3] = [
-        (
-            DECIMAL,
-            &[
-                underscore(),
-                Edit::Flag(FlagSetter::DigitSeparatorFlags, true),
-                Edit::Flag(FlagSetter::DigitSeparatorFlags, false),
-            ],
-            DECIMAL,
-        ),
-        (
-            zero,
-            &[Edit::MantissaRadix(8)],
-            0x00000800_00000000_00000000_0000000C,
-        ),
-        (
-            zero,
-            &[
-                Edit::Radix(16),
-                underscore(),
-                Edit::Flag(FlagSetter::IntegerDigitSeparatorFlags, true),
-            ],
-            0x00001000_0000005F_00000249_0000000C,
-        ),
+    let cases: [(u128, &[Edit], u128); 8] = [
+        // exponent bytes are filled before the edits, and not after them; radix 0 fills nothing
+        (STANDARD, &[Edit::Radix(16)], 0x0A0A1000_00000000_00000000_0000000C),
+        (DECIMAL, &[Edit::ExponentBase(None)], 0x0A000A00_00000000_00000000_0000000C),
+        (zero, &[Edit::MantissaRadix(8)], 0x00000800_00000000_00000000_0000000C),
+        (zero, &[Edit::Radix(16), underscore(), Edit::Flag(FlagSetter::IntegerDigitSeparatorFlags, true)],
+            0x00001000_0000005F_00000249_0000000C),
+        // a separator without a flag is dropped after the edits
+        (UNUSED_SEPARATOR, &[BETWEEN], 0x0A0A0A00_0000005F_00000001_0000000C),
+        (normal_form(UNUSED_SEPARATOR), &[BETWEEN], 0x0A0A0A00_00000000_00000001_0000000C),
+        // the last edit counts
+        (DECIMAL, &[underscore(), Edit::Flag(FlagSetter::DigitSeparatorFlags, true),
+            Edit::Flag(FlagSetter::DigitSeparatorFlags, false)], DECIMAL),
+        (DECIMAL, &[Edit::Flag(FlagSetter::RequiredDigits, false),
+            Edit::Flag(FlagSetter::RequiredExponentDigits, true)], 0x0A0A0A00_00000000_00000000_00000004),
     ];
     for (format, edits, want) in cases {
         assert!(rt; edit_word(format, edits) == want);
@@ -79,53 +73,39 @@ fn each_reserved_bit_is_dropped_by_the_normal_form(rt: HostRuntime) {
     }
 }
 
-// A word with its error, and its normal form with its own.
-#[test]
-#[rattlefmt::skip]
-fn errors_of_words_and_of_their_normal_forms(rt: HostRuntime) {
-    use Error::*;
-    for (format, error, normal, normal_error) in [
-        (0x0A0A0000_00000000_00000000_0000000C, InvalidMantissaRadix,
-            0x0A0A0000_00000000_00000000_0000000C, InvalidMantissaRadix),
-        (0x0A0A0100_00000000_00000000_0000000C, InvalidMantissaRadix,
-            0x0A0A0100_00000000_00000000_0000000C, InvalidMantissaRadix),
-        (0x0AFF0A00_00000000_00000000_0000000C, InvalidExponentBase,
-            0x0AFF0A00_00000000_00000000_0000000C, InvalidExponentBase),
-        (0x00000A00_00000000_00001FFF_0000000C, Success,
-            0x0A0A0A00_00000000_00001FFF_0000000C, Success),
-        (0x00000A00_78000078_00000000_0000000C, InvalidPunctuation,
-            0x0A0A0A00_78000000_00000000_0000000C, Success),
-        (0x24242424_24000024_00000000_0000000C, InvalidPunctuation,
-            0x24242424_24000000_00000000_0000000C, InvalidPunctuation),
-        (0x0A0A0A00_00000035_00000000_0000000C, InvalidDigitSeparator,
-            DECIMAL, Success),
-    ] {
-        let errors_are_right = format_error(format) == error && format_error(normal) == normal_error;
-        assert!(rt; errors_are_right && normal_form(format) == normal, "{format:x}");
-    }
-}
-
+// A word, its normal form, and the error of that.
 #[test]
 #[rattlefmt::skip]
 fn migrate_returns_the_normal_form_or_its_error(rt: HostRuntime) {
-    for (format, want) in [
-        (STANDARD, Ok(DECIMAL)),
-        (UNUSED_SEPARATOR, Ok(DECIMAL)),
-        (0x0A0A0A00_00000035_00000000_0000000C, Ok(DECIMAL)),
-        (0x00000A00_00000000_00000000_8000000C, Ok(DECIMAL)),
-        (0x00000A00_78000058_00000000_0000000C, Ok(0x0A0A0A00_78000000_00000000_0000000C)),
-        (0x00000A48_68000000_00000000_0000000C, Err(Error::InvalidPunctuation)),
-        (0, Err(Error::InvalidMantissaRadix)),
-        (ALL_ONES, Err(Error::InvalidMantissaRadix)),
-        (0x00000A00_00000000_00000200_8000000C, Err(Error::InvalidConsecutiveIntegerDigitSeparator)),
-        (0x00000A00_00000035_00000000_0000404C, Err(Error::InvalidExponentFlags)),
+    use Error::*;
+    for (format, normal, error) in [
+        (STANDARD, DECIMAL, Success),
+        (UNUSED_SEPARATOR, DECIMAL, Success),
+        (0x0A0A0A00_00000035_00000000_0000000C, DECIMAL, Success),
+        (0x00000A00_00000000_00000000_8000000C, DECIMAL, Success),
+        (0x00000A00_00000000_00001FFF_0000000C, 0x0A0A0A00_00000000_00001FFF_0000000C, Success),
+        (0x00000A00_78000078_00000000_0000000C, 0x0A0A0A00_78000000_00000000_0000000C, Success),
+        (0x00000A00_78000058_00000000_0000000C, 0x0A0A0A00_78000000_00000000_0000000C, Success),
+        (0, 0, InvalidMantissaRadix),
+        (ALL_ONES, 0xFFFFFFFF_FF0000FF_00000000_00000000 | FLAG_BITS, InvalidMantissaRadix),
+        (0x0A0A0000_00000000_00000000_0000000C, 0x0A0A0000_00000000_00000000_0000000C, InvalidMantissaRadix),
+        (0x0A0A0100_00000000_00000000_0000000C, 0x0A0A0100_00000000_00000000_0000000C, InvalidMantissaRadix),
+        (0x0AFF0A00_00000000_00000000_0000000C, 0x0AFF0A00_00000000_00000000_0000000C, InvalidExponentBase),
+        (0x00000A48_68000000_00000000_0000000C, 0x0A0A0A48_68000000_00000000_0000000C, InvalidPunctuation),
+        (0x24242424_24000024_00000000_0000000C, 0x24242424_24000000_00000000_0000000C, InvalidPunctuation),
+        (0x00000A00_00000035_00000000_0000404C, 0x0A0A0A00_00000000_00000000_0000404C, InvalidExponentFlags),
+        (0x00000A00_00000000_00000200_8000000C, 0x0A0A0A00_00000000_00000200_0000000C,
+            InvalidConsecutiveIntegerDigitSeparator),
     ] {
-        assert!(rt; migrate(format) == want, "{format:x}");
+        assert!(rt; normal_form(format) == normal && format_error(normal) == error, "{format:x}");
+        let migrated = if error == Success { Ok(normal) } else { Err(error) };
+        assert!(rt; migrate(format) == migrated && same_format(format, normal), "{format:x}");
     }
+    assert!(rt; !same_format(0, 0xC));
 }
 
-// The word that the edits of a word make of a new builder, and how many of them are needed: that these
-// are the first is tested in `calls`. A word is built if its edits make the word itself.
+// The word that the edits of a word make of a new builder, the first ones and all, and how many of them
+// are needed. A word is built if its edits make the word itself.
 #[test]
 fn edits_of_a_word_make_its_fields(rt: HostRuntime) {
     for (format, want, count) in [
@@ -141,12 +121,13 @@ fn edits_of_a_word_make_its_fields(rt: HostRuntime) {
         ),
     ] {
         let (edits, number) = edits_of(format);
+        let first = apply_all(NumberFormatBuilder::new(), &edits[..number]).build_unchecked();
         let made = apply_all(NumberFormatBuilder::new(), &edits).build_unchecked();
-        let is_right = number == count && made == want;
         assert!(rt;
-            is_right && is_built(format) == (want == format),
+            number == count && first == want && made == want,
             "{format:x}"
         );
+        assert!(rt; is_built(format) == (want == format), "{format:x}");
     }
     let builder = apply(NumberFormatBuilder::new(), edits_of(0).0[0]);
     assert!(rt; builder.build_unchecked() == 0x00000A00_00000000_00000000_00000008);

@@ -5,88 +5,57 @@ use lexical_util::edits::FlagSetter::*;
 use lexical_util::edits::{FlagSetter, edit_word};
 use lexical_util::error::Error;
 use lexical_util::format::*;
+use std::test::Fail;
 
-// Calls `$rows!` with `$args` and a row for each flag: its bit, its name, which the getter of a view
-// has too, its setter and its default; the getter of a builder, and the constant.
+// Calls `$rows!` with `$args` and a row for each flag: its bit, its name, which the getter of a view has
+// too, its default, and the getter of a builder.
 macro_rules! with_flags {
     ($rows:ident $args:tt) => {
         $rows! {
             $args
-            0 required_integer_digits RequiredIntegerDigits false
-                get_required_integer_digits REQUIRED_INTEGER_DIGITS;
-            1 required_fraction_digits RequiredFractionDigits false
-                get_required_fraction_digits REQUIRED_FRACTION_DIGITS;
-            2 required_exponent_digits RequiredExponentDigits true
-                get_required_exponent_digits REQUIRED_EXPONENT_DIGITS;
-            3 required_mantissa_digits RequiredMantissaDigits true
-                get_required_mantissa_digits REQUIRED_MANTISSA_DIGITS;
-            4 no_positive_mantissa_sign NoPositiveMantissaSign false
-                get_no_positive_mantissa_sign NO_POSITIVE_MANTISSA_SIGN;
-            5 required_mantissa_sign RequiredMantissaSign false
-                get_required_mantissa_sign REQUIRED_MANTISSA_SIGN;
-            6 no_exponent_notation NoExponentNotation false
-                get_no_exponent_notation NO_EXPONENT_NOTATION;
-            7 no_positive_exponent_sign NoPositiveExponentSign false
-                get_no_positive_exponent_sign NO_POSITIVE_EXPONENT_SIGN;
-            8 required_exponent_sign RequiredExponentSign false
-                get_required_exponent_sign REQUIRED_EXPONENT_SIGN;
-            9 no_exponent_without_fraction NoExponentWithoutFraction false
-                get_no_exponent_without_fraction NO_EXPONENT_WITHOUT_FRACTION;
-            10 no_special NoSpecial false
-                get_no_special NO_SPECIAL;
-            11 case_sensitive_special CaseSensitiveSpecial false
-                get_case_sensitive_special CASE_SENSITIVE_SPECIAL;
-            12 no_integer_leading_zeros NoIntegerLeadingZeros false
-                get_no_integer_leading_zeros NO_INTEGER_LEADING_ZEROS;
-            13 no_float_leading_zeros NoFloatLeadingZeros false
-                get_no_float_leading_zeros NO_FLOAT_LEADING_ZEROS;
-            14 required_exponent_notation RequiredExponentNotation false
-                get_required_exponent_notation REQUIRED_EXPONENT_NOTATION;
-            15 case_sensitive_exponent CaseSensitiveExponent false
-                get_case_sensitive_exponent CASE_SENSITIVE_EXPONENT;
-            16 case_sensitive_base_prefix CaseSensitiveBasePrefix false
-                get_case_sensitive_base_prefix CASE_SENSITIVE_BASE_PREFIX;
-            17 case_sensitive_base_suffix CaseSensitiveBaseSuffix false
-                get_case_sensitive_base_suffix CASE_SENSITIVE_BASE_SUFFIX;
-            32 integer_internal_digit_separator IntegerInternalDigitSeparator false
-                get_integer_internal_digit_separator INTEGER_INTERNAL_DIGIT_SEPARATOR;
-            33 fraction_internal_digit_separator FractionInternalDigitSeparator false
-                get_fraction_internal_digit_separator FRACTION_INTERNAL_DIGIT_SEPARATOR;
-            34 exponent_internal_digit_separator ExponentInternalDigitSeparator false
-                get_exponent_internal_digit_separator EXPONENT_INTERNAL_DIGIT_SEPARATOR;
-            35 integer_leading_digit_separator IntegerLeadingDigitSeparator false
-                get_integer_leading_digit_separator INTEGER_LEADING_DIGIT_SEPARATOR;
-            36 fraction_leading_digit_separator FractionLeadingDigitSeparator false
-                get_fraction_leading_digit_separator FRACTION_LEADING_DIGIT_SEPARATOR;
-            37 exponent_leading_digit_separator ExponentLeadingDigitSeparator false
-                get_exponent_leading_digit_separator EXPONENT_LEADING_DIGIT_SEPARATOR;
-            38 integer_trailing_digit_separator IntegerTrailingDigitSeparator false
-                get_integer_trailing_digit_separator INTEGER_TRAILING_DIGIT_SEPARATOR;
-            39 fraction_trailing_digit_separator FractionTrailingDigitSeparator false
-                get_fraction_trailing_digit_separator FRACTION_TRAILING_DIGIT_SEPARATOR;
-            40 exponent_trailing_digit_separator ExponentTrailingDigitSeparator false
-                get_exponent_trailing_digit_separator EXPONENT_TRAILING_DIGIT_SEPARATOR;
-            41 integer_consecutive_digit_separator IntegerConsecutiveDigitSeparator false
-                get_integer_consecutive_digit_separator INTEGER_CONSECUTIVE_DIGIT_SEPARATOR;
-            42 fraction_consecutive_digit_separator FractionConsecutiveDigitSeparator false
-                get_fraction_consecutive_digit_separator FRACTION_CONSECUTIVE_DIGIT_SEPARATOR;
-            43 exponent_consecutive_digit_separator ExponentConsecutiveDigitSeparator false
-                get_exponent_consecutive_digit_separator EXPONENT_CONSECUTIVE_DIGIT_SEPARATOR;
-            44 special_digit_separator SpecialDigitSeparator false
-                get_special_digit_separator SPECIAL_DIGIT_SEPARATOR;
+            0 required_integer_digits false get_required_integer_digits;
+            1 required_fraction_digits false get_required_fraction_digits;
+            2 required_exponent_digits true get_required_exponent_digits;
+            3 required_mantissa_digits true get_required_mantissa_digits;
+            4 no_positive_mantissa_sign false get_no_positive_mantissa_sign;
+            5 required_mantissa_sign false get_required_mantissa_sign;
+            6 no_exponent_notation false get_no_exponent_notation;
+            7 no_positive_exponent_sign false get_no_positive_exponent_sign;
+            8 required_exponent_sign false get_required_exponent_sign;
+            9 no_exponent_without_fraction false get_no_exponent_without_fraction;
+            10 no_special false get_no_special;
+            11 case_sensitive_special false get_case_sensitive_special;
+            12 no_integer_leading_zeros false get_no_integer_leading_zeros;
+            13 no_float_leading_zeros false get_no_float_leading_zeros;
+            14 required_exponent_notation false get_required_exponent_notation;
+            15 case_sensitive_exponent false get_case_sensitive_exponent;
+            16 case_sensitive_base_prefix false get_case_sensitive_base_prefix;
+            17 case_sensitive_base_suffix false get_case_sensitive_base_suffix;
+            32 integer_internal_digit_separator false get_integer_internal_digit_separator;
+            33 fraction_internal_digit_separator false get_fraction_internal_digit_separator;
+            34 exponent_internal_digit_separator false get_exponent_internal_digit_separator;
+            35 integer_leading_digit_separator false get_integer_leading_digit_separator;
+            36 fraction_leading_digit_separator false get_fraction_leading_digit_separator;
+            37 exponent_leading_digit_separator false get_exponent_leading_digit_separator;
+            38 integer_trailing_digit_separator false get_integer_trailing_digit_separator;
+            39 fraction_trailing_digit_separator false get_fraction_trailing_digit_separator;
+            40 exponent_trailing_digit_separator false get_exponent_trailing_digit_separator;
+            41 integer_consecutive_digit_separator false get_integer_consecutive_digit_separator;
+            42 fraction_consecutive_digit_separator false get_fraction_consecutive_digit_separator;
+            43 exponent_consecutive_digit_separator false get_exponent_consecutive_digit_separator;
+            44 special_digit_separator false get_special_digit_separator;
         }
     };
 }
 
-// The rows, with the name as text and without getters.
 macro_rules! flag_rows {
-    (() $($bit:literal $flag:ident $Flag:ident $default:literal $getter:ident $MASK:ident;)*) => {
-        [$(($bit, stringify!($flag), $MASK, $Flag, $default),)*]
+    (() $($bit:literal $flag:ident $default:literal $getter:ident;)*) => {
+        [$(($bit, stringify!($flag), $default),)*]
     };
 }
 
 macro_rules! flag_bits {
-    (() $($bit:literal $flag:ident $Flag:ident $default:literal $getter:ident $MASK:ident;)*) => {
+    (() $($bit:literal $flag:ident $default:literal $getter:ident;)*) => {
         0 $(| 1 << $bit)*
     };
 }
@@ -97,40 +66,29 @@ pub const FLAG_BITS: u128 = with_flags!(flag_bits());
 /// How many flags there are.
 pub const FLAGS: usize = u128::count_ones(FLAG_BITS) as usize;
 
-fn seen_by_a_view(view: &NumberFormat) -> [bool; FLAGS] {
+// What the getters of each flag return, of a view and of a builder.
+fn seen_by(view: &NumberFormat, builder: &NumberFormatBuilder) -> [(bool, bool); FLAGS] {
     macro_rules! getters {
-        (($view:ident) $($bit:literal $flag:ident $Flag:ident $default:literal $getter:ident $MASK:ident;)*) => {
-            [$($view.$flag(),)*]
+        (($view:ident $builder:ident) $($bit:literal $flag:ident $default:literal $getter:ident;)*) => {
+            [$(($view.$flag(), $builder.$getter()),)*]
         };
     }
-    with_flags!(getters(view))
-}
-
-fn seen_by_a_builder(builder: &NumberFormatBuilder) -> [bool; FLAGS] {
-    macro_rules! getters {
-        (($builder:ident) $($bit:literal $flag:ident $Flag:ident $default:literal $getter:ident $MASK:ident;)*) => {
-            [$($builder.$getter(),)*]
-        };
-    }
-    with_flags!(getters(builder))
+    with_flags!(getters(view builder))
 }
 
 #[test]
-fn each_flag_has_its_bit_name_default_and_getters(rt: HostRuntime) {
-    for (index, (bit, name, mask, setter, default)) in with_flags!(flag_rows()).iter().enumerate() {
-        let is_at_bit = *mask == 1u128.wrapping_shl(*bit) && (STANDARD & *mask != 0) == *default;
-        let is_set = setter.name() == *name && edit_word(0, &[Flag(*setter, true)]) == *mask;
-        assert!(rt; is_at_bit && is_set, "{bit}");
-        let view = seen_by_a_view(&NumberFormat::new(*mask));
-        let builder = seen_by_a_builder(&NumberFormatBuilder::rebuild(*mask));
-        for (other, seen) in view.iter().enumerate() {
-            let is_its_own = other == index;
-            assert!(rt;
-                *seen == is_its_own && builder[other] == is_its_own,
-                "{bit} {other}"
-            );
+fn each_flag_has_its_bit_name_default_setter_and_getters(rt: HostRuntime) -> Result<(), Fail> {
+    for (index, (bit, name, default)) in with_flags!(flag_rows()).iter().enumerate() {
+        let mask = 1u128.wrapping_shl(*bit);
+        let setter = FlagSetter::from_name(*name).ok_or("no setter")?;
+        let is_set = setter.name() == *name && edit_word(0, &[Flag(setter, true)]) == mask;
+        assert!(rt; is_set && (STANDARD & mask != 0) == *default, "{bit}");
+        let (view, builder) = (NumberFormat::new(mask), NumberFormatBuilder::rebuild(mask));
+        for (other, seen) in seen_by(&view, &builder).iter().enumerate() {
+            assert!(rt; *seen == (other == index, other == index), "{bit} {other}");
         }
     }
+    Ok(())
 }
 
 #[test]
@@ -153,11 +111,9 @@ fn each_group_sets_its_flags(rt: HostRuntime) {
     }
 }
 
-// Each byte has its place in the order as its value, and the separator its flag.
-const BYTES: u128 = 0x06050403_02000001_00001000_0000000C;
-
+// A byte with its number in the order, which its setter writes.
 #[test]
-fn each_byte_has_its_bits_and_default(rt: HostRuntime) {
+fn each_byte_has_its_bits_setter_and_default(rt: HostRuntime) {
     let rows: [(u32, &[u8], u128, u128); 6] = [
         (64, b"digit_separator", 1, 0),
         (88, b"base_prefix", 2, 0),
@@ -166,26 +122,21 @@ fn each_byte_has_its_bits_and_default(rt: HostRuntime) {
         (112, b"exponent_base", 5, 0),
         (120, b"exponent_radix", 6, 0),
     ];
-    for (shift, _, value, default) in rows {
-        let of_standard = STANDARD.wrapping_shr(shift) & 255;
-        assert!(rt;
-            BYTES.wrapping_shr(shift) & 255 == value && of_standard == default,
-            "{shift}"
-        );
-    }
-}
-
-#[test]
-fn each_byte_has_the_setter_of_its_name(rt: HostRuntime) {
-    let builder = NumberFormatBuilder::new()
+    let word = NumberFormatBuilder::rebuild(0)
         .special_digit_separator(true)
         .digit_separator(NonZeroU8::new(1))
         .base_prefix(NonZeroU8::new(2))
         .base_suffix(NonZeroU8::new(3))
         .mantissa_radix(4)
         .exponent_base(NonZeroU8::new(5))
-        .exponent_radix(NonZeroU8::new(6));
-    assert!(rt; builder.build_unchecked() == BYTES);
+        .exponent_radix(NonZeroU8::new(6))
+        .build_unchecked();
+    let mut bytes = 0;
+    for (shift, _, number, default) in rows {
+        assert!(rt; STANDARD.wrapping_shr(shift) & 255 == default, "{shift}");
+        bytes |= number.wrapping_shl(shift);
+    }
+    assert!(rt; word == bytes | SPECIAL_DIGIT_SEPARATOR);
 }
 
 #[test]

@@ -7,11 +7,9 @@
 #[cfg(test)]
 mod ascii;
 #[cfg(test)]
-mod calls;
+mod callers;
 #[cfg(test)]
 mod digit;
-#[cfg(test)]
-mod digits;
 #[cfg(test)]
 mod edits;
 #[cfg(test)]
@@ -21,20 +19,8 @@ mod example;
 #[cfg(test)]
 mod feature_format;
 #[cfg(test)]
-mod format;
-#[cfg(test)]
 mod format_builder;
 #[cfg(test)]
 mod format_flags;
 #[cfg(test)]
 mod format_page;
-#[cfg(test)]
-mod formats;
-#[cfg(test)]
-mod keep;
-#[cfg(test)]
-mod read;
-#[cfg(test)]
-mod roles;
-#[cfg(test)]
-mod rules;
