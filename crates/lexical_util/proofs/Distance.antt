@@ -12,7 +12,8 @@ use Rattle.lexical_flags.specs.Layout as layout
 use Rattle.lexical_flags.specs.Record.{Record, flag_of, byte_of, trim, separator_on}
 use Rattle.lexical_builder.specs.Writes.{Write, write_flag, write_byte, new_record, flag_in, byte_in, after, changes}
 use Rattle.lexical_builder.proofs.WriteLemmas.{after_none, after-append}
-use Rattle.lexical_util.proofs.FieldWrites.{field_writes, Leaves, Leaves-field_writes, flag_after, byte_after}
+use Rattle.lexical_util.proofs.FieldWrites.{Leaves, Leaves-field_writes, flag_after, byte_after}
+use Rattle.lexical_util.specs.Listing.{field_writes}
 
 -- how many fields of the second record change the first
 unfoldable pub distance : Record → Record → ℕ

@@ -1,7 +1,7 @@
 -- The writes of all fields of a record make that record, and so do those of them alone that change the record they
 -- start from.
 use Rattle.std.proofs.Common.{◌≡◌, ℕ, ◌==◌, ◌⊎◌, inl, inr, Bool, true, false, not, if◌then◌else◌, eqb-true, eq-eqb}
-use Rattle.std.proofs.Common.{List, [], ◌∷◌, ◌++◌, map, Option, Some, None, unwrap_or, filter, find, refl, sym, ap}
+use Rattle.std.proofs.Common.{List, [], ◌∷◌, map, Option, Some, None, unwrap_or, filter, find, refl, sym, ap}
 use Rattle.std.proofs.Common.{◌∙◌, subst, All}
 use Rattle.std.proofs.Math.Bool.{beq}
 use Rattle.std.proofs.lemmas.Bool.{cases_Bool, not-false}
@@ -13,10 +13,7 @@ use Rattle.lexical_flags.proofs.RecordLemmas.{record_same}
 use Rattle.lexical_builder.specs.Writes.{Write, write_flag, write_byte, IsLegal, flag_in, byte_in, after, changes}
 use Rattle.lexical_builder.proofs.WriteLemmas.{left_by, left_by-cons, flag_of-after, byte_of-after, after_none}
 use Rattle.lexical_builder.proofs.WriteLemmas.{after-append}
-
--- the writes of all fields of a record
-abbrev pub field_writes : Record → List Write
-field_writes r = map (λ f. write_flag f (flag_of r f)) flags ++ map (λ b. write_byte b (byte_of r b)) bytes
+use Rattle.lexical_util.specs.Listing.{field_writes}
 
 -- to write every field of a record makes it, whatever the record before
 pub after-field_writes : (s r : Record) → after s (field_writes r) ≡ r

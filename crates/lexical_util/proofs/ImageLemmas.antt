@@ -6,8 +6,8 @@ use Rattle.lexical_flags.proofs.Packing.{raw-pack, pack-clean, pack-raw, HasByte
 use Rattle.lexical_builder.specs.Writes.{Write, IsLegal, new_record, after}
 use Rattle.lexical_builder.proofs.WriteLemmas.{HasBytes-after, HasBytes-new}
 use Rattle.lexical_util.proofs.Distance.{distance, distance-after, distance-trim}
-use Rattle.lexical_util.proofs.FieldWrites.{field_writes, after-field_writes, legal-field_writes}
-use Rattle.lexical_util.specs.Listing.{IsBuiltByWrites}
+use Rattle.lexical_util.proofs.FieldWrites.{after-field_writes, legal-field_writes}
+use Rattle.lexical_util.specs.Listing.{field_writes, IsBuiltByWrites}
 
 -- no fewer writes make the word
 pub fewest_writes : (w : ℕ) (L : List Write) → All IsLegal L → pack (after new_record L) ≡ w

@@ -8,29 +8,17 @@ use Rattle.std.proofs.lemmas.List.Concat.{flat_map-append}
 use Rattle.std.proofs.lemmas.List.Elements.{All-append, All-filter}
 use Rattle.lexical_flags.specs.Layout as layout
 use Rattle.lexical_flags.specs.Record.{Record, HasBytes}
-use Rattle.lexical_builder.specs.OptionByte.{option_of_byte}
 use Rattle.lexical_builder.specs.Writes.{Write, write_flag, write_byte, IsLegal, new_record, after, changes}
 use Rattle.lexical_builder.proofs.OptionByteLemmas.{byte_of_option_back}
 use Rattle.lexical_builder.proofs.WriteLemmas.{after-append}
 use Rattle.lexical_util.proofs.Distance.{distance, distance-is}
-use Rattle.lexical_util.proofs.FieldWrites.{field_writes, legal-field_writes, Leaves, Leaves-field_writes, after-leaves}
+use Rattle.lexical_util.proofs.FieldWrites.{legal-field_writes, Leaves, Leaves-field_writes, after-leaves}
 use Rattle.lexical_util.proofs.FieldWrites.{after-changes}
 use Rattle.lexical_util.specs.Edits.{writes_of, all_writes}
-use Rattle.lexical_util.specs.Listing.{setter_of, changes_new, changing, unchanging}
+use Rattle.lexical_util.specs.Listing.{edit_of, field_writes, changes_new, changing, unchanging}
 use Rattle.lexical_util.specs.declared.edits.Edit.{Edit}
-use Rattle.lexical_util.specs.declared.edits.Edit.TheVariants as edits
 
--- the edit that does a write
-abbrev edit_of : Write → Edit
-edit_of (write_flag f value) = edits.Flag (setter_of f) value
-edit_of (write_byte layout.digit_separator value) = edits.DigitSeparator (option_of_byte value)
-edit_of (write_byte layout.base_prefix value) = edits.BasePrefix (option_of_byte value)
-edit_of (write_byte layout.base_suffix value) = edits.BaseSuffix (option_of_byte value)
-edit_of (write_byte layout.mantissa_radix value) = edits.MantissaRadix value
-edit_of (write_byte layout.exponent_base value) = edits.ExponentBase (option_of_byte value)
-edit_of (write_byte layout.exponent_radix value) = edits.ExponentRadix (option_of_byte value)
-
--- it does no other
+-- the edit of a write does that write and no other
 writes_of-edit : (x : Write) → writes_of (edit_of x) ≡ x ∷ []
 writes_of-edit (write_flag layout.required_integer_digits value) = refl
 writes_of-edit (write_flag _ value) = refl

@@ -2,10 +2,11 @@
 use Rattle.std.specs.Prelude.{◌≡◌, ℕ, Bool, not, List, [], ◌∷◌, ◌++◌, map, filter, find, unwrap_or, All}
 use Rattle.std.specs.List.{list_any}
 use Rattle.std.specs.Str.{bytes_eq}
-use Rattle.lexical_flags.specs.Layout.{Flag, bit, flags}
-use Rattle.lexical_flags.specs.Record.{Record, flag_of, pack}
+use Rattle.lexical_flags.specs.Layout.{Flag, bit, flags, bytes}
+use Rattle.lexical_flags.specs.Layout as layout
+use Rattle.lexical_flags.specs.Record.{Record, flag_of, byte_of, pack}
 use Rattle.lexical_builder.specs.OptionByte.{option_of_byte}
-use Rattle.lexical_builder.specs.Writes.{Write, IsLegal, new_record, after, changes}
+use Rattle.lexical_builder.specs.Writes.{Write, write_flag, write_byte, IsLegal, new_record, after, changes}
 use Rattle.lexical_util.specs.Edits.{flags_of, writes_of}
 use Rattle.lexical_util.specs.declared.edits.FlagSetter.{FlagSetter}
 use Rattle.lexical_util.specs.declared.edits.FlagSetter.TheVariants as setters
@@ -17,20 +18,23 @@ use Rattle.lexical_util.specs.declared.edits.Edit.TheVariants as edits
 abbrev pub setter_of : Flag → FlagSetter
 setter_of f = unwrap_or (find (λ setter. bytes_eq (map bit (flags_of setter)) (bit f ∷ [])) SETTERS) setters.NoSpecial
 
--- the edits that write the flags of a record
-abbrev pub flag_edits : Record → List Edit
-flag_edits r = map (λ f. edits.Flag (setter_of f) (flag_of r f)) flags
+-- the edit that does a write of one field
+abbrev pub edit_of : Write → Edit
+edit_of (write_flag f value) = edits.Flag (setter_of f) value
+edit_of (write_byte layout.digit_separator value) = edits.DigitSeparator (option_of_byte value)
+edit_of (write_byte layout.base_prefix value) = edits.BasePrefix (option_of_byte value)
+edit_of (write_byte layout.base_suffix value) = edits.BaseSuffix (option_of_byte value)
+edit_of (write_byte layout.mantissa_radix value) = edits.MantissaRadix value
+edit_of (write_byte layout.exponent_base value) = edits.ExponentBase (option_of_byte value)
+edit_of (write_byte layout.exponent_radix value) = edits.ExponentRadix (option_of_byte value)
 
--- the edits that write its bytes
-abbrev pub byte_edits : Record → List Edit
-byte_edits r =
-    edits.DigitSeparator (option_of_byte r.digit_separator) ∷ edits.BasePrefix (option_of_byte r.base_prefix) ∷
-    edits.BaseSuffix (option_of_byte r.base_suffix) ∷ edits.MantissaRadix r.mantissa_radix ∷
-    edits.ExponentBase (option_of_byte r.exponent_base) ∷ edits.ExponentRadix (option_of_byte r.exponent_radix) ∷ []
+-- the writes of all fields of a record, in the order of their bits
+abbrev pub field_writes : Record → List Write
+field_writes r = map (λ f. write_flag f (flag_of r f)) flags ++ map (λ b. write_byte b (byte_of r b)) bytes
 
--- the edits that write all its fields, in the order of their bits
+-- the edits that do them
 abbrev pub field_edits : Record → List Edit
-field_edits r = flag_edits r ++ byte_edits r
+field_edits r = map edit_of (field_writes r)
 
 -- whether an edit changes a new builder
 abbrev pub changes_new : Edit → Bool
