@@ -1,7 +1,7 @@
-/* Reads settings as a configuration has them, applies them to the standard format, and prints the word. It ends
- * with 1 if what a call returns is not what the header says.
+/* Reads settings as a configuration has them, makes a format of them, and prints its word and the shortest list of
+ * settings that makes it again.
  *
- *     cc -Wall -Wextra -Werror example.c liblexical_c.a -o example
+ *     cc -Wall -Wextra -Werror example.c libpeltzivar_c.a -o example
  *     ./example mantissa_radix=16 digit_separator=95 internal_digit_separator=1 */
 #include "peltzivar.h"
 
@@ -10,46 +10,47 @@
 #include <stdlib.h>
 #include <string.h>
 
-static void print_word(peltzivar_word word) {
-    uint8_t text[256];
-    size_t len = peltzivar_text(peltzivar_format_error(word), 0, text, sizeof text);
-    printf("0x%016" PRIX64 "%016" PRIX64 ": %.*s\n", word.high, word.low, (int)len, (char *)text);
-}
-
-/* Reads NAME=NUMBER. */
-static bool read_edit(const char *setting, peltzivar_edit *edit) {
+/* Applies a setting NAME=NUMBER. Returns false if there is no such setting, or its number is no byte. */
+static bool apply(peltzivar_fields *fields, const char *setting) {
     const char *equals = strchr(setting, '=');
     if (equals == NULL) return false;
-    unsigned long value = strtoul(equals + 1, NULL, 10);
-    edit->setter = peltzivar_setter_of_name((const uint8_t *)setting, (size_t)(equals - setting));
-    edit->value = (uint8_t)value;
-    return edit->setter != PELTZIVAR_NO_SETTER && value <= 255;
+    char *end;
+    const unsigned long value = strtoul(equals + 1, &end, 10);
+    if (end == equals + 1 || *end != '\0' || value > 255) return false;
+    const uint8_t setter = peltzivar_setter_of_name((const uint8_t *)setting, (size_t)(equals - setting));
+    const peltzivar_edit edit = {setter, (uint8_t)value};
+    return peltzivar_edit_fields(fields, &edit, 1);
+}
+
+static void print_settings(peltzivar_word word) {
+    peltzivar_edit edits[PELTZIVAR_FIELDS];
+    const size_t count = peltzivar_edits_of(word, edits);
+    for (size_t i = 0; i < count; i++) {
+        uint8_t name[256];
+        const size_t len = peltzivar_setter_name(edits[i].setter, name, sizeof name);
+        printf("%.*s=%d\n", (int)len, (const char *)name, edits[i].value);
+    }
 }
 
 int main(int argc, char **argv) {
-    peltzivar_edit edits[64];
-    size_t count = 0;
-    for (int i = 1; i < argc && count < 64; i++) {
-        if (!read_edit(argv[i], &edits[count])) {
+    /* What is not set keeps its default: exponent base and exponent radix follow the mantissa radix. To change a word
+     * that is finished, take peltzivar_edit_word. */
+    peltzivar_fields fields = PELTZIVAR_NEW_FIELDS;
+    for (int i = 1; i < argc; i++) {
+        if (!apply(&fields, argv[i])) {
             fprintf(stderr, "no setting: %s\n", argv[i]);
             return 2;
         }
-        count++;
     }
-    peltzivar_word word = PELTZIVAR_STANDARD;
-    if (!peltzivar_edit_word(PELTZIVAR_STANDARD, edits, count, &word)) return 1;
-    print_word(word);
-
-    /* The shortest list of edits that makes the word again. */
-    peltzivar_edit all[PELTZIVAR_FIELDS];
-    size_t needed = peltzivar_edits_of(word, all);
-    peltzivar_fields fields = PELTZIVAR_NEW_FIELDS;
-    if (!peltzivar_edit_fields(&fields, all, needed)) return 1;
-    for (size_t i = 0; i < needed; i++) {
-        uint8_t name[256];
-        size_t len = peltzivar_setter_name(all[i].setter, name, sizeof name);
-        printf("%.*s=%d\n", (int)len, (char *)name, all[i].value);
+    peltzivar_word word;
+    const uint32_t outcome = peltzivar_build_strict(&fields, &word);
+    if (outcome != PELTZIVAR_SUCCESS) {
+        uint8_t text[256];
+        const size_t len = peltzivar_text(outcome, 0, text, sizeof text);
+        fprintf(stderr, "%.*s\n", (int)len, (const char *)text);
+        return 1;
     }
-    peltzivar_word again = peltzivar_pack(&fields);
-    return again.low == word.low && again.high == word.high ? 0 : 1;
+    printf("0x%016" PRIX64 "%016" PRIX64 "\n", word.high, word.low);
+    print_settings(word);
+    return 0;
 }

@@ -1,4 +1,4 @@
-"""Calls the library from Python: python3 example.py ./liblexical_c.so WORD, with WORD in hexadecimal."""
+"""Calls the library from Python: python3 example.py ./libpeltzivar_c.so WORD, with WORD in hexadecimal."""
 import ctypes, sys
 
 class Word(ctypes.Structure):

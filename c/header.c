@@ -141,11 +141,27 @@ static void test_texts(void) {
     CHECK(is_text("exponent_base", peltzivar_setter_name(PELTZIVAR_SET_EXPONENT_BASE, text, sizeof text), text));
 }
 
+/* A null pointer beside a length of 0 is an empty array. */
+static void test_null(void) {
+    peltzivar_fields fields = PELTZIVAR_NEW_FIELDS;
+    peltzivar_word word = {1, 2};
+    CHECK(peltzivar_edit_fields(&fields, NULL, 0) && is_word(peltzivar_pack(&fields), 0x00000A0000000000, 0xC));
+    CHECK(peltzivar_build(&fields, NULL, 0, &word) && is_word(word, 0x00000A0000000000, 0xC));
+    CHECK(peltzivar_edit_word(RESERVED, NULL, 0, &word) && is_word(word, 0x0A0A0A0000000000, 0xC));
+    CHECK(peltzivar_is_valid_ascii_slice(NULL, 0) && peltzivar_is_valid_letter_slice(NULL, 0));
+    CHECK(peltzivar_description(PELTZIVAR_SUCCESS, NULL, 0) == strlen("'not actually an error'"));
+    CHECK(peltzivar_text(PELTZIVAR_OVERFLOW, 7, NULL, 0) ==
+          strlen("lexical parse error: 'numeric overflow occurred' at index 7"));
+    CHECK(peltzivar_setter_name(PELTZIVAR_SET_RADIX, NULL, 0) == strlen("radix"));
+    CHECK(peltzivar_setter_of_name(NULL, 0) == PELTZIVAR_NO_SETTER);
+}
+
 int main(void) {
     test_fields();
     test_words();
     test_rules();
     test_bytes();
     test_texts();
+    test_null();
     return failed;
 }

@@ -1,12 +1,13 @@
-/* Number formats in words of 128 bits: their fields, edits and rules. Link with liblexical_c.a.
+/* Number formats in words of 128 bits: their fields, edits and rules. Link with libpeltzivar_c.a or .so, which cargo
+ * builds of rust/capi, or with liblexical_c.a, which the kit proves and builds of crates/lexical_c.
  *
  * A format word has flags (bits 0 to 17 and 32 to 44) and six bytes (from bit 64 up: digit separator, bits 64 to 71;
  * base prefix, 88; base suffix, 96; mantissa radix, 104; exponent base, 112; exponent radix, 120). The other bits are
  * reserved and 0 in a lawful word.
  *
- * Any word, number, byte or length that fits its type is allowed. A pointer has to point to what its type says,
- * or to as many as the length beside it says, and is not null, not even for a length of 0; what a call writes must
- * not overlap what it reads. No call allocates, keeps a pointer, or sets errno, and all can be made from several
+ * Any word, number, byte or length that fits its type is allowed. A pointer has to point to what its type says, or to as
+ * many as the length beside it says; it may be null only beside a length of 0. What a call writes must not overlap what it
+ * reads, and needs no value before. No call allocates, keeps a pointer, or sets errno, and all can be made from several
  * threads at once. */
 #ifndef PELTZIVAR_H
 #define PELTZIVAR_H
@@ -43,8 +44,13 @@ typedef struct {
 } peltzivar_edit;
 
 /* The standard format, which is what a new builder packs, and the fields of a new builder. */
+#ifdef __cplusplus
+#define PELTZIVAR_STANDARD (peltzivar_word{0xC, 0x00000A0000000000})
+#define PELTZIVAR_NEW_FIELDS (peltzivar_fields{0xC, 0, 0, 0, 10, 0, 0})
+#else
 #define PELTZIVAR_STANDARD ((peltzivar_word){0xC, 0x00000A0000000000})
 #define PELTZIVAR_NEW_FIELDS ((peltzivar_fields){0xC, 0, 0, 0, 10, 0, 0})
+#endif
 
 /* What stands for no setter, no digit, and no digit character. */
 #define PELTZIVAR_NO_SETTER 255

@@ -22,6 +22,7 @@ pub unsafe extern "C" fn peltzivar_edit_fields(
     changes: *const Change,
     changes_len: usize,
 ) -> bool {
+    // SAFETY: c/peltzivar.h asks this of its callers.
     let changes = unsafe { crate::slices::of(changes, changes_len) };
     let Some(builder) = apply_changes(fields.builder(), changes) else {
         return false;
@@ -45,6 +46,7 @@ pub unsafe extern "C" fn peltzivar_build(
     changes_len: usize,
     out: &mut Word,
 ) -> bool {
+    // SAFETY: c/peltzivar.h asks this of its callers.
     let changes = unsafe { crate::slices::of(changes, changes_len) };
     let Some(builder) = apply_changes(fields.builder(), changes) else {
         return false;

@@ -16,6 +16,7 @@ pub unsafe extern "C" fn peltzivar_is_valid_ascii_slice(
     bytes: *const u8,
     bytes_len: usize,
 ) -> bool {
+    // SAFETY: c/peltzivar.h asks this of its callers.
     let bytes = unsafe { crate::slices::of(bytes, bytes_len) };
     ascii::is_valid_ascii_slice(bytes)
 }
@@ -32,6 +33,7 @@ pub unsafe extern "C" fn peltzivar_is_valid_letter_slice(
     bytes: *const u8,
     bytes_len: usize,
 ) -> bool {
+    // SAFETY: c/peltzivar.h asks this of its callers.
     let bytes = unsafe { crate::slices::of(bytes, bytes_len) };
     ascii::is_valid_letter_slice(bytes)
 }

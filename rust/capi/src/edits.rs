@@ -34,6 +34,7 @@ pub unsafe extern "C" fn peltzivar_edit_word(
     changes_len: usize,
     out: &mut Word,
 ) -> bool {
+    // SAFETY: c/peltzivar.h asks this of its callers.
     let changes = unsafe { crate::slices::of(changes, changes_len) };
     let start = NumberFormatBuilder::rebuild(format.number());
     let Some(builder) = apply_changes(start, changes) else {

@@ -1,9 +1,11 @@
 //! The calls of `c/peltzivar.h`. `rust/erase` makes them from the proved exports in `crates/lexical_c`; by hand are this
-//! file and `slices`.
+//! file and `slices`. Build it with `--release`: else core needs what only `std` has, and the library does not load.
 //!
-//! Each `#[unsafe(no_mangle)]` is sound because all names begin with `peltzivar_`, and no two are the same: else the
-//! library would not link. What a caller owes is what C's types say, and the header says it: a pointer points to a whole
-//! value, or to as many as the length beside it says; a `bool` is 0 or 1; what a call writes is not what it reads.
+//! Each `#[unsafe(no_mangle)]` is sound because the names begin with `peltzivar_`, as no other library's do, and no two
+//! are the same: else rustc refuses them. A call trusts its caller for what the header asks. A pointer points to a value of
+//! its type, or to as many as the length beside it says; nothing else writes to them during the call, nor reads what the
+//! call writes. What a call only writes, `*out` and texts, may be uninitialized in C: no body here reads it, and rustc does
+//! not see how C made it.
 #![no_std]
 
 mod builders;
@@ -17,11 +19,13 @@ mod slices;
 mod texts;
 mod words;
 
-/// Nothing here panics, as is proved of the sources. If it did, the program would stop here.
+/// Nothing here panics, as is proved of the sources. If it did, the program would end here.
 #[cfg(not(test))]
 #[panic_handler]
 fn stop(_: &core::panic::PanicInfo<'_>) -> ! {
-    loop {
-        core::hint::spin_loop();
+    // SAFETY: this is how the C library declares it, and all who call from C have one.
+    unsafe extern "C" {
+        safe fn abort() -> !;
     }
+    abort()
 }

@@ -9,6 +9,7 @@ use peltzivar::error::Error;
 /// Writes nothing and returns 0 if there is no such outcome.
 #[unsafe(no_mangle)]
 pub unsafe extern "C" fn peltzivar_description(rank: u32, text: *mut u8, text_len: usize) -> usize {
+    // SAFETY: c/peltzivar.h asks this of its callers.
     let text = unsafe { crate::slices::of_mut(text, text_len) };
     let Some(error) = outcome(rank, 0) else {
         return 0;
@@ -26,6 +27,7 @@ pub unsafe extern "C" fn peltzivar_text(
     text: *mut u8,
     text_len: usize,
 ) -> usize {
+    // SAFETY: c/peltzivar.h asks this of its callers.
     let text = unsafe { crate::slices::of_mut(text, text_len) };
     let Some(error) = outcome(rank, index) else {
         return 0;

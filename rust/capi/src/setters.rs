@@ -17,6 +17,7 @@ pub unsafe extern "C" fn peltzivar_setter_name(
     text: *mut u8,
     text_len: usize,
 ) -> usize {
+    // SAFETY: c/peltzivar.h asks this of its callers.
     let text = unsafe { crate::slices::of_mut(text, text_len) };
     if setter < SETTER_COUNT {
         write_text(name(setter).as_bytes(), text)
@@ -28,6 +29,7 @@ pub unsafe extern "C" fn peltzivar_setter_name(
 /// Returns the number of the setter of this name, or 255 if there is none.
 #[unsafe(no_mangle)]
 pub unsafe extern "C" fn peltzivar_setter_of_name(text: *const u8, text_len: usize) -> u8 {
+    // SAFETY: c/peltzivar.h asks this of its callers.
     let text = unsafe { crate::slices::of(text, text_len) };
     for setter in 0..SETTER_COUNT {
         if name(setter).as_bytes() == text {

@@ -6,13 +6,14 @@ use core::slice;
 ///
 /// # Safety
 ///
-/// If `len` is not 0, `start` points to `len` values, which nothing writes while the call that passed them runs, as the
-/// header asks.
+/// If `len` is not 0, `start` points to `len` values of C, bytes or changes. Nothing writes to them while the call that
+/// passed them runs.
 pub unsafe fn of<'a, T>(start: *const T, len: usize) -> &'a [T] {
     if len == 0 {
         return &[];
     }
-    // SAFETY: the caller's promise. C gives no object more than `isize::MAX` bytes, and a pointer to one is aligned.
+    // SAFETY: as the caller promises. Bytes and changes need no alignment, all their bits are values, and no object of C
+    // has more than `isize::MAX` bytes.
     unsafe { slice::from_raw_parts(start, len) }
 }
 
@@ -20,12 +21,12 @@ pub unsafe fn of<'a, T>(start: *const T, len: usize) -> &'a [T] {
 ///
 /// # Safety
 ///
-/// If `len` is not 0, `start` points to `len` values, which nothing else reads or writes while the call that passed them
-/// runs, as the header asks.
+/// If `len` is not 0, `start` points to `len` values of C, bytes or changes. Nothing else reads or writes them while the
+/// call that passed them runs.
 pub unsafe fn of_mut<'a, T>(start: *mut T, len: usize) -> &'a mut [T] {
     if len == 0 {
         return &mut [];
     }
-    // SAFETY: as above. Only bytes and changes, which any bits are values of, are passed.
+    // SAFETY: as in `of`. A buffer may be uninitialized in C, and is only written here.
     unsafe { slice::from_raw_parts_mut(start, len) }
 }

@@ -12,14 +12,20 @@ mod word;
 
 use std::env;
 use std::ffi::OsString;
-use std::io;
+use std::io::{self, Write};
 use std::process::ExitCode;
 
 fn main() -> ExitCode {
     // An argument that is not UTF-8 is an error.
     let args = env::args_os().skip(1).map(OsString::into_string);
-    match args.collect::<Result<Vec<String>, OsString>>() {
-        Ok(args) => ExitCode::from(program::run(&args, &mut io::stdout())),
+    let Ok(args) = args.collect::<Result<Vec<String>, OsString>>() else {
+        return ExitCode::from(3);
+    };
+    let mut text = Vec::new();
+    let status = program::run(&args, &mut text);
+    // One write of whole lines: `Stdout` keeps none of it, and so cannot write again after a write that failed.
+    match io::stdout().write_all(&text) {
+        Ok(()) => ExitCode::from(status),
         Err(_) => ExitCode::from(3),
     }
 }
