@@ -1,5 +1,5 @@
-/* Reads settings as a configuration has them, makes a format of them, and prints its word and the shortest list of
- * settings that makes it again.
+/* Reads settings as a configuration has them, makes a format of them, and prints its word and the settings of single
+ * fields that make it again.
  *
  *     cc -Wall -Wextra -Werror example.c libpeltzivar_c.a -o example
  *     ./example mantissa_radix=16 digit_separator=95 internal_digit_separator=1 */
