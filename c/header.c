@@ -76,29 +76,48 @@ static void test_words(void) {
     CHECK(is_word(peltzivar_normal_form(PELTZIVAR_STANDARD), 0x0A0A0A0000000000, 0xC));
     CHECK(peltzivar_same_format(PELTZIVAR_STANDARD, RESERVED) && !peltzivar_same_format(PELTZIVAR_STANDARD, ZERO));
     CHECK(peltzivar_is_built(PELTZIVAR_STANDARD) && !peltzivar_is_built(RESERVED));
-    peltzivar_edit edits[PELTZIVAR_FIELDS];
+}
+
+/* An array of PELTZIVAR_FIELDS edits is written to its last entry, and no further. */
+static void test_edits_of(void) {
+    peltzivar_edit edits[PELTZIVAR_FIELDS + 64];
+    memset(edits, '#', sizeof edits);
     CHECK(peltzivar_edits_of((peltzivar_word){0xC, 0x0000100000000000}, edits) == 1);
     CHECK(edits[0].setter == PELTZIVAR_SET_MANTISSA_RADIX && edits[0].value == 16);
+    const peltzivar_edit last = edits[PELTZIVAR_FIELDS - 1];
+    CHECK(last.setter == PELTZIVAR_SET_EXPONENT_RADIX && last.value == 0);
+    for (size_t i = PELTZIVAR_FIELDS; i < PELTZIVAR_FIELDS + 64; i++) {
+        CHECK(edits[i].setter == '#' && edits[i].value == '#');
+    }
 }
 
 static void test_rules(void) {
     const peltzivar_word hexadecimal = {0xC, 0x1010100000000000};
-    const peltzivar_word full = {0x4040, 0x0101012B2B00002B};
     CHECK(peltzivar_format_error(PELTZIVAR_STANDARD) == PELTZIVAR_SUCCESS);
     CHECK(peltzivar_format_error(RESERVED) == PELTZIVAR_INVALID_FLAGS);
     CHECK(peltzivar_radix_error((peltzivar_word){0, 0x2505050000000000}) == PELTZIVAR_INVALID_EXPONENT_RADIX);
     CHECK(peltzivar_is_valid_radix(36) && !peltzivar_is_valid_radix(37));
-    CHECK(!peltzivar_is_valid_exponent_flags(full) && peltzivar_is_valid_exponent_flags(ZERO));
-    CHECK(!peltzivar_is_valid_digit_separator(full) && peltzivar_is_valid_digit_separator(ZERO));
-    CHECK(!peltzivar_is_valid_base_prefix(full) && peltzivar_is_valid_base_prefix(ZERO));
-    CHECK(!peltzivar_is_valid_base_suffix(full) && peltzivar_is_valid_base_suffix(ZERO));
-    CHECK(!peltzivar_is_valid_punctuation(full) && peltzivar_is_valid_punctuation(ZERO));
     CHECK(!peltzivar_is_valid_options_punctuation(hexadecimal, 'e', '.'));
     CHECK(peltzivar_is_valid_options_punctuation(hexadecimal, '^', '.'));
     CHECK(peltzivar_is_digit(hexadecimal, 'f') && !peltzivar_is_digit(hexadecimal, 'g'));
     const peltzivar_word mask = {0, 0xFF00000000000000};
     CHECK(peltzivar_radix_from_flags(hexadecimal, mask, 120) == 16);
     CHECK(peltzivar_radix_from_flags(hexadecimal, mask, 128) == UINT32_MAX);
+}
+
+/* The smallest word that breaks each of the rules 4 to 8 (docs/FORMAT.md) is refused by the test of that rule alone. */
+static void test_one_rule_each(void) {
+    bool (*const tests[])(peltzivar_word) = {
+        peltzivar_is_valid_digit_separator, peltzivar_is_valid_base_prefix,     peltzivar_is_valid_base_suffix,
+        peltzivar_is_valid_punctuation,     peltzivar_is_valid_exponent_flags,
+    };
+    const peltzivar_word words[] = {
+        {0, 0x0000020000000001}, {0, 0x0000020001000000},      {0, 0x0000020100000000},
+        {0, 0x0000020009000009}, {0x4040, 0x0000020000000000},
+    };
+    for (int rule = 0; rule < 5; rule++) {
+        for (int test = 0; test < 5; test++) CHECK(tests[test](words[rule]) == (test != rule));
+    }
 }
 
 static void test_bytes(void) {
@@ -159,7 +178,9 @@ static void test_null(void) {
 int main(void) {
     test_fields();
     test_words();
+    test_edits_of();
     test_rules();
+    test_one_rule_each();
     test_bytes();
     test_texts();
     test_null();

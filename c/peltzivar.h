@@ -6,9 +6,10 @@
  * reserved and 0 in a lawful word.
  *
  * Any word, number, byte or length that fits its type is allowed. A pointer has to point to what its type says, or to as
- * many as the length beside it says; it may be null only beside a length of 0. What a call writes must not overlap what it
- * reads, and needs no value before. No call allocates, keeps a pointer, or sets errno, and all can be made from several
- * threads at once. */
+ * many as the length beside it or the number in brackets says; it may be null only beside a length of 0. What a call writes
+ * must not overlap what it reads; *out, the array of peltzivar_edits_of and a text need no values before. No call allocates,
+ * keeps a pointer, or sets errno. Calls can be made from several threads at once if what one of them writes is neither read
+ * nor written by another thread. */
 #ifndef PELTZIVAR_H
 #define PELTZIVAR_H
 
@@ -43,7 +44,8 @@ typedef struct {
     uint8_t setter, value;
 } peltzivar_edit;
 
-/* The standard format, which is what a new builder packs, and the fields of a new builder. */
+/* The standard format, which is what a new builder packs, and the fields of a new builder. In C++ they have no address:
+ * a variable has to hold them first. */
 #ifdef __cplusplus
 #define PELTZIVAR_STANDARD (peltzivar_word{0xC, 0x00000A0000000000})
 #define PELTZIVAR_NEW_FIELDS (peltzivar_fields{0xC, 0, 0, 0, 10, 0, 0})
@@ -207,7 +209,8 @@ bool peltzivar_same_format(peltzivar_word a, peltzivar_word b);
 bool peltzivar_is_built(peltzivar_word format);
 
 /* Writes one edit for each field, with its value in the word, and returns how many of them make these fields from
- * those of a new builder. These come first, and no shorter list does. */
+ * those of a new builder. These come first. Where peltzivar_pack can return the word, no shorter list of edits of
+ * single fields makes it; an edit of a group stands for several of them. */
 size_t peltzivar_edits_of(peltzivar_word format, peltzivar_edit edits[PELTZIVAR_FIELDS]);
 
 /* RULES */
@@ -229,7 +232,8 @@ bool peltzivar_is_valid_base_prefix(peltzivar_word format);
 bool peltzivar_is_valid_base_suffix(peltzivar_word format);
 bool peltzivar_is_valid_punctuation(peltzivar_word format);
 
-/* Returns whether an exponent character and a decimal point fit a word: no byte has two roles. */
+/* Returns whether an exponent character and a decimal point fit a word: both are allowed ASCII that is no sign and no
+ * digit, and they differ from each other and from separator, prefix and suffix. */
 bool peltzivar_is_valid_options_punctuation(peltzivar_word format, uint8_t exponent, uint8_t decimal_point);
 
 /* Returns whether a byte is a digit of the mantissa radix or of the exponent radix. */
@@ -279,7 +283,7 @@ size_t peltzivar_text(uint32_t outcome, size_t index, uint8_t *text, size_t len)
 size_t peltzivar_setter_name(uint8_t setter, uint8_t *text, size_t len);
 
 /* Returns the setter of a name, or PELTZIVAR_NO_SETTER. */
-uint8_t peltzivar_setter_of_name(const uint8_t *name, size_t len);
+uint8_t peltzivar_setter_of_name(const uint8_t *text, size_t len);
 
 #ifdef __cplusplus
 }

@@ -2,24 +2,34 @@
 """Compares the pages with the repository, prints what differs, and ends with 1 if something does.
 
 - Each link between pages has a file and a heading to lead to.
-- Each block of code is a piece of a file; `..` stands for lines that it leaves out. c/peltzivar.h has the setters in their
-  order, and the numbers of outcomes.
-- The tables of FORMAT.md are those of the tests in format_page.rt, and each of its words stands in some code.
-- PROVED.md names each file of definitions.
+- Each block of code is a piece of a file; `..` stands for lines that it leaves out.
+- Each name with a `_` or `::` is in some code, but for those of the changelog, and each word of FORMAT.md.
+- check_format.py compares FORMAT.md, and check_header.py the header of C.
+- PROVED.md names each file of definitions, and DIFFERENCES.md each public name that the Rust crate does not have.
 - A format word outside of a block of code can be pasted: it has no `_`.
 - Flags, fields, rules, reserved bits and outcomes are as many as a page says.
-- No line of code or proof has over 160 columns, and at most 150 have over 120; no proof reaches a fact by two positions.
+- Each file of a folder must-fail/ is an edit. There are no fewer edits and tests than before.
+- No line of code or proof has over 160 columns, and at most 150 have over 120.
+- No proof reaches a fact by two positions.
 """
 import pathlib
 import re
 import sys
 
+sys.dont_write_bytecode = True
+import check_format
+import check_header
+
 TOP = pathlib.Path(__file__).resolve().parent.parent
 PAGES = sorted(page for folder in (".", "docs", "compare", "bench", "rust") for page in (TOP / folder).glob("*.md"))
 SOURCES = [("crates", "*.rt"), ("crates", "*.antt"), ("rust", "*.rs"), ("rust", "*.toml"), ("c", "*.*")]
 LANGUAGES = ["rust", "antt", "c", "python", "toml"]
-# What the rows of FORMAT.md begin with: flags, groups, bytes, rules.
-KINDS = [r"\| \d+ \| `", r"\| `", r"\| \d+ to ", r"\| \d+ \| \.\."]
+LIBRARIES = ["lexical_base", "lexical_flags", "lexical_builder", "lexical_util"]
+# How many must-fail edits and tests there are at least.
+LEAST_EDITS, LEAST_TESTS = 80, 52
+# What only the Rust crate has.
+NOT_HERE = ["format::JSON"]
+WORDS = {"six": "6", "seven": "7", "eight": "8", "nine": "9", "ten": "10", "eleven": "11", "twelve": "12"}
 FENCED = re.compile(r"^```(\w*)\n(.*?)^```", re.M | re.S)
 
 
@@ -29,12 +39,28 @@ def lines_of(text):
     return "\n" + "\n".join(line for line in lines if line and not line.startswith(("//", "-- "))) + "\n"
 
 
-def code():
-    """Returns the lines of each file of code."""
-    for folder, pattern in SOURCES:
-        for path in (TOP / folder).rglob(pattern):
-            if not {"out", "target"} & set(path.parts):
-                yield lines_of(path.read_text())
+def files_of(folder, pattern):
+    """Returns the files of a folder and of those in it that are not built."""
+    paths = (TOP / folder).rglob(pattern)
+    return sorted(path for path in paths if not {"out", "target"} & set(path.parts))
+
+
+def words_of(files):
+    """Returns the words of the files of each name, and under "" those of all files."""
+    words = {"": set(re.findall(r"\w+", (TOP / "crates.txt").read_text()))}
+    for path, lines in files.items():
+        for name in ("", path.stem):
+            words.setdefault(name, set()).update(re.findall(r"\w+", lines))
+    return words
+
+
+def unknown_names(text, words):
+    """Returns the names of the page with a `_` or `::` that no file has, or none of the module before the `::`."""
+    for path in re.findall(r"`((?:\w+::)*[A-Za-z]\w*[A-Za-z0-9])`", FENCED.sub("", text)):
+        *modules, name = path.split("::")
+        known = words.get(modules[-1] if modules else "", words[""])
+        if ("_" in path or modules) and name not in known and path not in NOT_HERE:
+            yield f"in no code: {path}"
 
 
 def unquoted(text, files):
@@ -42,7 +68,7 @@ def unquoted(text, files):
     for language, block in FENCED.findall(text):
         if language in LANGUAGES:
             for piece in re.split(r"^ *\.\.$", block, flags=re.M):
-                if not any(lines_of(piece) in file for file in files):
+                if not any(lines_of(piece) in lines for lines in files.values()):
                     yield f"not in the code:\n{piece}"
 
 
@@ -63,99 +89,57 @@ def broken_links(page, text):
             yield f"leads to no heading: {target}"
 
 
-def flag_text(mask):
-    """Returns the bits of a mask in their order."""
-    return " ".join(str(bit) for bit in range(128) if mask >> bit & 1)
-
-
-def rows(tests):
-    """Returns the rows of FORMAT.md that the tables of the tests stand for, without their last columns."""
-    for bit, name, default in re.findall(r"(\d+) (\w+) (true|false) get_", tests):
-        yield f"| {bit} | `{name}` | {default} |"
-    for name, mask in re.findall(r'\(b"(\w+)", \w+, (0x\w+)\)', tests):
-        yield f"| `{name}` | {flag_text(int(mask, 16))} |"
-    for shift, name, default in re.findall(r'\((\d+), b"(\w+)", \d, (\d+)\)', tests):
-        yield f"| {shift} to {int(shift) + 7} | `{name}` | {default} |"
-    for rule, error, word in re.findall(r"\((\d+), Error::(\w+), (\w+)\)", tests):
-        yield f"| {rule} | .. | `{error}` | `{word.replace('_', '')}` |"
-
-
-def counts(found):
-    """Returns how many there are of what the rows of FORMAT.md name."""
-    flags, groups, bytes_, rules = (sum(bool(re.match(kind, row)) for row in found) for kind in KINDS)
-    error = (TOP / "crates/lexical_base/src/error.rt").read_text()
-    outcomes = re.search(r"pub enum Error \{(.*?)^\}", error, re.M | re.S)[1]
-    return {
-        "flags": flags,
-        "groups": groups,
-        "fields": flags + bytes_,
-        "rules": rules,
-        "reserved bits": 128 - flags - 8 * bytes_,
-        "outcomes": len(re.findall(r"^    \w+(\(usize\))?,", outcomes, re.M)),
-    }
-
-
 def wrong_counts(text, wanted):
-    """Returns the numbers of flags and the like that the page says wrong."""
-    for number, name in re.findall(rf"\b(\d+) ({'|'.join(wanted)})\b", text):
-        if int(number) != wanted[name]:
+    """Returns the numbers of flags and the like that the page says wrong; `32 bytes` are none of a word."""
+    for number, name in re.findall(rf"\b(\d+|{'|'.join(WORDS)}) ({'|'.join(wanted)})\b", text):
+        is_of_a_word = name != "bytes" or number in WORDS
+        if is_of_a_word and WORDS.get(number, number) != str(wanted[name]):
             yield f"there are {wanted[name]} {name}, not {number}"
 
 
-def format_page(text, found, files):
-    """Returns the rows of FORMAT.md that differ from the tests, and its words that no code has."""
-    table = re.sub(r"^(\| \d+ \|)[^|]*(\| `Invalid)", r"\1 .. \2", text, flags=re.M).splitlines()
-    for row in found:
-        if sum(line.startswith(row) for line in table) != 1:
-            yield f"not in the table once: {row}"
-    shown = sum(bool(re.match(r"\| (`[a-z_]+`|\d+( to \d+)?) \|", line)) for line in table)
-    if len(found) != shown:
-        yield f"the tests have {len(found)} rows, and the tables {shown}"
-    known = "".join(files).replace("_", "")
+def unused_words(text, files):
+    """Returns the words of the page that no code has."""
+    known = "".join(files.values()).replace("_", "")
     for word in re.findall(r"^(?!    ).*`(0x[0-9A-F]{32})`", text, re.M):
         if word not in known:
             yield f"in no code: {word}"
 
 
-def constant(name):
-    """Returns the name in the C header of a setter or an outcome."""
-    return "PELTZIVAR_" + re.sub(r"(?<=[a-z])(?=[A-Z])", "_", name).upper()
+def public_names():
+    """Returns the public names of the libraries, each with its module; those of laws are left out."""
+    for library in LIBRARIES:
+        for path in files_of(f"crates/{library}/src", "*.rt"):
+            module = path.relative_to(TOP / f"crates/{library}/src").parts[0].removesuffix(".rt")
+            if module not in ("laws", "lib"):
+                names = re.findall(r"^ *pub (?:const fn|fn|const|struct|enum|type|trait) (\w+)", path.read_text(), re.M)
+                yield from ((module, name) for name in names)
 
 
-def setters():
-    """Returns the names in the C header of the setters, in the order of their numbers."""
-    edits = (TOP / "crates/lexical_util/src/edits.rt").read_text()
-    variants = re.search(r"pub enum FlagSetter \{(.*?)^\}", edits, re.M | re.S)[1]
-    changes = (TOP / "crates/lexical_c/src/changes.rt").read_text()
-    names = re.findall(r"^    (\w+),", variants, re.M) + re.findall(r"\d+ => Some\(Edit::(\w+)\(", changes)
-    return [constant(f"SET_{name}") for name in names]
+def added_names(text):
+    """Returns what the table of added names has that is not public, and whether it lacks a name."""
+    section = re.search(r"^## Names that are added$.*?(?=^## )", text, re.M | re.S)[0]
+    rows = re.findall(r"^\| `(\w+)` \| (.*) \|$", section, re.M)
+    added = [(module, path.split("::")[-1]) for module, paths in rows for path in re.findall("`(.*?)`", paths)]
+    public = list(public_names())
+    yield from (f"not public in {module}: {name}" for module, name in added if (module, name) not in public)
+    if f" {len(public) - len(added)} others " not in section:
+        yield f"there are {len(public) - len(added)} public names beside the added ones"
 
 
-def outcomes():
-    """Returns the names in the C header of the outcomes, with their numbers."""
-    table = (TOP / "crates/lexical_base/specs/Outcomes.antt").read_text()
-    ranks = re.findall(r"^rank_of \(?outcomes\.(\w+).*= (\d+)$", table, re.M)
-    return [(constant(name), number) for name, number in ranks]
-
-
-def header(wanted):
-    """Returns what of the C header differs from the tables of setters and outcomes."""
-    text = (TOP / "c/peltzivar.h").read_text()
-    names = setters()
-    if re.findall(r"^    (PELTZIVAR_SET_.*),$", text, re.M) != [f"{names[0]} = 0", *names[1:]]:
-        yield "c/peltzivar.h has not the setters in their order"
-    for name, number in outcomes():
-        if text.count(f"    {name} = {number},\n") != 1:
-            yield f"not once in c/peltzivar.h: {name} = {number}"
-    # `radix` is one more setter.
-    if len(names) != wanted["fields"] + wanted["groups"] + 1 or len(outcomes()) != wanted["outcomes"]:
-        yield f"{len(names)} setters and {len(outcomes())} outcomes are named"
+def not_run():
+    """Returns files of must-fail/ that rt does not try, and whether there are fewer edits and tests than before."""
+    edits = sorted((TOP / "crates").glob("*/must-fail/*"))
+    others = (path for path in edits if path.suffix != ".edit")
+    yield from (f"{path.relative_to(TOP)}: not tried, it does not end in .edit" for path in others)
+    tests = sum(path.read_text().count("#[test]\n") for path in files_of("crates", "*.rt"))
+    if len(edits) < LEAST_EDITS or tests < LEAST_TESTS:
+        yield f"crates: {len(edits)} must-fail edits and {tests} tests, fewer than before"
 
 
 def layout():
     """Returns the lines of crates/ that are too wide, and the facts that are reached by two positions, as `h.0.1`."""
     wide = 0
-    for path in sorted(path for kind in ("*.rt", "*.antt") for path in (TOP / "crates").rglob(kind) if "out" not in path.parts):
+    for path in [*files_of("crates", "*.rt"), *files_of("crates", "*.antt")]:
         for number, line in enumerate(path.read_text().splitlines(), 1):
             wide += len(line) > 120
             if len(line) > 160:
@@ -167,26 +151,27 @@ def layout():
 
 
 def main():
-    files = list(code())
-    tests = " ".join(next((TOP / "crates").rglob("format_page.rt")).read_text().split())
-    found_rows = list(rows(tests.replace("( ", "(").replace(", )", ")")))
-    wanted = counts(found_rows)
+    files = {path: lines_of(path.read_text()) for folder, pattern in SOURCES for path in files_of(folder, pattern)}
+    words = words_of(files)
+    wanted = check_format.counts()
     wrong = 0
     for page in PAGES:
         text = page.read_text()
         found = [*broken_links(page, text), *unquoted(text, files), *wrong_counts(text, wanted)]
+        if page.name != "CHANGELOG.md":
+            found += unknown_names(text, words)
         found += [f"has a `_`: {word}" for word in re.findall(r"0x[0-9A-F]{8}_\w*", FENCED.sub("", text))]
         if page.name == "FORMAT.md":
-            found += format_page(text, found_rows, files)
+            found += [*check_format.format_page(), *unused_words(text, files)]
         if page.name == "PROVED.md":
             specs = {path.stem for path in (TOP / "crates").glob("*/specs/*.antt")} - {"Lib"}
             found += [f"has no `{name}` of specs/" for name in sorted(specs) if f"`{name}`" not in text]
-        if page.name == "CALLING-FROM-RUST-AND-C.md":
-            found += header(wanted)
+        if page.name == "DIFFERENCES.md":
+            found += added_names(text)
         for it in found:
             print(f"{page.relative_to(TOP)}: {it}")
         wrong += len(found)
-    for it in layout():
+    for it in (*(f"c/peltzivar.h: {it}" for it in check_header.header(wanted)), *not_run(), *layout()):
         print(it)
         wrong += 1
     return 1 if wrong else 0

@@ -1,9 +1,10 @@
 //! The library for callers in C, Rust and other languages: a static library of its calls.
 //!
-//! Each export calls the library's function of the same name and states its clauses again. None has a
-//! `requires`: a number that names no setter, outcome or digit makes it return `false` or a value that
-//! means none, and what the caller passed is then unchanged. What a caller owes is what C's types say: a
-//! pointer points to a whole value, or to as many as the length says, and a `bool` is 0 or 1.
+//! Each export is a call of the library. Its clauses say what it returns, over the library's definitions;
+//! what follows from them by the library's laws is not said again. None has a `requires`: a number that
+//! names no setter, outcome or digit makes it return `false` or a value that means none, and what the
+//! caller passed is then unchanged. What a caller owes is what C's types say: a pointer points to a whole
+//! value, or to as many as the length says.
 #![tactic(auto)]
 
 mod builders;

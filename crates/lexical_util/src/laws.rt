@@ -141,7 +141,7 @@ pub fn edit_examples()
         ≡ 0x0A0A0A00_00000000_00000000_00000004 }
 {}
 
-/// The fewest edits that make a word of a new builder, written out.
+/// The fewest edits of single fields that make a word of a new builder, written out.
 pub fn listing_examples()
     ensures standard { changing (raw 0x00000A00_00000000_00000000_0000000C) ≡ [] }
     ensures decimal { changing (raw 0x0A0A0A00_00000000_00000000_0000000C)

@@ -12,7 +12,7 @@
 //! | `same A B` | whether two words mean the same format: `same` or `different` |
 //! | `options WORD E P` | whether the exponent byte E and the point byte P fit the word: `accepted` or `refused` |
 //! | `migrate WORD` | the normal form of an old word, or what is wrong with it |
-//! | `source WORD` | the builder expression with the fewest setter calls that makes the fields of the word |
+//! | `source WORD` | the builder expression with the fewest setter calls of single fields that make the word's fields |
 //!
 //! The exit status is 0 on success; 1 if the answer is no; 2 if the arguments are refused, and then
 //! one line says why; 3 if a write fails or the arguments cannot be read, and then nothing more is

@@ -1,4 +1,4 @@
-//! The builder expression of a format word: the fewest setter calls that make its fields, as Rust code.
+//! The builder expression of a format word: the setter calls of single fields that make it, as Rust code.
 
 ghost use Rattle.std.specs.Prelude.{◌≡◌, IsErr, OnOk, decimal};
 ghost use Rattle.std.specs.Io.KnownBytes.{Appends};
@@ -10,8 +10,8 @@ use lexical_util::edits::{Edit, edits_of};
 use lexical_util::format_builder::OptionU8;
 use std::io;
 
-/// Writes `word` as Rust code: a new builder, the fewest setter calls that make the word's fields, and
-/// the packing, such as `NumberFormatBuilder::new().mantissa_radix(16).build_unchecked()`.
+/// Writes `word` as Rust code: a new builder, a setter call for each field in which the word differs from
+/// it, and the packing, such as `NumberFormatBuilder::new().mantissa_radix(16).build_unchecked()`.
 ///
 /// Any word may be passed. The expression makes the word itself exactly if `is_built` is true of it.
 /// After an error nothing is known of what was written.

@@ -70,7 +70,8 @@ pub extern "C" fn peltzivar_is_built(format: Word) -> bool {
 }
 
 /// Writes one change for each field, with the field's value in the word, and returns how many of
-/// them make these fields from those of a new builder. These come first, and there is no shorter list.
+/// them make these fields from those of a new builder. These come first, and no shorter list of changes
+/// of single fields makes a word that a builder can pack.
 #[unsafe(no_mangle)]
 pub extern "C" fn peltzivar_edits_of(format: Word, changes: &mut [Change; FIELDS]) -> usize {
     let (edits, count) = edits::edits_of(format.number());

@@ -1,14 +1,14 @@
 // Made by rust/erase from crates/numfmt/src/source.rt: change that file.
 
-//! The builder expression of a format word: the fewest setter calls that make its fields, as Rust code.
+//! The builder expression of a format word: the setter calls of single fields that make it, as Rust code.
 
 use crate::output::Output;
 use peltzivar::edits::{edits_of, Edit};
 use peltzivar::format_builder::OptionU8;
 use std::io;
 
-/// Writes `word` as Rust code: a new builder, the fewest setter calls that make the word's fields, and
-/// the packing, such as `NumberFormatBuilder::new().mantissa_radix(16).build_unchecked()`.
+/// Writes `word` as Rust code: a new builder, a setter call for each field in which the word differs from
+/// it, and the packing, such as `NumberFormatBuilder::new().mantissa_radix(16).build_unchecked()`.
 ///
 /// Any word may be passed. The expression makes the word itself exactly if `is_built` is true of it.
 /// After an error nothing is known of what was written.

@@ -15,8 +15,8 @@ use lexical_flags::format_flags as flags;
 impl NumberFormatBuilder {
     // SETTERS
 
-    /// Sets the digit separator: a byte that a parser skips, to group digits, at the positions that
-    /// the digit separator flags allow, such as the `_` in `1_000`. In a lawful format it is
+    /// Sets the digit separator: a byte that groups digits, such as the `_` in `1_000`. A parser
+    /// skips it at the positions that the digit separator flags allow. In a lawful format it is
     /// allowed ASCII (see `is_valid_ascii`), no sign, and no digit of the mantissa or exponent
     /// radix. It is packed only if a digit separator flag is set. Default: `None`, no separator.
     #[inline(always)]
@@ -194,8 +194,8 @@ impl NumberFormatBuilder {
         self.with_flags(flags::NO_SPECIAL, flag)
     }
 
-    /// Sets the flag `case_sensitive_special`. If true, a parser accepts a special value only in
-    /// the spelling given in its options, such as `NaN`; if false, in any case. Default: false.
+    /// Sets the flag `case_sensitive_special`. If true, a parser rejects `nan` where its options
+    /// have `NaN`; if false, it accepts a special value in any case. Default: false.
     #[inline(always)]
     pub const fn case_sensitive_special(self, flag: bool) -> Self
         ensures { result ≡ after self (write_flag layout.case_sensitive_special flag ∷ []) }
@@ -212,7 +212,7 @@ impl NumberFormatBuilder {
         self.with_flags(flags::NO_INTEGER_LEADING_ZEROS, flag)
     }
 
-    /// Sets the flag `no_float_leading_zeros`. If true, a parser of floats rejects `01` and `01.0`.
+    /// Sets the flag `no_float_leading_zeros`. If true, a parser of floats rejects `01.0` and `01`.
     /// `0`, `0.1` and the like are still accepted. Default: false.
     #[inline(always)]
     pub const fn no_float_leading_zeros(self, flag: bool) -> Self
@@ -366,9 +366,8 @@ impl NumberFormatBuilder {
     }
 
     /// Sets the flag `integer_consecutive_digit_separator`. If true, a parser whose digit separator
-    /// is `_` accepts `1__2`, provided that one separator is allowed at this position of the
-    /// integer digits. A format with this flag and none of the other three of integer digits is not
-    /// lawful. Default: false.
+    /// is `_` accepts `1__2`, provided that it accepts `1_2`. A format with this flag and none of
+    /// the other three of integer digits is not lawful. Default: false.
     #[inline(always)]
     pub const fn integer_consecutive_digit_separator(self, flag: bool) -> Self
         ensures { result ≡ after self (write_flag layout.integer_consecutive_digit_separator flag ∷ []) }
@@ -377,9 +376,8 @@ impl NumberFormatBuilder {
     }
 
     /// Sets the flag `fraction_consecutive_digit_separator`. If true, a parser whose digit
-    /// separator is `_` accepts `0.1__2`, provided that one separator is allowed at this position
-    /// of the fraction digits. A format with this flag and none of the other three of fraction
-    /// digits is not lawful. Default: false.
+    /// separator is `_` accepts `0.1__2`, provided that it accepts `0.1_2`. A format with this flag
+    /// and none of the other three of fraction digits is not lawful. Default: false.
     #[inline(always)]
     pub const fn fraction_consecutive_digit_separator(self, flag: bool) -> Self
         ensures { result ≡ after self (write_flag layout.fraction_consecutive_digit_separator flag ∷ []) }
@@ -388,9 +386,8 @@ impl NumberFormatBuilder {
     }
 
     /// Sets the flag `exponent_consecutive_digit_separator`. If true, a parser whose digit
-    /// separator is `_` accepts `1e1__2`, provided that one separator is allowed at this position
-    /// of the exponent digits. A format with this flag and none of the other three of exponent
-    /// digits is not lawful. Default: false.
+    /// separator is `_` accepts `1e1__2`, provided that it accepts `1e1_2`. A format with this flag
+    /// and none of the other three of exponent digits is not lawful. Default: false.
     #[inline(always)]
     pub const fn exponent_consecutive_digit_separator(self, flag: bool) -> Self
         ensures { result ≡ after self (write_flag layout.exponent_consecutive_digit_separator flag ∷ []) }

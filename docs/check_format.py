@@ -1,0 +1,143 @@
+"""What of docs/FORMAT.md differs from the tests in format_page.rt, from the setters, and from itself."""
+import pathlib
+import re
+
+CRATES = pathlib.Path(__file__).resolve().parent.parent / "crates"
+PAGE = (CRATES.parent / "docs/FORMAT.md").read_text()
+TESTS = " ".join((CRATES / "lexical_tests/src/format_page.rt").read_text().split())
+TESTS = TESTS.replace("( ", "(").replace(", )", ")")
+SETTERS = (CRATES / "lexical_builder/src/format_builder/setters.rt").read_text()
+
+# The rows of the tables, with all columns: flags, groups, bytes, rules.
+FLAGS = re.findall(r"^\| (\d+) \| `(\w+)` \| \w+ \| (.*) \|$", PAGE, re.M)
+GROUPS = re.findall(r"^\| `(\w+)` \| ([\d ]+) \| (.*) \|$", PAGE, re.M)
+BYTES = re.findall(r"^\| (\d+) to (\d+) \| `(\w+)` \| \d+ \| (.*) \|$", PAGE, re.M)
+RULES = re.findall(r"^\| (\d+) \| (.*) \| `Invalid(\w+)` \| `(\w+)` \|$", PAGE, re.M)
+# What FORMAT.md and the comment of a setter say of a text.
+VERBS = {"refuses": "rejects", "accepts": "accepts"}
+# The words that a group's text has exactly if its name has the other ones.
+CUES = {
+    "required": "must",
+    "internal": "between",
+    "leading": "before",
+    "trailing": "after",
+    "consecutive": "in a row",
+    "integer": "integer",
+    "fraction": "fraction",
+    "exponent": "exponent",
+}
+
+
+def bits_of(mask):
+    """Returns the bits of a mask in their order."""
+    return [bit for bit in range(128) if mask >> bit & 1]
+
+
+def rows():
+    """Returns the rows that the tables of the tests stand for, without their last columns."""
+    for bit, name, default in re.findall(r"(\d+) (\w+) (true|false) get_", TESTS):
+        yield f"| {bit} | `{name}` | {default} |"
+    for name, mask in re.findall(r'\(b"(\w+)", \w+, (0x\w+)\)', TESTS):
+        yield f"| `{name}` | {' '.join(map(str, bits_of(int(mask, 16))))} |"
+    for shift, name, default in re.findall(r'\((\d+), b"(\w+)", \d, (\d+)\)', TESTS):
+        yield f"| {shift} to {int(shift) + 7} | `{name}` | {default} |"
+    for rule, error, word in re.findall(r"\((\d+), Error::(\w+), (\w+)\)", TESTS):
+        yield f"| {rule} | .. | `{error}` | `{word.replace('_', '')}` |"
+
+
+def counts():
+    """Returns how many there are of what the pages count."""
+    error = (CRATES / "lexical_base/src/error.rt").read_text()
+    outcomes = re.search(r"pub enum Error \{(.*?)^\}", error, re.M | re.S)[1]
+    return {
+        "flags": len(FLAGS),
+        "groups": len(GROUPS),
+        "bytes": len(BYTES),
+        "fields": len(FLAGS) + len(BYTES),
+        "rules": len(RULES),
+        "reserved bits": 128 - len(FLAGS) - 8 * len(BYTES),
+        "outcomes": len(re.findall(r"^    \w+(\(usize\))?,", outcomes, re.M)),
+    }
+
+
+def tables():
+    """Returns the rows that differ from the tests."""
+    found = list(rows())
+    lines = re.sub(r"^(\| \d+ \|)[^|]*(\| `Invalid)", r"\1 .. \2", PAGE, flags=re.M).splitlines()
+    for row in found:
+        if sum(line.startswith(row) for line in lines) != 1:
+            yield f"not in the table once: {row}"
+    shown = sum(bool(re.match(r"\| (`[a-z_]+`|\d+( to \d+)?) \|", line)) for line in lines)
+    if not len(found) == shown == len(FLAGS + GROUPS + BYTES + RULES):
+        yield f"the tests have {len(found)} rows, and the tables {shown}"
+
+
+def docs_of(setter):
+    """Returns the doc comment of a setter, as one line."""
+    comment = re.search(rf"((?: *///.*\n)+)(?: *#.*\n)*.* fn {setter}\(", SETTERS)
+    return " ".join(comment[1].replace("///", "").split()) if comment else ""
+
+
+def meanings():
+    """Returns the meanings of flags, groups and bytes that are not those of their setters."""
+    for _, name, meaning in FLAGS:
+        docs = docs_of(name)
+        verb, first, others = re.match(r"(\w*) ?(`.*?`|)(.*)", meaning).groups()
+        told = re.search(rf"{VERBS.get(verb)} [^`]*(`.*?`)", docs)
+        if not told or told[1] != first or any(other not in docs for other in re.findall("`.*?`", others)):
+            yield f"the setter `{name}` does not say: {meaning}"
+    for name, _, meaning in GROUPS:
+        if any((part in name) != (cue in meaning) for part, cue in CUES.items()):
+            yield f"`{name}` is about something else: {meaning}"
+    for _, _, name, meaning in BYTES:
+        if re.sub("^.*; (else )?", "", meaning) not in docs_of(name):
+            yield f"the setter `{name}` does not say: {meaning}"
+
+
+def demand(number, error, word):
+    """Returns what a rule demands, by its error and the smallest word that breaks it."""
+    field = re.sub(r"(?<=[a-z])(?=[A-Z])", " ", error).lower()
+    flags = [str(bit) for bit in bits_of(int(word, 16)) if bit < 64]
+    if int(number) <= 3:
+        return f"the {field} is 2 to 36"
+    if int(number) <= 6:
+        return f"the {field} is 0 or punctuation"
+    if error == "Punctuation":
+        cases = [bit for bit, name, _ in FLAGS if re.fullmatch("case_sensitive_base_.*", name)]
+        both = "a letter counts in both cases unless its flag {} or {} is set".format(*cases)
+        return f"no two of these three share a byte; {both}"
+    if not {*flags} <= {bit for bit, _, _ in FLAGS}:
+        return "the reserved bits are 0"
+    if len(flags) == 2:
+        return "not both flags {} and {}".format(*flags)
+    # The last group that has the flag is that of the integer, of the fraction or of the exponent.
+    group = [bits.split() for _, bits, _ in GROUPS if flags[0] in bits.split()][-1]
+    return "flag {3} only with {0}, {1} or {2}".format(*group)
+
+
+def cells():
+    """Returns the cells of the drawing, in their order: the name, the highest and the lowest bit."""
+    for bits, lines in re.findall(r"^ {4,}(\d[\d ]+)\n +\+.*\n((?: +\|.*\n)+)", PAGE, re.M):
+        columns = zip(*(line.strip()[1:-1].split("|") for line in lines.splitlines()))
+        ends = list(map(int, bits.split()))
+        yield from zip((" ".join("".join(column).split()) for column in columns), ends[::2], ends[1::2])
+
+
+def drawing():
+    """Returns whether the drawing has other bits than the tables."""
+    drawn = list(cells())
+    flags = [int(bit) for bit, _, _ in FLAGS]
+    low, high = [bit for bit in flags if bit < 32], [bit for bit in flags if bit >= 32]
+    known = [(name.replace("_", " "), int(last), int(first)) for first, last, name, _ in BYTES]
+    known += [("separator flags", high[-1], high[0]), ("other flags", low[-1], low[0])]
+    follow = [first for _, first, _ in drawn] == [127] + [last - 1 for _, _, last in drawn[:-1]]
+    if not follow or sorted(known) != sorted(cell for cell in drawn if cell[0] != "reserved"):
+        yield "the drawing has other bits than the tables"
+
+
+def format_page():
+    """Returns what differs."""
+    yield from (*tables(), *meanings(), *drawing())
+    for number, text, error, word in RULES:
+        if demand(number, error, word) != text:
+            yield f"rule {number} demands another thing: {text}"
