@@ -7,8 +7,6 @@
 #[cfg(test)]
 mod ascii;
 #[cfg(test)]
-mod callers;
-#[cfg(test)]
 mod digit;
 #[cfg(test)]
 mod edits;
@@ -24,3 +22,5 @@ mod format_builder;
 mod format_flags;
 #[cfg(test)]
 mod format_page;
+#[cfg(test)]
+mod proved_callers;
