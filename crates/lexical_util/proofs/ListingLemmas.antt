@@ -15,7 +15,7 @@ use Rattle.lexical_util.proofs.Distance.{distance, distance-is}
 use Rattle.lexical_util.proofs.FieldWrites.{legal-field_writes, Leaves, Leaves-field_writes, after-leaves}
 use Rattle.lexical_util.proofs.FieldWrites.{after-changes}
 use Rattle.lexical_util.specs.Edits.{writes_of, all_writes}
-use Rattle.lexical_util.specs.Listing.{edit_of, field_writes, changes_new, changing, unchanging}
+use Rattle.lexical_util.specs.Listing.{edit_of, field_writes, field_edits, changes_new, changing, unchanging}
 use Rattle.lexical_util.specs.declared.edits.Edit.{Edit}
 
 -- the edit of a write does that write and no other
@@ -52,24 +52,21 @@ changed R = filter (changes new_record) (field_writes R)
 abbrev unchanged : Record → List Write
 unchanged R = filter (λ x. not (changes new_record x)) (field_writes R)
 
--- the edits that change a new record write the first, and the other edits the second
-changing-is : (R : Record) → changing R ≡ map edit_of (changed R)
+-- to keep the edits that change a new record, or the others, is to keep their writes
+pub changing-is : (R : Record) → filter changes_new (field_edits R) ≡ changing R
 changing-is R = filter-edits changes_new (changes new_record) changes_new-edit (field_writes R)
 
-unchanging-is : (R : Record) → unchanging R ≡ map edit_of (unchanged R)
+pub unchanging-is : (R : Record) → filter (λ e. not (changes_new e)) (field_edits R) ≡ unchanging R
 unchanging-is R = filter-edits (λ e. not (changes_new e)) (λ x. not (changes new_record x))
     (λ x. ap not (changes_new-edit x)) (field_writes R)
 
-all_writes-changing : (R : Record) → all_writes (changing R) ≡ changed R
-all_writes-changing R = ap all_writes (changing-is R) ∙ all_writes-edits (changed R)
-
 all_writes-both : (R : Record) → all_writes (changing R ++ unchanging R) ≡ changed R ++ unchanged R
 all_writes-both R = flat_map-append writes_of (changing R) (unchanging R)
-    ∙ (λ i. all_writes-changing R i ++ (ap all_writes (unchanging-is R) ∙ all_writes-edits (unchanged R)) i)
+    ∙ (λ i. all_writes-edits (changed R) i ++ all_writes-edits (unchanged R) i)
 
 -- the first part alone makes the record
 pub after-changing : (R : Record) → after new_record (all_writes (changing R)) ≡ R
-after-changing R = ap (after new_record) (all_writes-changing R) ∙ after-changes new_record R
+after-changing R = ap (after new_record) (all_writes-edits (changed R)) ∙ after-changes new_record R
 
 -- both lists of edits together make the record
 pub after-both : (R : Record) → after new_record (all_writes (changing R ++ unchanging R)) ≡ R
@@ -87,4 +84,4 @@ legal-both R h =
 
 -- the edits that change a new record are as many as the fields that differ
 pub length-changing : (R : Record) → length (changing R) ≡ distance new_record R
-length-changing R = ap length (changing-is R) ∙ length-map (changed R) edit_of ∙ distance-is new_record R
+length-changing R = length-map (changed R) edit_of ∙ distance-is new_record R

@@ -32,21 +32,20 @@ edit_of (write_byte layout.exponent_radix value) = edits.ExponentRadix (option_o
 abbrev pub field_writes : Record → List Write
 field_writes r = map (λ f. write_flag f (flag_of r f)) flags ++ map (λ b. write_byte b (byte_of r b)) bytes
 
--- the edits that do them
-abbrev pub field_edits : Record → List Edit
-field_edits r = map edit_of (field_writes r)
-
--- whether an edit changes a new builder
-abbrev pub changes_new : Edit → Bool
-changes_new edit = list_any (changes new_record) (writes_of edit)
-
 -- the edits of a record's fields that differ from those of a new builder
 abbrev pub changing : Record → List Edit
-changing r = filter changes_new (field_edits r)
+changing r = map edit_of (filter (changes new_record) (field_writes r))
 
 -- the edits of its other fields, which change nothing in a new builder
 abbrev pub unchanging : Record → List Edit
-unchanging r = filter (λ edit. not (changes_new edit)) (field_edits r)
+unchanging r = map edit_of (filter (λ x. not (changes new_record x)) (field_writes r))
+
+-- the edits of all fields, and whether one changes a new builder: what the code chooses from, and by what
+abbrev pub field_edits : Record → List Edit
+field_edits r = map edit_of (field_writes r)
+
+abbrev pub changes_new : Edit → Bool
+changes_new edit = list_any (changes new_record) (writes_of edit)
 
 -- some legal writes to a new builder make the word
 pub record IsBuiltByWrites (word : ℕ) : Type 0 where

@@ -9,7 +9,8 @@ use Rattle.lexical_flags.proofs.Packing.{HasBytes-raw, pack-raw}
 use Rattle.lexical_builder.specs.Writes.{IsLegal, new_record, after}
 use Rattle.lexical_util.specs.Edits.{all_writes}
 use Rattle.lexical_util.specs.Listing.{changes_new, changing, unchanging}
-use Rattle.lexical_util.proofs.ListingLemmas.{length-changing, after-changing, after-both, legal-both}
+use Rattle.lexical_util.proofs.ListingLemmas.{changing-is, unchanging-is, length-changing}
+use Rattle.lexical_util.proofs.ListingLemmas.{after-changing, after-both, legal-both}
 use Rattle.lexical_util.proofs.ImageLemmas.{fewest_writes}
 use Rattle.lexical_util.proofs.edits.listing.edits_of.Goals as goal
 
@@ -33,6 +34,7 @@ copy_from_slice-requires c =
 pub returns-clause-number : goal.returns-clause-number
 returns-clause-number c = c.move_to_front-count.ensures.count
     ∙ ap (λ es. length (filter changes_new es)) c.field_edits_of-edits.ensures
+    ∙ ap length (changing-is (raw c.args.format))
 
 -- a list whose end is written over
 overwritten : {X : Type 0} (a k : ℕ) (xs ys : List X) → length xs ≤ a + k → put_mid a k xs ys ≡ take a xs ++ ys
@@ -42,9 +44,11 @@ overwritten a k xs ys long =
 
 pub returns-clause-list : goal.returns-clause-list
 returns-clause-list c =
-    let first = c.move_to_front-count.ensures.front ∙ ap (filter changes_new) c.field_edits_of-edits.ensures in
+    let first = c.move_to_front-count.ensures.front ∙ ap (filter changes_new) c.field_edits_of-edits.ensures
+    ∙ changing-is (raw c.args.format) in
     let second = c.copy_from_slice.ensures.after ∙ c.move_to_front-rest.ensures.front
-    ∙ ap (filter (λ e. not (changes_new e))) c.field_edits_of-others.ensures in
+    ∙ ap (filter (λ e. not (changes_new e))) c.field_edits_of-others.ensures
+    ∙ unchanging-is (raw c.args.format) in
     overwritten c.move_to_front-count.result (length c.move_to_front-count.new.edits - c.move_to_front-count.result)
     c.move_to_front-count.new.edits c.copy_from_slice.new.self (omega arith) ∙ (λ i. first i ++ second i)
 
