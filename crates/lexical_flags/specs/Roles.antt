@@ -6,7 +6,7 @@ use Rattle.lexical_base.specs.Digits.{digits_of}
 use Rattle.lexical_flags.specs.Pairs.{ArePairwise}
 use Rattle.lexical_flags.specs.Record.{Record, effective_exponent_radix}
 
--- no byte is in both sets: none of the 256 is
+-- no byte is in both sets: a test of all 256, so that it computes
 unfoldable pub Disjoint : ByteSet → ByteSet → Type 0
 Disjoint A B = IsTrue (list_all (λ byte. not (A byte && B byte)) (range_with_len 0 256))
 
