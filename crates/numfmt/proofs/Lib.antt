@@ -1,7 +1,6 @@
 mod NumeralLemmas
-mod DigitLemmas
 mod TextLemmas
+mod ItemLemmas
+mod NameLemmas
 mod EditsLemmas
 mod SourceLemmas
-mod CommandLemmas
-mod ExampleLemmas

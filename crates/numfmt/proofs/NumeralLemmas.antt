@@ -1,16 +1,41 @@
 -- Numerals, digit by digit.
-use Rattle.std.proofs.Common.{◌≡◌, ℕ, ◌+◌, ◌*◌, ◌^◌, ◌<◌, ◌≤◌, true, List, length, map, take, get_or, nat_lt, sym, ap, ◌∙◌}
-use Rattle.std.proofs.Common.{arith, Some}
+use Rattle.std.proofs.Common.{◌≡◌, ℕ, ◌+◌, ◌*◌, ◌^◌, ◌<◌, ◌≤◌, true, IsTrue, List, length, map, take, get_or, nat_lt, nat_le}
+use Rattle.std.proofs.Common.{sym, ap, ◌∙◌, arith, Some}
 use Rattle.std.specs.Int.Digits.{number_from_digits}
-use Rattle.std.specs.List.{AllPass}
+use Rattle.std.specs.List.{AllPass, list_all}
 use Rattle.std.proofs.Math.Nat.{pow-le-pow_left, pow-le-pow_right}
-use Rattle.std.proofs.lemmas.Bool.{ltb-true}
+use Rattle.std.proofs.lemmas.Bool.{and_from, and_parts, le-leb, leb-true, ltb-true}
 use Rattle.std.proofs.lemmas.Int.Digits.{number_lt, number_push}
 use Rattle.std.proofs.lemmas.List.{length-map, length-take, map_more, take_all}
 use Rattle.std.proofs.lemmas.List.Elements.{All-map, All-more, recursion_from_All}
+use Rattle.std.proofs.lemmas.List.Sums.{AllPass-from_list_all, list_all-from_AllPass}
 use Rattle.std.proofs.lemmas.Option.{cond_some}
 use Rattle.lexical_util.specs.Digits.{value, digit_of, numeral}
-use Rattle.numfmt.specs.Numeral.{is_digit, IsNumeral}
+use Rattle.numfmt.specs.Numeral.{is_digit, is_numeral}
+
+-- the parts of a numeral
+pub record NumeralParts (radix most : ℕ) (digits : List ℕ) : Type 0 where
+  pub some : 1 ≤ length digits
+  pub few : length digits ≤ most
+  pub all_digits : AllPass (is_digit radix) digits
+
+pub numeral_parts : (radix most : ℕ) (digits : List ℕ) → IsTrue (is_numeral radix most digits)
+    → NumeralParts radix most digits
+numeral_parts radix most digits test =
+    let first = and_parts (nat_le 1 (length digits)) _ test in
+    let rest = and_parts (nat_le (length digits) most) (list_all (is_digit radix) digits) first.1 in
+    record {
+      some = leb-true _ _ first.0;
+      few = leb-true _ _ rest.0;
+      all_digits = AllPass-from_list_all (is_digit radix) digits rest.1;
+    }
+
+pub numeral_from : (radix most : ℕ) (digits : List ℕ) → NumeralParts radix most digits
+    → IsTrue (is_numeral radix most digits)
+numeral_from radix most digits parts =
+    and_from (nat_le 1 (length digits)) _ (le-leb _ _ parts.some)
+    (and_from (nat_le (length digits) most) _ (le-leb _ _ parts.few)
+    (list_all-from_AllPass (is_digit radix) digits parts.all_digits))
 
 -- what the first digits of a numeral give
 pub record HasRead (radix : ℕ) (digits : List ℕ) (count number : ℕ) : Type 0 where
@@ -46,7 +71,10 @@ HasRead-next radix digits count number digit before inside read =
 -- all digits are read
 pub HasRead-whole : (radix most : ℕ) (digits : List ℕ) (count number : ℕ) → HasRead radix digits count number
     → length digits ≤ count → 1 ≤ length digits → length digits ≤ most
-    → IsNumeral radix most digits × (number ≡ numeral radix digits)
+    → IsTrue (is_numeral radix most digits) × (number ≡ numeral radix digits)
 HasRead-whole radix most digits count number read done some few =
     let all : take count digits ≡ digits = take_all count digits done in
-    (record { some = some; few = few; all_digits = rw all at read.all_digits }, read.sum ∙ ap (numeral radix) all)
+    (
+      numeral_from radix most digits (record { some = some; few = few; all_digits = rw all at read.all_digits }),
+      read.sum ∙ ap (numeral radix) all,
+    )

@@ -1,20 +1,63 @@
 -- What `word_text` has written so far, and that no other text has the same form and number.
-use Rattle.std.proofs.Common.{◌≡◌, ℕ, zero, suc, ◌+◌, ◌-◌, ◌*◌, ◌/◌, ◌%◌, ◌^◌, ◌<◌, true, List, [], ◌∷◌, ◌++◌, map}
-use Rattle.std.proofs.Common.{take, drop, length, codes, replicate, slice_index_or, refl, sym, ap, ◌∙◌, subst, arith}
+use Rattle.std.proofs.Common.{◌≡◌, ℕ, zero, suc, ◌+◌, ◌-◌, ◌*◌, ◌/◌, ◌%◌, ◌^◌, ◌<◌, ◌==◌, ◌&&◌, Bool, true, false, not, IsTrue, bytes_eq}
+use Rattle.std.proofs.Common.{List, [], ◌∷◌, ◌++◌, map, take, drop, length, codes, replicate, slice_index_or, refl, sym, ap}
+use Rattle.std.proofs.Common.{◌∙◌, subst, arith, cond, inl, inr, nat_lt, unwrap_or, Some, None}
 use Rattle.std.specs.Int.Digits.{number_from_digits_after}
-use Rattle.std.specs.List.{All, AllPass}
+use Rattle.std.specs.List.{All, AllPass, position_or_len}
 use Rattle.std.proofs.Math.ListN.{set}
 use Rattle.std.proofs.Math.Nat.{pow-suc, div-div-eq-div-mul}
-use Rattle.std.proofs.lemmas.Bool.{ltb-true}
+use Rattle.std.proofs.lemmas.Bool.{agree_below_at, and_from, and_parts, cases_Bool, cond-false, eqb-true, ltb-true, not-true}
 use Rattle.std.proofs.lemmas.Nat.{same_from_place}
+use Rattle.std.proofs.lemmas.Slice.Eq.{bytes_eq-Decides}
 use Rattle.std.proofs.lemmas.List.{drop-set, take-set-le, length-set, take-append-drop}
+use Rattle.std.proofs.lemmas.List.Sums.{AllPass-from_list_all, list_all-from_AllPass, passes_at_first}
 use Rattle.std.proofs.lemmas.List.Elements.{All-cons, All-head, All-nil, All-tail, All-weaker}
-use Rattle.lexical_util.specs.Digits.{value}
+use Rattle.lexical_util.specs.Digits.{digit_characters, is_lowercase, uppercase, value}
 use Rattle.numfmt.specs.Numeral.{is_digit}
-use Rattle.numfmt.specs.WordText.{hex, hex_digits, uppercase_digits, is_uppercase_digit, IsWordText, IsPrintedForm}
-use Rattle.numfmt.specs.WordText.{digit_at, last_digits, printed}
-use Rattle.numfmt.proofs.DigitLemmas.{uppercase_digit_from_value, is_digit-from_uppercase, value-uppercase_digit}
-use Rattle.numfmt.proofs.DigitLemmas.{is_uppercase-digit}
+use Rattle.numfmt.specs.WordText.{hex, hex_digits, is_word_text, IsWordText, IsPrintedForm, digit_at, last_digits, printed}
+use Rattle.numfmt.proofs.NumeralLemmas.{numeral_from, numeral_parts}
+
+-- whether a byte is a hexadecimal digit and no lowercase letter
+abbrev is_printed_digit : ℕ → Bool
+is_printed_digit byte = is_digit 16 byte && not (is_lowercase byte)
+
+-- a byte is one of the sixteen
+abbrev IsUppercase : ℕ → Type 0
+IsUppercase byte = IsTrue (is_printed_digit byte)
+
+is_digit-uppercase : (byte : ℕ) → IsUppercase byte → is_digit 16 byte ≡ true
+is_digit-uppercase byte printed = (and_parts (is_digit 16 byte) (not (is_lowercase byte)) printed).0
+
+not_lowercase : (byte : ℕ) → IsUppercase byte → not (is_lowercase byte) ≡ true
+not_lowercase byte printed = (and_parts (is_digit 16 byte) (not (is_lowercase byte)) printed).1
+
+-- such a digit is the digit character of its value
+digit_from_value : (byte : ℕ) → IsUppercase byte → slice_index_or digit_characters (value byte) 0 ≡ byte
+unfolding value
+digit_from_value byte printed =
+    let test : ℕ → Bool = λ character. character == uppercase byte in
+    let i = position_or_len test digit_characters in
+    let same : uppercase byte ≡ byte = cond-false _ _ _ (not-true _ (not_lowercase byte printed)) in
+    elim (cases_Bool (nat_lt i 36)) [
+      | inl found ↦
+          let is : value byte ≡ i = ap (λ truth. unwrap_or (cond truth (Some i) None) 255) found in
+          rw is (eqb-true _ _ (passes_at_first test digit_characters 0 (ltb-true _ _ found)) ∙ same)
+      | inr missing ↦
+          let is : value byte ≡ 255 = ap (λ truth. unwrap_or (cond truth (Some i) None) 255) missing in
+          absurd (omega (arith, is, ltb-true _ _ (is_digit-uppercase byte printed)))
+    ]
+
+-- the digit character of a value has this value
+value-digit : (digit : ℕ) → digit < 16 → value (slice_index_or digit_characters digit 0) ≡ digit
+unfolding value
+value-digit digit small = eqb-true _ _
+    (agree_below_at (λ d. value (slice_index_or digit_characters d 0) == d) (λ _. true) 16 digit refl small)
+
+-- and is one of the sixteen
+uppercase-digit : (digit : ℕ) → digit < 16 → IsUppercase (slice_index_or digit_characters digit 0)
+unfolding value
+uppercase-digit digit small =
+    agree_below_at (λ d. is_printed_digit (slice_index_or digit_characters d 0)) (λ _. true) 16 digit refl small
 
 -- the last `count` digits of the word are written at the end of the text, and `rest` is what is left of the word
 pub record HasWritten (word rest count : ℕ) (text : List ℕ) : Type 0 where
@@ -30,7 +73,7 @@ HasWritten-none word = record { long = refl; prefix = refl; left = omega arith; 
 
 -- one more digit is written
 pub HasWritten-next : (word rest count byte : ℕ) (text : List ℕ) → HasWritten word rest count text → count < 32
-    → byte ≡ slice_index_or uppercase_digits (rest % 16) 0
+    → byte ≡ slice_index_or digit_characters (rest % 16) 0
     → HasWritten word (rest / 16) (count + 1) (set text (33 - count) byte)
 unfolding last_digits
 HasWritten-next word rest count byte text before few digit =
@@ -56,15 +99,11 @@ unfolding last_digits
 last_digits-length zero number = refl
 last_digits-length (suc count) number = ap suc (last_digits-length count number)
 
--- a byte is one of the sixteen
-abbrev IsUppercase : ℕ → Type 0
-IsUppercase byte = is_uppercase_digit byte ≡ true
-
 last_digits-uppercase : (count number : ℕ) → All IsUppercase (last_digits count number)
 unfolding last_digits
 last_digits-uppercase zero number = All-nil IsUppercase
 last_digits-uppercase (suc count) number = All-cons IsUppercase (digit_at number count) (last_digits count number)
-    (is_uppercase-digit (number / 16 ^ count % 16) (omega arith)) (last_digits-uppercase count number)
+    (uppercase-digit (number / 16 ^ count % 16) (omega arith)) (last_digits-uppercase count number)
 
 -- the last digits write the number, after what is left of it
 last_digits-numeral : (count number : ℕ)
@@ -74,7 +113,7 @@ last_digits-numeral zero number = omega arith
 last_digits-numeral (suc count) number =
     let left : number / 16 ^ count / 16 ≡ number / (16 ^ count * 16) = div-div-eq-div-mul number (16 ^ count) 16 in
     let digit : value (digit_at number count) ≡ number / 16 ^ count % 16 =
-    value-uppercase_digit (number / 16 ^ count % 16) (omega arith) in
+    value-digit (number / 16 ^ count % 16) (omega arith) in
     let front : number / 16 ^ suc count * 16 + value (digit_at number count) ≡ number / 16 ^ count =
     rw (pow-suc 16 count, digit, ← left) (omega arith) in
     subst (λ n. number_from_digits_after 16 n (map value (last_digits count number)) ≡ number) (sym front)
@@ -82,11 +121,19 @@ last_digits-numeral (suc count) number =
 
 -- what is printed of a word has the printed form
 pub IsPrintedForm-printed : (word : ℕ) → IsPrintedForm (printed word)
-IsPrintedForm-printed word = record {
-  prefix = refl;
-  full = last_digits-length 32 word;
-  uppercase = last_digits-uppercase 32 word;
-}
+IsPrintedForm-printed word =
+    let full : length (last_digits 32 word) ≡ 32 = last_digits-length 32 word in
+    let all = last_digits-uppercase 32 word in
+    record {
+      word = numeral_from 16 32 (last_digits 32 word) (record {
+        some = omega (arith, full);
+        few = omega (arith, full);
+        all_digits = All-weaker IsUppercase (λ byte. is_digit 16 byte ≡ true) is_digit-uppercase (last_digits 32 word) all;
+      });
+      full = full;
+      uppercase = list_all-from_AllPass _ (last_digits 32 word)
+          (All-weaker IsUppercase (λ byte. not (is_lowercase byte) ≡ true) not_lowercase (last_digits 32 word) all);
+    }
 
 -- it writes the word
 pub hex-printed : (word : ℕ) → word < 2 ^ 128 → hex (printed word) ≡ word
@@ -94,20 +141,6 @@ hex-printed word fits =
     let none : word / 16 ^ 32 ≡ 0 = omega (arith, fits) in
     subst (λ n. number_from_digits_after 16 n (map value (last_digits 32 word)) ≡ word) none
     (last_digits-numeral 32 word)
-
-all_digits : (bytes : List ℕ) → All IsUppercase bytes → AllPass (is_digit 16) bytes
-all_digits bytes = All-weaker IsUppercase (λ byte. is_digit 16 byte ≡ true) is_digit-from_uppercase bytes
-
--- the printed form of a word is a text of a word
-pub IsWordText-printed : (text : List ℕ) → IsPrintedForm text → IsWordText text
-IsWordText-printed text printed = record {
-  prefix = printed.prefix;
-  digits = record {
-    some = omega (arith, printed.full);
-    few = omega (arith, printed.full);
-    all_digits = all_digits (hex_digits text) printed.uppercase;
-  };
-}
 
 -- uppercase digits of the same length after two numbers write the same number only if they are the same
 numeral-injective : (xs ys : List ℕ) (m n : ℕ) → length xs ≡ length ys → All IsUppercase xs → All IsUppercase ys
@@ -120,16 +153,27 @@ numeral-injective (x ∷ xs) (y ∷ ys) m n long all all' same =
     let first' = All-head IsUppercase y ys all' in
     let rest = numeral-injective xs ys (m * 16 + value x) (n * 16 + value y) (omega arith)
     (All-tail IsUppercase x xs all) (All-tail IsUppercase y ys all') same in
-    let parts = same_from_place m (value x) n (value y) 16 (ltb-true _ _ (is_digit-from_uppercase x first))
-    (ltb-true _ _ (is_digit-from_uppercase y first')) rest.0 in
-    let here : x ≡ y = sym (uppercase_digit_from_value x first)
-    ∙ ap (λ v. slice_index_or uppercase_digits v 0) parts.1 ∙ uppercase_digit_from_value y first' in
+    let parts = same_from_place m (value x) n (value y) 16 (ltb-true _ _ (is_digit-uppercase x first))
+    (ltb-true _ _ (is_digit-uppercase y first')) rest.0 in
+    let here : x ≡ y = sym (digit_from_value x first)
+    ∙ ap (λ v. slice_index_or digit_characters v 0) parts.1 ∙ digit_from_value y first' in
     (parts.0, λ i. here i ∷ rest.1 i)
+
+-- its prefix and its digits
+form_prefix : (text : List ℕ) → IsPrintedForm text → take 2 text ≡ codes "0x"
+form_prefix text form =
+    (bytes_eq-Decides (take 2 text) (codes "0x")).0 (and_parts (bytes_eq (take 2 text) (codes "0x")) _ form.word).0
+
+form_digits : (text : List ℕ) → IsPrintedForm text → All IsUppercase (hex_digits text)
+form_digits text form k d inside =
+    let numeral = numeral_parts 16 32 (hex_digits text) (and_parts (bytes_eq (take 2 text) (codes "0x")) _ form.word).1 in
+    let uppercase = AllPass-from_list_all (λ byte. not (is_lowercase byte)) (hex_digits text) form.uppercase in
+    and_from _ _ (numeral.all_digits k d inside) (uppercase k d inside)
 
 -- one text has the printed form and writes a given number
 pub IsPrintedForm-unique : (s t : List ℕ) → IsPrintedForm s → IsPrintedForm t → hex s ≡ hex t → s ≡ t
-IsPrintedForm-unique s t printed printed' same =
-    let digits = numeral-injective (hex_digits s) (hex_digits t) 0 0 (printed.full ∙ sym printed'.full)
-    printed.uppercase printed'.uppercase same in
-    let prefix : take 2 s ≡ take 2 t = printed.prefix ∙ sym printed'.prefix in
+IsPrintedForm-unique s t form form' same =
+    let digits = numeral-injective (hex_digits s) (hex_digits t) 0 0 (form.full ∙ sym form'.full)
+    (form_digits s form) (form_digits t form') same in
+    let prefix : take 2 s ≡ take 2 t = form_prefix s form ∙ sym (form_prefix t form') in
     sym (take-append-drop 2 s) ∙ (λ i. prefix i ++ digits.1 i) ∙ take-append-drop 2 t

@@ -1,7 +1,7 @@
--- The response that each list of arguments calls for.
-use Rattle.std.specs.Prelude.{ℕ, ◌≡◌, ◌≤◌, ◌↔◌, Bool, true, false, List, [], ◌∷◌, length, codes, Ok, Err}
-use Rattle.lexical_util.specs.declared.error.Error.{Error}
-use Rattle.lexical_util.specs.Digits.{numeral}
+-- The commands: what arguments ask for, and what the answer to it is.
+use Rattle.std.specs.Prelude.{ℕ, ◌≡◌, ◌≤◌, ◌↔◌, ⊤, IsTrue, if◌then◌else◌, List, [], ◌∷◌, length, find, codes, bytes_eq, nat_le}
+use Rattle.std.specs.Prelude.{Option, None, Some, Result, Ok, Err}
+use Rattle.std.specs.Result.{IsOkAnd, MatchResult}
 use Rattle.lexical_util.specs.Record.{IsBuilt}
 use Rattle.lexical_util.specs.Rules.{IsErrorOf, Lawful}
 use Rattle.lexical_util.specs.Options.{AreAccepted}
@@ -12,118 +12,88 @@ use Rattle.lexical_util.specs.Normal.{normal_form_of}
 use Rattle.numfmt.specs.declared.response.Answer.{Answer}
 use Rattle.numfmt.specs.declared.response.Answer.TheVariants as answers
 use Rattle.numfmt.specs.declared.response.Refusal.{Refusal}
-use Rattle.numfmt.specs.declared.response.Refusal.TheVariants as refusals
-use Rattle.numfmt.specs.WordText.{IsWordText, hex}
-use Rattle.numfmt.specs.EditText.{IsByteText, AreTextsOf}
+use Rattle.numfmt.specs.declared.response.Refusal.TheVariants.{UnknownCommand, WrongNumberOfArguments, TooManyEdits}
+use Rattle.numfmt.specs.declared.response.Refusal.TheVariants.{BadWord, BadEdit, BadByte}
+use Rattle.numfmt.specs.WordText.{word_in}
+use Rattle.numfmt.specs.EditText.{byte_in, edits_in}
 use Rattle.numfmt.specs.Response.{Response}
 
--- the response is this answer
-abbrev pub Gives : Answer → Response → Type 0
-Gives answer response = response ≡ Ok answer
+-- a command, with what its arguments write
+pub data Command : Type 0 where
+  show : ℕ → Command
+  edit : ℕ → List Edit → Command
+  check : ℕ → Command
+  same : ℕ → ℕ → Command
+  options : ℕ → ℕ → ℕ → Command
+  migrate : ℕ → Command
+  source : ℕ → Command
 
--- the response is this refusal
-abbrev pub Refuses : Refusal → Response → Type 0
-Refuses refusal response = response ≡ Err refusal
+-- the answers to each command
+abbrev pub Answers : Command → Answer → Type 0
+Answers (show word) answer = answer ≡ answers.Fields word
+Answers (edit word list) answer = answer ≡ answers.Word (edited word (all_writes list))
+Answers (check word) (answers.Outcome error) = IsErrorOf word error
+Answers (same a b) (answers.Sameness truth) = IsTrue truth ↔ (normal_form_of a ≡ normal_form_of b)
+Answers (options word e p) (answers.Acceptance truth) = IsTrue truth ↔ AreAccepted word e p
+Answers (migrate word) (answers.Word normal) = Lawful (normal_form_of word) × (normal ≡ normal_form_of word)
+Answers (migrate word) (answers.Outcome error) = (¬ Lawful (normal_form_of word)) × IsErrorOf (normal_form_of word) error
+Answers (source word) (answers.Source written truth) = (written ≡ word) × (IsTrue truth ↔ IsBuilt word)
+Answers _ _ = ⊥
 
--- the first of two demands on the response if the condition holds, and else the second
-abbrev pub IfElse : Type 0 → (Response → Type 0) → (Response → Type 0) → Response → Type 0
-IfElse condition met unmet response = (condition → met response) × (¬ condition → unmet response)
+-- what arguments ask for, or why they are refused
+abbrev pub Request : Type 0
+Request = Result Command Refusal
 
--- unless the condition holds, the arguments are refused
-abbrev pub Needs : Type 0 → Refusal → (Response → Type 0) → Response → Type 0
-Needs condition refusal rest = IfElse condition rest (Refuses refusal)
+-- what is asked for with a value, unless it could not be read
+abbrev pub with_value : {T : Type 0} → Option T → Refusal → (T → Request) → Request
+with_value None refusal ask = Err refusal
+with_value (Some value) refusal ask = ask value
 
--- an answer that tells whether the condition holds
-abbrev pub GivesWhether : Type 0 → (Bool → Answer) → Response → Type 0
-GivesWhether condition answer = IfElse condition (Gives (answer true)) (Gives (answer false))
+-- one word
+abbrev pub one_word : (ℕ → Command) → List (List ℕ) → Request
+one_word ask (word ∷ []) = with_value (word_in word) BadWord (λ word. Ok (ask word))
+one_word ask _ = Err WrongNumberOfArguments
 
--- `show WORD`: the fields of the word
-abbrev pub ShowCallsFor : List (List ℕ) → Response → Type 0
-ShowCallsFor (word ∷ []) =
-    Needs (IsWordText word) refusals.BadWord (
-    Gives (answers.Fields (hex word)))
-ShowCallsFor _ = Refuses refusals.WrongNumberOfArguments
+-- two words
+abbrev pub two_words : (ℕ → ℕ → Command) → List (List ℕ) → Request
+two_words ask (a ∷ b ∷ []) =
+    with_value (word_in a) BadWord (λ a. with_value (word_in b) BadWord (λ b. Ok (ask a b)))
+two_words ask _ = Err WrongNumberOfArguments
 
--- the word after the edits in the texts
-abbrev pub EditsGive : ℕ → List (List ℕ) → Response → Type 0
-EditsGive word texts response =
-    (list : List Edit) × AreTextsOf list texts × Gives (answers.Word (edited word (all_writes list))) response
+-- a word and two bytes
+abbrev pub word_and_bytes : (ℕ → ℕ → ℕ → Command) → List (List ℕ) → Request
+word_and_bytes ask (word ∷ e ∷ p ∷ []) =
+    with_value (word_in word) BadWord (λ word. with_value (byte_in e) BadByte (λ e. with_value (byte_in p) BadByte
+    (λ p. Ok (ask word e p))))
+word_and_bytes ask _ = Err WrongNumberOfArguments
 
--- `edit WORD NAME=VALUE ..`: the word after at most 64 edits
-abbrev pub EditCallsFor : List (List ℕ) → Response → Type 0
-EditCallsFor [] = Refuses refusals.WrongNumberOfArguments
-EditCallsFor (word ∷ texts) =
-    Needs (length texts ≤ 64) refusals.TooManyEdits (
-    Needs (IsWordText word) refusals.BadWord (
-    Needs ((list : List Edit) × AreTextsOf list texts) refusals.BadEdit (
-    EditsGive (hex word) texts)))
+-- a word and at most 64 edits
+abbrev pub word_and_edits : (ℕ → List Edit → Command) → List (List ℕ) → Request
+word_and_edits ask [] = Err WrongNumberOfArguments
+word_and_edits ask (word ∷ texts) =
+    if nat_le (length texts) 64 then
+    with_value (word_in word) BadWord (λ word. with_value (edits_in texts) BadEdit (λ list. Ok (ask word list)))
+    else Err TooManyEdits
 
--- the first rule that the word breaks, or success
-abbrev pub GivesErrorOf : ℕ → Response → Type 0
-GivesErrorOf word response = (error : Error) × IsErrorOf word error × Gives (answers.Outcome error) response
+-- the commands by name, each with the arguments that it takes
+abbrev pub commands : List (List ℕ × (List (List ℕ) → Request))
+commands =
+    (codes "show", one_word show)
+    ∷ (codes "edit", word_and_edits edit)
+    ∷ (codes "check", one_word check)
+    ∷ (codes "same", two_words same)
+    ∷ (codes "options", word_and_bytes options)
+    ∷ (codes "migrate", one_word migrate)
+    ∷ (codes "source", one_word source)
+    ∷ []
 
--- `check WORD`: the first rule that the word breaks, or success
-abbrev pub CheckCallsFor : List (List ℕ) → Response → Type 0
-CheckCallsFor (word ∷ []) =
-    Needs (IsWordText word) refusals.BadWord (
-    GivesErrorOf (hex word))
-CheckCallsFor _ = Refuses refusals.WrongNumberOfArguments
+-- what the program's arguments ask for, without its name: a command and its arguments, or none
+abbrev pub request_of : List (List ℕ) → Request
+request_of [] = Ok (show STANDARD)
+request_of (name ∷ args) =
+    with_value (find (λ command. bytes_eq name command.0) commands) UnknownCommand (λ command. command.1 args)
 
--- `same A B`: whether two words have one normal form
-abbrev pub SameCallsFor : List (List ℕ) → Response → Type 0
-SameCallsFor (a ∷ b ∷ []) =
-    Needs (IsWordText a) refusals.BadWord (
-    Needs (IsWordText b) refusals.BadWord (
-    GivesWhether (normal_form_of (hex a) ≡ normal_form_of (hex b)) answers.Sameness))
-SameCallsFor _ = Refuses refusals.WrongNumberOfArguments
-
--- `options WORD E P`: whether the exponent byte and the point byte fit the word
-abbrev pub OptionsCallsFor : List (List ℕ) → Response → Type 0
-OptionsCallsFor (word ∷ e ∷ p ∷ []) =
-    Needs (IsWordText word) refusals.BadWord (
-    Needs (IsByteText e) refusals.BadByte (
-    Needs (IsByteText p) refusals.BadByte (
-    GivesWhether (AreAccepted (hex word) (numeral 10 e) (numeral 10 p)) answers.Acceptance)))
-OptionsCallsFor _ = Refuses refusals.WrongNumberOfArguments
-
--- the normal form of the word if that is lawful, else the first rule that the normal form breaks
-unfoldable pub GivesMigrated : ℕ → Response → Type 0
-GivesMigrated word =
-    IfElse (Lawful (normal_form_of word))
-    (Gives (answers.Word (normal_form_of word)))
-    (GivesErrorOf (normal_form_of word))
-
--- `migrate WORD`: the normal form of the word, or what is wrong with it
-abbrev pub MigrateCallsFor : List (List ℕ) → Response → Type 0
-MigrateCallsFor (word ∷ []) =
-    Needs (IsWordText word) refusals.BadWord (
-    GivesMigrated (hex word))
-MigrateCallsFor _ = Refuses refusals.WrongNumberOfArguments
-
--- the builder expression of the word, and whether it makes the word itself
-unfoldable pub GivesSource : ℕ → Response → Type 0
-GivesSource word = GivesWhether (IsBuilt word) (answers.Source word)
-
--- `source WORD`: the builder expression of the word
-abbrev pub SourceCallsFor : List (List ℕ) → Response → Type 0
-SourceCallsFor (word ∷ []) =
-    Needs (IsWordText word) refusals.BadWord (
-    GivesSource (hex word))
-SourceCallsFor _ = Refuses refusals.WrongNumberOfArguments
-
--- the program's arguments without its name: a command and its arguments, or none
-abbrev pub CallsFor : List (List ℕ) → Response → Type 0
-CallsFor [] = Gives (answers.Fields STANDARD)
-CallsFor (command ∷ args) =
-    IfElse (command ≡ codes "show") (ShowCallsFor args) (
-    IfElse (command ≡ codes "edit") (EditCallsFor args) (
-    IfElse (command ≡ codes "check") (CheckCallsFor args) (
-    IfElse (command ≡ codes "same") (SameCallsFor args) (
-    IfElse (command ≡ codes "options") (OptionsCallsFor args) (
-    IfElse (command ≡ codes "migrate") (MigrateCallsFor args) (
-    IfElse (command ≡ codes "source") (SourceCallsFor args) (
-    Refuses refusals.UnknownCommand)))))))
-
--- this response meets the demand, and no other does
-abbrev pub IsOnly : (Response → Type 0) → Response → Type 0
-IsOnly Demand response = (other : Response) → Demand other ↔ (other ≡ response)
+-- the response to what is asked for
+abbrev pub Responds : Request → Response → Type 0
+Responds request response =
+    MatchResult request (λ command. IsOkAnd response (Answers command)) (λ refusal. response ≡ Err refusal)

@@ -1,59 +1,73 @@
 -- The texts of edits: names of setters, `bool`s and bytes.
-use Rattle.std.specs.Prelude.{ℕ, ◌≡◌, ◌≤◌, ◌⊎◌, if◌then◌else◌, ◌==◌, Bool, true, false, Option, None, List, codes}
-use Rattle.std.specs.Prelude.{bytes_eq}
-use Rattle.std.specs.List.{AllZip, before_first, after_first}
+use Rattle.std.specs.Prelude.{ℕ, ◌+◌, if◌then◌else◌, ◌==◌, ◌&&◌, Bool, true, false, IsTrue, Option, None, Some, is_some}
+use Rattle.std.specs.Prelude.{List, [], ◌∷◌, ◌++◌, map, find, position, take, drop, codes, bytes_eq, nat_le}
+use Rattle.std.specs.Bool.{then_some}
+use Rattle.std.specs.Option.{option_and_then, option_map}
+use Rattle.std.specs.List.{filter_map, list_all}
 use Rattle.lexical_util.specs.Digits.{numeral}
 use Rattle.lexical_util.specs.OptionByte.{option_of_byte}
 use Rattle.lexical_util.specs.SetterNames.{setter_name}
+use Rattle.lexical_util.specs.declared.edits.FlagSetter.{FlagSetter}
+use Rattle.lexical_util.specs.declared.edits.TheConstants.{SETTERS}
 use Rattle.lexical_util.specs.declared.edits.Edit.{Edit}
 use Rattle.lexical_util.specs.declared.edits.Edit.TheVariants as edits
-use Rattle.numfmt.specs.Numeral.{IsNumeral}
+use Rattle.numfmt.specs.Numeral.{is_numeral}
 
--- a text that writes a byte: 1 to 3 decimal digits, a number of at most 255
-pub record IsByteText (text : List ℕ) : Type 0 where
-  pub digits : IsNumeral 10 3 text
-  pub fits : numeral 10 text ≤ 255
+-- whether a text writes a byte: 1 to 3 decimal digits, a number of at most 255
+abbrev pub is_byte_text : List ℕ → Bool
+is_byte_text text = is_numeral 10 3 text && nat_le (numeral 10 text) 255
+
+-- a text that writes a byte
+abbrev pub IsByteText : List ℕ → Type 0
+IsByteText text = IsTrue (is_byte_text text)
+
+-- the byte that a text writes
+abbrev pub byte_in : List ℕ → Option ℕ
+byte_in text = then_some (is_byte_text text) (numeral 10 text)
+
+-- the byte, or its absence, that a text writes; `none` and 0 mean that it is absent
+abbrev pub optional_byte_in : List ℕ → Option (Option ℕ)
+optional_byte_in text = if bytes_eq text (codes "none") then Some None else option_map option_of_byte (byte_in text)
 
 -- the text of a `bool`
 abbrev pub truth_text : Bool → List ℕ
 truth_text true = codes "true"
 truth_text false = codes "false"
 
--- a text that writes a byte or its absence
-abbrev pub IsOptionalByteText : List ℕ → Type 0
-IsOptionalByteText text = (text ≡ codes "none") ⊎ IsByteText text
+-- the `bool` that a text writes
+abbrev pub truth_in : List ℕ → Option Bool
+truth_in text = find (λ truth. bytes_eq text (truth_text truth)) (true ∷ false ∷ [])
 
--- the byte that it writes; `none` and 0 mean that it is absent
-abbrev pub optional_byte : List ℕ → Option ℕ
-optional_byte text = if bytes_eq text (codes "none") then None else option_of_byte (numeral 10 text)
+-- a name, and the edit that it makes of the text of a value
+abbrev pub NamedEdit : Type 0
+NamedEdit = List ℕ × (List ℕ → Option Edit)
 
--- the name of an edit
-abbrev pub edit_name : Edit → List ℕ
-edit_name (edits.Flag setter on) = setter_name setter
-edit_name (edits.MantissaRadix byte) = codes "mantissa_radix"
-edit_name (edits.Radix byte) = codes "radix"
-edit_name (edits.DigitSeparator byte) = codes "digit_separator"
-edit_name (edits.BasePrefix byte) = codes "base_prefix"
-edit_name (edits.BaseSuffix byte) = codes "base_suffix"
-edit_name (edits.ExponentBase byte) = codes "exponent_base"
-edit_name (edits.ExponentRadix byte) = codes "exponent_radix"
+-- the edits of bytes
+abbrev pub byte_edits : List NamedEdit
+byte_edits =
+    (codes "mantissa_radix", λ value. option_map edits.MantissaRadix (byte_in value))
+    ∷ (codes "radix", λ value. option_map edits.Radix (byte_in value))
+    ∷ (codes "digit_separator", λ value. option_map edits.DigitSeparator (optional_byte_in value))
+    ∷ (codes "base_prefix", λ value. option_map edits.BasePrefix (optional_byte_in value))
+    ∷ (codes "base_suffix", λ value. option_map edits.BaseSuffix (optional_byte_in value))
+    ∷ (codes "exponent_base", λ value. option_map edits.ExponentBase (optional_byte_in value))
+    ∷ (codes "exponent_radix", λ value. option_map edits.ExponentRadix (optional_byte_in value))
+    ∷ []
 
--- a text that writes the value of an edit
-abbrev pub WritesValueOf : Edit → List ℕ → Type 0
-WritesValueOf (edits.Flag setter on) text = text ≡ truth_text on
-WritesValueOf (edits.MantissaRadix byte) text = IsByteText text × (byte ≡ numeral 10 text)
-WritesValueOf (edits.Radix byte) text = IsByteText text × (byte ≡ numeral 10 text)
-WritesValueOf (edits.DigitSeparator byte) text = IsOptionalByteText text × (byte ≡ optional_byte text)
-WritesValueOf (edits.BasePrefix byte) text = IsOptionalByteText text × (byte ≡ optional_byte text)
-WritesValueOf (edits.BaseSuffix byte) text = IsOptionalByteText text × (byte ≡ optional_byte text)
-WritesValueOf (edits.ExponentBase byte) text = IsOptionalByteText text × (byte ≡ optional_byte text)
-WritesValueOf (edits.ExponentRadix byte) text = IsOptionalByteText text × (byte ≡ optional_byte text)
+-- the edit of a flag or a group
+abbrev pub flag_edit : FlagSetter → NamedEdit
+flag_edit setter = (setter_name setter, λ value. option_map (edits.Flag setter) (truth_in value))
 
--- a text NAME=VALUE that writes an edit, split at the first `=`
-abbrev pub IsTextOf : Edit → List ℕ → Type 0
-IsTextOf edit text =
-    (before_first (λ b. b == 61) text ≡ edit_name edit) × WritesValueOf edit (after_first (λ b. b == 61) text)
+-- the edit with this name and this text of a value
+abbrev pub named_edit : List ℕ → List ℕ → Option Edit
+named_edit name value =
+    option_and_then (λ edit. edit.1 value) (find (λ edit. bytes_eq name edit.0) (byte_edits ++ map flag_edit SETTERS))
 
--- the texts write the edits, one each, in order
-abbrev pub AreTextsOf : List Edit → List (List ℕ) → Type 0
-AreTextsOf list texts = AllZip IsTextOf list texts
+-- the edit that a text NAME=VALUE writes, split at the first `=`
+unfoldable pub edit_in : List ℕ → Option Edit
+edit_in text =
+    option_and_then (λ i. named_edit (take i text) (drop (i + 1) text)) (position (λ byte. byte == 61) text)
+
+-- the edits that the texts write, if each of them writes one
+abbrev pub edits_in : List (List ℕ) → Option (List Edit)
+edits_in texts = then_some (list_all (λ text. is_some (edit_in text)) texts) (filter_map edit_in texts)

@@ -1,14 +1,13 @@
 -- Numerals: digits of a radix.
-use Rattle.std.specs.Prelude.{ℕ, ◌≤◌, Bool, List, length, nat_lt}
-use Rattle.std.specs.List.{AllPass}
+use Rattle.std.specs.Prelude.{ℕ, Bool, ◌&&◌, List, length, nat_lt, nat_le}
+use Rattle.std.specs.List.{list_all}
 use Rattle.lexical_util.specs.Digits.{value}
 
 -- whether a byte is a digit of the radix
 abbrev pub is_digit : ℕ → ℕ → Bool
 is_digit radix byte = nat_lt (value byte) radix
 
--- 1 to `most` digits of the radix
-pub record IsNumeral (radix most : ℕ) (digits : List ℕ) : Type 0 where
-  pub some : 1 ≤ length digits
-  pub few : length digits ≤ most
-  pub all_digits : AllPass (is_digit radix) digits
+-- whether bytes are 1 to `most` digits of the radix
+abbrev pub is_numeral : ℕ → ℕ → List ℕ → Bool
+is_numeral radix most digits =
+    nat_le 1 (length digits) && (nat_le (length digits) most && list_all (is_digit radix) digits)

@@ -1,9 +1,10 @@
 -- The text of a format word: `0x` and hexadecimal digits.
-use Rattle.std.specs.Prelude.{◌≡◌, ℕ, zero, suc, ◌==◌, ◌/◌, ◌%◌, ◌^◌, Bool, List, [], ◌∷◌, ◌++◌, length, take, drop}
-use Rattle.std.specs.Prelude.{slice_index, codes}
-use Rattle.std.specs.List.{AllPass, list_any}
-use Rattle.lexical_util.specs.Digits.{numeral}
-use Rattle.numfmt.specs.Numeral.{IsNumeral}
+use Rattle.std.specs.Prelude.{◌≡◌, ℕ, zero, suc, ◌/◌, ◌%◌, ◌^◌, Bool, ◌&&◌, not, IsTrue, Option, List, [], ◌∷◌, ◌++◌}
+use Rattle.std.specs.Prelude.{length, take, drop, slice_index, codes, bytes_eq}
+use Rattle.std.specs.Bool.{then_some}
+use Rattle.std.specs.List.{list_all}
+use Rattle.lexical_util.specs.Digits.{digit_characters, is_lowercase, numeral}
+use Rattle.numfmt.specs.Numeral.{is_numeral}
 
 -- what follows `0x`
 abbrev pub hex_digits : List ℕ → List ℕ
@@ -13,28 +14,27 @@ hex_digits text = drop 2 text
 abbrev pub hex : List ℕ → ℕ
 hex text = numeral 16 (hex_digits text)
 
--- a text that writes a word: `0x` and 1 to 32 hexadecimal digits of either case
-pub record IsWordText (text : List ℕ) : Type 0 where
-  pub prefix : take 2 text ≡ codes "0x"
-  pub digits : IsNumeral 16 32 (hex_digits text)
+-- whether a text writes a word: `0x` and 1 to 32 hexadecimal digits of either case
+abbrev pub is_word_text : List ℕ → Bool
+is_word_text text = bytes_eq (take 2 text) (codes "0x") && is_numeral 16 32 (hex_digits text)
 
--- the hexadecimal digits with uppercase letters, in order of their value
-abbrev pub uppercase_digits : List ℕ
-uppercase_digits = codes "0123456789ABCDEF"
+-- the word that a text writes
+abbrev pub word_in : List ℕ → Option ℕ
+word_in text = then_some (is_word_text text) (hex text)
 
--- whether a byte is one of them
-abbrev pub is_uppercase_digit : ℕ → Bool
-is_uppercase_digit byte = list_any (λ digit. digit == byte) uppercase_digits
+-- a text that writes a word
+abbrev pub IsWordText : List ℕ → Type 0
+IsWordText text = IsTrue (is_word_text text)
 
--- the form in which words are printed: `0x` and 32 of these digits
+-- the form in which words are printed: the text of a word with 32 digits, none in lower case
 pub record IsPrintedForm (text : List ℕ) : Type 0 where
-  pub prefix : take 2 text ≡ codes "0x"
+  pub word : IsWordText text
   pub full : length (hex_digits text) ≡ 32
-  pub uppercase : AllPass is_uppercase_digit (hex_digits text)
+  pub uppercase : IsTrue (list_all (λ digit. not (is_lowercase digit)) (hex_digits text))
 
--- the digit of a number at a position, counted from 0 at the right
+-- the hexadecimal digit of a number at a position, counted from 0 at the right
 abbrev pub digit_at : ℕ → ℕ → ℕ
-digit_at number position = slice_index uppercase_digits (number / 16 ^ position % 16)
+digit_at number position = slice_index digit_characters (number / 16 ^ position % 16)
 
 -- the last `count` digits of a number
 unfoldable pub last_digits : ℕ → ℕ → List ℕ

@@ -1,13 +1,11 @@
-//! The commands: which response the program's arguments call for.
+//! The commands: what the program's arguments ask for, and the response to it.
 
-ghost use Rattle.std.specs.Prelude.{◌≡◌, IfErr, List, [], ◌∷◌, map, string_bytes};
-ghost use Rattle.std.specs.Result.{OkIff};
-ghost use Rattle.lexical_util.specs.Digits.{numeral};
-ghost use Rattle.numfmt.specs.WordText.{IsWordText, hex};
-ghost use Rattle.numfmt.specs.EditText.{IsByteText};
-ghost use Rattle.numfmt.specs.Command.{CallsFor, ShowCallsFor, EditCallsFor, CheckCallsFor, SameCallsFor};
-ghost use Rattle.numfmt.specs.Command.{OptionsCallsFor, MigrateCallsFor, GivesMigrated, SourceCallsFor};
-ghost use Rattle.numfmt.specs.Command.{GivesSource, IsOnly};
+ghost use Rattle.std.specs.Prelude.{◌≡◌, IfErr, map, string_bytes};
+ghost use Rattle.std.specs.Result.{result_ok};
+ghost use Rattle.numfmt.specs.WordText.{word_in};
+ghost use Rattle.numfmt.specs.EditText.{byte_in};
+ghost use Rattle.numfmt.specs.Command.{Responds, request_of, one_word, two_words, word_and_bytes, word_and_edits};
+ghost use Rattle.numfmt.specs.Command as commands;
 
 use crate::edit::{read_byte, read_edits};
 use crate::response::{Answer, Refusal};
@@ -15,16 +13,15 @@ use crate::word::read_word;
 use lexical_util::edits::{Edit, edit_word, is_built, migrate, same_format};
 use lexical_util::format::{STANDARD, format_error};
 use lexical_util::format_flags::is_valid_options_punctuation;
-use lexical_util::laws;
 
 // The maximum number of edits in one command.
 const MAX_EDITS: usize = 64;
 
-/// The response that `args`, the program's arguments without its name, call for: an answer, or the
+/// The response to `args`, the program's arguments without its name: the answer to the command, or the
 /// first reason to refuse them. The reasons are tried in this order: an unknown command, a wrong
 /// number of arguments, too many edits, then each argument from left to right.
 pub fn response_to(args: &[String]) -> Result<Answer, Refusal>
-    ensures { IsOnly (CallsFor (map string_bytes args.now)) result }
+    ensures { Responds (request_of (map string_bytes args.now)) result }
 {
     match args {
         [] => Ok(Answer::Fields(STANDARD)),
@@ -43,7 +40,7 @@ pub fn response_to(args: &[String]) -> Result<Answer, Refusal>
 
 // `show WORD`
 fn show(args: &[String]) -> Result<Answer, Refusal>
-    ensures { IsOnly (ShowCallsFor (map string_bytes args.now)) result }
+    ensures { Responds (one_word commands.show (map string_bytes args.now)) result }
 {
     match args {
         [word] => Ok(Answer::Fields(parse_word(word)?)),
@@ -51,68 +48,13 @@ fn show(args: &[String]) -> Result<Answer, Refusal>
     }
 }
 
-// `check WORD`
-fn check(args: &[String]) -> Result<Answer, Refusal>
-    ensures { IsOnly (CheckCallsFor (map string_bytes args.now)) result }
-{
-    match args {
-        [word] => Ok(Answer::Outcome(format_error(parse_word(word)?))),
-        _ => Err(Refusal::WrongNumberOfArguments),
-    }
-}
-
-// `same A B`
-fn same(args: &[String]) -> Result<Answer, Refusal>
-    ensures { IsOnly (SameCallsFor (map string_bytes args.now)) result }
-{
-    match args {
-        [a, b] => same_words(a, b),
-        _ => Err(Refusal::WrongNumberOfArguments),
-    }
-}
-
-// Whether two words have one normal form.
-fn same_words(a: &String, b: &String) -> Result<Answer, Refusal>
-    ensures { IsOnly (SameCallsFor (string_bytes a.now ∷ string_bytes b.now ∷ [])) result }
-{
-    Ok(Answer::Sameness(same_format(parse_word(a)?, parse_word(b)?)))
-}
-
-// `options WORD E P`
-fn options(args: &[String]) -> Result<Answer, Refusal>
-    ensures { IsOnly (OptionsCallsFor (map string_bytes args.now)) result }
-{
-    match args {
-        [word, exponent, point] => options_fit(word, exponent, point),
-        _ => Err(Refusal::WrongNumberOfArguments),
-    }
-}
-
-// Whether the exponent byte and the point byte fit the word.
-fn options_fit(word: &String, exponent: &String, point: &String) -> Result<Answer, Refusal>
-    ensures { IsOnly
-        (OptionsCallsFor (string_bytes word.now ∷ string_bytes exponent.now ∷ string_bytes point.now ∷ [])) result }
-{
-    let word = parse_word(word)?;
-    let exponent = parse_byte(exponent)?;
-    let point = parse_byte(point)?;
-    Ok(Answer::Acceptance(is_valid_options_punctuation(word, exponent, point)))
-}
-
 // `edit WORD NAME=VALUE ..`
 fn edit(args: &[String]) -> Result<Answer, Refusal>
-    ensures { IsOnly (EditCallsFor (map string_bytes args.now)) result }
+    ensures { Responds (word_and_edits commands.edit (map string_bytes args.now)) result }
 {
-    match args {
-        [] => Err(Refusal::WrongNumberOfArguments),
-        [word, texts @ ..] => edit_by_texts(word, texts),
-    }
-}
-
-// Parses `texts` as edits and applies them to the word.
-fn edit_by_texts(word: &String, texts: &[String]) -> Result<Answer, Refusal>
-    ensures { IsOnly (EditCallsFor (string_bytes word.now ∷ map string_bytes texts.now)) result }
-{
+    let [word, texts @ ..] = args else {
+        return Err(Refusal::WrongNumberOfArguments);
+    };
     if texts.len() > MAX_EDITS {
         return Err(Refusal::TooManyEdits);
     }
@@ -122,47 +64,68 @@ fn edit_by_texts(word: &String, texts: &[String]) -> Result<Answer, Refusal>
     Ok(Answer::Word(edit_word(format, &edits[..texts.len()])))
 }
 
-// `migrate WORD`
-fn migrate_word(args: &[String]) -> Result<Answer, Refusal>
-    ensures { IsOnly (MigrateCallsFor (map string_bytes args.now)) result }
+// `check WORD`
+fn check(args: &[String]) -> Result<Answer, Refusal>
+    ensures { Responds (one_word commands.check (map string_bytes args.now)) result }
 {
     match args {
-        [word] => Ok(migrated(parse_word(word)?)),
+        [word] => Ok(Answer::Outcome(format_error(parse_word(word)?))),
         _ => Err(Refusal::WrongNumberOfArguments),
     }
 }
 
-// The normal form of a word if that is lawful, else the first rule that it breaks.
-fn migrated(format: u128) -> Answer
-    ensures { IsOnly (GivesMigrated format) (Ok result) }
+// `same A B`
+fn same(args: &[String]) -> Result<Answer, Refusal>
+    ensures { Responds (two_words commands.same (map string_bytes args.now)) result }
 {
-    laws::flags::rule_facts();
-    match migrate(format) {
-        Ok(normal_form) => Answer::Word(normal_form),
-        Err(error) => Answer::Outcome(error),
+    match args {
+        [a, b] => Ok(Answer::Sameness(same_format(parse_word(a)?, parse_word(b)?))),
+        _ => Err(Refusal::WrongNumberOfArguments),
+    }
+}
+
+// `options WORD E P`
+fn options(args: &[String]) -> Result<Answer, Refusal>
+    ensures { Responds (word_and_bytes commands.options (map string_bytes args.now)) result }
+{
+    let [word, exponent, point] = args else {
+        return Err(Refusal::WrongNumberOfArguments);
+    };
+    let word = parse_word(word)?;
+    let exponent = parse_byte(exponent)?;
+    let point = parse_byte(point)?;
+    Ok(Answer::Acceptance(is_valid_options_punctuation(word, exponent, point)))
+}
+
+// `migrate WORD`
+fn migrate_word(args: &[String]) -> Result<Answer, Refusal>
+    ensures { Responds (one_word commands.migrate (map string_bytes args.now)) result }
+{
+    match args {
+        [word] => match migrate(parse_word(word)?) {
+            Ok(normal_form) => Ok(Answer::Word(normal_form)),
+            Err(error) => Ok(Answer::Outcome(error)),
+        },
+        _ => Err(Refusal::WrongNumberOfArguments),
     }
 }
 
 // `source WORD`
 fn source(args: &[String]) -> Result<Answer, Refusal>
-    ensures { IsOnly (SourceCallsFor (map string_bytes args.now)) result }
+    ensures { Responds (one_word commands.source (map string_bytes args.now)) result }
 {
     match args {
-        [word] => Ok(source_of(parse_word(word)?)),
+        [word] => {
+            let word = parse_word(word)?;
+            Ok(Answer::Source(word, is_built(word)))
+        }
         _ => Err(Refusal::WrongNumberOfArguments),
     }
 }
 
-// The builder expression of a word, and whether it makes the word itself.
-fn source_of(format: u128) -> Answer
-    ensures { IsOnly (GivesSource format) (Ok result) }
-{
-    Answer::Source(format, is_built(format))
-}
-
 // Parses an argument as a format word, or refuses it.
 fn parse_word(text: &String) -> Result<u128, Refusal>
-    ensures word { OkIff result (IsWordText (string_bytes text.now)) (hex (string_bytes text.now)) }
+    ensures word { result_ok result ≡ word_in (string_bytes text.now) }
     ensures refusal { IfErr result (λ refusal. refusal ≡ Refusal.BadWord) }
 {
     read_word(text.as_str()).ok_or(Refusal::BadWord)
@@ -170,7 +133,7 @@ fn parse_word(text: &String) -> Result<u128, Refusal>
 
 // Parses an argument as a byte, or refuses it.
 fn parse_byte(text: &String) -> Result<u8, Refusal>
-    ensures byte { OkIff result (IsByteText (string_bytes text.now)) (numeral 10 (string_bytes text.now)) }
+    ensures byte { result_ok result ≡ byte_in (string_bytes text.now) }
     ensures refusal { IfErr result (λ refusal. refusal ≡ Refusal.BadByte) }
 {
     read_byte(text.as_str()).ok_or(Refusal::BadByte)

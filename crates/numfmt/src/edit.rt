@@ -1,9 +1,8 @@
 //! Edits as text: `NAME=VALUE`.
 
-ghost use Rattle.std.specs.Prelude.{◌≡◌, ◌≤◌, ◌↔◌, Bool, Some, IsSome, List, length, take, map, string_bytes};
-ghost use Rattle.std.specs.Option.{SomeIff};
-ghost use Rattle.numfmt.specs.EditText.{truth_text, IsByteText, IsOptionalByteText, optional_byte};
-ghost use Rattle.numfmt.specs.EditText.{edit_name, WritesValueOf, IsTextOf, AreTextsOf};
+ghost use Rattle.std.specs.Prelude.{◌≡◌, ◌≤◌, Bool, length, take, map, string_bytes};
+ghost use Rattle.std.specs.Option.{SomeIff, option_map};
+ghost use Rattle.numfmt.specs.EditText.{IsByteText, edit_in, edits_in, named_edit, optional_byte_in, truth_in};
 ghost use Rattle.lexical_util.specs.Digits.{numeral};
 
 use crate::numeral::read_numeral;
@@ -13,8 +12,9 @@ use lexical_util::format_builder::{NonZeroU8, OptionU8};
 // Parses `text` as an edit NAME=VALUE, split at the first `=`. NAME is the name of one of the
 // builder's setters. VALUE is `true` or `false` for a flag or a group of flags, a byte for
 // `mantissa_radix` and `radix`, and `none` or a byte for the other five bytes; 0 means `none`.
+#[tactic(auto, unfolding(crate::specs::EditText::edit_in))]
 fn read_edit(text: &str) -> Option<Edit>
-    ensures { (edit : Edit) → (result ≡ Some edit) ↔ IsTextOf edit text.now }
+    ensures { result ≡ edit_in text.now }
 {
     let (name, value) = text.split_once('=')?;
     named_edit(name, value)
@@ -24,8 +24,7 @@ fn read_edit(text: &str) -> Option<Edit>
 /// long; `None` if any of them is not an edit.
 pub(crate) fn read_edits(texts: &[String], edits: &mut [Edit]) -> Option<()>
     requires { length texts.now ≤ length edits.old }
-    ensures { (list : List Edit) → AreTextsOf list (map string_bytes texts.now)
-        ↔ (IsSome result × (list ≡ take (length texts.now) edits.new)) }
+    ensures { edits_in (map string_bytes texts.now) ≡ option_map (λ _. take (length texts.now) edits.new) result }
 {
     for (i, text) in texts.iter().enumerate() {
         edits[i] = read_edit(text.as_str())?;
@@ -35,7 +34,7 @@ pub(crate) fn read_edits(texts: &[String], edits: &mut [Edit]) -> Option<()>
 
 // The edit with this name and the value that a text writes.
 fn named_edit(name: &str, value: &str) -> Option<Edit>
-    ensures { (edit : Edit) → (result ≡ Some edit) ↔ (name.now ≡ edit_name edit) × WritesValueOf edit value.now }
+    ensures { result ≡ named_edit name.now value.now }
 {
     match name {
         "mantissa_radix" => read_byte(value).map(Edit::MantissaRadix),
@@ -51,7 +50,7 @@ fn named_edit(name: &str, value: &str) -> Option<Edit>
 
 // Parses `true` or `false`.
 fn read_bool(text: &str) -> Option<bool>
-    ensures { (on : Bool) → (result ≡ Some on) ↔ (text.now ≡ truth_text on) }
+    ensures { result ≡ truth_in text.now }
 {
     match text {
         "true" => Some(true),
@@ -62,7 +61,7 @@ fn read_bool(text: &str) -> Option<bool>
 
 // Parses `none` or a byte; 0 means `none`.
 fn read_optional_byte(text: &str) -> Option<OptionU8>
-    ensures { SomeIff result (IsOptionalByteText text.now) (optional_byte text.now) }
+    ensures { result ≡ optional_byte_in text.now }
 {
     match text {
         "none" => Some(None),

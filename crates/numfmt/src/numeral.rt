@@ -1,9 +1,9 @@
 //! Numbers written as digits of a radix.
 
-ghost use Rattle.std.specs.Prelude.{◌≤◌};
+ghost use Rattle.std.specs.Prelude.{◌≤◌, IsTrue};
 ghost use Rattle.std.specs.Option.{SomeIff};
 ghost use Rattle.lexical_util.specs.Digits.{numeral};
-ghost use Rattle.numfmt.specs.Numeral.{IsNumeral};
+ghost use Rattle.numfmt.specs.Numeral.{is_numeral};
 
 use lexical_util::digit::char_to_digit;
 
@@ -13,7 +13,7 @@ use lexical_util::digit::char_to_digit;
 pub(crate) fn read_numeral(digits: &[u8], radix: u32, most: usize) -> Option<u128>
     requires radix { radix ≤ 16 }
     requires most { most ≤ 32 }
-    ensures { SomeIff result (IsNumeral radix most digits.now) (numeral radix digits.now) }
+    ensures { SomeIff result (IsTrue (is_numeral radix most digits.now)) (numeral radix digits.now) }
 {
     if digits.is_empty() || digits.len() > most {
         return None;

@@ -3,7 +3,7 @@
 ghost use Rattle.std.specs.Prelude.{◌≡◌, ◌≤◌, ◌⊎◌, map, string_bytes};
 ghost use Rattle.std.specs.Io.KnownBytes.{Appends};
 ghost use Rattle.numfmt.specs.Response.{Response, status_of, text_of};
-ghost use Rattle.numfmt.specs.Command.{CallsFor, IsOnly};
+ghost use Rattle.numfmt.specs.Command.{Responds, request_of};
 
 use crate::command::response_to;
 use crate::output::Output;
@@ -17,11 +17,9 @@ use crate::response::{exit_status, print};
 pub fn run<W: Output>(args: &[String], out: &mut W) -> u8
     ensures status { result ≤ 3 }
 
-    // The arguments call for one response. The status is 3, and `out` has failed; or it is that of the response,
-    // whose text was written, byte for byte, and then flushed.
-    ensures response { (response : Response) × IsOnly (CallsFor (map string_bytes args.now)) response
-        × (((result ≡ 3) × W.has_failed out.new) ⊎ ((result ≡ status_of response)
-        × Appends (W.contents out.old) (W.contents out.new) (text_of response) × W.is_flushed out.new)) }
+    // The response is the one to what the arguments ask for. The status is 3, and `out` has failed; or it is that of
+    // the response, whose text was written, byte for byte, and then flushed.
+    ensures response { (response : Response) × Responds (request_of (map string_bytes args.now)) response
 {
     let response = response_to(args);
     match print(response, out) {

@@ -2,8 +2,6 @@
 
 ghost use Rattle.std.specs.Prelude.{◌≡◌, ℕ, List};
 ghost use Rattle.std.specs.Option.{SomeIff};
-ghost use Rattle.lexical_util.specs.Digits.{numeral};
-ghost use Rattle.numfmt.specs.Numeral.{IsNumeral};
 ghost use Rattle.numfmt.specs.WordText.{IsWordText, IsPrintedForm, hex, printed};
 
 use crate::numeral::read_numeral;
@@ -15,16 +13,9 @@ pub fn read_word(text: &str) -> Option<u128>
     ensures { SomeIff result (IsWordText text.now) (hex text.now) }
 {
     match text.as_bytes() {
-        [b'0', b'x', digits @ ..] => read_digits(digits),
+        [b'0', b'x', digits @ ..] => read_numeral(digits, 16, 32),
         _ => None,
     }
-}
-
-// 1 to 32 hexadecimal digits.
-fn read_digits(digits: &[u8]) -> Option<u128>
-    ensures { SomeIff result (IsNumeral 16 32 digits.now) (numeral 16 digits.now) }
-{
-    read_numeral(digits, 16, 32)
 }
 
 /// The text of `word` as it is printed: `0x` and 32 hexadecimal digits with uppercase letters.

@@ -1,8 +1,21 @@
--- The word comes first, and the texts of the edits after it.
-use Rattle.std.proofs.Common.{string_bytes, arith}
-use Rattle.numfmt.proofs.CommandLemmas.{first_and_rest}
+-- The word comes first, and then the texts of the edits.
+use Rattle.std.proofs.Common.{◌≡◌, ◌≤◌, ◌-◌, true, string_bytes, drop, length, map, nat_le, take, ap, arith}
+use Rattle.std.proofs.lemmas.Bool.{le-leb}
+use Rattle.std.proofs.lemmas.List.{length-map}
+use Rattle.numfmt.specs.declared.response.Answer.TheVariants.{Word}
+use Rattle.numfmt.proofs.ItemLemmas.{first_and_rest}
 use Rattle.numfmt.proofs.command.edit.Goals as goal
 
-pub returns-in-len1-up : goal.returns-in-len1-up
-returns-in-len1-up c =
-    rw (first_and_rest string_bytes c.args.args.now _ (omega arith) c.word-item.is) c.edit_by_texts.ensures
+pub returns : goal.returns
+returns c =
+    let args = c.args.args.now in
+    let texts = take (length args - 1) (drop 1 args) in
+    let few : nat_le (length (map string_bytes texts)) 64 ≡ true =
+    le-leb _ _ (omega (arith, length-map texts string_bytes)) in
+    let edits = rw c.in_ok-ok_or.ensures.ok_part at c.read_edits.ensures in
+    rw (
+      first_and_rest string_bytes args _ (omega arith) c.word-item.is,
+      few,
+      ← c.in_ok-format.ensures.word,
+      edits,
+    ) (ap Word c.edit_word.ensures.word)

@@ -1,9 +1,10 @@
 -- After 32 digits the text is the printed one; the other clauses are laws of what is printed.
-use Rattle.std.proofs.Common.{◌≡◌, ◌∙◌, sym, ap, subst, arith}
+use Rattle.std.proofs.Common.{◌≡◌, ◌%◌, ◌∙◌, sym, ap, subst, arith}
+use Rattle.lexical_util.specs.Digits.{digit_characters}
 use Rattle.numfmt.specs.WordText.{IsPrintedForm, hex}
-use Rattle.numfmt.proofs.DigitLemmas.{uppercase_digit-from_library}
+use Rattle.std.proofs.lemmas.Option.{get_or_from_slice_get}
 use Rattle.numfmt.proofs.TextLemmas.{HasWritten-none, HasWritten-next, printed-written, IsPrintedForm-printed}
-use Rattle.numfmt.proofs.TextLemmas.{hex-printed, IsWordText-printed, IsPrintedForm-unique}
+use Rattle.numfmt.proofs.TextLemmas.{hex-printed, IsPrintedForm-unique}
 use Rattle.numfmt.proofs.word.word_text.Goals as goal
 
 pub loop-count-init : goal.loop-count-init
@@ -12,7 +13,8 @@ loop-count-init c = HasWritten-none c.args.word
 pub loop-count-preserved : goal.loop-count-preserved
 loop-count-preserved c =
     HasWritten-next _ _ _ _ _ c.loop-count.invariant c.loop-count-test.true
-    (uppercase_digit-from_library _ _ (omega arith) c.digit_to_char.ensures.character)
+    (sym (get_or_from_slice_get digit_characters (c.loop-count.rest % 16) c.digit_to_char.result 0
+    c.digit_to_char.ensures.character))
 
 pub returns-clause-text : goal.returns-clause-text
 returns-clause-text c =
@@ -26,7 +28,7 @@ pub returns-clause-value : goal.returns-clause-value
 returns-clause-value c = ap hex (returns-clause-text c) ∙ hex-printed c.args.word c.ranges.word.fits
 
 pub returns-clause-read_back : goal.returns-clause-read_back
-returns-clause-read_back c = IsWordText-printed _ (returns-clause-form c)
+returns-clause-read_back c = IsPrintedForm.word (returns-clause-form c)
 
 pub returns-clause-only : goal.returns-clause-only
 returns-clause-only c text form same = IsPrintedForm-unique _ _ form (returns-clause-form c)

@@ -1,0 +1,28 @@
+-- Lists of a known length, by their items.
+use Rattle.std.proofs.Common.{◌≡◌, ◌≤◌, ◌-◌, ℕ, List, [], ◌∷◌, length, get_or, map, take, drop, take_all, sym, ap, ◌∙◌, arith}
+
+-- one item
+pub one : {X Y : Type 0} (f : X → Y) (xs : List X) (a : X) → length xs ≡ 1 → a ≡ get_or xs 0 a → map f xs ≡ f a ∷ []
+one f [] a long e = absurd (omega (arith, long))
+one f (x ∷ []) a long e = (λ i. f (sym e i) ∷ [])
+one f (x ∷ y ∷ xs) a long e = absurd (omega (arith, long))
+
+-- two items
+pub two : {X Y : Type 0} (f : X → Y) (xs : List X) (a b : X) → length xs ≡ 2 → a ≡ get_or xs 0 a → b ≡ get_or xs 1 b
+    → map f xs ≡ f a ∷ f b ∷ []
+two f [] a b long e e' = absurd (omega (arith, long))
+two f (x ∷ xs) a b long e e' = (λ i. f (sym e i) ∷ one f xs b (omega (arith, long)) e' i)
+
+-- three items
+pub three : {X Y : Type 0} (f : X → Y) (xs : List X) (a b c : X) → length xs ≡ 3 → a ≡ get_or xs 0 a → b ≡ get_or xs 1 b
+    → c ≡ get_or xs 2 c → map f xs ≡ f a ∷ f b ∷ f c ∷ []
+three f [] a b c long e e' e'' = absurd (omega (arith, long))
+three f (x ∷ xs) a b c long e e' e'' = (λ i. f (sym e i) ∷ two f xs b c (omega (arith, long)) e' e'' i)
+
+-- one item or more
+pub first_and_rest : {X Y : Type 0} (f : X → Y) (xs : List X) (x : X) → 1 ≤ length xs → x ≡ get_or xs 0 x
+    → map f xs ≡ f x ∷ map f (take (length xs - 1) (drop 1 xs))
+first_and_rest f [] x some is = absurd (omega (arith, some))
+first_and_rest f (y ∷ ys) x some is =
+    ap (λ z. f z ∷ map f ys) (sym is) ∙ ap (λ zs. f x ∷ map f zs)
+    (sym (take_all (length (y ∷ ys) - 1) ys (omega arith)))

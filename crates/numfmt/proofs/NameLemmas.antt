@@ -1,0 +1,59 @@
+-- Finding what has a name in a table.
+use Rattle.std.proofs.Common.{◌≡◌, ◌≢◌, ◌↔◌, Bool, false, ℕ, List, [], ◌∷◌, ◌++◌, Option, None, Some, map, refl, sym, ◌∙◌, subst}
+use Rattle.std.specs.List.{AllByRecursion, find}
+use Rattle.std.specs.Option.{option_and_then, option_map}
+use Rattle.std.specs.Str.{bytes_eq}
+use Rattle.std.proofs.lemmas.Bool.{cond-false, false_from_ne_true}
+use Rattle.std.proofs.lemmas.Slice.Eq.{bytes_eq-Decides}
+use Rattle.lexical_util.specs.SetterNames.{setter_name}
+use Rattle.lexical_util.specs.declared.edits.FlagSetter.{FlagSetter}
+use Rattle.lexical_util.specs.declared.edits.FlagSetter.TheVariants as setters
+use Rattle.lexical_util.specs.declared.edits.TheConstants.{SETTERS}
+use Rattle.lexical_util.specs.declared.edits.Edit.TheVariants.{Flag}
+use Rattle.numfmt.specs.EditText.{byte_edits, flag_edit, named_edit, truth_in}
+
+differ : (a b : List ℕ) → a ≢ b → bytes_eq a b ≡ false
+differ a b other = false_from_ne_true (bytes_eq a b) (λ same. other ((bytes_eq-Decides a b).0 same))
+
+-- entries that have another name are passed over
+pub unnamed : {A : Type 0} (name : List ℕ) (entries rest : List (List ℕ × A))
+    → AllByRecursion (λ entry. name ≢ entry.0) entries
+    → find (λ entry. bytes_eq name entry.0) (entries ++ rest) ≡ find (λ entry. bytes_eq name entry.0) rest
+unnamed name [] rest others = refl
+unnamed name (entry ∷ entries) rest others =
+    cond-false _ _ _ (differ name entry.0 others.0) ∙ unnamed name entries rest others.1
+
+-- the setter of a name is found among all of them: each case is computed
+setter_found : (setter : FlagSetter)
+    → find (λ edit. bytes_eq (setter_name setter) edit.0) (map flag_edit SETTERS) ≡ Some (flag_edit setter)
+setter_found setters.RequiredIntegerDigits = refl
+setter_found _ = refl
+
+none_found : (name : List ℕ) (list : List FlagSetter) → ((setter : FlagSetter) → setter_name setter ≢ name)
+    → find (λ edit. bytes_eq name edit.0) (map flag_edit list) ≡ None
+none_found name [] others = refl
+none_found name (setter ∷ list) others =
+    cond-false _ _ _ (differ name (setter_name setter) (λ is. others setter (sym is))) ∙ none_found name list others
+
+flag_found : (name : List ℕ) (found : Option FlagSetter)
+    → ((setter : FlagSetter) → (found ≡ Some setter) ↔ (setter_name setter ≡ name))
+    → find (λ edit. bytes_eq name edit.0) (map flag_edit SETTERS) ≡ option_map flag_edit found
+flag_found name None exact =
+    none_found name SETTERS (λ setter is. let wrong : None ≡ Some setter = (exact setter).1 is in cc)
+flag_found name (Some setter) exact =
+    subst (λ name. find (λ edit. bytes_eq name edit.0) (map flag_edit SETTERS) ≡ Some (flag_edit setter))
+    ((exact setter).0 refl) (setter_found setter)
+
+-- the edit of a name that is none of the bytes'
+pub named_flag : (name value : List ℕ) (found : Option FlagSetter)
+    → AllByRecursion (λ edit. name ≢ edit.0) byte_edits
+    → ((setter : FlagSetter) → (found ≡ Some setter) ↔ (setter_name setter ≡ name))
+    → named_edit name value ≡ option_and_then (λ setter. option_map (Flag setter) (truth_in value)) found
+named_flag name value found others exact =
+    let is = unnamed name byte_edits (map flag_edit SETTERS) others ∙ flag_found name found exact in
+    rw is (flag_value found)
+  where
+    flag_value : (found : Option FlagSetter) → option_and_then (λ edit. edit.1 value) (option_map flag_edit found)
+        ≡ option_and_then (λ setter. option_map (Flag setter) (truth_in value)) found
+    flag_value None = refl
+    flag_value (Some setter) = refl
