@@ -1,5 +1,5 @@
 -- Texts of edits that are read one after the other.
-use Rattle.std.proofs.Common.{◌≡◌, ℕ, ◌+◌, ◌<◌, ◌≤◌, ◌&&◌, Bool, true, Option, None, Some, is_some, List, [], ◌++◌, ◌∷◌, length}
+use Rattle.std.proofs.Common.{◌≡◌, ℕ, ◌+◌, ◌<◌, ◌≤◌, Bool, true, None, Some, is_some, List, [], ◌++◌, ◌∷◌, length}
 use Rattle.std.proofs.Common.{get_or, set, take, sym, ap, ◌∙◌, take_all}
 use Rattle.std.specs.Bool.{then_some}
 use Rattle.std.specs.List.{cons_option, filter_map, list_all}

@@ -1,5 +1,5 @@
 -- Lists of a known length, by their items.
-use Rattle.std.proofs.Common.{◌≡◌, ◌≤◌, ◌-◌, ℕ, List, [], ◌∷◌, length, get_or, map, take, drop, take_all, sym, ap, ◌∙◌, arith}
+use Rattle.std.proofs.Common.{◌≡◌, ◌≤◌, ◌-◌, List, [], ◌∷◌, length, get_or, map, take, drop, take_all, sym, ap, ◌∙◌, arith}
 
 -- one item
 pub one : {X Y : Type 0} (f : X → Y) (xs : List X) (a : X) → length xs ≡ 1 → a ≡ get_or xs 0 a → map f xs ≡ f a ∷ []
@@ -12,12 +12,6 @@ pub two : {X Y : Type 0} (f : X → Y) (xs : List X) (a b : X) → length xs ≡
     → map f xs ≡ f a ∷ f b ∷ []
 two f [] a b long e e' = absurd (omega (arith, long))
 two f (x ∷ xs) a b long e e' = (λ i. f (sym e i) ∷ one f xs b (omega (arith, long)) e' i)
-
--- three items
-pub three : {X Y : Type 0} (f : X → Y) (xs : List X) (a b c : X) → length xs ≡ 3 → a ≡ get_or xs 0 a → b ≡ get_or xs 1 b
-    → c ≡ get_or xs 2 c → map f xs ≡ f a ∷ f b ∷ f c ∷ []
-three f [] a b c long e e' e'' = absurd (omega (arith, long))
-three f (x ∷ xs) a b c long e e' e'' = (λ i. f (sym e i) ∷ two f xs b c (omega (arith, long)) e' e'' i)
 
 -- one item or more
 pub first_and_rest : {X Y : Type 0} (f : X → Y) (xs : List X) (x : X) → 1 ≤ length xs → x ≡ get_or xs 0 x

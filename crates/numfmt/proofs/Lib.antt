@@ -1,5 +1,6 @@
 mod NumeralLemmas
 mod TextLemmas
+mod CommandLemmas
 mod ItemLemmas
 mod NameLemmas
 mod EditsLemmas

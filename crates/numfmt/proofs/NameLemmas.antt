@@ -1,5 +1,5 @@
 -- Finding what has a name in a table.
-use Rattle.std.proofs.Common.{◌≡◌, ◌≢◌, ◌↔◌, Bool, false, ℕ, List, [], ◌∷◌, ◌++◌, Option, None, Some, map, refl, sym, ◌∙◌, subst}
+use Rattle.std.proofs.Common.{◌≡◌, ◌≢◌, ◌↔◌, false, ℕ, codes, List, [], ◌∷◌, ◌++◌, Option, None, Some, map, refl, sym, ◌∙◌, subst}
 use Rattle.std.specs.List.{AllByRecursion, find}
 use Rattle.std.specs.Option.{option_and_then, option_map}
 use Rattle.std.specs.Str.{bytes_eq}
@@ -46,10 +46,12 @@ flag_found name (Some setter) exact =
 
 -- the edit of a name that is none of the bytes'
 pub named_flag : (name value : List ℕ) (found : Option FlagSetter)
-    → AllByRecursion (λ edit. name ≢ edit.0) byte_edits
+    → name ≢ codes "mantissa_radix" → name ≢ codes "radix" → name ≢ codes "digit_separator" → name ≢ codes "base_prefix"
+    → name ≢ codes "base_suffix" → name ≢ codes "exponent_base" → name ≢ codes "exponent_radix"
     → ((setter : FlagSetter) → (found ≡ Some setter) ↔ (setter_name setter ≡ name))
     → named_edit name value ≡ option_and_then (λ setter. option_map (Flag setter) (truth_in value)) found
-named_flag name value found others exact =
+named_flag name value found a b c d e f g exact =
+    let others : AllByRecursion (λ edit. name ≢ edit.0) byte_edits = (a, (b, (c, (d, (e, (f, (g, tt))))))) in
     let is = unnamed name byte_edits (map flag_edit SETTERS) others ∙ flag_found name found exact in
     rw is (flag_value found)
   where

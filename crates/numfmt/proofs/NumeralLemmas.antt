@@ -73,8 +73,7 @@ pub HasRead-whole : (radix most : ℕ) (digits : List ℕ) (count number : ℕ) 
     → length digits ≤ count → 1 ≤ length digits → length digits ≤ most
     → IsTrue (is_numeral radix most digits) × (number ≡ numeral radix digits)
 HasRead-whole radix most digits count number read done some few =
-    let all : take count digits ≡ digits = take_all count digits done in
-    (
+    let all : take count digits ≡ digits = take_all count digits done in (
       numeral_from radix most digits (record { some = some; few = few; all_digits = rw all at read.all_digits }),
       read.sum ∙ ap (numeral radix) all,
     )

@@ -1,9 +1,9 @@
 -- What `word_text` has written so far, and that no other text has the same form and number.
-use Rattle.std.proofs.Common.{◌≡◌, ℕ, zero, suc, ◌+◌, ◌-◌, ◌*◌, ◌/◌, ◌%◌, ◌^◌, ◌<◌, ◌==◌, ◌&&◌, Bool, true, false, not, IsTrue, bytes_eq}
+use Rattle.std.proofs.Common.{◌≡◌, ℕ, zero, suc, ◌+◌, ◌-◌, ◌*◌, ◌/◌, ◌%◌, ◌^◌, ◌<◌, ◌==◌, ◌&&◌, Bool, true, not, IsTrue, bytes_eq}
 use Rattle.std.proofs.Common.{List, [], ◌∷◌, ◌++◌, map, take, drop, length, codes, replicate, slice_index_or, refl, sym, ap}
 use Rattle.std.proofs.Common.{◌∙◌, subst, arith, cond, inl, inr, nat_lt, unwrap_or, Some, None}
 use Rattle.std.specs.Int.Digits.{number_from_digits_after}
-use Rattle.std.specs.List.{All, AllPass, position_or_len}
+use Rattle.std.specs.List.{All, position_or_len}
 use Rattle.std.proofs.Math.ListN.{set}
 use Rattle.std.proofs.Math.Nat.{pow-suc, div-div-eq-div-mul}
 use Rattle.std.proofs.lemmas.Bool.{agree_below_at, and_from, and_parts, cases_Bool, cond-false, eqb-true, ltb-true, not-true}
@@ -14,7 +14,7 @@ use Rattle.std.proofs.lemmas.List.Sums.{AllPass-from_list_all, list_all-from_All
 use Rattle.std.proofs.lemmas.List.Elements.{All-cons, All-head, All-nil, All-tail, All-weaker}
 use Rattle.lexical_util.specs.Digits.{digit_characters, is_lowercase, uppercase, value}
 use Rattle.numfmt.specs.Numeral.{is_digit}
-use Rattle.numfmt.specs.WordText.{hex, hex_digits, is_word_text, IsWordText, IsPrintedForm, digit_at, last_digits, printed}
+use Rattle.numfmt.specs.WordText.{hex, hex_digits, IsPrintedForm, digit_at, last_digits, printed}
 use Rattle.numfmt.proofs.NumeralLemmas.{numeral_from, numeral_parts}
 
 -- whether a byte is a hexadecimal digit and no lowercase letter

@@ -1,5 +1,5 @@
 -- The commands: what arguments ask for, and what the answer to it is.
-use Rattle.std.specs.Prelude.{ℕ, ◌≡◌, ◌≤◌, ◌↔◌, ⊤, IsTrue, if◌then◌else◌, List, [], ◌∷◌, length, find, codes, bytes_eq, nat_le}
+use Rattle.std.specs.Prelude.{ℕ, ◌≡◌, ◌↔◌, IsTrue, if◌then◌else◌, List, [], ◌∷◌, length, find, codes, bytes_eq, nat_le}
 use Rattle.std.specs.Prelude.{Option, None, Some, Result, Ok, Err}
 use Rattle.std.specs.Result.{IsOkAnd, MatchResult}
 use Rattle.lexical_util.specs.Record.{IsBuilt}

@@ -1,11 +1,22 @@
-//! For each predicate, one case that holds and one that does not. The functions have empty bodies and are not called.
+//! That arguments have one response; and for each predicate, one case that holds and one that does not. The functions
+//! are not called.
 
-ghost use Rattle.std.specs.Prelude.{codes, Ok, Err};
-ghost use Rattle.numfmt.specs.Command.{Answers, Responds};
+ghost use Rattle.std.specs.Prelude.{◌≡◌, ℕ, List, codes, Ok, Err};
+ghost use Rattle.numfmt.specs.Command.{Responds, request_of};
 ghost use Rattle.numfmt.specs.Command as commands;
 ghost use Rattle.numfmt.specs.WordText.{IsPrintedForm};
 ghost use Rattle.numfmt.specs.declared.response.Answer.TheVariants as answers;
-ghost use Rattle.numfmt.specs.declared.response.Refusal.TheVariants as refusals;
+ghost use Rattle.numfmt.specs.Response.{Response};
+
+use lexical_util::laws;
+
+// No arguments have two responses.
+fn response_facts()
+    ensures one_response { (args : List (List ℕ)) → (a b : Response)
+        → Responds (request_of args) a → Responds (request_of args) b → a ≡ b }
+{
+    laws::flags::rule_facts();
+}
 
 // The form in which words are printed.
 #[tactic(auto, unfolding(lexical_util::specs::Unfoldable::on_literals))]

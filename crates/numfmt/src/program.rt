@@ -20,6 +20,8 @@ pub fn run<W: Output>(args: &[String], out: &mut W) -> u8
     // The response is the one to what the arguments ask for. The status is 3, and `out` has failed; or it is that of
     // the response, whose text was written, byte for byte, and then flushed.
     ensures response { (response : Response) × Responds (request_of (map string_bytes args.now)) response
+        × (((result ≡ 3) × W.has_failed out.new) ⊎ ((result ≡ status_of response)
+        × Appends (W.contents out.old) (W.contents out.new) (text_of response) × W.is_flushed out.new)) }
 {
     let response = response_to(args);
     match print(response, out) {

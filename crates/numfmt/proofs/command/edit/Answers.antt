@@ -1,5 +1,5 @@
 -- The word comes first, and then the texts of the edits.
-use Rattle.std.proofs.Common.{◌≡◌, ◌≤◌, ◌-◌, true, string_bytes, drop, length, map, nat_le, take, ap, arith}
+use Rattle.std.proofs.Common.{◌≡◌, ◌-◌, true, string_bytes, drop, length, map, nat_le, take, ap, arith}
 use Rattle.std.proofs.lemmas.Bool.{le-leb}
 use Rattle.std.proofs.lemmas.List.{length-map}
 use Rattle.numfmt.specs.declared.response.Answer.TheVariants.{Word}

@@ -1,9 +1,5 @@
 -- A name that is none of the bytes' is that of a flag, a group, or no setter.
-use Rattle.std.proofs.Common.{◌≡◌, sym, ap, ◌∙◌}
-use Rattle.std.specs.Option.{option_and_then, option_map}
-use Rattle.lexical_util.specs.declared.edits.FlagSetter.{FlagSetter}
-use Rattle.lexical_util.specs.declared.edits.Edit.TheVariants.{Flag}
-use Rattle.numfmt.specs.EditText.{named_edit, truth_in}
+use Rattle.std.proofs.Common.{sym, ◌∙◌}
 use Rattle.numfmt.proofs.NameLemmas.{named_flag}
 use Rattle.numfmt.proofs.edit.named_edit.Goals as goal
 
@@ -11,16 +7,16 @@ pub returns-in_err-from_name-in_default : goal.returns-in_err-from_name-in_defau
 returns-in_err-from_name-in_default c =
     let not = c.in_default in
     let flag = named_flag c.args.name.now c.args.value.now c.from_name.result
-    (not.not-mantissa_radix, (not.not-radix, (not.not-digit_separator, (not.not-base_prefix, (not.not-base_suffix,
-    (not.not-exponent_base, (not.not-exponent_radix, tt))))))) c.from_name.ensures in
+    not.not-mantissa_radix not.not-radix not.not-digit_separator not.not-base_prefix
+    not.not-base_suffix not.not-exponent_base not.not-exponent_radix c.from_name.ensures in
     c.from_residual.ensures ∙ sym (rw c.in_err-from_name-in_default.was at flag)
 
 pub returns-in_err-read_bool-in_default : goal.returns-in_err-read_bool-in_default
 returns-in_err-read_bool-in_default c =
     let not = c.in_default in
     let flag = named_flag c.args.name.now c.args.value.now c.from_name.result
-    (not.not-mantissa_radix, (not.not-radix, (not.not-digit_separator, (not.not-base_prefix, (not.not-base_suffix,
-    (not.not-exponent_base, (not.not-exponent_radix, tt))))))) c.from_name.ensures in
+    not.not-mantissa_radix not.not-radix not.not-digit_separator not.not-base_prefix
+    not.not-base_suffix not.not-exponent_base not.not-exponent_radix c.from_name.ensures in
     c.from_residual-in_err-read_bool-in_default.ensures
     ∙ sym (rw (c.in_ok-from_name-in_default.was, ← c.read_bool.ensures, c.in_err-read_bool-in_default.was) at flag)
 
@@ -28,6 +24,6 @@ pub returns-in_ok-read_bool-in_default : goal.returns-in_ok-read_bool-in_default
 returns-in_ok-read_bool-in_default c =
     let not = c.in_default in
     let flag = named_flag c.args.name.now c.args.value.now c.from_name.result
-    (not.not-mantissa_radix, (not.not-radix, (not.not-digit_separator, (not.not-base_prefix, (not.not-base_suffix,
-    (not.not-exponent_base, (not.not-exponent_radix, tt))))))) c.from_name.ensures in
+    not.not-mantissa_radix not.not-radix not.not-digit_separator not.not-base_prefix
+    not.not-base_suffix not.not-exponent_base not.not-exponent_radix c.from_name.ensures in
     sym (rw (c.in_ok-from_name-in_default.was, ← c.read_bool.ensures, c.in_ok-read_bool-in_default.was) at flag)

@@ -1,5 +1,5 @@
 -- Each text is read into the element of its index.
-use Rattle.std.proofs.Common.{◌≡◌, [], get_or, map, string_bytes, length, refl, sym, ap, ◌∙◌, arith}
+use Rattle.std.proofs.Common.{◌≡◌, [], string_bytes, length, refl, sym, ap, ◌∙◌, arith}
 use Rattle.std.proofs.lemmas.List.{length-map, get_or-map}
 use Rattle.numfmt.specs.EditText.{edit_in}
 use Rattle.numfmt.proofs.EditsLemmas.{HaveRead-next, HaveRead-all, none_read}

@@ -1,0 +1,202 @@
+//! The program over lists of arguments and writers.
+
+use crate::program::run;
+use std::alloc::{AllocError, Global};
+use std::io::{self, Error, ErrorKind, Write};
+use std::process::Abort;
+use std::test::Fail;
+
+const STANDARD: &str = "0x00000A0000000000000000000000000C";
+
+const DECIMAL: &str = "0x0A0A0A0000000000000000000000000C";
+
+const HEXADECIMAL: &str = "0x1010100000000000000000000000000C";
+
+const ALL_ONES: &str = "0xFFFFFFFFFFFFFFFFFFFFFFFFFFFFFFFF";
+
+const RESERVED_BIT: &str = "0x00000A0000000000000000008000000C";
+
+const PREFIX_E: &str = "0x00000A0045000000000000000001000C";
+
+const STANDARD_FIELDS: &str = "flags 0x0000000000000000000000000000000C
+digit_separator 0
+base_prefix 0
+base_suffix 0
+mantissa_radix 10
+exponent_base 10
+exponent_radix 10";
+
+const ALL_FIELDS: &str = "flags 0x000000000000000000001FFF0003FFFF
+digit_separator 255
+base_prefix 255
+base_suffix 255
+mantissa_radix 255
+exponent_base 255
+exponent_radix 255";
+
+const ONE_TO_SIX: &str = "flags 0x0000000000000000000000000000000C
+digit_separator 1
+base_prefix 2
+base_suffix 3
+mantissa_radix 4
+exponent_base 5
+exponent_radix 6";
+
+// Arguments, the text without its last newline, and the exit status.
+#[rattlefmt::skip]
+const RUNS: [(&[&str], &str, u8); 47] = [
+    (&[], STANDARD_FIELDS, 0),
+    (&["show", STANDARD], STANDARD_FIELDS, 0),
+    (&["show", ALL_ONES], ALL_FIELDS, 0),
+    (&["show", "0x0605040302000001000000000000000C"], ONE_TO_SIX, 0),
+    (&["edit", "0xc", "radix=16", "digit_separator=95", "integer_digit_separator_flags=true"], "0x000010000000005F000002490000000C", 0),
+    (&["edit", STANDARD, "radix=007"], "0x0A0A070000000000000000000000000C", 0),
+    (&["edit", STANDARD, "digit_separator=0", "exponent_base=none"], "0x0A000A0000000000000000000000000C", 0),
+    (&["edit", "0x100000000000", "special_digit_separator=false"], "0x00000000000000000000000000000000", 0),
+    (&["check", STANDARD], "'not actually an error'", 0),
+    (&["check", "0xC"], "lexical number format error: 'invalid radix for mantissa digits'", 1),
+    (&["check", RESERVED_BIT], "lexical number format error: 'invalid flags enabled without the format feature'", 1),
+    (&["same", STANDARD, DECIMAL], "same", 0),
+    (&["same", "0x0", "0xC"], "different", 1),
+    (&["options", HEXADECIMAL, "101", "46"], "refused", 1),
+    (&["options", HEXADECIMAL, "94", "46"], "accepted", 0),
+    (&["options", PREFIX_E, "101", "46"], "refused", 1),
+    (&["options", PREFIX_E, "46", "101"], "accepted", 0),
+    (&["migrate", RESERVED_BIT], DECIMAL, 0),
+    (&["migrate", "0x0"], "lexical number format error: 'invalid radix for mantissa digits'", 1),
+    (&["source", STANDARD], "NumberFormatBuilder::new().build_unchecked()", 0),
+    (&["source", RESERVED_BIT], "NumberFormatBuilder::new().build_unchecked()", 1),
+    (&[""], "numfmt: unknown command", 2),
+    (&["show"], "numfmt: wrong number of arguments", 2),
+    (&["edit"], "numfmt: wrong number of arguments", 2),
+    (&["check", STANDARD, STANDARD], "numfmt: wrong number of arguments", 2),
+    (&["same", STANDARD], "numfmt: wrong number of arguments", 2),
+    (&["options", STANDARD, "101"], "numfmt: wrong number of arguments", 2),
+    (&["migrate"], "numfmt: wrong number of arguments", 2),
+    (&["show", "0x"], "numfmt: bad word", 2),
+    (&["show", "0x000000000000000000000000000000000"], "numfmt: bad word", 2),
+    (&["show", "0X1"], "numfmt: bad word", 2),
+    (&["show", "12"], "numfmt: bad word", 2),
+    (&["check", "0xg"], "numfmt: bad word", 2),
+    (&["same", "0x1", "0x"], "numfmt: bad word", 2),
+    (&["options", "0x", "1", "2"], "numfmt: bad word", 2),
+    (&["edit", "0xC", "radix=256"], "numfmt: bad edit", 2),
+    (&["edit", "0xC", "radix"], "numfmt: bad edit", 2),
+    (&["edit", STANDARD, "radix="], "numfmt: bad edit", 2),
+    (&["edit", STANDARD, "radix=0010"], "numfmt: bad edit", 2),
+    (&["edit", STANDARD, "radix=none"], "numfmt: bad edit", 2),
+    (&["edit", STANDARD, "=true"], "numfmt: bad edit", 2),
+    (&["edit", STANDARD, "no_special=True"], "numfmt: bad edit", 2),
+    (&["edit", STANDARD, "no_special=true="], "numfmt: bad edit", 2),
+    (&["edit", STANDARD, "STANDARD=true"], "numfmt: bad edit", 2),
+    (&["options", STANDARD, "256", "46"], "numfmt: bad byte", 2),
+    (&["options", STANDARD, "e", "46"], "numfmt: bad byte", 2),
+    (&["options", STANDARD, "101", "none"], "numfmt: bad byte", 2),
+];
+
+#[test]
+fn prints_each_text_with_its_status(rt: HostRuntime) -> Result<(), Fail> {
+    for (args, text, status) in RUNS {
+        check_run(&rt, rt.alloc(), args, text, status)?;
+    }
+    Ok(())
+}
+
+// One edit more is refused before the word is looked at.
+#[test]
+fn takes_64_edits(rt: HostRuntime) -> Result<(), Fail> {
+    let mut args = ["radix=16"; 67];
+    args[0] = "edit";
+    args[1] = STANDARD;
+    check_run(
+        &rt,
+        rt.alloc(),
+        &args[..66],
+        "0x0A0A100000000000000000000000000C",
+        0,
+    )?;
+    args[1] = "0x";
+    check_run(&rt, rt.alloc(), &args, "numfmt: too many edits", 2)
+}
+
+// A run with these arguments writes the text and a newline, and returns the status.
+fn check_run(
+    rt: &impl Abort,
+    alloc: Global,
+    args: &[&str],
+    text: &str,
+    status: u8,
+) -> Result<(), Fail> {
+    let mut out = Vec::new(alloc);
+    let got = run(arguments(alloc, args)?.as_slice(), &mut out);
+    let want = format!(in alloc; "{text}\n")?;
+    let line = args.join(alloc, " ")?;
+    assert_eq!(rt; out.as_slice(), want.as_bytes(), "for {line}");
+    assert_eq!(rt; got, status, "for {line}");
+    Ok(())
+}
+
+fn arguments(alloc: Global, args: &[&str]) -> Result<Vec<String>, AllocError> {
+    args.iter()
+        .map(|text| text.to_string(alloc))
+        .try_collect(alloc)
+}
+
+// A writer that counts its calls; the one with the number `failing_call` fails.
+#[derive(Drop)]
+struct Writer {
+    failing_call: u32,
+    calls: u32,
+    flushed: bool,
+}
+
+impl Writer {
+    fn call(&mut self, is_flush: bool) -> io::Result<()> {
+        self.calls = self.calls.saturating_add(1);
+        self.flushed = is_flush;
+        if self.calls == self.failing_call {
+            return Err(Error::from(ErrorKind::Other));
+        }
+        Ok(())
+    }
+}
+
+impl Write for Writer {
+    fn write(&mut self, bytes: &[u8]) -> io::Result<usize> {
+        self.call(false)?;
+        Ok(bytes.len())
+    }
+
+    fn flush(&mut self) -> io::Result<()> {
+        self.call(true)
+    }
+}
+
+// Each call fails in turn: the status is 3, and no call follows. The last call is the flush.
+#[test]
+fn ends_at_a_call_that_fails(rt: HostRuntime) -> Result<(), Fail> {
+    for (args, _, status) in RUNS {
+        let line = args.join(rt.alloc(), " ")?;
+        let args = arguments(rt.alloc(), args)?;
+        let mut ended = false;
+        for failing_call in 1..100u32 {
+            let mut out = Writer {
+                failing_call,
+                calls: 0,
+                flushed: false,
+            };
+            let got = run(args.as_slice(), &mut out);
+            ended = out.calls < failing_call;
+            if ended {
+                assert!(rt; got == status && out.flushed && out.calls > 1, "for {line}");
+                break;
+            }
+            assert!(rt;
+                got == 3 && out.calls == failing_call,
+                "for {line} at call {failing_call}"
+            );
+        }
+        assert!(rt; ended, "for {line}");
+    }
+    Ok(())
+}
