@@ -1,6 +1,6 @@
 // Made by rust/erase from crates/numfmt/src/command.rt: change that file.
 
-//! The commands: which response the program's arguments call for.
+//! The commands: what the program's arguments ask for, and the response to it.
 
 use crate::edit::{read_byte, read_edits};
 use crate::response::{Answer, Refusal};
@@ -12,7 +12,7 @@ use peltzivar::word::{format_error, STANDARD};
 // The maximum number of edits in one command.
 const MAX_EDITS: usize = 64;
 
-/// The response that `args`, the program's arguments without its name, call for: an answer, or the
+/// The response to `args`, the program's arguments without its name: the answer to the command, or the
 /// first reason to refuse them. The reasons are tried in this order: an unknown command, a wrong
 /// number of arguments, too many edits, then each argument from left to right.
 pub fn response_to(args: &[String]) -> Result<Answer, Refusal> {
@@ -39,6 +39,20 @@ fn show(args: &[String]) -> Result<Answer, Refusal> {
     }
 }
 
+// `edit WORD NAME=VALUE ..`
+fn edit(args: &[String]) -> Result<Answer, Refusal> {
+    let [word, texts @ ..] = args else {
+        return Err(Refusal::WrongNumberOfArguments);
+    };
+    if texts.len() > MAX_EDITS {
+        return Err(Refusal::TooManyEdits);
+    }
+    let mut edits = [Edit::Radix(0); MAX_EDITS];
+    let format = parse_word(word)?;
+    read_edits(texts, &mut edits).ok_or(Refusal::BadEdit)?;
+    Ok(Answer::Word(edit_word(format, &edits[..texts.len()])))
+}
+
 // `check WORD`
 fn check(args: &[String]) -> Result<Answer, Refusal> {
     match args {
@@ -50,29 +64,19 @@ fn check(args: &[String]) -> Result<Answer, Refusal> {
 // `same A B`
 fn same(args: &[String]) -> Result<Answer, Refusal> {
     match args {
-        [a, b] => same_words(a, b),
+        [a, b] => Ok(Answer::Sameness(same_format(
+            parse_word(a)?,
+            parse_word(b)?,
+        ))),
         _ => Err(Refusal::WrongNumberOfArguments),
     }
-}
-
-// Whether two words have one normal form.
-fn same_words(a: &String, b: &String) -> Result<Answer, Refusal> {
-    Ok(Answer::Sameness(same_format(
-        parse_word(a)?,
-        parse_word(b)?,
-    )))
 }
 
 // `options WORD E P`
 fn options(args: &[String]) -> Result<Answer, Refusal> {
-    match args {
-        [word, exponent, point] => options_fit(word, exponent, point),
-        _ => Err(Refusal::WrongNumberOfArguments),
-    }
-}
-
-// Whether the exponent byte and the point byte fit the word.
-fn options_fit(word: &String, exponent: &String, point: &String) -> Result<Answer, Refusal> {
+    let [word, exponent, point] = args else {
+        return Err(Refusal::WrongNumberOfArguments);
+    };
     let word = parse_word(word)?;
     let exponent = parse_byte(exponent)?;
     let point = parse_byte(point)?;
@@ -81,52 +85,26 @@ fn options_fit(word: &String, exponent: &String, point: &String) -> Result<Answe
     )))
 }
 
-// `edit WORD NAME=VALUE ..`
-fn edit(args: &[String]) -> Result<Answer, Refusal> {
-    match args {
-        [] => Err(Refusal::WrongNumberOfArguments),
-        [word, texts @ ..] => edit_by_texts(word, texts),
-    }
-}
-
-// Parses `texts` as edits and applies them to the word.
-fn edit_by_texts(word: &String, texts: &[String]) -> Result<Answer, Refusal> {
-    if texts.len() > MAX_EDITS {
-        return Err(Refusal::TooManyEdits);
-    }
-    let mut edits = [Edit::Radix(0); MAX_EDITS];
-    let format = parse_word(word)?;
-    read_edits(texts, &mut edits).ok_or(Refusal::BadEdit)?;
-    Ok(Answer::Word(edit_word(format, &edits[..texts.len()])))
-}
-
 // `migrate WORD`
 fn migrate_word(args: &[String]) -> Result<Answer, Refusal> {
     match args {
-        [word] => Ok(migrated(parse_word(word)?)),
+        [word] => match migrate(parse_word(word)?) {
+            Ok(normal_form) => Ok(Answer::Word(normal_form)),
+            Err(error) => Ok(Answer::Outcome(error)),
+        },
         _ => Err(Refusal::WrongNumberOfArguments),
-    }
-}
-
-// The normal form of a word if that is lawful, else the first rule that it breaks.
-fn migrated(format: u128) -> Answer {
-    match migrate(format) {
-        Ok(normal_form) => Answer::Word(normal_form),
-        Err(error) => Answer::Outcome(error),
     }
 }
 
 // `source WORD`
 fn source(args: &[String]) -> Result<Answer, Refusal> {
     match args {
-        [word] => Ok(source_of(parse_word(word)?)),
+        [word] => {
+            let word = parse_word(word)?;
+            Ok(Answer::Source(word, is_built(word)))
+        }
         _ => Err(Refusal::WrongNumberOfArguments),
     }
-}
-
-// The builder expression of a word, and whether it makes the word itself.
-fn source_of(format: u128) -> Answer {
-    Answer::Source(format, is_built(format))
 }
 
 // Parses an argument as a format word, or refuses it.

@@ -10,14 +10,9 @@ use peltzivar::digit::digit_to_char;
 #[must_use]
 pub fn read_word(text: &str) -> Option<u128> {
     match text.as_bytes() {
-        [b'0', b'x', digits @ ..] => read_digits(digits),
+        [b'0', b'x', digits @ ..] => read_numeral(digits, 16, 32),
         _ => None,
     }
-}
-
-// 1 to 32 hexadecimal digits.
-fn read_digits(digits: &[u8]) -> Option<u128> {
-    read_numeral(digits, 16, 32)
 }
 
 /// The text of `word` as it is printed: `0x` and 32 hexadecimal digits with uppercase letters.
