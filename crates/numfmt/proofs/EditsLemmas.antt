@@ -28,8 +28,9 @@ HaveRead-next texts i read edit before inside room is =
     let one : filter_map edit_in (text ∷ []) ≡ edit ∷ [] = ap (λ found. cons_option found []) is in
     record {
       all = list_all_more writes_edit texts i [] inside ∙ and_from _ _ before.all (ap is_some is);
-      edits = ap (filter_map edit_in) (take_more texts i [] inside) ∙ filter_map-append edit_in (take i texts) (text ∷ [])
-          ∙ (λ j. before.edits j ++ one j) ∙ sym (take_more_set read i edit room);
+      edits = ap (filter_map edit_in) (take_more texts i [] inside)
+          ∙ filter_map-append edit_in (take i texts) (text ∷ []) ∙ (λ j. before.edits j ++ one j)
+          ∙ sym (take_more_set read i edit room);
     }
 
 -- all texts are read
@@ -44,4 +45,5 @@ HaveRead-all texts i read done whole =
 pub none_read : (texts : List (List ℕ)) (i : ℕ) → i < length texts → edit_in (get_or texts i []) ≡ None
     → edits_in texts ≡ None
 none_read texts i inside none =
-    ap (λ truth. then_some truth (filter_map edit_in texts)) (list_all_at writes_edit texts i [] inside (ap is_some none))
+    ap (λ truth. then_some truth (filter_map edit_in texts))
+    (list_all_at writes_edit texts i [] inside (ap is_some none))

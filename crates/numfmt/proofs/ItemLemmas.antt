@@ -1,5 +1,6 @@
 -- Lists of a known length, by their items.
-use Rattle.std.proofs.Common.{◌≡◌, ◌≤◌, ◌-◌, List, [], ◌∷◌, length, get_or, map, take, drop, take_all, sym, ap, ◌∙◌, arith}
+use Rattle.std.proofs.Common.{◌≡◌, ◌≤◌, ◌-◌, List, [], ◌∷◌, length, get_or, map, take, drop, take_all, sym, ap, ◌∙◌}
+use Rattle.std.proofs.Common.{arith}
 
 -- one item
 pub one : {X Y : Type 0} (f : X → Y) (xs : List X) (a : X) → length xs ≡ 1 → a ≡ get_or xs 0 a → map f xs ≡ f a ∷ []

@@ -1,5 +1,6 @@
 -- Finding what has a name in a table.
-use Rattle.std.proofs.Common.{◌≡◌, ◌≢◌, ◌↔◌, false, ℕ, codes, List, [], ◌∷◌, ◌++◌, Option, None, Some, map, refl, sym, ◌∙◌, subst}
+use Rattle.std.proofs.Common.{◌≡◌, ◌≢◌, ◌↔◌, false, ℕ, codes, List, [], ◌∷◌, ◌++◌, Option, None, Some, map, refl, sym}
+use Rattle.std.proofs.Common.{◌∙◌, subst}
 use Rattle.std.specs.List.{AllByRecursion, find}
 use Rattle.std.specs.Option.{option_and_then, option_map}
 use Rattle.std.specs.Str.{bytes_eq}

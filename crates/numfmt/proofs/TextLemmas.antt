@@ -1,12 +1,15 @@
 -- What `word_text` has written so far, and that no other text has the same form and number.
-use Rattle.std.proofs.Common.{◌≡◌, ℕ, zero, suc, ◌+◌, ◌-◌, ◌*◌, ◌/◌, ◌%◌, ◌^◌, ◌<◌, ◌==◌, ◌&&◌, Bool, true, not, IsTrue, bytes_eq}
-use Rattle.std.proofs.Common.{List, [], ◌∷◌, ◌++◌, map, take, drop, length, codes, replicate, slice_index_or, refl, sym, ap}
+use Rattle.std.proofs.Common.{◌≡◌, ℕ, zero, suc, ◌+◌, ◌-◌, ◌*◌, ◌/◌, ◌%◌, ◌^◌, ◌<◌, ◌==◌, ◌&&◌, Bool, true, not}
+use Rattle.std.proofs.Common.{IsTrue, bytes_eq}
+use Rattle.std.proofs.Common.{List, [], ◌∷◌, ◌++◌, map, take, drop, length, codes, replicate, slice_index_or, refl}
+use Rattle.std.proofs.Common.{sym, ap}
 use Rattle.std.proofs.Common.{◌∙◌, subst, arith, cond, inl, inr, nat_lt, unwrap_or, Some, None}
 use Rattle.std.specs.Int.Digits.{number_from_digits_after}
 use Rattle.std.specs.List.{All, position_or_len}
 use Rattle.std.proofs.Math.ListN.{set}
 use Rattle.std.proofs.Math.Nat.{pow-suc, div-div-eq-div-mul}
-use Rattle.std.proofs.lemmas.Bool.{agree_below_at, and_from, and_parts, cases_Bool, cond-false, eqb-true, ltb-true, not-true}
+use Rattle.std.proofs.lemmas.Bool.{agree_below_at, and_from, and_parts, cases_Bool, cond-false, eqb-true, ltb-true}
+use Rattle.std.proofs.lemmas.Bool.{not-true}
 use Rattle.std.proofs.lemmas.Nat.{same_from_place}
 use Rattle.std.proofs.lemmas.Slice.Eq.{bytes_eq-Decides}
 use Rattle.std.proofs.lemmas.List.{drop-set, take-set-le, length-set, take-append-drop}
@@ -128,11 +131,11 @@ IsPrintedForm-printed word =
       word = numeral_from 16 32 (last_digits 32 word) (record {
         some = omega (arith, full);
         few = omega (arith, full);
-        all_digits = All-weaker IsUppercase (λ byte. is_digit 16 byte ≡ true) is_digit-uppercase (last_digits 32 word) all;
+        all_digits = All-weaker IsUppercase (λ byte. is_digit 16 byte ≡ true) is_digit-uppercase _ all;
       });
       full = full;
       uppercase = list_all-from_AllPass _ (last_digits 32 word)
-          (All-weaker IsUppercase (λ byte. not (is_lowercase byte) ≡ true) not_lowercase (last_digits 32 word) all);
+          (All-weaker IsUppercase (λ byte. not (is_lowercase byte) ≡ true) not_lowercase _ all);
     }
 
 -- it writes the word
@@ -166,9 +169,10 @@ form_prefix text form =
 
 form_digits : (text : List ℕ) → IsPrintedForm text → All IsUppercase (hex_digits text)
 form_digits text form k d inside =
-    let numeral = numeral_parts 16 32 (hex_digits text) (and_parts (bytes_eq (take 2 text) (codes "0x")) _ form.word).1 in
+    let numeral = (and_parts (bytes_eq (take 2 text) (codes "0x")) _ form.word).1 in
+    let digits = (numeral_parts 16 32 (hex_digits text) numeral).all_digits in
     let uppercase = AllPass-from_list_all (λ byte. not (is_lowercase byte)) (hex_digits text) form.uppercase in
-    and_from _ _ (numeral.all_digits k d inside) (uppercase k d inside)
+    and_from _ _ (digits k d inside) (uppercase k d inside)
 
 -- one text has the printed form and writes a given number
 pub IsPrintedForm-unique : (s t : List ℕ) → IsPrintedForm s → IsPrintedForm t → hex s ≡ hex t → s ≡ t

@@ -28,7 +28,7 @@ pub data Command : Type 0 where
   migrate : ℕ → Command
   source : ℕ → Command
 
--- the answers to each command
+-- the answer to each command, in the library's words
 abbrev pub Answers : Command → Answer → Type 0
 Answers (show word) answer = answer ≡ answers.Fields word
 Answers (edit word list) answer = answer ≡ answers.Word (edited word (all_writes list))
@@ -36,7 +36,8 @@ Answers (check word) (answers.Outcome error) = IsErrorOf word error
 Answers (same a b) (answers.Sameness truth) = IsTrue truth ↔ (normal_form_of a ≡ normal_form_of b)
 Answers (options word e p) (answers.Acceptance truth) = IsTrue truth ↔ AreAccepted word e p
 Answers (migrate word) (answers.Word normal) = Lawful (normal_form_of word) × (normal ≡ normal_form_of word)
-Answers (migrate word) (answers.Outcome error) = (¬ Lawful (normal_form_of word)) × IsErrorOf (normal_form_of word) error
+Answers (migrate word) (answers.Outcome error) =
+    (¬ Lawful (normal_form_of word)) × IsErrorOf (normal_form_of word) error
 Answers (source word) (answers.Source written truth) = (written ≡ word) × (IsTrue truth ↔ IsBuilt word)
 Answers _ _ = ⊥
 

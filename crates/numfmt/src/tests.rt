@@ -16,6 +16,8 @@ const ALL_ONES: &str = "0xFFFFFFFFFFFFFFFFFFFFFFFFFFFFFFFF";
 
 const RESERVED_BIT: &str = "0x00000A0000000000000000008000000C";
 
+const SEPARATED: &str = "0x000010000000005F000002490000000C";
+
 const PREFIX_E: &str = "0x00000A0045000000000000000001000C";
 
 const STANDARD_FIELDS: &str = "flags 0x0000000000000000000000000000000C
@@ -49,7 +51,7 @@ const RUNS: [(&[&str], &str, u8); 47] = [
     (&["show", STANDARD], STANDARD_FIELDS, 0),
     (&["show", ALL_ONES], ALL_FIELDS, 0),
     (&["show", "0x0605040302000001000000000000000C"], ONE_TO_SIX, 0),
-    (&["edit", "0xc", "radix=16", "digit_separator=95", "integer_digit_separator_flags=true"], "0x000010000000005F000002490000000C", 0),
+    (&["edit", "0xc", "radix=16", "digit_separator=95", "integer_digit_separator_flags=true"], SEPARATED, 0),
     (&["edit", STANDARD, "radix=007"], "0x0A0A070000000000000000000000000C", 0),
     (&["edit", STANDARD, "digit_separator=0", "exponent_base=none"], "0x0A000A0000000000000000000000000C", 0),
     (&["edit", "0x100000000000", "special_digit_separator=false"], "0x00000000000000000000000000000000", 0),
