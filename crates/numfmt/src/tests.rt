@@ -144,53 +144,61 @@ fn arguments(alloc: Global, args: &[&str]) -> Result<Vec<String>, AllocError> {
         .try_collect(alloc)
 }
 
-// A writer that counts its calls; the one with the number `failing_call` fails.
+// A writer that holds back what is written until it is flushed. Of its calls the one with the number `failing_call`
+// fails.
 #[derive(Drop)]
-struct Writer {
+struct HoldingWriter {
     failing_call: u32,
     calls: u32,
-    flushed: bool,
+    held: usize,
+    passed_on: usize,
 }
 
-impl Writer {
-    fn call(&mut self, is_flush: bool) -> io::Result<()> {
+impl HoldingWriter {
+    fn call(&mut self) -> io::Result<()> {
         self.calls = self.calls.saturating_add(1);
-        self.flushed = is_flush;
         if self.calls == self.failing_call {
-            return Err(Error::from(ErrorKind::Other));
+            return Err(Error::from(ErrorKind::BrokenPipe));
         }
         Ok(())
     }
 }
 
-impl Write for Writer {
+impl Write for HoldingWriter {
     fn write(&mut self, bytes: &[u8]) -> io::Result<usize> {
-        self.call(false)?;
+        self.call()?;
+        self.held = self.held.saturating_add(bytes.len());
         Ok(bytes.len())
     }
 
     fn flush(&mut self) -> io::Result<()> {
-        self.call(true)
+        self.call()?;
+        self.passed_on = self.passed_on.saturating_add(self.held);
+        self.held = 0;
+        Ok(())
     }
 }
 
-// Each call fails in turn: the status is 3, and no call follows. The last call is the flush.
+// Each call fails in turn, the flush last: the status is 3, and no call follows. If none fails, the whole text is passed
+// on. What a flush does no clause of std tells.
 #[test]
 fn ends_at_a_call_that_fails(rt: HostRuntime) -> Result<(), Fail> {
-    for (args, _, status) in RUNS {
+    for (args, text, status) in RUNS {
         let line = args.join(rt.alloc(), " ")?;
         let args = arguments(rt.alloc(), args)?;
         let mut ended = false;
         for failing_call in 1..100u32 {
-            let mut out = Writer {
+            let mut out = HoldingWriter {
                 failing_call,
                 calls: 0,
-                flushed: false,
+                held: 0,
+                passed_on: 0,
             };
             let got = run(args.as_slice(), &mut out);
             ended = out.calls < failing_call;
             if ended {
-                assert!(rt; got == status && out.flushed && out.calls > 1, "for {line}");
+                assert!(rt; got == status && out.held == 0, "for {line}");
+                assert_eq!(rt; out.passed_on, text.len().saturating_add(1), "for {line}");
                 break;
             }
             assert!(rt;
