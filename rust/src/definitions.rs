@@ -291,7 +291,7 @@
 //!
 //! ```text
 //! abbrev pub changing : Record → List Edit
-//! changing r = filter changes_new (field_edits r)
+//! changing r = map edit_of (filter (changes new_record) (field_writes r))
 //! ```
 //!
 //! # `unchanging`
@@ -300,7 +300,7 @@
 //!
 //! ```text
 //! abbrev pub unchanging : Record → List Edit
-//! unchanging r = filter (λ edit. not (changes_new edit)) (field_edits r)
+//! unchanging r = map edit_of (filter (λ x. not (changes new_record x)) (field_writes r))
 //! ```
 //!
 //! # `IsBuiltByWrites`

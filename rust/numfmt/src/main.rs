@@ -11,8 +11,6 @@ mod output;
 mod program;
 mod response;
 mod source;
-#[cfg(test)]
-mod tests;
 mod word;
 
 use std::env;
