@@ -229,16 +229,19 @@ impl NumberFormatBuilder {
     #[must_use]
     #[inline(always)]
     pub const fn rebuild(format: u128) -> Self {
-        let high = fill_radix(fill_base((format >> 64) as u64));
+        let high = (format >> 64) as u64;
+        let radix = ((high >> MANTISSA_SHIFT) % 256) as u8;
+        let exponent_base = own_or(((high >> BASE_SHIFT) % 256) as u8, radix);
+        let exponent_radix = own_or((high >> RADIX_SHIFT) as u8, radix);
         NumberFormatBuilder {
             flags: builder_flags(format),
             bytes: [
                 (high % 256) as u8,
                 ((high >> PREFIX_SHIFT) % 256) as u8,
                 ((high >> SUFFIX_SHIFT) % 256) as u8,
-                ((high >> MANTISSA_SHIFT) % 256) as u8,
-                ((high >> BASE_SHIFT) % 256) as u8,
-                (high >> RADIX_SHIFT) as u8,
+                radix,
+                exponent_base,
+                exponent_radix,
             ],
         }
     }
@@ -285,37 +288,29 @@ impl NumberFormatBuilder {
     }
 }
 
-// The upper half of a format word, with the mantissa radix as exponent base if that is 0.
+// An exponent byte of a format word, or the mantissa radix if that is 0.
 #[inline(always)]
-const fn fill_base(high: u64) -> u64 {
-    if high & (0xFF << BASE_SHIFT) == 0 {
-        high | (high & (0xFF << MANTISSA_SHIFT)) << (BASE_SHIFT - MANTISSA_SHIFT)
+const fn own_or(own: u8, mantissa_radix: u8) -> u8 {
+    if own == 0 {
+        mantissa_radix
     } else {
-        high
-    }
-}
-
-// The upper half of a format word, with the mantissa radix as exponent radix if that is 0.
-#[inline(always)]
-const fn fill_radix(high: u64) -> u64 {
-    if high < 1 << RADIX_SHIFT {
-        high | (high & (0xFF << MANTISSA_SHIFT)) << (RADIX_SHIFT - MANTISSA_SHIFT)
-    } else {
-        high
+        own
     }
 }
 
 // The flags of a format word, at the bits of a builder.
 #[inline(always)]
 const fn builder_flags(format: u128) -> u32 {
-    (format & (LOW_FLAGS as u128) | (format >> (32 - FIRST_SEPARATOR)) & (SEPARATOR_FLAGS as u128))
-        as u32
+    let low = (format & (LOW_FLAGS as u128)) as u32;
+    let separators = ((format & flags::DIGIT_SEPARATOR_FLAG_MASK) >> 32) as u32;
+    low | separators << FIRST_SEPARATOR
 }
 
 // The flags of a builder, at the bits of a format word.
 #[inline(always)]
 const fn word_flags(flags: u32) -> u128 {
-    (flags & LOW_FLAGS) as u128 | ((flags >> FIRST_SEPARATOR) as u128) << 32
+    (flags & LOW_FLAGS) as u128
+        | ((flags as u128) << (32 - FIRST_SEPARATOR)) & flags::DIGIT_SEPARATOR_FLAG_MASK
 }
 
 // The bits with all bits of a mask set to one value.

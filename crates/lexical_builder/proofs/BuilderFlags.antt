@@ -2,7 +2,7 @@
 use Rattle.std.proofs.Common.{ℕ, zero, suc, ◌≡◌, ◌+◌, ◌-◌, ◌*◌, ◌/◌, ◌%◌, ◌^◌, ◌<◌, ◌==◌, min, max, Bool, true, false}
 use Rattle.std.proofs.Common.{if◌then◌else◌, length, map, sum_by, bit_and, bit_or, w32, refl, ap, ◌∙◌, arith}
 use Rattle.std.proofs.Math.Nat.{mod-lt}
-use Rattle.std.proofs.lemmas.Nat.{shr-shr, mod-pow-add, and_mask, or_comm, or_shifted, pow_pos}
+use Rattle.std.proofs.lemmas.Nat.{mod-pow-add, and_mask, or_comm, or_shifted, pow_pos}
 use Rattle.std.proofs.lemmas.Nat.Bits.{and_high, bit_at-zero, bit_at_or, bit_at_and, bit_at_not}
 use Rattle.std.proofs.lemmas.Bool.Decides.{nat_tests}
 use Rattle.lexical_flags.specs.Layout.{part, Flag, bit, flags, base_flags, digit_separator_flags}
@@ -31,11 +31,12 @@ flags_in-mask _ = refl
 
 -- two blocks of a word, moved together and joined by `|`
 pub blocks_joined-builder : (word : ℕ) → bit_or (bit_and word (2 ^ low - 1))
-    (bit_and (word / 2 ^ (32 - low)) ((2 ^ high - 1) * 2 ^ low)) ≡ flags_in word
+    (bit_and word ((2 ^ high - 1) * 2 ^ 32) / 2 ^ 32 * 2 ^ low % 2 ^ 32) ≡ flags_in word
 blocks_joined-builder word =
     let first : bit_and word (2 ^ low - 1) ≡ part word 0 low = and_mask word low ∙ omega arith in
-    let second : bit_and (word / 2 ^ (32 - low)) ((2 ^ high - 1) * 2 ^ low) ≡ part word 32 high * 2 ^ low =
-    and_high (word / 2 ^ (32 - low)) high low ∙ ap (λ n. n % 2 ^ high * 2 ^ low) (shr-shr word (32 - low) low) in
+    let small : part word 32 high < 2 ^ high = mod-lt _ (pow_pos high) in
+    let second : bit_and word ((2 ^ high - 1) * 2 ^ 32) / 2 ^ 32 * 2 ^ low % 2 ^ 32 ≡ part word 32 high * 2 ^ low =
+    omega (arith, and_high word high 32, small) in
     (λ i. bit_or (first i) (second i)) ∙ or_comm (part word 0 low) (part word 32 high * 2 ^ low)
     ∙ or_shifted (part word 32 high) low (part word 0 low) (mod-lt _ (pow_pos low)) ∙ omega arith
 
@@ -56,10 +57,12 @@ flags_as_blocks n =
 
 -- two blocks of a builder, moved apart and joined by `|`
 pub blocks_joined-word : (n : ℕ) → n < 2 ^ length flags → bit_or (bit_and n (2 ^ low - 1))
-    (n / 2 ^ low * 2 ^ 32 % 2 ^ 128) ≡ part n 0 low + part n low high * 2 ^ 32
+    (bit_and (n * 2 ^ (32 - low) % 2 ^ 128) ((2 ^ high - 1) * 2 ^ 32)) ≡ part n 0 low + part n low high * 2 ^ 32
 blocks_joined-word n l =
     let first : bit_and n (2 ^ low - 1) ≡ part n 0 low = and_mask n low ∙ omega arith in
-    let second : n / 2 ^ low * 2 ^ 32 % 2 ^ 128 ≡ part n low high * 2 ^ 32 = omega arith in
+    let moved : n * 2 ^ (32 - low) % 2 ^ 128 ≡ n * 2 ^ (32 - low) = omega (arith, l) in
+    let second : bit_and (n * 2 ^ (32 - low) % 2 ^ 128) ((2 ^ high - 1) * 2 ^ 32) ≡ part n low high * 2 ^ 32 =
+    ap (λ m. bit_and m ((2 ^ high - 1) * 2 ^ 32)) moved ∙ and_high (n * 2 ^ (32 - low)) high 32 ∙ omega arith in
     let below : part n 0 low < 2 ^ 32 = omega arith in
     (λ i. bit_or (first i) (second i)) ∙ or_comm (part n 0 low) (part n low high * 2 ^ 32)
     ∙ or_shifted (part n low high) 32 (part n 0 low) below ∙ omega arith

@@ -1,5 +1,5 @@
 pub mod OptionByteLemmas
 pub mod WriteLemmas
 mod BuilderFlags
-mod ExponentBytes
 mod RadixLemmas
+mod UpperHalf
