@@ -2,6 +2,7 @@
 // it, each under its own imports.
 
 use crate::inputs::{SetterCall, OF_FLAGS};
+use crate::panics;
 use crate::results::*;
 use crate::rows::{with_outcomes, with_setters};
 use crate::rules;
@@ -47,8 +48,8 @@ pub fn is_valid_radix(radix: u32) -> bool {
 
 macro_rules! outcomes {
     (
-        { $($index_rank:literal $Indexed:ident $is_indexed:ident $index_doc:literal;)* }
-        { $($rank:literal $Error:ident $is_error:ident $doc:literal;)* }
+        { $($index_rank:literal $Indexed:ident $is_indexed:ident;)* }
+        { $($rank:literal $Error:ident $is_error:ident;)* }
     ) => {
         /// The outcome at a position of the enum, with an index if it holds one.
         fn error_at(position: u32, index: usize) -> Error {
@@ -153,9 +154,8 @@ pub fn radix_from_flags(word: u128, mask: u128, shift: i32) -> u32 {
 macro_rules! view_of {
     (
         ($view:expr)
-        { $($Flag:ident $flag:ident $get:ident $CONST:ident $bit:literal $doc:literal;)* }
+        { $($Flag:ident $flag:ident $get:ident $CONST:ident;)* }
         $groups:tt
-        $bytes:tt
     ) => {{
         let view = $view;
         View {
@@ -189,6 +189,71 @@ macro_rules! view_of {
     }};
 }
 
+// THE EXAMPLE THAT READS INTEGERS
+
+#[path = "../../../rust/examples/integers/read.rs"]
+mod read;
+
+/// What the example returns of a text, as `i64` and as `u64`: a number, or the position of an error and its index.
+pub fn integers<const FORMAT: u128>(text: &[u8]) -> [Result<i128, (u32, Option<usize>)>; 2] {
+    let found = |error: Error| (position(error), error.index().copied());
+    [
+        read::read_i64::<FORMAT>(text).map(i128::from).map_err(found),
+        read::read_u64::<FORMAT>(text).map(i128::from).map_err(found),
+    ]
+}
+
+// WORDS THAT ARE KNOWN WHEN THIS IS COMPILED
+
+/// The rules of a word by the calls that take it as a const argument, and the extractors.
+pub fn const_word<const WORD: u128>() -> Word {
+    let view = known::NumberFormat::<WORD>::new();
+    Word {
+        format_error: position(known::format_error::<WORD>()),
+        format_is_valid: known::format_is_valid::<WORD>(),
+        view_error: position(view.error()),
+        view_is_valid: view.is_valid(),
+        view_error_radix: position(view.error_radix()),
+        view_is_valid_radix: view.is_valid_radix(),
+        ..word(WORD)
+    }
+}
+
+/// The getters of the view that has the word as a const argument.
+pub fn const_view<const WORD: u128>() -> View {
+    with_setters!(view_of(known::NumberFormat::<WORD>::new()))
+}
+
+pub fn const_rebuild<const WORD: u128>() -> Fields {
+    fields(&known::NumberFormat::<WORD>::rebuild())
+}
+
+macro_rules! associated {
+    ({ $($Flag:ident $flag:ident $get:ident $CONST:ident;)* } $groups:tt) => {
+        /// The associated constants of that view.
+        pub fn associated<const WORD: u128>() -> Associated {
+            type Format<const WORD: u128> = known::NumberFormat<WORD>;
+            Associated {
+                $($flag: Format::<WORD>::$CONST,)*
+                required_digits: Format::<WORD>::REQUIRED_DIGITS,
+                internal_digit_separator: Format::<WORD>::INTERNAL_DIGIT_SEPARATOR,
+                leading_digit_separator: Format::<WORD>::LEADING_DIGIT_SEPARATOR,
+                trailing_digit_separator: Format::<WORD>::TRAILING_DIGIT_SEPARATOR,
+                consecutive_digit_separator: Format::<WORD>::CONSECUTIVE_DIGIT_SEPARATOR,
+                digit_separator: Format::<WORD>::DIGIT_SEPARATOR,
+                base_prefix: Format::<WORD>::BASE_PREFIX,
+                base_suffix: Format::<WORD>::BASE_SUFFIX,
+                mantissa_radix: Format::<WORD>::MANTISSA_RADIX,
+                radix: Format::<WORD>::RADIX,
+                exponent_base: Format::<WORD>::EXPONENT_BASE,
+                exponent_radix: Format::<WORD>::EXPONENT_RADIX,
+            }
+        }
+    };
+}
+
+with_setters!(associated);
+
 // BUILDERS
 
 macro_rules! constants {
@@ -201,9 +266,8 @@ macro_rules! constants {
 
 macro_rules! builders {
     (
-        { $($Flag:ident $flag:ident $get:ident $CONST:ident $bit:literal $doc:literal;)* }
-        { $($Group:ident $group:ident $group_doc:literal;)* }
-        $bytes:tt
+        { $($Flag:ident $flag:ident $get:ident $CONST:ident;)* }
+        { $($Group:ident $group:ident;)* }
     ) => {
         constants! {
             $($CONST)*
@@ -250,6 +314,18 @@ fn set(builder: NumberFormatBuilder, call: &SetterCall) -> NumberFormatBuilder {
     }
 }
 
+/// The word of a call and the position of `Success`, or 0 and the position of the error with whose description it
+/// panics.
+fn word_or_panic(call: impl FnOnce() -> u128) -> (u128, u32) {
+    match panics::caught(call) {
+        Ok(word) => (word, rules::SUCCESS),
+        Err(text) => {
+            let said = |position: &u32| error_at(*position, 0).description() == text;
+            (0, (0..49).find(said).expect("a panic with a description"))
+        }
+    }
+}
+
 fn started(start: Option<u128>) -> NumberFormatBuilder {
     start.map_or_else(NumberFormatBuilder::new, NumberFormatBuilder::rebuild)
 }
@@ -258,12 +334,15 @@ fn started(start: Option<u128>) -> NumberFormatBuilder {
 pub fn builder(start: Option<u128>, calls: &[SetterCall]) -> Built {
     let builder = calls.iter().fold(started(start), set);
     let (strict_word, strict_error) = strict(&builder);
+    let (panicking_word, panicking_error) = panicking(&builder);
     Built {
         fields: fields(&builder),
         build_unchecked: builder.build_unchecked().into(),
         build: builder.build().into(),
         strict_word: strict_word.into(),
         strict_error,
+        panicking_word: panicking_word.into(),
+        panicking_error,
     }
 }
 

@@ -16,9 +16,8 @@ pub struct SetterCall {
 
 macro_rules! setter_names {
     (
-        { $($Flag:ident $flag:ident $get:ident $CONST:ident $bit:literal $doc:literal;)* }
-        { $($Group:ident $group:ident $group_doc:literal;)* }
-        $bytes:tt
+        { $($Flag:ident $flag:ident $get:ident $CONST:ident;)* }
+        { $($Group:ident $group:ident;)* }
     ) => {
         [
             $(stringify!($flag),)*
@@ -35,21 +34,21 @@ macro_rules! setter_names {
 }
 
 /// The names of the setters, each at its position.
-const NAMES: &[&str] = &with_setters!(setter_names);
+pub const SETTER_NAMES: &[&str] = &with_setters!(setter_names);
 
-const SETTERS: u32 = NAMES.len() as u32;
+const SETTERS: u32 = SETTER_NAMES.len() as u32;
 
 /// How many of them take a `bool`. The seven of bytes come after these.
 pub const OF_FLAGS: u32 = SETTERS - 7;
 
 /// The position of the setter with a name.
 pub fn setter_named(name: &str) -> Option<u32> {
-    (0..SETTERS).find(|position| NAMES[*position as usize] == name)
+    (0..SETTERS).find(|position| SETTER_NAMES[*position as usize] == name)
 }
 
 impl Debug for SetterCall {
     fn fmt(&self, f: &mut Formatter) -> fmt::Result {
-        let name = NAMES[self.setter as usize];
+        let name = SETTER_NAMES[self.setter as usize];
         match self.setter {
             0..OF_FLAGS => write!(f, "{name}={}", self.value % 2 == 1),
             _ => write!(f, "{name}={}", self.value),

@@ -2,12 +2,15 @@
 //!
 //!     driver [--seed N] [--scale N] [--threads N] [--only WORD] [--record FILE]
 
+mod export_sections;
+mod exports;
 mod inputs;
+mod integers;
 mod ours;
+mod panics;
 mod random;
 mod record;
 mod results;
-#[path = "../../../rust/src/rows.rs"]
 mod rows;
 mod rules;
 mod sections;
@@ -20,6 +23,7 @@ use std::process::exit;
 use std::sync::atomic::{AtomicUsize, Ordering};
 use std::sync::Mutex;
 use std::time::Instant;
+use std::{env, fs};
 use tally::Tally;
 
 struct Settings {
@@ -33,7 +37,7 @@ struct Settings {
 fn settings() -> Settings {
     let mut settings =
         Settings { seed: 1, scale: 1, threads: 2, only: String::new(), record: None };
-    let mut args = std::env::args().skip(1);
+    let mut args = env::args().skip(1);
     while let Some(arg) = args.next() {
         let value = args.next().unwrap_or_else(|| panic!("{arg} needs a value"));
         let number = || value.parse().unwrap_or_else(|_| panic!("{arg} needs a number"));
@@ -47,17 +51,6 @@ fn settings() -> Settings {
         }
     }
     settings
-}
-
-/// The strict build of the Rust crate panics by design, so its panics are not printed.
-fn hush_upstream() {
-    let print = std::panic::take_hook();
-    std::panic::set_hook(Box::new(move |panic| {
-        let is_upstream = |file: &str| file.contains("format_builder");
-        if !panic.location().is_some_and(|location| is_upstream(location.file())) {
-            print(panic);
-        }
-    }));
 }
 
 /// Runs the tasks side by side, and returns each section's tally in the order of the tasks.
@@ -86,12 +79,22 @@ fn run(tasks: &[Task], threads: usize) -> Vec<(&'static str, Tally)> {
     sections.into_inner().expect("no task panics")
 }
 
+/// The comparison of both libraries of exports, if `PROVED` and `PLAIN` name them. `HEADER` names the header.
+fn exports(settings: &Settings) -> Vec<Task> {
+    let (Ok(proved), Ok(plain)) = (env::var("PROVED"), env::var("PLAIN")) else {
+        return vec![];
+    };
+    let path = env::var("HEADER").expect("HEADER names the header");
+    let header = fs::read_to_string(&path).unwrap_or_else(|error| panic!("{path}: {error}"));
+    export_sections::tasks([&proved, &plain], header, settings.seed, 3_000_000 * settings.scale)
+}
+
 fn main() {
     let settings = settings();
-    hush_upstream();
+    panics::hush();
     if let Some(path) = &settings.record {
         let text = record::lines(settings.seed).join("\n") + "\n";
-        std::fs::write(path, &text).unwrap_or_else(|error| panic!("{path}: {error}"));
+        fs::write(path, &text).unwrap_or_else(|error| panic!("{path}: {error}"));
         println!("{} lines written to {path}", text.lines().count());
         return;
     }
@@ -99,6 +102,8 @@ fn main() {
     let start = Instant::now();
     let mut tasks = sections::tasks(settings.seed, settings.scale);
     tasks.push(source::task(settings.seed));
+    tasks.extend(integers::tasks(settings.seed));
+    tasks.extend(exports(&settings));
     tasks.retain(|task| task.section.contains(&settings.only));
     let sections = run(&tasks, settings.threads);
 

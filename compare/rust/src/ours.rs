@@ -1,24 +1,27 @@
-//! The library's calls, through the crate in `rust/`.
+//! The library's calls, of the crate in `rust/`.
 
 use peltzivar::ascii::*;
 use peltzivar::digit::*;
 use peltzivar::edits::{
     apply, apply_all, edit_word, edits_of, is_built, migrate, normal_form, same_format, Edit,
-    FlagSetter,
+    SETTERS as FLAG_SETTERS,
 };
 use peltzivar::error::Error;
-use peltzivar::feature_format::NumberFormat;
-use peltzivar::format::{self, STANDARD};
+use peltzivar::format::{self as known, STANDARD};
 use peltzivar::format_builder::{NumberFormatBuilder, OptionU8};
 use peltzivar::format_flags as flags;
+use peltzivar::word::{format_error, format_is_valid, FormatView};
+
+// What the example is compiled over.
+use peltzivar as library;
 
 include!("calls.rs");
 
 pub fn word(word: u128) -> Word {
-    let view = NumberFormat::new(word);
+    let view = FormatView::new(word);
     Word {
-        format_error: position(format::format_error(word)),
-        format_is_valid: format::format_is_valid(word),
+        format_error: position(format_error(word)),
+        format_is_valid: format_is_valid(word),
         view_error: position(view.error()),
         view_is_valid: view.is_valid(),
         view_error_radix: position(view.error_radix()),
@@ -28,15 +31,15 @@ pub fn word(word: u128) -> Word {
 }
 
 pub fn view(word: u128) -> View {
-    with_setters!(view_of(NumberFormat::new(word)))
+    with_setters!(view_of(FormatView::new(word)))
 }
 
 pub fn rebuild(word: u128) -> Fields {
-    fields(&NumberFormat::new(word).rebuild())
+    fields(&FormatView::new(word).rebuild())
 }
 
 fn builders_of_views() -> [NumberFormatBuilder; 2] {
-    [NumberFormat::builder(), NumberFormat::default().rebuild()]
+    [known::NumberFormat::<0>::builder(), FormatView::default().rebuild()]
 }
 
 /// The word and the position of `Success`, or 0 and the position of the error.
@@ -48,10 +51,38 @@ fn strict(builder: &NumberFormatBuilder) -> (u128, u32) {
     word_or_error(builder.build_strict())
 }
 
+fn panicking(builder: &NumberFormatBuilder) -> (u128, u32) {
+    word_or_panic(|| builder.build_or_panic())
+}
+
+/// Whether a byte is a digit of a word, by each of two calls.
+pub fn is_digit(word: u128, byte: u8) -> [bool; 2] {
+    [flags::is_digit(word, byte), FormatView::new(word).is_digit(byte)]
+}
+
+/// The bytes that the view which has the word as a const argument takes for digits.
+pub fn const_digits<const WORD: u128>() -> Vec<u8> {
+    let format = known::NumberFormat::<WORD>::new();
+    (0..=255).filter(|byte| format.is_digit(*byte)).collect()
+}
+
+/// A word after each conversion between it and its views.
+pub fn converted<const WORD: u128>() -> [u128; 6] {
+    let format = known::NumberFormat::<WORD>::new();
+    [
+        format.view().word(),
+        FormatView::from(format).word(),
+        FormatView::from(known::NumberFormat::<WORD>::default()).word(),
+        FormatView::from(WORD).word(),
+        u128::from(FormatView::from(WORD)),
+        u128::from(format.view()),
+    ]
+}
+
 fn edit(call: &SetterCall) -> Edit {
     let byte = NonZeroU8::new(call.value);
     match call.setter.checked_sub(OF_FLAGS) {
-        None => Edit::flag(FlagSetter::ALL[call.setter as usize], call.value % 2 == 1),
+        None => Edit::Flag(FLAG_SETTERS[call.setter as usize], call.value % 2 == 1),
         Some(0) => Edit::DigitSeparator(byte),
         Some(1) => Edit::BasePrefix(byte),
         Some(2) => Edit::BaseSuffix(byte),

@@ -10,7 +10,7 @@ use crate::rows::with_outcomes;
 use crate::{rules, theirs};
 
 macro_rules! names {
-    ($({ $($rank:literal $Error:ident $is_error:ident $doc:literal;)* })*) => {
+    ($({ $($rank:literal $Error:ident $is_error:ident;)* })*) => {
         [$($(stringify!($Error),)*)*]
     };
 }

@@ -169,7 +169,7 @@ results! {
 }
 
 macro_rules! results_with_flags {
-    ({ $($Flag:ident $flag:ident $get:ident $CONST:ident $bit:literal $doc:literal;)* } $groups:tt $bytes:tt) => {
+    ({ $($Flag:ident $flag:ident $get:ident $CONST:ident;)* } $groups:tt) => {
         results! {
             /// The getters of the view of a word.
             View {
@@ -199,6 +199,25 @@ macro_rules! results_with_flags {
                 integer_digit_separator_flags: Wide,
                 fraction_digit_separator_flags: Wide,
                 exponent_digit_separator_flags: Wide,
+            }
+        }
+
+        results! {
+            /// The associated constants of the view of a word.
+            Associated {
+                $($flag: bool,)*
+                required_digits: bool,
+                internal_digit_separator: bool,
+                leading_digit_separator: bool,
+                trailing_digit_separator: bool,
+                consecutive_digit_separator: bool,
+                digit_separator: u8,
+                base_prefix: u8,
+                base_suffix: u8,
+                mantissa_radix: u32,
+                radix: u32,
+                exponent_base: u32,
+                exponent_radix: u32,
             }
         }
 
@@ -233,13 +252,15 @@ results! {
 }
 
 results! {
-    /// A builder and what it packs into; of the strict build the word, or 0 and the error.
+    /// A builder and what it packs into; of the strict builds the word, or 0 and the error.
     Built {
         fields: Fields,
         build_unchecked: Wide,
         build: Wide,
         strict_word: Wide,
         strict_error: u32,
+        panicking_word: Wide,
+        panicking_error: u32,
     }
 }
 

@@ -95,7 +95,13 @@ pub fn options(word: u128, exponent: u8, decimal_point: u8, theirs: bool) -> boo
 pub fn built(theirs: Built) -> Built {
     let error = error(theirs.build_unchecked.number(), theirs.strict_error);
     let strict_word = if error == SUCCESS { theirs.strict_word } else { 0.into() };
-    Built { strict_word, strict_error: error, ..theirs }
+    Built {
+        strict_word,
+        strict_error: error,
+        panicking_word: strict_word,
+        panicking_error: error,
+        ..theirs
+    }
 }
 
 pub fn own(theirs: Own) -> Own {

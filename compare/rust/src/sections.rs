@@ -2,7 +2,7 @@
 
 use crate::inputs::{bits_turned, known_word, single_calls, SetterCall, BASES};
 use crate::random::Random;
-use crate::results::{Fields, View, Wide, Word};
+use crate::results::{Associated, Fields, View, Wide, Word};
 use crate::tally::Tally;
 use crate::{ours, rules, theirs};
 
@@ -82,7 +82,7 @@ fn slices(tally: &mut Tally, random: &mut Random) {
     let mut compare = |slice: &[u8]| {
         tally.same(("slice", slice), ours::slice(slice), theirs::slice(slice));
     };
-    let lens = (0..=330).chain([511, 512, 513, 1023, 1024, 1025, 4095, 4096, 4097]);
+    let lens = (0..=330).chain([511, 512, 513, 1023, 1024, 1025, 4095, 4096, 4097, 8192, 12_345]);
     for len in lens {
         let letters: Vec<u8> = (0..len).map(|_| random.pick(b"AZaz")).collect();
         compare(&letters);
@@ -114,10 +114,10 @@ fn outcomes(tally: &mut Tally) {
         let input = ("outcome, index", position, index);
         tally.same(input, ours::outcome(position, index), theirs::outcome(position, index));
         let text = theirs::description(position, index);
-        tally.text(("description", input), ours::description(position, index), text);
+        tally.equal(("description", input), ours::description(position, index), text);
         for style in 0..5 {
             let text = theirs::display(position, index, style);
-            tally.text(("display", input, style), ours::display(position, index, style), text);
+            tally.equal(("display", input, style), ours::display(position, index, style), text);
         }
         for other in all() {
             let (ours, theirs) =
@@ -138,35 +138,74 @@ fn constants(tally: &mut Tally) {
     }
 }
 
-/// The words on which the crate's own view can be asked, sixteen a row.
+/// The words on which the views that have their word as a const argument are asked, sixteen a row.
 macro_rules! known_words {
     ($($row:literal)*) => {
-        |compare: &mut dyn FnMut(u128, Known)| {
+        |compare: &mut dyn FnMut(u128, [Known; 2], OursAlone)| {
             $(known_words!(compare, $row, 0 1 2 3 4 5 6 7 8 9 10 11 12 13 14 15);)*
         }
     };
     ($compare:ident, $row:literal, $($column:literal)*) => {$({
         const WORD: u128 = known_word(16 * $row + $column);
-        let word = theirs::const_word::<WORD>();
-        let view = theirs::const_view::<WORD>();
-        let rebuilt = theirs::const_rebuild::<WORD>();
-        $compare(WORD, Known { word, view, rebuilt });
+        let alone = OursAlone { digits: ours::const_digits::<WORD>(), converted: ours::converted::<WORD>() };
+        $compare(WORD, [known!(ours, WORD), known!(theirs, WORD)], alone);
     })*};
 }
 
+macro_rules! known {
+    ($side:ident, $WORD:ident) => {
+        Known {
+            word: $side::const_word::<$WORD>(),
+            view: $side::const_view::<$WORD>(),
+            rebuilt: $side::const_rebuild::<$WORD>(),
+            associated: $side::associated::<$WORD>(),
+        }
+    };
+}
+
+/// What one side returns of a word that is known when this is compiled.
 struct Known {
     word: Word,
     view: View,
     rebuilt: Fields,
+    associated: Associated,
+}
+
+/// What only the library has.
+struct OursAlone {
+    digits: Vec<u8>,
+    converted: [u128; 6],
 }
 
 fn known_words(tally: &mut Tally) {
     let all = known_words!(0 1 2 3 4 5 6 7 8 9 10 11 12 13 14 15);
-    all(&mut |word, known| {
+    all(&mut |word, [ours, theirs], alone| {
         let input = ("word", Wide::from(word));
-        tally.expect(input, ours::word(word), rules::word(word, known.word), known.word);
-        tally.same(input, ours::view(word), known.view);
-        tally.same(input, ours::rebuild(word), known.rebuilt);
+        for our_word in [ours.word, ours::word(word)] {
+            tally.expect(input, our_word, rules::word(word, theirs.word), theirs.word);
+        }
+        for our_view in [ours.view, ours::view(word)] {
+            tally.same(input, our_view, theirs.view);
+        }
+        for our_builder in [ours.rebuilt, ours::rebuild(word)] {
+            tally.same(input, our_builder, theirs.rebuilt);
+        }
+        tally.same(input, ours.associated, theirs.associated);
+        for byte in 0..=255 {
+            let is_digit = alone.digits.contains(&byte);
+            tally.same(
+                ("word, byte", Wide::from(word), byte),
+                is_digit,
+                theirs::is_digit(word, byte),
+            );
+        }
+        for converted in alone.converted {
+            tally.same(
+                ("conversion of", Wide::from(word)),
+                Wide::from(converted),
+                Wide::from(word),
+            );
+        }
     });
 }
 
@@ -246,6 +285,12 @@ fn options(tally: &mut Tally, random: &mut Random) {
     let bases = BASES.iter().map(|base| base ^ (random.below(8) as u128) << 15);
     let bases: Vec<u128> = bases.collect();
     for word in bases.into_iter().chain((0..8).map(|_| random.word())) {
+        for byte in 0..=255 {
+            let is_digit = theirs::is_digit(word, byte);
+            for ours in ours::is_digit(word, byte) {
+                tally.same(("word, byte", Wide::from(word), byte), ours, is_digit);
+            }
+        }
         for exponent in 0..=255 {
             for point in 0..=255 {
                 let theirs = theirs::options(word, exponent, point);

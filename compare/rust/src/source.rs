@@ -30,13 +30,21 @@ fn compare(tally: &mut Tally, program: &str, word: u128) {
     let run = Command::new(program).args(["source", &argument]).output().expect("numfmt runs");
     let text = String::from_utf8(run.stdout).expect("numfmt prints UTF-8");
     let Some(calls) = calls_of(&text) else {
-        return tally.text(("source", argument), text, "an expression of setter calls".to_string());
+        return tally.equal(
+            ("source", argument),
+            text,
+            "an expression of setter calls".to_string(),
+        );
     };
     let built = theirs::builder(None, &calls);
     let wanted = theirs::own(word, word);
     tally.same(
         ("source", Wide::from(word)),
-        Source { status: run.status.code().unwrap_or(-1), calls: calls.len(), fields: built.fields },
+        Source {
+            status: run.status.code().unwrap_or(-1),
+            calls: calls.len(),
+            fields: built.fields,
+        },
         Source {
             status: (built.build_unchecked.number() != word) as i32,
             calls: wanted.edits,

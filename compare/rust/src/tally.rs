@@ -45,12 +45,12 @@ impl Tally {
         }
     }
 
-    /// Compares two texts.
-    pub fn text(&mut self, input: impl Debug, ours: String, theirs: String) {
+    /// Compares one value with what is expected.
+    pub fn equal<A: PartialEq + Debug>(&mut self, input: impl Debug, ours: A, expected: A) {
         self.compared += 1;
-        if ours != theirs {
+        if ours != expected {
             self.unexplained += 1;
-            self.show(format!("on {input:?}:\n  returns {ours:?}, expected {theirs:?}"));
+            self.show(format!("on {input:?}:\n  returns {ours:?}, expected {expected:?}"));
         }
     }
 

@@ -1,15 +1,17 @@
 //! The same calls of the Rust crate. What it has only for a word that is known when it is compiled, or
 //! not at all, is written over the calls that it has.
 
-use std::panic::{catch_unwind, AssertUnwindSafe};
 use upstream::ascii::*;
 use upstream::checks;
 use upstream::digit::*;
 use upstream::error::Error;
 use upstream::feature_format::NumberFormat;
-use upstream::format::{self, STANDARD};
+use upstream::format::{self as known, STANDARD};
 use upstream::format_builder::{NumberFormatBuilder, OptionU8};
 use upstream::format_flags as flags;
+
+// What the example is compiled over.
+use upstream as library;
 
 include!("calls.rs");
 
@@ -17,22 +19,8 @@ pub fn word(word: u128) -> Word {
     word_of(word, checks::format_error(word), checks::radix_error(word))
 }
 
-/// The same through the crate's calls for a word that is known when this is compiled.
-pub fn const_word<const WORD: u128>() -> Word {
-    let view = NumberFormat::<WORD>::new();
-    Word {
-        format_error: position(format::format_error::<WORD>()),
-        format_is_valid: format::format_is_valid::<WORD>(),
-        view_error: position(view.error()),
-        view_is_valid: view.is_valid(),
-        view_error_radix: position(view.error_radix()),
-        view_is_valid_radix: view.is_valid_radix(),
-        ..word(WORD)
-    }
-}
-
 macro_rules! views {
-    ({ $($Flag:ident $flag:ident $get:ident $CONST:ident $bit:literal $doc:literal;)* } $groups:tt $bytes:tt) => {
+    ({ $($Flag:ident $flag:ident $get:ident $CONST:ident;)* } $groups:tt) => {
         /// The view of any word, by the constants and extractors through which the crate's reads.
         pub fn view(word: u128) -> View {
             let any = |mask: u128| word & mask != 0;
@@ -85,34 +73,28 @@ macro_rules! views {
 
 with_setters!(views);
 
-/// The view itself, of a word that is known when this is compiled.
-pub fn const_view<const WORD: u128>() -> View {
-    with_setters!(view_of(NumberFormat::<WORD>::new()))
-}
-
 pub fn rebuild(word: u128) -> Fields {
     fields(&NumberFormatBuilder::rebuild(word))
 }
 
-pub fn const_rebuild<const WORD: u128>() -> Fields {
-    fields(&NumberFormat::<WORD>::rebuild())
-}
-
 fn builders_of_views() -> [NumberFormatBuilder; 2] {
-    // The port's default view is that of the standard format.
+    // The library's default view of a word is that of the standard format.
     [NumberFormat::<0>::builder(), NumberFormat::<STANDARD>::rebuild()]
 }
 
-/// The word of the strict build, or 0 and the error whose description it panics with.
+/// The strict build panics with the description of an error.
 fn strict(builder: &NumberFormatBuilder) -> (u128, u32) {
-    match catch_unwind(AssertUnwindSafe(|| builder.build_strict())) {
-        Ok(word) => (word, rules::SUCCESS),
-        Err(panic) => {
-            let text = panic.downcast_ref::<String>().expect("the panic holds a description");
-            let said = |position: &u32| error_at(*position, 0).description() == text;
-            (0, (0..49).find(said).expect("a panic with a description"))
-        }
-    }
+    word_or_panic(|| builder.build_strict())
+}
+
+fn panicking(builder: &NumberFormatBuilder) -> (u128, u32) {
+    strict(builder)
+}
+
+/// Whether a byte is a digit of one of the radixes of a word.
+pub fn is_digit(word: u128, byte: u8) -> bool {
+    char_is_digit(byte, flags::mantissa_radix(word))
+        || char_is_digit(byte, flags::exponent_radix(word))
 }
 
 /// The word that the setter calls make of a word.
