@@ -6,9 +6,8 @@ use upstream::format_builder::{NumberFormatBuilder, OptionU8};
 
 macro_rules! setters {
     (
-        { $($Flag:ident $flag:ident $get:ident $CONST:ident $bit:literal $doc:literal;)* }
-        { $($Group:ident $group:ident $group_doc:literal;)* }
-        $bytes:tt
+        { $($Flag:ident $flag:ident $get:ident $CONST:ident;)* }
+        { $($Group:ident $group:ident;)* }
     ) => {
         /// A setter of a flag or of a group.
         #[derive(Clone, Copy)]
@@ -41,13 +40,6 @@ pub enum Edit {
     Radix(u8),
     ExponentBase(OptionU8),
     ExponentRadix(OptionU8),
-}
-
-impl Edit {
-    #[inline(always)]
-    pub fn flag(setter: FlagSetter, on: bool) -> Edit {
-        Edit::Flag(setter, on)
-    }
 }
 
 #[inline(always)]

@@ -1,20 +1,22 @@
-//! Times loops over the library beside the same loops over the Rust crate. Both fold what the calls
-//! return into one number; a row whose numbers differ is not timed.
+//! Times loops over the library, in Rattle and as plain Rust, beside the same loops over the Rust crate. Both fold what
+//! the calls return into one number; a row whose numbers differ is not timed.
 //!
 //!     driver [--rounds N] [--only TEXT]
 
-mod calls;
 mod data;
 mod edits;
+mod fold;
 mod measure;
 mod ours;
+mod plain;
 #[path = "../../../compare/rust/src/random.rs"]
 mod random;
-#[path = "../../../rust/src/rows.rs"]
+#[path = "../../../compare/rust/src/rows.rs"]
 mod rows;
 mod theirs;
 
 use data::Words;
+use fold::TIMES;
 use measure::Row;
 use random::Random;
 use std::hint::black_box;
@@ -66,21 +68,6 @@ fn over_bytes<'a>(
     Row { name: name.into(), calls, ours, theirs }
 }
 
-/// A row over bytes, of the loop in the module and that of the same name over the Rust crate.
-macro_rules! byte_row {
-    ($name:expr, $bytes:expr, $calls:expr, $module:ident::$pass:ident($($argument:expr)?)) => {
-        crate::over_bytes(
-            $name,
-            $bytes,
-            $calls,
-            move |bytes| crate::$module::$pass(bytes $(, $argument)?),
-            move |bytes| crate::theirs::$pass(bytes $(, $argument)?),
-        )
-    };
-}
-
-use byte_row;
-
 type OverNumbers = fn(&[u64]) -> u64;
 
 /// A row over numbers, of which each call takes so many.
@@ -103,7 +90,7 @@ fn over_outcomes<'a>(
     theirs: OverNumbers,
 ) -> Row<'a> {
     let row = over_numbers(name, (numbers, 1), ours, theirs);
-    Row { calls: row.calls * theirs::TIMES, ..row }
+    Row { calls: row.calls * TIMES, ..row }
 }
 
 fn size_name(size: usize) -> String {
@@ -114,71 +101,102 @@ fn size_name(size: usize) -> String {
     }
 }
 
-fn byte_rows(data: &Data) -> Vec<Row<'_>> {
-    let mut rows = vec![];
-    for (radix, bytes) in &data.digits {
-        let (radix, calls) = (*radix, bytes.len());
-        let name = format!("char_to_digit, summed, radix {radix}");
-        rows.push(byte_row!(name, bytes, calls, ours::digit_sum(radix)));
-        let name = format!("char_to_digit, read, radix {radix}");
-        rows.push(byte_row!(name, bytes, calls, ours::digit_read(radix)));
-    }
-    let (decimal, any) = (&data.digits[0].1, &data.any_bytes);
-    let calls = any.len();
-    rows.extend([
-        byte_row!("char_to_digit, any bytes, radix 36", any, calls, ours::digit_sum(36)),
-        byte_row!("char_is_digit, any bytes, radix 16", any, calls, ours::is_digit(16)),
-        byte_row!("char_to_digit_const, read, radix 10", decimal, calls, ours::decimal_read()),
-        byte_row!("digit_to_char", any, calls, ours::digits_to_char()),
-        byte_row!("is_valid_ascii", any, calls, ours::ascii()),
-        byte_row!("from_radix", any, calls, ours::from_radix()),
-    ]);
-    for size in [16, 64, KIB, 64 * KIB, 16 * KIB * KIB] {
-        // At least 16 KiB, so that a pass takes some time.
-        let whole = size.max(16 * KIB);
-        let (name, calls) = (size_name(size), whole / size);
-        let (text, letters) = (&data.text[..whole], &data.letters[..whole]);
-        let ascii = format!("is_valid_ascii_slice, {name}");
-        rows.push(byte_row!(ascii, text, calls, ours::ascii_slices(size)));
-        let letter = format!("is_valid_letter_slice, {name}");
-        rows.push(byte_row!(letter, letters, calls, ours::letter_slices(size)));
-    }
-    let name = "is_valid_ascii_slice, 0 to 63 B, spoiled";
-    let calls = data.spoiled.len() / 64;
-    rows.push(byte_row!(name, &data.spoiled, calls, ours::short_slices()));
-    rows
+/// A row over bytes, of the loop in a module and that of the same name over the Rust crate.
+macro_rules! bytes {
+    ($side:ident, $prefix:literal, $name:expr, $bytes:expr, $calls:expr, $pass:ident($($argument:expr)?)) => {
+        over_bytes(
+            format!("{}{}", $prefix, $name),
+            $bytes,
+            $calls,
+            move |bytes| $side::$pass(bytes $(, $argument)?),
+            move |bytes| theirs::$pass(bytes $(, $argument)?),
+        )
+    };
 }
 
-fn number_rows(data: &Data) -> Vec<Row<'_>> {
-    let [lawful, broken, few, any] =
-        [&data.lawful, &data.broken, &data.few, &data.any].map(|cases| (&cases[..], 3));
-    let row = over_numbers;
-    vec![
-        over_outcomes("description", &data.numbers, ours::descriptions, theirs::descriptions),
-        row("Display", (&data.numbers, 1), ours::display, theirs::display),
-        over_outcomes("4 tests and index", &data.numbers, ours::tests, theirs::tests),
-        over_outcomes("cmp and ==", &data.numbers, ours::order, theirs::order),
-        row("format_error, lawful", lawful, ours::format_error, theirs::format_error),
-        row("format_error, broken", broken, ours::format_error, theirs::format_error),
-        row("radix_error_impl", any, ours::radix_error, theirs::radix_error),
-        row("5 rules by their own calls", lawful, ours::validators, theirs::validators),
-        row("options test, lawful", lawful, ours::options, theirs::options),
-        row("options test, broken", broken, ours::options, theirs::options),
-        row("view, 48 getters", any, ours::view, theirs::view),
-        row("view, 4 getters", lawful, ours::few_getters, theirs::few_getters),
-        row("view, 7 masks", any, ours::masks, theirs::masks),
-        row("new, 5 setters, build", any, ours::new_builders, theirs::new_builders),
-        row("rebuild, 3 setters, build", any, ours::setters, theirs::setters),
-        row("rebuild, 37 getters", any, ours::builder_getters, theirs::builder_getters),
-        row("rebuild, build_strict, lawful", lawful, ours::build_strict, theirs::build_strict),
-        row("normal_form", any, ours::normal_form, theirs::normal_forms),
-        row("same_format", any, ours::same_format, theirs::same_formats),
-        row("edit_word, 3 known edits", any, ours::known_edits, theirs::known_edits),
-        row("edit_word, 3 of any kind, 1024 words", few, ours::any_edits, theirs::any_edits),
-        row("edit_word, 3 of any kind, 4096 words", any, ours::any_edits, theirs::any_edits),
-        // What `migrate` does, in the crate's words.
-        row("migrate, lawful", lawful, ours::migrate, theirs::build_strict),
-    ]
+/// The same rows of bytes and digits over any module.
+macro_rules! byte_rows {
+    ($side:ident, $prefix:literal, $data:ident) => {{
+        let mut rows = vec![];
+        for (radix, digits) in &$data.digits {
+            let (radix, calls) = (*radix, digits.len());
+            let name = format!("char_to_digit, summed, radix {radix}");
+            rows.push(bytes!($side, $prefix, name, digits, calls, digit_sum(radix)));
+            let name = format!("char_to_digit, read, radix {radix}");
+            rows.push(bytes!($side, $prefix, name, digits, calls, digit_read(radix)));
+        }
+        let (decimal, any) = (&$data.digits[0].1, &$data.any_bytes);
+        let calls = any.len();
+        rows.extend([
+            bytes!($side, $prefix, "char_to_digit, any bytes, radix 36", any, calls, digit_sum(36)),
+            bytes!($side, $prefix, "char_is_digit, any bytes, radix 16", any, calls, is_digit(16)),
+            bytes!(
+                $side,
+                $prefix,
+                "char_to_digit_const, read, radix 10",
+                decimal,
+                calls,
+                decimal_read()
+            ),
+            bytes!($side, $prefix, "digit_to_char", any, calls, digits_to_char()),
+            bytes!($side, $prefix, "is_valid_ascii", any, calls, ascii()),
+            bytes!($side, $prefix, "from_radix", any, calls, from_radix()),
+        ]);
+        for size in [16, 64, KIB, 64 * KIB, 16 * KIB * KIB] {
+            // At least 16 KiB, so that a pass takes some time.
+            let whole = size.max(16 * KIB);
+            let (size_name, calls) = (size_name(size), whole / size);
+            let (text, letters) = (&$data.text[..whole], &$data.letters[..whole]);
+            let name = format!("is_valid_ascii_slice, {size_name}");
+            rows.push(bytes!($side, $prefix, name, text, calls, ascii_slices(size)));
+            let name = format!("is_valid_letter_slice, {size_name}");
+            rows.push(bytes!($side, $prefix, name, letters, calls, letter_slices(size)));
+        }
+        let (name, spoiled) = ("is_valid_ascii_slice, 0 to 63 B, spoiled", &$data.spoiled);
+        rows.push(bytes!($side, $prefix, name, spoiled, spoiled.len() / 64, short_slices()));
+        rows
+    }};
+}
+
+/// Rows over numbers: how they are counted, name, numbers, loop.
+macro_rules! numbers {
+    ($side:ident, $prefix:literal, { $($over:ident $name:literal $numbers:expr, $pass:ident;)* }) => {
+        [$($over(concat!($prefix, $name), $numbers, $side::$pass, theirs::$pass),)*]
+    };
+}
+
+/// The same rows of outcomes, words, builders and edits over any module.
+macro_rules! number_rows {
+    ($side:ident, $prefix:literal, $data:ident) => {{
+        let numbers = &$data.numbers;
+        let [lawful, broken, few, any] =
+            [&$data.lawful, &$data.broken, &$data.few, &$data.any].map(|cases| (&cases[..], 3));
+        numbers!($side, $prefix, {
+            over_outcomes "description" numbers, descriptions;
+            over_numbers "Display" (numbers, 1), display;
+            over_outcomes "4 tests and index" numbers, tests;
+            over_outcomes "cmp and ==" numbers, order;
+            over_numbers "format_error, lawful" lawful, format_errors;
+            over_numbers "format_error, broken" broken, format_errors;
+            over_numbers "radix_error_impl" any, radix_errors;
+            over_numbers "5 rules by their own calls" lawful, validators;
+            over_numbers "options test, lawful" lawful, options;
+            over_numbers "options test, broken" broken, options;
+            over_numbers "view, 48 getters" any, view;
+            over_numbers "view, 4 getters" lawful, few_getters;
+            over_numbers "view, 7 masks" any, masks;
+            over_numbers "new, 5 setters, build" any, new_builders;
+            over_numbers "rebuild, 3 setters, build" any, setters;
+            over_numbers "rebuild, 37 getters" any, builder_getters;
+            over_numbers "rebuild, build_strict, lawful" lawful, build_strict;
+            over_numbers "normal_form" any, normal_forms;
+            over_numbers "same_format" any, same_formats;
+            over_numbers "edit_word, 3 known edits" any, known_edits;
+            over_numbers "edit_word, 3 of any kind, 1024 words" few, any_edits;
+            over_numbers "edit_word, 3 of any kind, 4096 words" any, any_edits;
+            over_numbers "migrate, lawful" lawful, migrate;
+        })
+    }};
 }
 
 fn main() {
@@ -195,17 +213,18 @@ fn main() {
     assert!(rounds > 0, "--rounds needs at least 1");
 
     let data = Data::new();
-    let mut rows = byte_rows(&data);
-    rows.extend(number_rows(&data));
-    rows.extend(calls::rows(&data));
+    let mut rows: Vec<Row> = byte_rows!(ours, "", data);
+    rows.extend(number_rows!(ours, "", data));
+    rows.extend(byte_rows!(plain, "plain: ", data));
+    rows.extend(number_rows!(plain, "plain: ", data));
     rows.retain(|row| row.name.contains(&only));
-    println!("{:<42} {:>10} {:>10} {:>6} {:>14}", "row", "Rattle ns", "Rust ns", "ratio", "spread");
+    println!("{:<50} {:>10} {:>10} {:>6} {:>14}", "row", "library ns", "crate ns", "ratio", "spread");
     let (mut differing, mut worst) = (0, None::<(f64, &str)>);
     for row in &rows {
         let (ours, theirs) = ((row.ours)(), (row.theirs)());
         if ours != theirs {
             differing += 1;
-            println!("{:<42} differs: {ours:016x} and {theirs:016x}", row.name);
+            println!("{:<50} differs: {ours:016x} and {theirs:016x}", row.name);
             continue;
         }
         let times = row.measure(rounds);
@@ -213,7 +232,7 @@ fn main() {
             worst = Some((times.ratio, &row.name));
         }
         println!(
-            "{:<42} {:>10.2} {:>10.2} {:>6.2} {:>6.2} to {:.2}",
+            "{:<50} {:>10.2} {:>10.2} {:>6.2} {:>6.2} to {:.2}",
             row.name, times.ours, times.theirs, times.ratio, times.low, times.high
         );
     }
