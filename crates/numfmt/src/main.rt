@@ -29,6 +29,8 @@ mod output;
 mod program;
 mod response;
 mod source;
+#[cfg(test)]
+mod tests;
 mod word;
 
 use output::Output;
