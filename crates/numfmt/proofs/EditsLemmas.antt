@@ -34,16 +34,16 @@ HaveRead-next texts i read edit before inside room is =
     }
 
 -- all texts are read
-pub HaveRead-all : (texts : List (List ℕ)) (i : ℕ) (read : List Edit) → HaveRead texts i read → length texts ≤ i
+pub edits_in-all : (texts : List (List ℕ)) (i : ℕ) (read : List Edit) → HaveRead texts i read → length texts ≤ i
     → edits_in texts ≡ Some (take i read)
-HaveRead-all texts i read done whole =
+edits_in-all texts i read done whole =
     let all : take i texts ≡ texts = take_all i texts whole in
     ap (λ truth. then_some truth (filter_map edit_in texts)) (ap (list_all writes_edit) (sym all) ∙ done.all)
     ∙ ap Some (ap (filter_map edit_in) (sym all) ∙ done.edits)
 
 -- a text writes no edit
-pub none_read : (texts : List (List ℕ)) (i : ℕ) → i < length texts → edit_in (get_or texts i []) ≡ None
+pub edits_in-none : (texts : List (List ℕ)) (i : ℕ) → i < length texts → edit_in (get_or texts i []) ≡ None
     → edits_in texts ≡ None
-none_read texts i inside none =
+edits_in-none texts i inside none =
     ap (λ truth. then_some truth (filter_map edit_in texts))
     (list_all_at writes_edit texts i [] inside (ap is_some none))

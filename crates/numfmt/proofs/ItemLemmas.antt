@@ -3,21 +3,21 @@ use Rattle.std.proofs.Common.{◌≡◌, ◌≤◌, ◌-◌, List, [], ◌∷◌
 use Rattle.std.proofs.Common.{arith}
 
 -- one item
-pub one : {X Y : Type 0} (f : X → Y) (xs : List X) (a : X) → length xs ≡ 1 → a ≡ get_or xs 0 a → map f xs ≡ f a ∷ []
-one f [] a long e = absurd (omega (arith, long))
-one f (x ∷ []) a long e = (λ i. f (sym e i) ∷ [])
-one f (x ∷ y ∷ xs) a long e = absurd (omega (arith, long))
+pub map-one : {X Y : Type 0} (f : X → Y) (xs : List X) (a : X) → length xs ≡ 1 → a ≡ get_or xs 0 a → map f xs ≡ f a ∷ []
+map-one f [] a long e = absurd (omega (arith, long))
+map-one f (x ∷ []) a long e = (λ i. f (sym e i) ∷ [])
+map-one f (x ∷ y ∷ xs) a long e = absurd (omega (arith, long))
 
 -- two items
-pub two : {X Y : Type 0} (f : X → Y) (xs : List X) (a b : X) → length xs ≡ 2 → a ≡ get_or xs 0 a → b ≡ get_or xs 1 b
+pub map-two : {X Y : Type 0} (f : X → Y) (xs : List X) (a b : X) → length xs ≡ 2 → a ≡ get_or xs 0 a → b ≡ get_or xs 1 b
     → map f xs ≡ f a ∷ f b ∷ []
-two f [] a b long e e' = absurd (omega (arith, long))
-two f (x ∷ xs) a b long e e' = (λ i. f (sym e i) ∷ one f xs b (omega (arith, long)) e' i)
+map-two f [] a b long e e' = absurd (omega (arith, long))
+map-two f (x ∷ xs) a b long e e' = (λ i. f (sym e i) ∷ map-one f xs b (omega (arith, long)) e' i)
 
 -- one item or more
-pub first_and_rest : {X Y : Type 0} (f : X → Y) (xs : List X) (x : X) → 1 ≤ length xs → x ≡ get_or xs 0 x
+pub map-first : {X Y : Type 0} (f : X → Y) (xs : List X) (x : X) → 1 ≤ length xs → x ≡ get_or xs 0 x
     → map f xs ≡ f x ∷ map f (take (length xs - 1) (drop 1 xs))
-first_and_rest f [] x some is = absurd (omega (arith, some))
-first_and_rest f (y ∷ ys) x some is =
+map-first f [] x some is = absurd (omega (arith, some))
+map-first f (y ∷ ys) x some is =
     ap (λ z. f z ∷ map f ys) (sym is) ∙ ap (λ zs. f x ∷ map f zs)
     (sym (take_all (length (y ∷ ys) - 1) ys (omega arith)))

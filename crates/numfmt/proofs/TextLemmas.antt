@@ -35,9 +35,9 @@ not_lowercase : (byte : ℕ) → IsUppercase byte → not (is_lowercase byte) �
 not_lowercase byte printed = (and_parts (is_digit 16 byte) (not (is_lowercase byte)) printed).1
 
 -- such a digit is the digit character of its value
-digit_from_value : (byte : ℕ) → IsUppercase byte → slice_index_or digit_characters (value byte) 0 ≡ byte
+digit_character-value : (byte : ℕ) → IsUppercase byte → slice_index_or digit_characters (value byte) 0 ≡ byte
 unfolding value
-digit_from_value byte printed =
+digit_character-value byte printed =
     let test : ℕ → Bool = λ character. character == uppercase byte in
     let i = position_or_len test digit_characters in
     let same : uppercase byte ≡ byte = cond-false _ _ _ (not-true _ (not_lowercase byte printed)) in
@@ -51,15 +51,15 @@ digit_from_value byte printed =
     ]
 
 -- the digit character of a value has this value
-value-digit : (digit : ℕ) → digit < 16 → value (slice_index_or digit_characters digit 0) ≡ digit
+value-digit_character : (digit : ℕ) → digit < 16 → value (slice_index_or digit_characters digit 0) ≡ digit
 unfolding value
-value-digit digit small = eqb-true _ _
+value-digit_character digit small = eqb-true _ _
     (agree_below_at (λ d. value (slice_index_or digit_characters d 0) == d) (λ _. true) 16 digit refl small)
 
 -- and is one of the sixteen
-uppercase-digit : (digit : ℕ) → digit < 16 → IsUppercase (slice_index_or digit_characters digit 0)
+IsUppercase-digit_character : (digit : ℕ) → digit < 16 → IsUppercase (slice_index_or digit_characters digit 0)
 unfolding value
-uppercase-digit digit small =
+IsUppercase-digit_character digit small =
     agree_below_at (λ d. is_printed_digit (slice_index_or digit_characters d 0)) (λ _. true) 16 digit refl small
 
 -- the last `count` digits of the word are written at the end of the text, and `rest` is what is left of the word
@@ -106,7 +106,7 @@ last_digits-uppercase : (count number : ℕ) → All IsUppercase (last_digits co
 unfolding last_digits
 last_digits-uppercase zero number = All-nil IsUppercase
 last_digits-uppercase (suc count) number = All-cons IsUppercase (digit_at number count) (last_digits count number)
-    (uppercase-digit (number / 16 ^ count % 16) (omega arith)) (last_digits-uppercase count number)
+    (IsUppercase-digit_character (number / 16 ^ count % 16) (omega arith)) (last_digits-uppercase count number)
 
 -- the last digits write the number, after what is left of it
 last_digits-numeral : (count number : ℕ)
@@ -116,7 +116,7 @@ last_digits-numeral zero number = omega arith
 last_digits-numeral (suc count) number =
     let left : number / 16 ^ count / 16 ≡ number / (16 ^ count * 16) = div-div-eq-div-mul number (16 ^ count) 16 in
     let digit : value (digit_at number count) ≡ number / 16 ^ count % 16 =
-    value-digit (number / 16 ^ count % 16) (omega arith) in
+    value-digit_character (number / 16 ^ count % 16) (omega arith) in
     let front : number / 16 ^ suc count * 16 + value (digit_at number count) ≡ number / 16 ^ count =
     rw (pow-suc 16 count, digit, ← left) (omega arith) in
     subst (λ n. number_from_digits_after 16 n (map value (last_digits count number)) ≡ number) (sym front)
@@ -158,8 +158,8 @@ numeral-injective (x ∷ xs) (y ∷ ys) m n long all all' same =
     (All-tail IsUppercase x xs all) (All-tail IsUppercase y ys all') same in
     let parts = same_from_place m (value x) n (value y) 16 (ltb-true _ _ (is_digit-uppercase x first))
     (ltb-true _ _ (is_digit-uppercase y first')) rest.0 in
-    let here : x ≡ y = sym (digit_from_value x first)
-    ∙ ap (λ v. slice_index_or digit_characters v 0) parts.1 ∙ digit_from_value y first' in
+    let here : x ≡ y = sym (digit_character-value x first)
+    ∙ ap (λ v. slice_index_or digit_characters v 0) parts.1 ∙ digit_character-value y first' in
     (parts.0, λ i. here i ∷ rest.1 i)
 
 -- its prefix and its digits

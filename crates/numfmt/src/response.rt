@@ -125,7 +125,8 @@ fn print_fields<W: Output>(format: u128, out: &mut W) -> io::Result<()>
 }
 
 fn print_field<W: Output>(name: &str, value: u32, out: &mut W) -> io::Result<()>
-    ensures text { OnOk result (Appends (W.contents out.old) (W.contents out.new) (line (field name.now (decimal value)))) }
+    ensures text { OnOk result
+        (Appends (W.contents out.old) (W.contents out.new) (line (field name.now (decimal value)))) }
     ensures failed { IsErr result → W.has_failed out.new }
 {
     writeln!(out, "{name} {value}")

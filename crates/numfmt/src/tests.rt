@@ -179,8 +179,8 @@ impl Write for HoldingWriter {
     }
 }
 
-// Each call fails in turn, the flush last: the status is 3, and no call follows. If none fails, the whole text is passed
-// on. What a flush does no clause of std tells.
+// Each call fails in turn, the flush last: the status is 3, and no call follows. If none fails, the whole text is
+// passed on. What a flush does no clause of std tells.
 #[test]
 fn ends_at_a_call_that_fails(rt: HostRuntime) -> Result<(), Fail> {
     for (args, text, status) in RUNS {

@@ -3,7 +3,7 @@ use Rattle.std.proofs.Common.{◌≡◌, ◌-◌, true, string_bytes, drop, leng
 use Rattle.std.proofs.lemmas.Bool.{le-leb}
 use Rattle.std.proofs.lemmas.List.{length-map}
 use Rattle.numfmt.specs.declared.response.Answer.TheVariants.{Word}
-use Rattle.numfmt.proofs.ItemLemmas.{first_and_rest}
+use Rattle.numfmt.proofs.ItemLemmas.{map-first}
 use Rattle.numfmt.proofs.command.edit.Goals as goal
 
 pub returns : goal.returns
@@ -14,7 +14,7 @@ returns c =
     le-leb _ _ (omega (arith, length-map texts string_bytes)) in
     let edits = rw c.in_ok-ok_or.ensures.ok_part at c.read_edits.ensures in
     rw (
-      first_and_rest string_bytes args _ (omega arith) c.word-item.is,
+      map-first string_bytes args _ (omega arith) c.word-item.is,
       few,
       ← c.in_ok-format.ensures.word,
       edits,

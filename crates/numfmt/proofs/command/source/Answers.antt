@@ -1,11 +1,11 @@
 -- The word is read, and the library says whether a builder packs it.
 use Rattle.std.proofs.Common.{string_bytes, refl, arith}
-use Rattle.numfmt.proofs.ItemLemmas.{one}
+use Rattle.numfmt.proofs.ItemLemmas.{map-one}
 use Rattle.numfmt.proofs.command.source.Goals as goal
 
 pub returns-in_ok-word-in-len1 : goal.returns-in_ok-word-in-len1
 returns-in_ok-word-in-len1 c =
     rw (
-      one string_bytes c.args.args.now _ (omega arith) c.word-item.is,
+      map-one string_bytes c.args.args.now _ (omega arith) c.word-item.is,
       ← c.in_ok-word-in-len1.ensures.word,
     ) (refl, c.is_built.ensures.rule)

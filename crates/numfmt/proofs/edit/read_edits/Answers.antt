@@ -2,7 +2,7 @@
 use Rattle.std.proofs.Common.{◌≡◌, [], string_bytes, length, refl, sym, ap, ◌∙◌, arith}
 use Rattle.std.proofs.lemmas.List.{length-map, get_or-map}
 use Rattle.numfmt.specs.EditText.{edit_in}
-use Rattle.numfmt.proofs.EditsLemmas.{HaveRead-next, HaveRead-all, none_read}
+use Rattle.numfmt.proofs.EditsLemmas.{HaveRead-next, edits_in-all, edits_in-none}
 use Rattle.numfmt.proofs.edit.read_edits.Goals as goal
 
 pub loop-i-init : goal.loop-i-init
@@ -12,7 +12,7 @@ pub returns-in_err-edits : goal.returns-in_err-edits
 returns-in_err-edits c =
     let text = c.as_str.ensures.value ∙ ap string_bytes c.index-texts-i.is
     ∙ sym (get_or-map string_bytes c.args.texts.now c.loop-i.i c.index-texts-i.result [] c.loop-i-test.true) in
-    let none = none_read _ c.loop-i.i (omega (arith, length-map c.args.texts.now string_bytes))
+    let none = edits_in-none _ c.loop-i.i (omega (arith, length-map c.args.texts.now string_bytes))
     (ap edit_in (sym text) ∙ sym c.read_edit.ensures ∙ c.in_err-edits.was) in
     rw c.from_residual.ensures none
 
@@ -27,4 +27,4 @@ loop-i-preserved c =
 pub returns : goal.returns
 returns c =
     let end : c.loop-i.i ≡ length c.args.texts.now = omega arith in
-    rw (← end) (HaveRead-all _ _ _ c.loop-i.invariant (omega (arith, length-map c.args.texts.now string_bytes)))
+    rw (← end) (edits_in-all _ _ _ c.loop-i.invariant (omega (arith, length-map c.args.texts.now string_bytes)))

@@ -18,7 +18,8 @@ end r a b text written = rw (append-nil text) written
 pub returns-clause-text : goal.returns-clause-text
 returns-clause-text g c =
     let last = c.print_field-6.result in
-    let flags = Appends-trans _ _ _ (codes "flags ") _ c.in_ok-write_all.ensures.bytes c.in_ok-print_word.ensures.text in
+    let flags =
+    Appends-trans _ _ _ (codes "flags ") _ c.in_ok-write_all.ensures.bytes c.in_ok-print_word.ensures.text in
     then last _ _ _ _ _ flags (
     then last _ _ _ _ _ (rw (c.from.ensures ∙ c.digit_separator.ensures) at c.in_ok-print_field.ensures.text) (
     then last _ _ _ _ _ (rw (c.from-2.ensures ∙ c.base_prefix.ensures) at c.in_ok-print_field-2.ensures.text) (
