@@ -380,7 +380,7 @@ pub const fn normal_form(format: u128) -> u128 {
 
 /// Returns the normal form of `format` if that is lawful, and else the error of the normal form.
 ///
-/// This is for words that were stored by the Rust crate, or by this crate before its rules changed.
+/// This is for words that were stored by `lexical-util`, or by this crate before its rules changed.
 /// Reserved bits, empty exponent bytes, and a digit separator that no flag allows are mended, so none
 /// of these is an error; everything else that is wrong is. The error is never `Success` or
 /// `InvalidFlags`.

@@ -175,7 +175,8 @@ impl NumberFormatBuilder {
     /// Packs the fields into a format word. Returns the word if it is lawful, or else what is
     /// wrong with it, which is never `Success`. The builder is not changed.
     ///
-    /// The Rust crate panics with the description of the error instead.
+    /// In `lexical-util` it panics with the description of the error. So does `build_or_panic` in plain Rust,
+    /// which is for constants, where a `Result` cannot be unwrapped.
     ///
     /// # Proved
     ///
@@ -199,7 +200,7 @@ impl NumberFormatBuilder {
         }
     }
 
-    /// Another name of `build_unchecked`. Deprecated in the Rust crate.
+    /// Another name of `build_unchecked`. Deprecated in `lexical-util`.
     ///
     /// # Proved
     ///

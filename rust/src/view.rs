@@ -20,7 +20,7 @@ mod getters;
 /// A format word, to be read field by field and checked.
 ///
 /// Every getter works on any word, lawful or not. The word is a value, which may be known only when the
-/// program runs; in the Rust crate it is a const generic argument of the type, and each field is also an
+/// program runs; in `lexical-util` it is a const generic argument of the type, and each field is also an
 /// associated constant.
 #[derive(Clone, Copy, PartialEq, Eq, Hash)]
 pub struct FormatView {
@@ -45,7 +45,7 @@ impl FormatView {
         FormatView { format }
     }
 
-    /// Returns the word. The Rust crate has no such function, since its word is part of the type.
+    /// Returns the word. `lexical-util` has no such function, since its word is part of the type.
     #[must_use]
     #[inline(always)]
     pub const fn word(&self) -> u128 {

@@ -40,7 +40,7 @@ const fn larger(a: u32, b: u32) -> u32 {
 /// the exponent radix. Letters are digits in both cases.
 ///
 /// If the exponent radix of the format is 0, the mantissa radix stands for it. The exponent base
-/// has no digits. Any word and any byte may be passed. The Rust crate has no such function.
+/// has no digits. Any word and any byte may be passed. `lexical-util` has no such function.
 #[must_use]
 #[inline(always)]
 pub const fn is_digit(format: u128, byte: u8) -> bool {
@@ -166,7 +166,7 @@ pub const fn is_valid_base_suffix(format: u128) -> bool {
 /// A byte of 0 is absent and equals no other. A base prefix that is a letter stands for both cases
 /// of it unless [`CASE_SENSITIVE_BASE_PREFIX`] is set, and a base suffix unless
 /// [`CASE_SENSITIVE_BASE_SUFFIX`] is set: the prefix `h` and the suffix `H` clash unless both flags
-/// are set. The digit separator is always one byte. The Rust crate compares the raw bytes, so it
+/// are set. The digit separator is always one byte. `lexical-util` compares the raw bytes, so it
 /// accepts such a prefix and suffix with any flags.
 #[must_use]
 #[inline(always)]
@@ -202,7 +202,7 @@ const fn is_apart_from_own(format: u128, byte: u8, case_counts: bool) -> bool {
 /// base suffix. An exponent character that is a letter stands for both cases of it unless
 /// [`CASE_SENSITIVE_EXPONENT`] is set; base prefix and base suffix are compared as in
 /// [`is_valid_punctuation`]. The decimal point is always one byte. In a lawful format, no byte then
-/// has two meanings, and for every lawful format some such pair exists. The Rust crate compares the
+/// has two meanings, and for every lawful format some such pair exists. `lexical-util` compares the
 /// raw bytes.
 ///
 /// In plain Rust:
@@ -287,7 +287,7 @@ const fn is_valid_exponent_consecutive_flags(format: u128) -> bool {
     format & EXPONENT_DIGIT_SEPARATOR_FLAG_MASK != EXPONENT_CONSECUTIVE_DIGIT_SEPARATOR
 }
 
-/// Returns whether all reserved bits of `format` are 0. The Rust crate has no such function.
+/// Returns whether all reserved bits of `format` are 0. `lexical-util` has no such function.
 #[must_use]
 #[inline(always)]
 pub const fn is_clean(format: u128) -> bool {
@@ -428,7 +428,7 @@ pub const fn radix_error_impl(format: u128) -> Error {
 ///     `InvalidConsecutiveExponentDigitSeparator`.
 /// 16. All reserved bits are 0: `InvalidFlags`.
 ///
-/// The Rust crate compares raw bytes in the seventh rule, and has no rule on reserved bits.
+/// `lexical-util` compares raw bytes in the seventh rule, and has no rule on reserved bits.
 ///
 /// # Proved
 ///
