@@ -1,10 +1,12 @@
 // Made by rust/erase from crates/lexical_util/src/format.rt: change that file.
 
-//! The standard format, the check of a word, and all names of `format_flags`, `format_builder` and
-//! `feature_format`.
+//! The standard format, the view and the checks of a word that is a value, and all names of
+//! `format_flags` and `format_builder`.
 
 use crate::error::Error;
+#[doc(inline)]
 pub use crate::format_builder::{NonZeroU8, NumberFormatBuilder, OptionU8};
+#[doc(inline)]
 pub use crate::format_flags::{
     base_prefix, base_suffix, digit_separator, exponent_base, exponent_radix, format_error_impl,
     is_clean, is_digit, is_valid_base_prefix, is_valid_base_suffix, is_valid_digit_separator,
@@ -29,6 +31,7 @@ pub use crate::format_flags::{
     REQUIRED_INTEGER_DIGITS, REQUIRED_MANTISSA_DIGITS, REQUIRED_MANTISSA_SIGN,
     SPECIAL_DIGIT_SEPARATOR, TRAILING_DIGIT_SEPARATOR,
 };
+#[doc(inline)]
 pub use crate::view::FormatView;
 
 /// The standard format: radix 10, digits required in the mantissa and in an exponent, and nothing

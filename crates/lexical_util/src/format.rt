@@ -1,12 +1,15 @@
-//! The standard format, the check of a word, and all names of `format_flags`, `format_builder` and
-//! `feature_format`.
+//! The standard format, the view and the checks of a word that is a value, and all names of
+//! `format_flags` and `format_builder`.
 
 ghost use Rattle.std.specs.Prelude.{◌≡◌, ◌↔◌, IsTrue};
 ghost use Rattle.lexical_flags.specs.Rules.{Lawful, IsErrorOf};
 
+#[doc(inline)]
 pub use crate::feature_format::NumberFormat;
 use lexical_base::error::Error;
+#[doc(inline)]
 pub use lexical_builder::format_builder::{NonZeroU8, NumberFormatBuilder, OptionU8};
+#[doc(inline)]
 pub use lexical_flags::format_flags::{
     BASE_PREFIX, BASE_PREFIX_SHIFT, BASE_SUFFIX, BASE_SUFFIX_SHIFT, CASE_SENSITIVE_BASE_PREFIX,
     CASE_SENSITIVE_BASE_SUFFIX, CASE_SENSITIVE_EXPONENT, CASE_SENSITIVE_SPECIAL,
