@@ -5,6 +5,7 @@
  *     ./example mantissa_radix=16 digit_separator=95 internal_digit_separator=1 */
 #include "peltzivar.h"
 
+#include <ctype.h>
 #include <inttypes.h>
 #include <stdio.h>
 #include <stdlib.h>
@@ -13,10 +14,10 @@
 /* Applies a setting NAME=NUMBER. Returns false if there is no such setting, or its number is no byte. */
 static bool apply(peltzivar_fields *fields, const char *setting) {
     const char *equals = strchr(setting, '=');
-    if (equals == NULL) return false;
+    if (equals == NULL || !isdigit((unsigned char)equals[1])) return false;
     char *end;
     const unsigned long value = strtoul(equals + 1, &end, 10);
-    if (end == equals + 1 || *end != '\0' || value > 255) return false;
+    if (*end != '\0' || value > 255) return false;
     const uint8_t setter = peltzivar_setter_of_name((const uint8_t *)setting, (size_t)(equals - setting));
     const peltzivar_edit edit = {setter, (uint8_t)value};
     return peltzivar_edit_fields(fields, &edit, 1);

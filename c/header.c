@@ -127,6 +127,15 @@ static void test_bytes(void) {
     CHECK(peltzivar_is_valid_letter('z') && !peltzivar_is_valid_letter('0'));
     CHECK(peltzivar_is_valid_letter_slice(text, 2) && !peltzivar_is_valid_letter_slice(text, 3));
     CHECK(peltzivar_is_valid_ascii_slice(text, 0) && peltzivar_is_valid_letter_slice(text, 0));
+    uint8_t long_text[5000];
+    memset(long_text, 'z', sizeof long_text);
+    CHECK(peltzivar_is_valid_ascii_slice(long_text, 5000) && peltzivar_is_valid_letter_slice(long_text, 5000));
+    for (size_t last = 0; last < sizeof long_text; last += 7) {
+        long_text[last] = 127;
+        CHECK(peltzivar_is_valid_ascii_slice(long_text, last) && !peltzivar_is_valid_ascii_slice(long_text, last + 1));
+        CHECK(!peltzivar_is_valid_letter_slice(long_text, last + 1));
+        long_text[last] = 'z';
+    }
     CHECK(peltzivar_char_to_digit('f', 16) == 15 && peltzivar_char_to_digit_const('f', 16) == 15);
     CHECK(peltzivar_char_to_digit('g', 16) == PELTZIVAR_NO_DIGIT && peltzivar_char_to_digit('!', 256) == 255);
     CHECK(peltzivar_char_is_digit('9', 10) && !peltzivar_char_is_digit_const('9', 9));
@@ -143,9 +152,12 @@ static void test_texts(void) {
     memset(text, '#', sizeof text);
     size_t len = peltzivar_text(PELTZIVAR_OVERFLOW, SIZE_MAX, text, sizeof text);
     CHECK(is_text("lexical parse error: 'numeric overflow occurred' at index 18446744073709551615", len, text));
-    memset(text, '#', sizeof text);
-    CHECK(peltzivar_text(PELTZIVAR_INVALID_FLAGS, 0, text, 8) == 79);
-    CHECK(is_text("lexical ", 8, text));
+    for (size_t room = 0; room <= 79; room++) {
+        memset(text, '#', sizeof text);
+        CHECK(peltzivar_text(PELTZIVAR_INVALID_FLAGS, 0, text, room) == 79);
+        const char *whole = "lexical number format error: 'invalid flags enabled without the format feature'";
+        CHECK(memcmp(whole, text, room) == 0 && text[room] == '#');
+    }
     memset(text, '#', sizeof text);
     CHECK(peltzivar_text(PELTZIVAR_EMPTY, 5, text, 0) == 63 && text[0] == '#');
     CHECK(peltzivar_text(49, 0, text, sizeof text) == 0 && text[0] == '#');

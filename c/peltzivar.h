@@ -60,7 +60,7 @@ typedef struct {
 #define PELTZIVAR_NO_CHAR 0
 
 /* The setters. First come those of flags, each with the number of its bit in `flags`, then those of groups of flags,
- * then those of bytes. */
+ * then those of bytes. PELTZIVAR_SET_RADIX does the same as the one before it. */
 enum {
     PELTZIVAR_SET_REQUIRED_INTEGER_DIGITS = 0,
     PELTZIVAR_SET_REQUIRED_FRACTION_DIGITS,
@@ -185,8 +185,8 @@ peltzivar_word peltzivar_pack(const peltzivar_fields *fields);
  * of them has no setter, returns false and writes nothing. */
 bool peltzivar_build(const peltzivar_fields *fields, const peltzivar_edit *edits, size_t len, peltzivar_word *out);
 
-/* Packs the fields. If the word is lawful, writes it to *out and returns PELTZIVAR_SUCCESS; else writes nothing and
- * returns the error of the first rule that it breaks. */
+/* Packs the fields as peltzivar_pack does, so without a digit separator that no flag allows. If the word is lawful, writes
+ * it to *out and returns PELTZIVAR_SUCCESS; else writes nothing and returns the error of the first rule that it breaks. */
 uint32_t peltzivar_build_strict(const peltzivar_fields *fields, peltzivar_word *out);
 
 /* WORDS */
@@ -279,7 +279,7 @@ size_t peltzivar_description(uint32_t outcome, uint8_t *text, size_t len);
 /* Writes the class of the outcome, its description, and for an error of parsing the index. */
 size_t peltzivar_text(uint32_t outcome, size_t index, uint8_t *text, size_t len);
 
-/* Writes the name of a setter. */
+/* Writes the name of a setter: that of its constant in lower case without PELTZIVAR_SET_, such as "digit_separator". */
 size_t peltzivar_setter_name(uint8_t setter, uint8_t *text, size_t len);
 
 /* Returns the setter of a name, or PELTZIVAR_NO_SETTER. */

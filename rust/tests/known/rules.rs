@@ -32,8 +32,8 @@ macro_rules! rows {
     };
 }
 
-/// A smallest word that breaks each of the 16 rules, and four more.
-fn rows() -> [Row; 20] {
+/// A smallest word that breaks each of the 16 rules, and six more.
+fn rows() -> [Row; 22] {
     rows! {
         0x00000000000000000000000000000000 InvalidMantissaRadix none;
         0x00010200000000000000000000000000 InvalidExponentBase none;
@@ -55,6 +55,8 @@ fn rows() -> [Row; 20] {
         0x2424245F2E00002C00001FFF00010280 Success none;
         0x0A0A1068780000FF0000000000000000 InvalidDigitSeparator is_valid_digit_separator;
         0x25240200000000000000000000000000 InvalidExponentRadix none;
+        0x80000A0000000000000000000000000C InvalidExponentRadix none;
+        0xFFFFFFFFFFFFFFFFFFFFFFFFFFFFFFFF InvalidMantissaRadix none;
     }
 }
 
