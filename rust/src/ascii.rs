@@ -45,20 +45,17 @@ fn all_in_either(bytes: &[u8], kept: u8, first: (u8, u8), second: (u8, u8)) -> b
 
 // Whether every byte of chunks, few or many, is in one of the ranges.
 //
-// From 64 chunks on it takes blocks of 16, in turn from each of four quarters, since memory serves
-// four streams faster than one, and stops at the first block that fails. A test after each chunk
+// It takes blocks of 16, one after another, and stops at the first that fails. A test after each chunk
 // would take as long as all else.
 #[inline(always)]
 fn chunks_in_either(chunks: &[[u8; 32]], kept: u8, first: (u8, u8), second: (u8, u8)) -> bool {
-    let (blocks, _) = chunks.as_chunks::<16>();
-    let quarter = blocks.len() / 4;
-    for turn in 0..4 * quarter {
-        let block = &blocks[turn % 4 * quarter + turn / 4];
+    let (blocks, rest) = chunks.as_chunks::<16>();
+    for block in blocks {
         if !block_in_either(block, kept, first, second) {
             return false;
         }
     }
-    block_in_either(&chunks[64 * quarter..], kept, first, second)
+    block_in_either(rest, kept, first, second)
 }
 
 // Whether every byte of a few chunks of `N` bytes is in one of the ranges, with one test after the last.

@@ -54,8 +54,8 @@ fn all_in_either(bytes: &[u8], kept: u8, first: (u8, u8), second: (u8, u8)) -> b
 
 // Whether every byte of chunks, few or many, is in one of the ranges.
 //
-// It takes blocks of 16 and stops at the first that fails, since a test after each chunk would take as
-// long as all else.
+// It takes blocks of 16, one after another, and stops at the first that fails. A test after each chunk
+// would take as long as all else.
 #[inline(always)]
 fn chunks_in_either(chunks: &[[u8; 32]], kept: u8, first: (u8, u8), second: (u8, u8)) -> bool
     requires { AreRanges first second }
