@@ -11,6 +11,7 @@ ghost use Rattle.std.specs.Cmp.Rules.{comparing};
 ghost use Rattle.std.specs.Ordering.{as_partial_cmp, ordering_reverse};
 ghost use Rattle.std.proofs.Common.{rules};
 ghost use Rattle.lexical_base.specs.Outcomes.{rank_of, index_of, held_index, description_of, printed_text};
+ghost use Rattle.lexical_base.specs.declared.error.Error.TheVariants as errors;
 ghost use Rattle.lexical_base.specs.OutcomeOrder.{compare_outcomes, same_outcome};
 
 use std::cmp::Ordering;
@@ -252,343 +253,343 @@ impl Error {
 
     /// Returns whether this is [`Error::Overflow`], at any index.
     pub const fn is_overflow(&self) -> bool
-        ensures { IsTrue result ↔ (rank_of self.now ≡ 0) }
+        ensures { IsTrue result ↔ (rank_of self.now ≡ rank_of (errors.Overflow 0)) }
     {
         matches!(self, Error::Overflow(_))
     }
 
     /// Returns whether this is [`Error::Underflow`], at any index.
     pub const fn is_underflow(&self) -> bool
-        ensures { IsTrue result ↔ (rank_of self.now ≡ 1) }
+        ensures { IsTrue result ↔ (rank_of self.now ≡ rank_of (errors.Underflow 0)) }
     {
         matches!(self, Error::Underflow(_))
     }
 
     /// Returns whether this is [`Error::InvalidDigit`], at any index.
     pub const fn is_invalid_digit(&self) -> bool
-        ensures { IsTrue result ↔ (rank_of self.now ≡ 2) }
+        ensures { IsTrue result ↔ (rank_of self.now ≡ rank_of (errors.InvalidDigit 0)) }
     {
         matches!(self, Error::InvalidDigit(_))
     }
 
     /// Returns whether this is [`Error::Empty`], at any index.
     pub const fn is_empty(&self) -> bool
-        ensures { IsTrue result ↔ (rank_of self.now ≡ 3) }
+        ensures { IsTrue result ↔ (rank_of self.now ≡ rank_of (errors.Empty 0)) }
     {
         matches!(self, Error::Empty(_))
     }
 
     /// Returns whether this is [`Error::EmptyMantissa`], at any index.
     pub const fn is_empty_mantissa(&self) -> bool
-        ensures { IsTrue result ↔ (rank_of self.now ≡ 4) }
+        ensures { IsTrue result ↔ (rank_of self.now ≡ rank_of (errors.EmptyMantissa 0)) }
     {
         matches!(self, Error::EmptyMantissa(_))
     }
 
     /// Returns whether this is [`Error::EmptyExponent`], at any index.
     pub const fn is_empty_exponent(&self) -> bool
-        ensures { IsTrue result ↔ (rank_of self.now ≡ 5) }
+        ensures { IsTrue result ↔ (rank_of self.now ≡ rank_of (errors.EmptyExponent 0)) }
     {
         matches!(self, Error::EmptyExponent(_))
     }
 
     /// Returns whether this is [`Error::EmptyInteger`], at any index.
     pub const fn is_empty_integer(&self) -> bool
-        ensures { IsTrue result ↔ (rank_of self.now ≡ 6) }
+        ensures { IsTrue result ↔ (rank_of self.now ≡ rank_of (errors.EmptyInteger 0)) }
     {
         matches!(self, Error::EmptyInteger(_))
     }
 
     /// Returns whether this is [`Error::EmptyFraction`], at any index.
     pub const fn is_empty_fraction(&self) -> bool
-        ensures { IsTrue result ↔ (rank_of self.now ≡ 7) }
+        ensures { IsTrue result ↔ (rank_of self.now ≡ rank_of (errors.EmptyFraction 0)) }
     {
         matches!(self, Error::EmptyFraction(_))
     }
 
     /// Returns whether this is [`Error::InvalidPositiveMantissaSign`], at any index.
     pub const fn is_invalid_positive_mantissa_sign(&self) -> bool
-        ensures { IsTrue result ↔ (rank_of self.now ≡ 8) }
+        ensures { IsTrue result ↔ (rank_of self.now ≡ rank_of (errors.InvalidPositiveMantissaSign 0)) }
     {
         matches!(self, Error::InvalidPositiveMantissaSign(_))
     }
 
     /// Returns whether this is [`Error::MissingMantissaSign`], at any index.
     pub const fn is_missing_mantissa_sign(&self) -> bool
-        ensures { IsTrue result ↔ (rank_of self.now ≡ 9) }
+        ensures { IsTrue result ↔ (rank_of self.now ≡ rank_of (errors.MissingMantissaSign 0)) }
     {
         matches!(self, Error::MissingMantissaSign(_))
     }
 
     /// Returns whether this is [`Error::InvalidExponent`], at any index.
     pub const fn is_invalid_exponent(&self) -> bool
-        ensures { IsTrue result ↔ (rank_of self.now ≡ 10) }
+        ensures { IsTrue result ↔ (rank_of self.now ≡ rank_of (errors.InvalidExponent 0)) }
     {
         matches!(self, Error::InvalidExponent(_))
     }
 
     /// Returns whether this is [`Error::InvalidPositiveExponentSign`], at any index.
     pub const fn is_invalid_positive_exponent_sign(&self) -> bool
-        ensures { IsTrue result ↔ (rank_of self.now ≡ 11) }
+        ensures { IsTrue result ↔ (rank_of self.now ≡ rank_of (errors.InvalidPositiveExponentSign 0)) }
     {
         matches!(self, Error::InvalidPositiveExponentSign(_))
     }
 
     /// Returns whether this is [`Error::MissingExponentSign`], at any index.
     pub const fn is_missing_exponent_sign(&self) -> bool
-        ensures { IsTrue result ↔ (rank_of self.now ≡ 12) }
+        ensures { IsTrue result ↔ (rank_of self.now ≡ rank_of (errors.MissingExponentSign 0)) }
     {
         matches!(self, Error::MissingExponentSign(_))
     }
 
     /// Returns whether this is [`Error::ExponentWithoutFraction`], at any index.
     pub const fn is_exponent_without_fraction(&self) -> bool
-        ensures { IsTrue result ↔ (rank_of self.now ≡ 13) }
+        ensures { IsTrue result ↔ (rank_of self.now ≡ rank_of (errors.ExponentWithoutFraction 0)) }
     {
         matches!(self, Error::ExponentWithoutFraction(_))
     }
 
     /// Returns whether this is [`Error::InvalidLeadingZeros`], at any index.
     pub const fn is_invalid_leading_zeros(&self) -> bool
-        ensures { IsTrue result ↔ (rank_of self.now ≡ 14) }
+        ensures { IsTrue result ↔ (rank_of self.now ≡ rank_of (errors.InvalidLeadingZeros 0)) }
     {
         matches!(self, Error::InvalidLeadingZeros(_))
     }
 
     /// Returns whether this is [`Error::MissingExponent`], at any index.
     pub const fn is_missing_exponent(&self) -> bool
-        ensures { IsTrue result ↔ (rank_of self.now ≡ 15) }
+        ensures { IsTrue result ↔ (rank_of self.now ≡ rank_of (errors.MissingExponent 0)) }
     {
         matches!(self, Error::MissingExponent(_))
     }
 
     /// Returns whether this is [`Error::MissingSign`], at any index.
     pub const fn is_missing_sign(&self) -> bool
-        ensures { IsTrue result ↔ (rank_of self.now ≡ 16) }
+        ensures { IsTrue result ↔ (rank_of self.now ≡ rank_of (errors.MissingSign 0)) }
     {
         matches!(self, Error::MissingSign(_))
     }
 
     /// Returns whether this is [`Error::InvalidPositiveSign`], at any index.
     pub const fn is_invalid_positive_sign(&self) -> bool
-        ensures { IsTrue result ↔ (rank_of self.now ≡ 17) }
+        ensures { IsTrue result ↔ (rank_of self.now ≡ rank_of (errors.InvalidPositiveSign 0)) }
     {
         matches!(self, Error::InvalidPositiveSign(_))
     }
 
     /// Returns whether this is [`Error::InvalidNegativeSign`], at any index.
     pub const fn is_invalid_negative_sign(&self) -> bool
-        ensures { IsTrue result ↔ (rank_of self.now ≡ 18) }
+        ensures { IsTrue result ↔ (rank_of self.now ≡ rank_of (errors.InvalidNegativeSign 0)) }
     {
         matches!(self, Error::InvalidNegativeSign(_))
     }
 
     /// Returns whether this is [`Error::InvalidMantissaRadix`].
     pub const fn is_invalid_mantissa_radix(&self) -> bool
-        ensures { IsTrue result ↔ (rank_of self.now ≡ 19) }
+        ensures { IsTrue result ↔ (rank_of self.now ≡ rank_of errors.InvalidMantissaRadix) }
     {
         matches!(self, Error::InvalidMantissaRadix)
     }
 
     /// Returns whether this is [`Error::InvalidExponentBase`].
     pub const fn is_invalid_exponent_base(&self) -> bool
-        ensures { IsTrue result ↔ (rank_of self.now ≡ 20) }
+        ensures { IsTrue result ↔ (rank_of self.now ≡ rank_of errors.InvalidExponentBase) }
     {
         matches!(self, Error::InvalidExponentBase)
     }
 
     /// Returns whether this is [`Error::InvalidExponentRadix`].
     pub const fn is_invalid_exponent_radix(&self) -> bool
-        ensures { IsTrue result ↔ (rank_of self.now ≡ 21) }
+        ensures { IsTrue result ↔ (rank_of self.now ≡ rank_of errors.InvalidExponentRadix) }
     {
         matches!(self, Error::InvalidExponentRadix)
     }
 
     /// Returns whether this is [`Error::InvalidDigitSeparator`].
     pub const fn is_invalid_digit_separator(&self) -> bool
-        ensures { IsTrue result ↔ (rank_of self.now ≡ 22) }
+        ensures { IsTrue result ↔ (rank_of self.now ≡ rank_of errors.InvalidDigitSeparator) }
     {
         matches!(self, Error::InvalidDigitSeparator)
     }
 
     /// Returns whether this is [`Error::InvalidDecimalPoint`].
     pub const fn is_invalid_decimal_point(&self) -> bool
-        ensures { IsTrue result ↔ (rank_of self.now ≡ 23) }
+        ensures { IsTrue result ↔ (rank_of self.now ≡ rank_of errors.InvalidDecimalPoint) }
     {
         matches!(self, Error::InvalidDecimalPoint)
     }
 
     /// Returns whether this is [`Error::InvalidExponentSymbol`].
     pub const fn is_invalid_exponent_symbol(&self) -> bool
-        ensures { IsTrue result ↔ (rank_of self.now ≡ 24) }
+        ensures { IsTrue result ↔ (rank_of self.now ≡ rank_of errors.InvalidExponentSymbol) }
     {
         matches!(self, Error::InvalidExponentSymbol)
     }
 
     /// Returns whether this is [`Error::InvalidBasePrefix`].
     pub const fn is_invalid_base_prefix(&self) -> bool
-        ensures { IsTrue result ↔ (rank_of self.now ≡ 25) }
+        ensures { IsTrue result ↔ (rank_of self.now ≡ rank_of errors.InvalidBasePrefix) }
     {
         matches!(self, Error::InvalidBasePrefix)
     }
 
     /// Returns whether this is [`Error::InvalidBaseSuffix`].
     pub const fn is_invalid_base_suffix(&self) -> bool
-        ensures { IsTrue result ↔ (rank_of self.now ≡ 26) }
+        ensures { IsTrue result ↔ (rank_of self.now ≡ rank_of errors.InvalidBaseSuffix) }
     {
         matches!(self, Error::InvalidBaseSuffix)
     }
 
     /// Returns whether this is [`Error::InvalidPunctuation`].
     pub const fn is_invalid_punctuation(&self) -> bool
-        ensures { IsTrue result ↔ (rank_of self.now ≡ 27) }
+        ensures { IsTrue result ↔ (rank_of self.now ≡ rank_of errors.InvalidPunctuation) }
     {
         matches!(self, Error::InvalidPunctuation)
     }
 
     /// Returns whether this is [`Error::InvalidExponentFlags`].
     pub const fn is_invalid_exponent_flags(&self) -> bool
-        ensures { IsTrue result ↔ (rank_of self.now ≡ 28) }
+        ensures { IsTrue result ↔ (rank_of self.now ≡ rank_of errors.InvalidExponentFlags) }
     {
         matches!(self, Error::InvalidExponentFlags)
     }
 
     /// Returns whether this is [`Error::InvalidMantissaSign`].
     pub const fn is_invalid_mantissa_sign(&self) -> bool
-        ensures { IsTrue result ↔ (rank_of self.now ≡ 29) }
+        ensures { IsTrue result ↔ (rank_of self.now ≡ rank_of errors.InvalidMantissaSign) }
     {
         matches!(self, Error::InvalidMantissaSign)
     }
 
     /// Returns whether this is [`Error::InvalidExponentSign`].
     pub const fn is_invalid_exponent_sign(&self) -> bool
-        ensures { IsTrue result ↔ (rank_of self.now ≡ 30) }
+        ensures { IsTrue result ↔ (rank_of self.now ≡ rank_of errors.InvalidExponentSign) }
     {
         matches!(self, Error::InvalidExponentSign)
     }
 
     /// Returns whether this is [`Error::InvalidSpecial`].
     pub const fn is_invalid_special(&self) -> bool
-        ensures { IsTrue result ↔ (rank_of self.now ≡ 31) }
+        ensures { IsTrue result ↔ (rank_of self.now ≡ rank_of errors.InvalidSpecial) }
     {
         matches!(self, Error::InvalidSpecial)
     }
 
     /// Returns whether this is [`Error::InvalidConsecutiveIntegerDigitSeparator`].
     pub const fn is_invalid_consecutive_integer_digit_separator(&self) -> bool
-        ensures { IsTrue result ↔ (rank_of self.now ≡ 32) }
+        ensures { IsTrue result ↔ (rank_of self.now ≡ rank_of errors.InvalidConsecutiveIntegerDigitSeparator) }
     {
         matches!(self, Error::InvalidConsecutiveIntegerDigitSeparator)
     }
 
     /// Returns whether this is [`Error::InvalidConsecutiveFractionDigitSeparator`].
     pub const fn is_invalid_consecutive_fraction_digit_separator(&self) -> bool
-        ensures { IsTrue result ↔ (rank_of self.now ≡ 33) }
+        ensures { IsTrue result ↔ (rank_of self.now ≡ rank_of errors.InvalidConsecutiveFractionDigitSeparator) }
     {
         matches!(self, Error::InvalidConsecutiveFractionDigitSeparator)
     }
 
     /// Returns whether this is [`Error::InvalidConsecutiveExponentDigitSeparator`].
     pub const fn is_invalid_consecutive_exponent_digit_separator(&self) -> bool
-        ensures { IsTrue result ↔ (rank_of self.now ≡ 34) }
+        ensures { IsTrue result ↔ (rank_of self.now ≡ rank_of errors.InvalidConsecutiveExponentDigitSeparator) }
     {
         matches!(self, Error::InvalidConsecutiveExponentDigitSeparator)
     }
 
     /// Returns whether this is [`Error::InvalidFlags`].
     pub const fn is_invalid_flags(&self) -> bool
-        ensures { IsTrue result ↔ (rank_of self.now ≡ 35) }
+        ensures { IsTrue result ↔ (rank_of self.now ≡ rank_of errors.InvalidFlags) }
     {
         matches!(self, Error::InvalidFlags)
     }
 
     /// Returns whether this is [`Error::InvalidNanString`].
     pub const fn is_invalid_nan_string(&self) -> bool
-        ensures { IsTrue result ↔ (rank_of self.now ≡ 36) }
+        ensures { IsTrue result ↔ (rank_of self.now ≡ rank_of errors.InvalidNanString) }
     {
         matches!(self, Error::InvalidNanString)
     }
 
     /// Returns whether this is [`Error::NanStringTooLong`].
     pub const fn is_nan_string_too_long(&self) -> bool
-        ensures { IsTrue result ↔ (rank_of self.now ≡ 37) }
+        ensures { IsTrue result ↔ (rank_of self.now ≡ rank_of errors.NanStringTooLong) }
     {
         matches!(self, Error::NanStringTooLong)
     }
 
     /// Returns whether this is [`Error::InvalidInfString`].
     pub const fn is_invalid_inf_string(&self) -> bool
-        ensures { IsTrue result ↔ (rank_of self.now ≡ 38) }
+        ensures { IsTrue result ↔ (rank_of self.now ≡ rank_of errors.InvalidInfString) }
     {
         matches!(self, Error::InvalidInfString)
     }
 
     /// Returns whether this is [`Error::InfStringTooLong`].
     pub const fn is_inf_string_too_long(&self) -> bool
-        ensures { IsTrue result ↔ (rank_of self.now ≡ 39) }
+        ensures { IsTrue result ↔ (rank_of self.now ≡ rank_of errors.InfStringTooLong) }
     {
         matches!(self, Error::InfStringTooLong)
     }
 
     /// Returns whether this is [`Error::InvalidInfinityString`].
     pub const fn is_invalid_infinity_string(&self) -> bool
-        ensures { IsTrue result ↔ (rank_of self.now ≡ 40) }
+        ensures { IsTrue result ↔ (rank_of self.now ≡ rank_of errors.InvalidInfinityString) }
     {
         matches!(self, Error::InvalidInfinityString)
     }
 
     /// Returns whether this is [`Error::InfinityStringTooLong`].
     pub const fn is_infinity_string_too_long(&self) -> bool
-        ensures { IsTrue result ↔ (rank_of self.now ≡ 41) }
+        ensures { IsTrue result ↔ (rank_of self.now ≡ rank_of errors.InfinityStringTooLong) }
     {
         matches!(self, Error::InfinityStringTooLong)
     }
 
     /// Returns whether this is [`Error::InfinityStringTooShort`].
     pub const fn is_infinity_string_too_short(&self) -> bool
-        ensures { IsTrue result ↔ (rank_of self.now ≡ 42) }
+        ensures { IsTrue result ↔ (rank_of self.now ≡ rank_of errors.InfinityStringTooShort) }
     {
         matches!(self, Error::InfinityStringTooShort)
     }
 
     /// Returns whether this is [`Error::InvalidFloatParseAlgorithm`].
     pub const fn is_invalid_float_parse_algorithm(&self) -> bool
-        ensures { IsTrue result ↔ (rank_of self.now ≡ 43) }
+        ensures { IsTrue result ↔ (rank_of self.now ≡ rank_of errors.InvalidFloatParseAlgorithm) }
     {
         matches!(self, Error::InvalidFloatParseAlgorithm)
     }
 
     /// Returns whether this is [`Error::InvalidRadix`].
     pub const fn is_invalid_radix(&self) -> bool
-        ensures { IsTrue result ↔ (rank_of self.now ≡ 44) }
+        ensures { IsTrue result ↔ (rank_of self.now ≡ rank_of errors.InvalidRadix) }
     {
         matches!(self, Error::InvalidRadix)
     }
 
     /// Returns whether this is [`Error::InvalidFloatPrecision`].
     pub const fn is_invalid_float_precision(&self) -> bool
-        ensures { IsTrue result ↔ (rank_of self.now ≡ 45) }
+        ensures { IsTrue result ↔ (rank_of self.now ≡ rank_of errors.InvalidFloatPrecision) }
     {
         matches!(self, Error::InvalidFloatPrecision)
     }
 
     /// Returns whether this is [`Error::InvalidNegativeExponentBreak`].
     pub const fn is_invalid_negative_exponent_break(&self) -> bool
-        ensures { IsTrue result ↔ (rank_of self.now ≡ 46) }
+        ensures { IsTrue result ↔ (rank_of self.now ≡ rank_of errors.InvalidNegativeExponentBreak) }
     {
         matches!(self, Error::InvalidNegativeExponentBreak)
     }
 
     /// Returns whether this is [`Error::InvalidPositiveExponentBreak`].
     pub const fn is_invalid_positive_exponent_break(&self) -> bool
-        ensures { IsTrue result ↔ (rank_of self.now ≡ 47) }
+        ensures { IsTrue result ↔ (rank_of self.now ≡ rank_of errors.InvalidPositiveExponentBreak) }
     {
         matches!(self, Error::InvalidPositiveExponentBreak)
     }
 
     /// Returns whether this is [`Error::Success`].
     pub const fn is_success(&self) -> bool
-        ensures rank { IsTrue result ↔ (rank_of self.now ≡ 48) }
+        ensures rank { IsTrue result ↔ (rank_of self.now ≡ rank_of errors.Success) }
         ensures same { IsTrue result ↔ (self.now ≡ Error.Success) }
     {
         matches!(self, Error::Success)
