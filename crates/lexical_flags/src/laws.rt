@@ -1,9 +1,8 @@
 //! Laws of the layout, of packing, of the rules and of the roles, stated as the clauses of functions
 //! with empty bodies; and examples of the definitions, proved by computation.
 
-ghost use Rattle.std.specs.Prelude.{◌≡◌, ℕ, ◌*◌, ◌/◌, ◌^◌, ◌<◌, ◌↔◌, [], ◌∷◌, ◌+◌, ◌-◌, length, map, pos, bit_or, Bool, true, false, IsTrue};
+ghost use Rattle.std.specs.Prelude.{◌≡◌, ℕ, ◌*◌, ◌/◌, ◌^◌, ◌<◌, ◌↔◌, [], ◌∷◌, ◌+◌, ◌-◌, length, map, pos, bit_or, true, false, IsTrue};
 ghost use Rattle.lexical_base.specs.declared.error.Error.{Error};
-ghost use Rattle.lexical_base.specs.declared.error.Error.TheVariants as errors;
 ghost use Rattle.lexical_base.specs.Ascii.{ByteSet};
 ghost use Rattle.lexical_flags.specs.Layout as layout;
 ghost use Rattle.lexical_flags.specs.Layout.{Flag, Byte, bit, shift, IsClean};
@@ -165,67 +164,4 @@ pub fn digit_examples()
     // The exponent radix has digits, the exponent base has none.
     ensures exponent { digits (raw 0x10000A00_00000061_00000000_0000000C) 0x61 ≡ true }
     ensures base { digits (raw 0x000A0200_00000035_00001FFF_0000000C) 0x35 ≡ false }
-{}
-
-/// Examples of the first broken rule of a word: each rule, two broken ones, and lawful words.
-#[tactic(auto, unfolding(crate::specs::Literals::on_literals))]
-pub fn error_examples()
-    // Each rule, broken by a word that keeps those before it.
-    ensures mantissa_radix { IsErrorOf 0x25252500_00000000_00000000_0000000C errors.InvalidMantissaRadix }
-    ensures exponent_base { IsErrorOf 0x0A010A00_00000000_00000000_0000000C errors.InvalidExponentBase }
-    ensures exponent_radix { IsErrorOf 0x250A0A00_00000000_00000000_0000000C errors.InvalidExponentRadix }
-    ensures separator { IsErrorOf 0x00000A00_0000002B_00000000_0000000C errors.InvalidDigitSeparator }
-    ensures prefix { IsErrorOf 0x00000A00_2D000000_00000000_0000000C errors.InvalidBasePrefix }
-    ensures suffix { IsErrorOf 0x00000A7F_00000000_00000000_0000000C errors.InvalidBaseSuffix }
-    ensures punctuation { IsErrorOf 0x00000A68_68000000_00000000_0000000C errors.InvalidPunctuation }
-    ensures exponent_flags { IsErrorOf 0x00000A00_00000000_00000000_0000404C errors.InvalidExponentFlags }
-    ensures mantissa_sign { IsErrorOf 0x00000A00_00000000_00000000_0000003C errors.InvalidMantissaSign }
-    ensures exponent_sign { IsErrorOf 0x00000A00_00000000_00000000_0000018C errors.InvalidExponentSign }
-    ensures special_case { IsErrorOf 0x00000A00_00000000_00000000_00000C0C errors.InvalidSpecial }
-    ensures special_separator { IsErrorOf 0x00000A00_00000000_00001000_0000040C errors.InvalidSpecial }
-    ensures integer { IsErrorOf 0x00000A00_00000000_00000200_0000000C errors.InvalidConsecutiveIntegerDigitSeparator }
-    ensures fraction { IsErrorOf 0x00000A00_00000000_00000400_0000000C errors.InvalidConsecutiveFractionDigitSeparator }
-    ensures exponent { IsErrorOf 0x00000A00_00000000_00000800_0000000C errors.InvalidConsecutiveExponentDigitSeparator }
-    ensures reserved { IsErrorOf 0x00000A00_00000000_00000000_8000000C errors.InvalidFlags }
-
-    // Of two broken rules it is the first.
-    ensures first { IsErrorOf 0x00000A00_00000000_00000200_00000C0C errors.InvalidSpecial }
-    ensures ones { IsErrorOf 0xFFFFFFFF_FFFFFFFF_FFFFFFFF_FFFFFFFF errors.InvalidMantissaRadix }
-
-    // Digits are those of both radixes, and a separator counts even if no flag allows it.
-    ensures exponent_digit { IsErrorOf 0x10000A00_00000061_00000000_0000000C errors.InvalidDigitSeparator }
-    ensures unused_digit { IsErrorOf 0x0A0A0A00_00000035_00000000_0000000C errors.InvalidDigitSeparator }
-
-    // The prefix h and the suffix H clash unless both are case-sensitive.
-    ensures both_cases { IsErrorOf 0x00000A48_68000000_00000000_0000000C errors.InvalidPunctuation }
-    ensures suffix_in_both_cases { IsErrorOf 0x00000A48_68000000_00000000_0001000C errors.InvalidPunctuation }
-    ensures one_case { IsErrorOf 0x00000A48_68000000_00000000_0003000C errors.Success }
-
-    // Lawful words.
-    ensures standard { Lawful 0x00000A00_00000000_00000000_0000000C }
-    ensures largest_radix { Lawful 0x20202000_00000000_00000000_0000000C }
-    ensures unused_separator { Lawful 0x0A0A0A00_0000005F_00000000_0000000C }
-    ensures separator_five { Lawful 0x000A0200_00000035_00001FFF_0000000C }
-    ensures two_flags { Lawful 0x00000A00_00000000_00000000_0000044C }
-    ensures separator_beside_prefix { Lawful 0x00000A00_78000058_00000000_0001000C }
-{}
-
-/// Examples of options: an exponent character and a decimal point that a format accepts or refuses.
-#[tactic(auto, unfolding(crate::specs::Literals::on_literals))]
-pub fn option_examples()
-    // e and . in decimal, and in hexadecimal, in which e is a digit; ^ and . there.
-    ensures decimal { AreAccepted 0x0A0A0A00_00000000_00000000_0000000C 0x65 0x2E }
-    ensures digit { AreAccepted 0x10101000_00000000_00000000_0000000C 0x65 0x2E → ⊥ }
-    ensures hexadecimal { AreAccepted 0x10101000_00000000_00000000_0000000C 0x5E 0x2E }
-
-    // The same byte twice, no byte, and the separator.
-    ensures same { AreAccepted 0x0A0A0A00_00000000_00000000_0000000C 0x65 0x65 → ⊥ }
-    ensures absent { AreAccepted 0x0A0A0A00_00000000_00000000_0000000C 0 0x2E → ⊥ }
-    ensures separator { AreAccepted 0x0A0A0A00_0000005F_00000000_0000000C 0x5F 0x2E → ⊥ }
-
-    // The exponent e beside the point E, and beside the prefix E.
-    ensures both_cases { AreAccepted 0x0A0A0A00_00000000_00000000_0000000C 0x65 0x45 → ⊥ }
-    ensures one_case { AreAccepted 0x0A0A0A00_00000000_00000000_0000800C 0x65 0x45 }
-    ensures prefix { AreAccepted 0x00000A00_45000000_00000000_0000000C 0x65 0x2E → ⊥ }
-    ensures prefix_in_one_case { AreAccepted 0x00000A00_45000000_00000000_0001800C 0x65 0x2E }
 {}
