@@ -26,7 +26,5 @@ returns c = record {
     exponent_radix = unset 0;
     digit_separator = λ absent. let value : Some 0x5F ≡ None = absent in absurd cc;
   };
-  empty_base = λ always. always.exponent_base refl;
-  empty_radix = λ always. always.exponent_radix refl;
   flag_alone = λ always. (always.digit_separator refl).0 refl;
 }

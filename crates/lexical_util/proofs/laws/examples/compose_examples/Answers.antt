@@ -1,5 +1,4 @@
-use Rattle.std.proofs.Common.{◌≡◌, ℕ, Some, None, inr, refl, arith}
-use Rattle.std.proofs.lemmas.Bool.{false≢true}
+use Rattle.std.proofs.Common.{◌≡◌, ℕ, Some, None, refl, arith}
 use Rattle.lexical_flags.specs.Layout as layout
 use Rattle.lexical_builder.specs.Writes.{after}
 use Rattle.lexical_util.proofs.ComposeLemmas.{survives_packing}
@@ -12,10 +11,6 @@ ten e = absurd (omega (arith, e))
 pub returns : goal.returns
 unfolding after
 returns c = record {
-  fields = survives_packing _ _ (λ left on. inr refl) ten ten;
   written_again = survives_packing _ _ (λ left on. let value : Some 0x2C ≡ None = left in absurd cc) ten ten;
-  not_wanted = survives_packing _ _ (λ left on. absurd (false≢true on)) ten ten;
   dropped = λ composes. let value : 0 ≡ 0x5F = composes.byte layout.digit_separator refl refl in omega (arith, value);
-  filled_base = λ composes. ten (composes.byte layout.exponent_base refl tt);
-  filled_radix = λ composes. ten (composes.byte layout.exponent_radix refl tt);
 }

@@ -1,4 +1,4 @@
-use Rattle.std.proofs.Common.{◌≡◌, ◌==◌, inl, inr, refl, ap, arith}
+use Rattle.std.proofs.Common.{◌≡◌, inl, inr, refl, arith}
 use Rattle.std.proofs.lemmas.Bool.{false≢true}
 use Rattle.lexical_flags.specs.Record.{raw, SeparatorIsUsed}
 use Rattle.lexical_util.proofs.ImageLemmas.{IsBuiltByWrites-built, IsBuilt-by_writes}
@@ -14,6 +14,5 @@ returns c = record {
     clean = record { below_separator_flags = refl; below_separator = refl; below_prefix = refl };
     separator_used = inr refl;
   });
-  reserved_bit = λ made. false≢true (ap (λ n. n == 0) (IsBuilt-by_writes _ made).clean.below_separator_flags);
   unused_separator = λ made. not_used (IsBuilt-by_writes _ made).separator_used;
 }

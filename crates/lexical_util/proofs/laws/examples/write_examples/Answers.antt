@@ -1,5 +1,5 @@
-use Rattle.std.proofs.Common.{ℕ, ◌≡◌, Option, Some, None, [], ◌∷◌, true, false, unwrap_or, refl, ap, arith}
-use Rattle.lexical_flags.specs.Layout.{Flag, Byte}
+use Rattle.std.proofs.Common.{ℕ, ◌≡◌, Option, Some, [], ◌∷◌, unwrap_or, refl, ap, arith}
+use Rattle.lexical_flags.specs.Layout.{Byte}
 use Rattle.lexical_flags.specs.Layout as layout
 use Rattle.lexical_builder.specs.Writes.{write_byte, last_byte, SameWrites}
 use Rattle.lexical_util.proofs.laws.examples.write_examples.Goals as goal
@@ -19,7 +19,6 @@ written_twice = record { same_flags = λ f. refl; same_bytes = on_byte } where
 
 pub returns : goal.returns
 returns c = record {
-  flag = tt;
   byte = omega arith;
   too_large = λ legal. omega (arith, legal);
   order = record { same_flags = λ f. refl; same_bytes = λ b. refl };
@@ -27,6 +26,4 @@ returns c = record {
   other_last = λ same.
       let value : 16 ≡ 8 = number (Some 16) (Some 8) (same.same_bytes layout.mantissa_radix) in
       omega (arith, value);
-  other_flag = λ same. let value : Some true ≡ Some false = same.same_flags layout.no_special in cc;
-  none = λ same. let value : Some 0 ≡ None = same.same_bytes layout.base_prefix in cc;
 }
