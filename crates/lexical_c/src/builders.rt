@@ -8,7 +8,7 @@ ghost use Rattle.lexical_util.specs.Writes.{after};
 ghost use Rattle.lexical_util.specs.Edits.{all_writes};
 ghost use Rattle.lexical_c.specs.Words.{fields_of};
 ghost use Rattle.lexical_c.specs.Edits.{HasSetter, known};
-ghost use Rattle.lexical_c.specs.Outcomes.{IsRankOfOne};
+ghost use Rattle.lexical_c.specs.Outcomes.{IsRankOfOne, SUCCESS};
 
 use crate::changes::Change;
 use crate::edits::apply_changes;
@@ -73,9 +73,9 @@ pub extern "C" fn peltzivar_build(fields: &Fields, changes: &[Change], out: &mut
 #[unsafe(no_mangle)]
 pub extern "C" fn peltzivar_build_strict(fields: &Fields, out: &mut Word) -> u32
     ensures error { IsRankOfOne (IsErrorOf (pack (fields_of fields.now))) result }
-    ensures lawful { (result ≡ 48) ↔ Lawful (pack (fields_of fields.now)) }
-    ensures written { result ≡ 48 → out.new ≡ pack (fields_of fields.now) }
-    ensures unchanged { (result ≡ 48 → ⊥) → out.new ≡ out.old }
+    ensures lawful { (result ≡ SUCCESS) ↔ Lawful (pack (fields_of fields.now)) }
+    ensures written { result ≡ SUCCESS → out.new ≡ pack (fields_of fields.now) }
+    ensures unchanged { (result ≡ SUCCESS → ⊥) → out.new ≡ out.old }
 {
     checked(fields.builder().build_unchecked(), out)
 }

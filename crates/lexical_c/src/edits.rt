@@ -9,7 +9,7 @@ ghost use Rattle.lexical_util.specs.Listing.{IsBuiltByWrites, changing, unchangi
 ghost use Rattle.lexical_util.specs.Normal.{normal_form_of, SameFormat, IsNormal};
 ghost use Rattle.lexical_util.specs.Writes.{Write, IsLegal, new_record, after};
 ghost use Rattle.lexical_c.specs.Edits.{HasSetter, known};
-ghost use Rattle.lexical_c.specs.Outcomes.{IsRankOfOne};
+ghost use Rattle.lexical_c.specs.Outcomes.{IsRankOfOne, SUCCESS};
 
 use crate::changes::Change;
 use crate::rules::checked;
@@ -72,9 +72,9 @@ pub extern "C" fn peltzivar_normal_form(format: Word) -> Word
 #[unsafe(no_mangle)]
 pub extern "C" fn peltzivar_migrate(format: Word, out: &mut Word) -> u32
     ensures error { IsRankOfOne (IsErrorOf (normal_form_of format)) result }
-    ensures lawful { (result ≡ 48) ↔ Lawful (normal_form_of format) }
-    ensures written { result ≡ 48 → out.new ≡ normal_form_of format }
-    ensures unchanged { (result ≡ 48 → ⊥) → out.new ≡ out.old }
+    ensures lawful { (result ≡ SUCCESS) ↔ Lawful (normal_form_of format) }
+    ensures written { result ≡ SUCCESS → out.new ≡ normal_form_of format }
+    ensures unchanged { (result ≡ SUCCESS → ⊥) → out.new ≡ out.old }
 {
     checked(edits::normal_form(format.number()), out)
 }

@@ -7,7 +7,7 @@ ghost use Rattle.lexical_util.specs.Rules as rules;
 ghost use Rattle.lexical_util.specs.Record.{raw, effective};
 ghost use Rattle.lexical_util.specs.Common.{common};
 ghost use Rattle.lexical_util.specs.Options.{AreAccepted, HaveOneRole, LeavesRoom};
-ghost use Rattle.lexical_c.specs.Outcomes.{IsRankOfOne};
+ghost use Rattle.lexical_c.specs.Outcomes.{IsRankOfOne, SUCCESS};
 
 use crate::words::Word;
 use lexical_util::format::format_error;
@@ -17,9 +17,9 @@ use lexical_util::format_flags as flags;
 #[inline(always)]
 pub fn checked(word: u128, out: &mut Word) -> u32
     ensures error { IsRankOfOne (IsErrorOf word) result }
-    ensures lawful { (result ≡ 48) ↔ Lawful word }
-    ensures written { result ≡ 48 → out.new ≡ word }
-    ensures unchanged { (result ≡ 48 → ⊥) → out.new ≡ out.old }
+    ensures lawful { (result ≡ SUCCESS) ↔ Lawful word }
+    ensures written { result ≡ SUCCESS → out.new ≡ word }
+    ensures unchanged { (result ≡ SUCCESS → ⊥) → out.new ≡ out.old }
 {
     let error = format_error(word);
     if error.is_success() {
@@ -32,7 +32,7 @@ pub fn checked(word: u128, out: &mut Word) -> u32
 #[unsafe(no_mangle)]
 pub extern "C" fn peltzivar_format_error(format: Word) -> u32
     ensures first { IsRankOfOne (IsErrorOf format) result }
-    ensures lawful { (result ≡ 48) ↔ Lawful format }
+    ensures lawful { (result ≡ SUCCESS) ↔ Lawful format }
 {
     format_error(format.number()).rank() as u32
 }
