@@ -1,4 +1,6 @@
 use Rattle.lexical_util.proofs.edits.apply.Goals as goal
 
+-- given here so that the must-fail edit
+-- apply_writes_another_byte.edit fails soon
 pub returns-in-BasePrefix-clause-fields : goal.returns-in-BasePrefix-clause-fields
 returns-in-BasePrefix-clause-fields c = rw c.in-BasePrefix.is c.base_prefix.ensures
