@@ -29,8 +29,6 @@ mod output;
 mod program;
 mod response;
 mod source;
-#[cfg(test)]
-mod tests;
 mod word;
 
 use output::Output;

@@ -11,6 +11,8 @@ mod output;
 mod program;
 mod response;
 mod source;
+#[cfg(test)]
+mod tests;
 mod word;
 
 use std::env;

@@ -1,10 +1,7 @@
-//! The program over lists of arguments and writers.
+//! `run` over lists of arguments and writers.
 
 use crate::program::run;
-use std::alloc::{AllocError, Global};
 use std::io::{self, Error, ErrorKind, Write};
-use std::process::Abort;
-use std::test::Fail;
 
 const STANDARD: &str = "0x00000A0000000000000000000000000C";
 
@@ -44,8 +41,8 @@ mantissa_radix 4
 exponent_base 5
 exponent_radix 6";
 
-// Arguments, the text without its last newline, and the exit status.
-#[rattlefmt::skip]
+/// Arguments, the text without its last newline, and the exit status.
+#[rustfmt::skip]
 const RUNS: [(&[&str], &str, u8); 47] = [
     (&[], STANDARD_FIELDS, 0),
     (&["show", STANDARD], STANDARD_FIELDS, 0),
@@ -96,67 +93,47 @@ const RUNS: [(&[&str], &str, u8); 47] = [
     (&["options", STANDARD, "101", "none"], "numfmt: bad byte", 2),
 ];
 
-#[test]
-fn prints_each_text_with_its_status(rt: HostRuntime) -> Result<(), Fail> {
-    for (args, text, status) in RUNS {
-        check_run(&rt, rt.alloc(), args, text, status)?;
-    }
-    Ok(())
+fn arguments(args: &[&str]) -> Vec<String> {
+    args.iter().map(|text| text.to_string()).collect()
 }
 
-// One edit more is refused before the word is looked at.
+/// A run with these arguments writes the text and a newline, and returns the status.
+fn check_run(args: &[&str], text: &str, status: u8) {
+    let mut out = Vec::new();
+    assert_eq!(run(&arguments(args), &mut out), status, "for {args:?}");
+    assert_eq!(out, format!("{text}\n").as_bytes(), "for {args:?}");
+}
+
 #[test]
-fn takes_64_edits(rt: HostRuntime) -> Result<(), Fail> {
+fn prints_each_text_with_its_status() {
+    for (args, text, status) in RUNS {
+        check_run(args, text, status);
+    }
+}
+
+/// One edit more is refused before the word is looked at.
+#[test]
+fn takes_64_edits() {
     let mut args = ["radix=16"; 67];
     args[0] = "edit";
     args[1] = STANDARD;
-    check_run(
-        &rt,
-        rt.alloc(),
-        &args[..66],
-        "0x0A0A100000000000000000000000000C",
-        0,
-    )?;
+    check_run(&args[..66], "0x0A0A100000000000000000000000000C", 0);
     args[1] = "0x";
-    check_run(&rt, rt.alloc(), &args, "numfmt: too many edits", 2)
+    check_run(&args, "numfmt: too many edits", 2);
 }
 
-// A run with these arguments writes the text and a newline, and returns the status.
-fn check_run(
-    rt: &impl Abort,
-    alloc: Global,
-    args: &[&str],
-    text: &str,
-    status: u8,
-) -> Result<(), Fail> {
-    let mut out = Vec::new(alloc);
-    let got = run(arguments(alloc, args)?.as_slice(), &mut out);
-    let want = format!(in alloc; "{text}\n")?;
-    let line = args.join(alloc, " ")?;
-    assert_eq!(rt; out.as_slice(), want.as_bytes(), "for {line}");
-    assert_eq!(rt; got, status, "for {line}");
-    Ok(())
-}
-
-fn arguments(alloc: Global, args: &[&str]) -> Result<Vec<String>, AllocError> {
-    args.iter()
-        .map(|text| text.to_string(alloc))
-        .try_collect(alloc)
-}
-
-// A writer that holds back what is written until it is flushed. Of its calls the one with the number `failing_call`
-// fails.
-#[derive(Drop)]
+/// A writer that holds back what is written until it is flushed. Of its calls the one with the number `failing_call`
+/// fails.
 struct HoldingWriter {
     failing_call: u32,
     calls: u32,
-    held: usize,
-    passed_on: usize,
+    held: Vec<u8>,
+    passed_on: Vec<u8>,
 }
 
 impl HoldingWriter {
     fn call(&mut self) -> io::Result<()> {
-        self.calls = self.calls.saturating_add(1);
+        self.calls += 1;
         if self.calls == self.failing_call {
             return Err(Error::from(ErrorKind::BrokenPipe));
         }
@@ -167,46 +144,46 @@ impl HoldingWriter {
 impl Write for HoldingWriter {
     fn write(&mut self, bytes: &[u8]) -> io::Result<usize> {
         self.call()?;
-        self.held = self.held.saturating_add(bytes.len());
+        self.held.extend(bytes);
         Ok(bytes.len())
     }
 
     fn flush(&mut self) -> io::Result<()> {
         self.call()?;
-        self.passed_on = self.passed_on.saturating_add(self.held);
-        self.held = 0;
+        self.passed_on.append(&mut self.held);
         Ok(())
     }
 }
 
-// Each call fails in turn, the flush last: the status is 3, and no call follows. If none fails, the whole text is
-// passed on. What a flush does no clause of std tells.
+/// Each call fails in turn, the flush last: the status is 3, and no call follows. If none fails, the whole text is
+/// passed on. What a flush does no clause of std tells.
 #[test]
-fn ends_at_a_call_that_fails(rt: HostRuntime) -> Result<(), Fail> {
+fn ends_at_a_call_that_fails() {
     for (args, text, status) in RUNS {
-        let line = args.join(rt.alloc(), " ")?;
-        let args = arguments(rt.alloc(), args)?;
-        let mut ended = false;
-        for failing_call in 1..100u32 {
+        let ended = (1..100).any(|failing_call| {
+            let (held, passed_on) = (Vec::new(), Vec::new());
             let mut out = HoldingWriter {
                 failing_call,
                 calls: 0,
-                held: 0,
-                passed_on: 0,
+                held,
+                passed_on,
             };
-            let got = run(args.as_slice(), &mut out);
-            ended = out.calls < failing_call;
-            if ended {
-                assert!(rt; got == status && out.held == 0, "for {line}");
-                assert_eq!(rt; out.passed_on, text.len().saturating_add(1), "for {line}");
-                break;
+            let got = run(&arguments(args), &mut out);
+            if out.calls < failing_call {
+                assert!(got == status && out.held.is_empty(), "for {args:?}");
+                assert_eq!(
+                    out.passed_on,
+                    format!("{text}\n").as_bytes(),
+                    "for {args:?}"
+                );
+                return true;
             }
-            assert!(rt;
+            assert!(
                 got == 3 && out.calls == failing_call,
-                "for {line} at call {failing_call}"
+                "for {args:?} at call {failing_call}"
             );
-        }
-        assert!(rt; ended, "for {line}");
+            false
+        });
+        assert!(ended, "for {args:?}");
     }
-    Ok(())
 }
