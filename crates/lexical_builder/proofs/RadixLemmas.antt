@@ -4,8 +4,9 @@ use Rattle.std.proofs.lemmas.Bool.Decides.{nat_tests}
 use Rattle.lexical_flags.specs.Layout as layout
 use Rattle.lexical_flags.specs.Literals.{on_literals}
 use Rattle.lexical_flags.specs.Record.{Record, HasBytes, raw, pack, byte_of}
-use Rattle.lexical_flags.specs.Rules as rules
-use Rattle.lexical_flags.specs.Rules.{Rule, IsRadix, Demands, Holds, Lawful}
+use Rattle.lexical_flags.specs.declared.format_flags.all_rules.Rule.{Rule}
+use Rattle.lexical_flags.specs.declared.format_flags.all_rules.Rule.TheVariants as rules
+use Rattle.lexical_flags.specs.Rules.{IsRadix, Demands, Holds, Lawful}
 use Rattle.lexical_flags.proofs.Packing.{raw-pack, pack-clean}
 use Rattle.lexical_builder.specs.Writes.{radix_record}
 
@@ -22,16 +23,16 @@ raw-radix radix fits = raw-pack (radix_record radix) (radix-bytes radix fits)
 -- its fields meet what each rule demands
 radix-demands : (radix : ℕ) → IsRadix radix → (rule : Rule) → Demands rule (radix_record radix)
 unfolding on_literals
-radix-demands radix h rules.exponent_base_in_range = grind (arith, nat_tests)
-radix-demands radix h rules.exponent_radix_in_range = grind (arith, nat_tests)
-radix-demands radix h rules.digit_separator_is_free = inl refl
-radix-demands radix h rules.base_prefix_is_free = inl refl
-radix-demands radix h rules.base_suffix_is_free = inl refl
+radix-demands radix h rules.ExponentBaseInRange = grind (arith, nat_tests)
+radix-demands radix h rules.ExponentRadixInRange = grind (arith, nat_tests)
+radix-demands radix h rules.DigitSeparatorIsFree = inl refl
+radix-demands radix h rules.BasePrefixIsFree = inl refl
+radix-demands radix h rules.BaseSuffixIsFree = inl refl
 radix-demands radix h _ = search
 
 radix-kept : (radix : ℕ) → radix < 256 → IsRadix radix → (rule : Rule) → Holds rule (pack (radix_record radix))
 unfolding Holds
-radix-kept radix fits h rules.reserved_bits_are_zero = pack-clean (radix_record radix) (radix-bytes radix fits)
+radix-kept radix fits h rules.ReservedBitsAreZero = pack-clean (radix_record radix) (radix-bytes radix fits)
 radix-kept radix fits h rule = subst (Demands rule) (sym (raw-radix radix fits)) (radix-demands radix h rule)
 
 -- so the format is lawful exactly for a radix
@@ -40,6 +41,6 @@ pub radix-lawful : (radix : ℕ) → radix < 256 → ((word : ℕ) → Lawful wo
 unfolding Holds
 radix-lawful radix fits law = (
   λ lawful. subst (λ (r : Record). IsRadix r.mantissa_radix) (raw-radix radix fits)
-      ((law (pack (radix_record radix))).0 lawful rules.mantissa_radix_in_range),
+      ((law (pack (radix_record radix))).0 lawful rules.MantissaRadixInRange),
   λ h. (law (pack (radix_record radix))).1 (radix-kept radix fits h),
 )

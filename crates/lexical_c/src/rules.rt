@@ -2,8 +2,8 @@
 
 ghost use Rattle.std.specs.Prelude.{◌≡◌, ◌↔◌, ℕ, ◌<◌, ◌^◌, ◌-◌, ◌/◌, ◌%◌, IsTrue, pos, unsigned_abs, ◌≤ℤ◌, ◌<ℤ◌};
 ghost use Rattle.lexical_util.specs.Roles.{digits};
-ghost use Rattle.lexical_util.specs.Rules.{Lawful, IsErrorOf, IsRadix, IsFirstError, Holds};
-ghost use Rattle.lexical_util.specs.Rules as rules;
+ghost use Rattle.lexical_util.specs.Rules.{Lawful, IsErrorOf, IsRadix, IsFirstError, Holds, radix_rules};
+ghost use Rattle.lexical_util.specs.declared.format_flags.Rule.TheVariants as rules;
 ghost use Rattle.lexical_util.specs.Record.{raw, effective};
 ghost use Rattle.lexical_util.specs.Common.{common};
 ghost use Rattle.lexical_util.specs.Options.{AreAccepted, HaveOneRole, LeavesRoom};
@@ -40,7 +40,7 @@ pub extern "C" fn peltzivar_format_error(format: Word) -> u32
 /// Returns the rank of the error of the first of the three radixes that is not 2 to 36, or 48.
 #[unsafe(no_mangle)]
 pub extern "C" fn peltzivar_radix_error(format: Word) -> u32
-    ensures { IsRankOfOne (IsFirstError rules.radix_rules format) result }
+    ensures { IsRankOfOne (IsFirstError radix_rules format) result }
 {
     flags::radix_error_impl(format.number()).rank() as u32
 }
@@ -56,7 +56,7 @@ pub extern "C" fn peltzivar_is_valid_radix(radix: u32) -> bool
 /// Returns whether exponents are not both required and forbidden.
 #[unsafe(no_mangle)]
 pub extern "C" fn peltzivar_is_valid_exponent_flags(format: Word) -> bool
-    ensures { IsTrue result ↔ Holds rules.exponent_flags_agree format }
+    ensures { IsTrue result ↔ Holds rules.ExponentFlagsAgree format }
 {
     flags::is_valid_exponent_flags(format.number())
 }
@@ -64,7 +64,7 @@ pub extern "C" fn peltzivar_is_valid_exponent_flags(format: Word) -> bool
 /// Returns whether the digit separator is absent, or allowed ASCII that is no sign and no digit.
 #[unsafe(no_mangle)]
 pub extern "C" fn peltzivar_is_valid_digit_separator(format: Word) -> bool
-    ensures { IsTrue result ↔ Holds rules.digit_separator_is_free format }
+    ensures { IsTrue result ↔ Holds rules.DigitSeparatorIsFree format }
 {
     flags::is_valid_digit_separator(format.number())
 }
@@ -72,7 +72,7 @@ pub extern "C" fn peltzivar_is_valid_digit_separator(format: Word) -> bool
 /// Returns whether the base prefix is absent, or allowed ASCII that is no sign and no digit.
 #[unsafe(no_mangle)]
 pub extern "C" fn peltzivar_is_valid_base_prefix(format: Word) -> bool
-    ensures { IsTrue result ↔ Holds rules.base_prefix_is_free format }
+    ensures { IsTrue result ↔ Holds rules.BasePrefixIsFree format }
 {
     flags::is_valid_base_prefix(format.number())
 }
@@ -80,7 +80,7 @@ pub extern "C" fn peltzivar_is_valid_base_prefix(format: Word) -> bool
 /// Returns whether the base suffix is absent, or allowed ASCII that is no sign and no digit.
 #[unsafe(no_mangle)]
 pub extern "C" fn peltzivar_is_valid_base_suffix(format: Word) -> bool
-    ensures { IsTrue result ↔ Holds rules.base_suffix_is_free format }
+    ensures { IsTrue result ↔ Holds rules.BaseSuffixIsFree format }
 {
     flags::is_valid_base_suffix(format.number())
 }
@@ -88,7 +88,7 @@ pub extern "C" fn peltzivar_is_valid_base_suffix(format: Word) -> bool
 /// Returns whether no byte is two of digit separator, base prefix and base suffix.
 #[unsafe(no_mangle)]
 pub extern "C" fn peltzivar_is_valid_punctuation(format: Word) -> bool
-    ensures { IsTrue result ↔ Holds rules.punctuation_differs format }
+    ensures { IsTrue result ↔ Holds rules.PunctuationDiffers format }
 {
     flags::is_valid_punctuation(format.number())
 }

@@ -10,8 +10,9 @@ use Rattle.lexical_flags.specs.Layout.{IsClean}
 use Rattle.lexical_flags.specs.Record.{Record, raw, fill, trim, effective, separator_on, SeparatorIsUsed}
 use Rattle.lexical_flags.specs.Roles.{Disjoint, cased, only, signs, prefix, suffix}
 use Rattle.lexical_base.specs.Digits.{digits_of}
-use Rattle.lexical_flags.specs.Rules as rules
-use Rattle.lexical_flags.specs.Rules.{Rule, IsRadix, IsFree, IsPunctuation, Demands, Holds, IsErrorOf, Lawful}
+use Rattle.lexical_flags.specs.declared.format_flags.all_rules.Rule.{Rule}
+use Rattle.lexical_flags.specs.declared.format_flags.all_rules.Rule.TheVariants as rules
+use Rattle.lexical_flags.specs.Rules.{IsRadix, IsFree, IsPunctuation, Demands, Holds, IsErrorOf, Lawful}
 use Rattle.lexical_flags.proofs.DisjointLemmas.{Disjoint-from}
 use Rattle.lexical_flags.proofs.Packing.{trim-same}
 use Rattle.lexical_flags.proofs.RuleLemmas.{Holds-from_lawful, Lawful-from_all, IsErrorOf-same}
@@ -29,12 +30,12 @@ IsFree-fill r byte =
 
 -- the rules demand the same of filled fields
 Demands-fill : (rule : Rule) (r : Record) → Demands rule (fill r) ≡ Demands rule r
-Demands-fill rules.mantissa_radix_in_range r = refl
-Demands-fill rules.exponent_base_in_range r = ap IsRadix (fill_once r.exponent_base r.mantissa_radix)
-Demands-fill rules.exponent_radix_in_range r = ap IsRadix (fill_once r.exponent_radix r.mantissa_radix)
-Demands-fill rules.digit_separator_is_free r = IsFree-fill r r.digit_separator
-Demands-fill rules.base_prefix_is_free r = IsFree-fill r r.base_prefix
-Demands-fill rules.base_suffix_is_free r = IsFree-fill r r.base_suffix
+Demands-fill rules.MantissaRadixInRange r = refl
+Demands-fill rules.ExponentBaseInRange r = ap IsRadix (fill_once r.exponent_base r.mantissa_radix)
+Demands-fill rules.ExponentRadixInRange r = ap IsRadix (fill_once r.exponent_radix r.mantissa_radix)
+Demands-fill rules.DigitSeparatorIsFree r = IsFree-fill r r.digit_separator
+Demands-fill rules.BasePrefixIsFree r = IsFree-fill r r.base_prefix
+Demands-fill rules.BaseSuffixIsFree r = IsFree-fill r r.base_suffix
 Demands-fill _ r = refl
 
 Disjoint-nothing : (A : ByteSet) → Disjoint (only 0) A
@@ -44,9 +45,9 @@ Disjoint-nothing A = Disjoint-from _ _ (λ byte below is_zero in_a. absurd (fals
 -- fields without their separator still meet the rules that they met
 Demands-bare : (rule : Rule) (r : Record) → Demands rule r → Demands rule (record r { digit_separator = 0 })
 unfolding IsPunctuation
-Demands-bare rules.mantissa_radix_in_range r h = h
-Demands-bare rules.digit_separator_is_free r h = inl refl
-Demands-bare rules.punctuation_differs r h = ((Disjoint-nothing (prefix r), (Disjoint-nothing (suffix r), tt)), h.1)
+Demands-bare rules.MantissaRadixInRange r h = h
+Demands-bare rules.DigitSeparatorIsFree r h = inl refl
+Demands-bare rules.PunctuationDiffers r h = ((Disjoint-nothing (prefix r), (Disjoint-nothing (suffix r), tt)), h.1)
 Demands-bare _ r h = h
 
 Demands-trim : (rule : Rule) (r : Record) → Demands rule r → Demands rule (trim r)
@@ -73,7 +74,7 @@ module _ (word normal : ℕ) (clean : IsClean normal) (fields : raw normal ≡ t
   -- keeps the rules that this one keeps
   Holds-kept : (rule : Rule) → Holds rule word → Holds rule normal
   unfolding Holds
-  Holds-kept rules.reserved_bits_are_zero h = clean
+  Holds-kept rules.ReservedBitsAreZero h = clean
   Holds-kept rule h = subst (Demands rule) (sym fields) (Demands-kept rule (raw word) h)
 
   -- so it is lawful if this one is
@@ -83,7 +84,7 @@ module _ (word normal : ℕ) (clean : IsClean normal) (fields : raw normal ≡ t
   -- if nothing was dropped, it keeps no other
   Holds-back : IsClean word → SeparatorIsUsed (raw word) → (rule : Rule) → Holds rule normal → Holds rule word
   unfolding Holds
-  Holds-back whole used rules.reserved_bits_are_zero h = whole
+  Holds-back whole used rules.ReservedBitsAreZero h = whole
   Holds-back whole used rule h = (Demands-same rule (raw word) used).1 (subst (Demands rule) fields h)
 
   -- so it has the same error

@@ -10,8 +10,9 @@ use Rattle.lexical_base.specs.declared.error.Error.TheVariants.{InvalidFlags, Su
 use Rattle.lexical_flags.specs.Layout.{IsClean}
 use Rattle.lexical_flags.specs.Record.{Record, raw, effective}
 use Rattle.lexical_flags.specs.Roles.{Disjoint, AreDisjoint, cased, digits, signs, own_roles, five_roles}
-use Rattle.lexical_flags.specs.Rules as rules
-use Rattle.lexical_flags.specs.Rules.{Rule, IsRadix, IsFree, IsTextOrNone, IsPunctuation, Holds, IsFirstError}
+use Rattle.lexical_flags.specs.declared.format_flags.all_rules.Rule.{Rule}
+use Rattle.lexical_flags.specs.declared.format_flags.all_rules.Rule.TheVariants as rules
+use Rattle.lexical_flags.specs.Rules.{IsRadix, IsFree, IsTextOrNone, IsPunctuation, Holds, IsFirstError}
 use Rattle.lexical_flags.specs.Rules.{IsErrorOf, Lawful, error_of, flag_rules, rules_in_order}
 use Rattle.lexical_flags.proofs.RoleLemmas.{Disjoint-digits-cased, Disjoint-signs-cased, Disjoint-digits-signs, not_in}
 
@@ -50,20 +51,20 @@ IsFree-from r counts byte text digits_apart signs_apart =
 -- a lawful word keeps every rule
 pub Holds-from_lawful : (rule : Rule) (word : ℕ) → Lawful word → Holds rule word
 unfolding Holds Lawful
-Holds-from_lawful rules.mantissa_radix_in_range word h = h.mantissa_radix
-Holds-from_lawful rules.exponent_base_in_range word h = h.exponent_base
-Holds-from_lawful rules.exponent_radix_in_range word h = h.exponent_radix
-Holds-from_lawful rules.digit_separator_is_free word h =
+Holds-from_lawful rules.MantissaRadixInRange word h = h.mantissa_radix
+Holds-from_lawful rules.ExponentBaseInRange word h = h.exponent_base
+Holds-from_lawful rules.ExponentRadixInRange word h = h.exponent_radix
+Holds-from_lawful rules.DigitSeparatorIsFree word h =
     let pairs = h.roles in
     IsFree-from (raw word) true _ h.digit_separator (assumption pairs) (assumption pairs)
-Holds-from_lawful rules.base_prefix_is_free word h =
+Holds-from_lawful rules.BasePrefixIsFree word h =
     let pairs = h.roles in
     IsFree-from (raw word) (raw word).case_sensitive_base_prefix _ h.base_prefix (assumption pairs) (assumption pairs)
-Holds-from_lawful rules.base_suffix_is_free word h =
+Holds-from_lawful rules.BaseSuffixIsFree word h =
     let pairs = h.roles in
     IsFree-from (raw word) (raw word).case_sensitive_base_suffix _ h.base_suffix (assumption pairs) (assumption pairs)
-Holds-from_lawful rules.punctuation_differs word h = let pairs = h.roles in let others = pairs.1 in others.1
-Holds-from_lawful rules.reserved_bits_are_zero word h = h.clean
+Holds-from_lawful rules.PunctuationDiffers word h = let pairs = h.roles in let others = pairs.1 in others.1
+Holds-from_lawful rules.ReservedBitsAreZero word h = h.clean
 Holds-from_lawful _ word h = let flags = h.flags in assumption flags
 
 -- the radixes of a lawful word
@@ -107,24 +108,24 @@ pub Lawful-from_all : (word : ℕ) → ((rule : Rule) → Holds rule word) → L
 unfolding Holds Lawful
 Lawful-from_all word h =
     let r : Record = raw word in
-    let separator : IsFree r r.digit_separator = h rules.digit_separator_is_free in
-    let prefix : IsFree r r.base_prefix = h rules.base_prefix_is_free in
-    let suffix : IsFree r r.base_suffix = h rules.base_suffix_is_free in
+    let separator : IsFree r r.digit_separator = h rules.DigitSeparatorIsFree in
+    let prefix : IsFree r r.base_prefix = h rules.BasePrefixIsFree in
+    let suffix : IsFree r r.base_suffix = h rules.BaseSuffixIsFree in
     record {
-      mantissa_radix = h rules.mantissa_radix_in_range;
-      exponent_base = h rules.exponent_base_in_range;
-      exponent_radix = h rules.exponent_radix_in_range;
+      mantissa_radix = h rules.MantissaRadixInRange;
+      exponent_base = h rules.ExponentBaseInRange;
+      exponent_radix = h rules.ExponentRadixInRange;
       flags = recursion_from_All (λ rule. Holds rule word) flag_rules (λ i d inside. h _);
       digit_separator = IsFree-text r _ separator;
       base_prefix = IsFree-text r _ prefix;
       base_suffix = IsFree-text r _ suffix;
-      roles = five_apart r separator prefix suffix (h rules.punctuation_differs);
-      clean = h rules.reserved_bits_are_zero;
+      roles = five_apart r separator prefix suffix (h rules.PunctuationDiffers);
+      clean = h rules.ReservedBitsAreZero;
     }
 
 -- no rule has the error Success
 error_of-success : (rule : Rule) → error_of rule ≢ Success
-error_of-success rules.mantissa_radix_in_range e = cc
+error_of-success rules.MantissaRadixInRange e = cc
 error_of-success _ e = cc
 
 -- if no rule of a list is broken, each is kept
@@ -174,8 +175,8 @@ IsErrorOf-same v w same error = (
 -- a clean word keeps the rule whose error is InvalidFlags
 reserved-error : (rule : Rule) (word : ℕ) → error_of rule ≡ InvalidFlags → IsClean word → Holds rule word
 unfolding Holds
-reserved-error rules.reserved_bits_are_zero word e clean = clean
-reserved-error rules.mantissa_radix_in_range word e clean = cc
+reserved-error rules.ReservedBitsAreZero word e clean = clean
+reserved-error rules.MantissaRadixInRange word e clean = cc
 reserved-error _ word e clean = cc
 
 clean-first : (word : ℕ) (rules : List Rule) → IsClean word → IsFirstError rules word InvalidFlags → ⊥
@@ -190,7 +191,7 @@ not_flags word error clean h e = clean-first word rules_in_order clean (subst (I
 
 -- every rule is in the list of all
 every_rule : (word : ℕ) → AllByRecursion (λ rule. Holds rule word) rules_in_order → (rule : Rule) → Holds rule word
-every_rule word all rules.mantissa_radix_in_range = assumption all
+every_rule word all rules.MantissaRadixInRange = assumption all
 every_rule word all _ = assumption all
 
 -- a word without an error keeps every rule

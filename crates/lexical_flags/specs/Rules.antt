@@ -4,6 +4,8 @@ use Rattle.std.specs.List.{AllByRecursion}
 use Rattle.lexical_base.specs.Ascii.{allowed_ascii}
 use Rattle.lexical_base.specs.declared.error.Error.{Error}
 use Rattle.lexical_base.specs.declared.error.Error.TheVariants as errors
+use Rattle.lexical_flags.specs.declared.format_flags.all_rules.Rule.{Rule}
+use Rattle.lexical_flags.specs.declared.format_flags.all_rules.Rule.TheVariants as rules
 use Rattle.lexical_flags.specs.Layout.{IsClean}
 use Rattle.lexical_flags.specs.Record.{Record, raw, effective_exponent_base, effective_exponent_radix}
 use Rattle.lexical_flags.specs.Roles.{AreDisjoint, digits, signs, own_roles, five_roles}
@@ -32,92 +34,75 @@ NotBoth a b = IsFalse (a && b)
 abbrev pub AllowsOne : Bool → Bool → Bool → Bool → Type 0
 AllowsOne consecutive internal leading trailing = IsTrue consecutive → IsTrue (internal || leading || trailing)
 
--- the rules
-pub data Rule : Type 0 where
-  mantissa_radix_in_range : Rule
-  exponent_base_in_range : Rule
-  exponent_radix_in_range : Rule
-  digit_separator_is_free : Rule
-  base_prefix_is_free : Rule
-  base_suffix_is_free : Rule
-  punctuation_differs : Rule
-  exponent_flags_agree : Rule
-  mantissa_sign_flags_agree : Rule
-  exponent_sign_flags_agree : Rule
-  special_case_flags_agree : Rule
-  special_separator_flags_agree : Rule
-  integer_consecutive_is_allowed : Rule
-  fraction_consecutive_is_allowed : Rule
-  exponent_consecutive_is_allowed : Rule
-  reserved_bits_are_zero : Rule
-
 -- what a rule demands of the fields of a word; the rule of reserved bits demands nothing of them
 abbrev pub Demands : Rule → Record → Type 0
-Demands mantissa_radix_in_range r = IsRadix r.mantissa_radix
-Demands exponent_base_in_range r = IsRadix (effective_exponent_base r)
-Demands exponent_radix_in_range r = IsRadix (effective_exponent_radix r)
-Demands digit_separator_is_free r = IsFree r r.digit_separator
-Demands base_prefix_is_free r = IsFree r r.base_prefix
-Demands base_suffix_is_free r = IsFree r r.base_suffix
-Demands punctuation_differs r = AreDisjoint (own_roles r)
-Demands exponent_flags_agree r = NotBoth r.no_exponent_notation r.required_exponent_notation
-Demands mantissa_sign_flags_agree r = NotBoth r.no_positive_mantissa_sign r.required_mantissa_sign
-Demands exponent_sign_flags_agree r = NotBoth r.no_positive_exponent_sign r.required_exponent_sign
-Demands special_case_flags_agree r = NotBoth r.no_special r.case_sensitive_special
-Demands special_separator_flags_agree r = NotBoth r.no_special r.special_digit_separator
-Demands integer_consecutive_is_allowed r =
+Demands rules.MantissaRadixInRange r = IsRadix r.mantissa_radix
+Demands rules.ExponentBaseInRange r = IsRadix (effective_exponent_base r)
+Demands rules.ExponentRadixInRange r = IsRadix (effective_exponent_radix r)
+Demands rules.DigitSeparatorIsFree r = IsFree r r.digit_separator
+Demands rules.BasePrefixIsFree r = IsFree r r.base_prefix
+Demands rules.BaseSuffixIsFree r = IsFree r r.base_suffix
+Demands rules.PunctuationDiffers r = AreDisjoint (own_roles r)
+Demands rules.ExponentFlagsAgree r = NotBoth r.no_exponent_notation r.required_exponent_notation
+Demands rules.MantissaSignFlagsAgree r = NotBoth r.no_positive_mantissa_sign r.required_mantissa_sign
+Demands rules.ExponentSignFlagsAgree r = NotBoth r.no_positive_exponent_sign r.required_exponent_sign
+Demands rules.SpecialCaseFlagsAgree r = NotBoth r.no_special r.case_sensitive_special
+Demands rules.SpecialSeparatorFlagsAgree r = NotBoth r.no_special r.special_digit_separator
+Demands rules.IntegerConsecutiveIsAllowed r =
     AllowsOne r.integer_consecutive_digit_separator r.integer_internal_digit_separator
     r.integer_leading_digit_separator r.integer_trailing_digit_separator
-Demands fraction_consecutive_is_allowed r =
+Demands rules.FractionConsecutiveIsAllowed r =
     AllowsOne r.fraction_consecutive_digit_separator r.fraction_internal_digit_separator
     r.fraction_leading_digit_separator r.fraction_trailing_digit_separator
-Demands exponent_consecutive_is_allowed r =
+Demands rules.ExponentConsecutiveIsAllowed r =
     AllowsOne r.exponent_consecutive_digit_separator r.exponent_internal_digit_separator
     r.exponent_leading_digit_separator r.exponent_trailing_digit_separator
-Demands reserved_bits_are_zero r = ⊤
+Demands rules.ReservedBitsAreZero r = ⊤
 
 -- a word keeps a rule
 unfoldable pub Holds : Rule → ℕ → Type 0
-Holds reserved_bits_are_zero word = IsClean word
+Holds rules.ReservedBitsAreZero word = IsClean word
 Holds rule word = Demands rule (raw word)
 
 -- the error of a word that breaks a rule
 abbrev pub error_of : Rule → Error
-error_of mantissa_radix_in_range = errors.InvalidMantissaRadix
-error_of exponent_base_in_range = errors.InvalidExponentBase
-error_of exponent_radix_in_range = errors.InvalidExponentRadix
-error_of digit_separator_is_free = errors.InvalidDigitSeparator
-error_of base_prefix_is_free = errors.InvalidBasePrefix
-error_of base_suffix_is_free = errors.InvalidBaseSuffix
-error_of punctuation_differs = errors.InvalidPunctuation
-error_of exponent_flags_agree = errors.InvalidExponentFlags
-error_of mantissa_sign_flags_agree = errors.InvalidMantissaSign
-error_of exponent_sign_flags_agree = errors.InvalidExponentSign
-error_of special_case_flags_agree = errors.InvalidSpecial
-error_of special_separator_flags_agree = errors.InvalidSpecial
-error_of integer_consecutive_is_allowed = errors.InvalidConsecutiveIntegerDigitSeparator
-error_of fraction_consecutive_is_allowed = errors.InvalidConsecutiveFractionDigitSeparator
-error_of exponent_consecutive_is_allowed = errors.InvalidConsecutiveExponentDigitSeparator
-error_of reserved_bits_are_zero = errors.InvalidFlags
+error_of rules.MantissaRadixInRange = errors.InvalidMantissaRadix
+error_of rules.ExponentBaseInRange = errors.InvalidExponentBase
+error_of rules.ExponentRadixInRange = errors.InvalidExponentRadix
+error_of rules.DigitSeparatorIsFree = errors.InvalidDigitSeparator
+error_of rules.BasePrefixIsFree = errors.InvalidBasePrefix
+error_of rules.BaseSuffixIsFree = errors.InvalidBaseSuffix
+error_of rules.PunctuationDiffers = errors.InvalidPunctuation
+error_of rules.ExponentFlagsAgree = errors.InvalidExponentFlags
+error_of rules.MantissaSignFlagsAgree = errors.InvalidMantissaSign
+error_of rules.ExponentSignFlagsAgree = errors.InvalidExponentSign
+error_of rules.SpecialCaseFlagsAgree = errors.InvalidSpecial
+error_of rules.SpecialSeparatorFlagsAgree = errors.InvalidSpecial
+error_of rules.IntegerConsecutiveIsAllowed = errors.InvalidConsecutiveIntegerDigitSeparator
+error_of rules.FractionConsecutiveIsAllowed = errors.InvalidConsecutiveFractionDigitSeparator
+error_of rules.ExponentConsecutiveIsAllowed = errors.InvalidConsecutiveExponentDigitSeparator
+error_of rules.ReservedBitsAreZero = errors.InvalidFlags
 
 -- the rules of radixes, in their order
 abbrev pub radix_rules : List Rule
-radix_rules = mantissa_radix_in_range ∷ exponent_base_in_range ∷ exponent_radix_in_range ∷ []
+radix_rules = rules.MantissaRadixInRange ∷ rules.ExponentBaseInRange ∷ rules.ExponentRadixInRange ∷ []
 
 -- those of punctuation
 abbrev pub punctuation_rules : List Rule
-punctuation_rules = digit_separator_is_free ∷ base_prefix_is_free ∷ base_suffix_is_free ∷ punctuation_differs ∷ []
+punctuation_rules =
+    rules.DigitSeparatorIsFree ∷ rules.BasePrefixIsFree ∷ rules.BaseSuffixIsFree ∷ rules.PunctuationDiffers ∷ []
 
 -- those of flags
 abbrev pub flag_rules : List Rule
 flag_rules =
-    exponent_flags_agree ∷ mantissa_sign_flags_agree ∷ exponent_sign_flags_agree ∷
-    special_case_flags_agree ∷ special_separator_flags_agree ∷
-    integer_consecutive_is_allowed ∷ fraction_consecutive_is_allowed ∷ exponent_consecutive_is_allowed ∷ []
+    rules.ExponentFlagsAgree ∷ rules.MantissaSignFlagsAgree ∷ rules.ExponentSignFlagsAgree ∷
+    rules.SpecialCaseFlagsAgree ∷ rules.SpecialSeparatorFlagsAgree ∷
+    rules.IntegerConsecutiveIsAllowed ∷ rules.FractionConsecutiveIsAllowed ∷
+    rules.ExponentConsecutiveIsAllowed ∷ []
 
 -- that of reserved bits
 abbrev pub reserved_rules : List Rule
-reserved_rules = reserved_bits_are_zero ∷ []
+reserved_rules = rules.ReservedBitsAreZero ∷ []
 
 -- all rules, in their order
 abbrev pub rules_in_order : List Rule

@@ -11,8 +11,10 @@ ghost use Rattle.lexical_flags.specs.Record.{raw, effective, effective_exponent_
 ghost use Rattle.lexical_flags.specs.Common.{common};
 ghost use Rattle.lexical_flags.specs.Rules.{IsRadix, Lawful};
 
+mod all_rules;
 mod rules;
 
+pub use crate::format_flags::all_rules::{RULES, Rule};
 pub use crate::format_flags::rules::{
     format_error_impl, is_clean, is_digit, is_valid_base_prefix, is_valid_base_suffix,
     is_valid_digit_separator, is_valid_exponent_flags, is_valid_options_punctuation,

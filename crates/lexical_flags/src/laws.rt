@@ -10,7 +10,8 @@ ghost use Rattle.lexical_flags.specs.Record.{Record, raw, fill, trim, pack, HasB
 ghost use Rattle.lexical_flags.specs.Record.{effective_exponent_base, effective_exponent_radix, separator_on};
 ghost use Rattle.lexical_flags.specs.Pairs.{ArePairwise};
 ghost use Rattle.lexical_flags.specs.Roles.{Disjoint, digits};
-ghost use Rattle.lexical_flags.specs.Rules.{Rule, Demands, Holds, Lawful, IsErrorOf};
+ghost use Rattle.lexical_flags.specs.Rules.{Demands, Holds, Lawful, IsErrorOf};
+ghost use Rattle.lexical_flags.specs.declared.format_flags.all_rules.Rule.{Rule};
 ghost use Rattle.lexical_flags.specs.Options.{AreAccepted, HaveOneRole};
 ghost use Rattle.lexical_flags.specs.Constants.{flag_constant, byte_mask, byte_shift, mask_of, doublings, ShareNoBit};
 

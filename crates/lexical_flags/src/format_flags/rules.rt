@@ -11,7 +11,8 @@ ghost use Rattle.lexical_flags.specs.Record.{raw};
 ghost use Rattle.lexical_flags.specs.Roles.{Disjoint, cased, other_case, digits, own_roles};
 ghost use Rattle.lexical_flags.specs.Options.{AreAccepted, HaveOneRole, LeavesRoom};
 ghost use Rattle.lexical_flags.specs.Rules.{IsRadix, IsFree, IsPunctuation, Holds, IsFirstError, IsErrorOf, Lawful};
-ghost use Rattle.lexical_flags.specs.Rules as rules;
+ghost use Rattle.lexical_flags.specs.Rules.{radix_rules, punctuation_rules, flag_rules, reserved_rules};
+ghost use Rattle.lexical_flags.specs.declared.format_flags.all_rules.Rule.TheVariants as rules;
 
 use crate::format_flags::*;
 use lexical_base::ascii::is_valid_letter;
@@ -150,7 +151,7 @@ pub const fn is_valid_radix(radix: u32) -> bool
 // Whether the mantissa radix is 2 to 36.
 #[inline(always)]
 const fn is_valid_mantissa_radix(format: u128) -> bool
-    ensures { IsTrue result ↔ Holds rules.mantissa_radix_in_range format }
+    ensures { IsTrue result ↔ Holds rules.MantissaRadixInRange format }
 {
     is_valid_radix(mantissa_radix(format))
 }
@@ -158,7 +159,7 @@ const fn is_valid_mantissa_radix(format: u128) -> bool
 // Whether the exponent base, or the mantissa radix if that is 0, is 2 to 36.
 #[inline(always)]
 const fn is_valid_exponent_base(format: u128) -> bool
-    ensures { IsTrue result ↔ Holds rules.exponent_base_in_range format }
+    ensures { IsTrue result ↔ Holds rules.ExponentBaseInRange format }
 {
     is_valid_radix(exponent_base(format))
 }
@@ -166,7 +167,7 @@ const fn is_valid_exponent_base(format: u128) -> bool
 // Whether the exponent radix, or the mantissa radix if that is 0, is 2 to 36.
 #[inline(always)]
 const fn is_valid_exponent_radix(format: u128) -> bool
-    ensures { IsTrue result ↔ Holds rules.exponent_radix_in_range format }
+    ensures { IsTrue result ↔ Holds rules.ExponentRadixInRange format }
 {
     is_valid_radix(exponent_radix(format))
 }
@@ -180,7 +181,7 @@ const fn is_valid_exponent_radix(format: u128) -> bool
 /// even if one does.
 #[inline(always)]
 pub const fn is_valid_digit_separator(format: u128) -> bool
-    ensures { IsTrue result ↔ Holds rules.digit_separator_is_free format }
+    ensures { IsTrue result ↔ Holds rules.DigitSeparatorIsFree format }
 {
     is_free(format, digit_separator(format))
 }
@@ -189,7 +190,7 @@ pub const fn is_valid_digit_separator(format: u128) -> bool
 /// mantissa or of the exponent.
 #[inline(always)]
 pub const fn is_valid_base_prefix(format: u128) -> bool
-    ensures { IsTrue result ↔ Holds rules.base_prefix_is_free format }
+    ensures { IsTrue result ↔ Holds rules.BasePrefixIsFree format }
 {
     is_free(format, base_prefix(format))
 }
@@ -198,7 +199,7 @@ pub const fn is_valid_base_prefix(format: u128) -> bool
 /// mantissa or of the exponent.
 #[inline(always)]
 pub const fn is_valid_base_suffix(format: u128) -> bool
-    ensures { IsTrue result ↔ Holds rules.base_suffix_is_free format }
+    ensures { IsTrue result ↔ Holds rules.BaseSuffixIsFree format }
 {
     is_free(format, base_suffix(format))
 }
@@ -212,7 +213,7 @@ pub const fn is_valid_base_suffix(format: u128) -> bool
 /// accepts such a prefix and suffix with any flags.
 #[inline(always)]
 pub const fn is_valid_punctuation(format: u128) -> bool
-    ensures { IsTrue result ↔ Holds rules.punctuation_differs format }
+    ensures { IsTrue result ↔ Holds rules.PunctuationDiffers format }
 {
     let separator = digit_separator(format);
     let prefix = base_prefix(format);
@@ -281,7 +282,7 @@ pub const fn is_valid_options_punctuation(format: u128, exponent: u8, decimal_po
 /// Returns whether [`NO_EXPONENT_NOTATION`] and [`REQUIRED_EXPONENT_NOTATION`] are not both set.
 #[inline(always)]
 pub const fn is_valid_exponent_flags(format: u128) -> bool
-    ensures { IsTrue result ↔ Holds rules.exponent_flags_agree format }
+    ensures { IsTrue result ↔ Holds rules.ExponentFlagsAgree format }
 {
     format & NO_EXPONENT_NOTATION == 0 || format & REQUIRED_EXPONENT_NOTATION == 0
 }
@@ -289,7 +290,7 @@ pub const fn is_valid_exponent_flags(format: u128) -> bool
 // Not both NO_POSITIVE_MANTISSA_SIGN and REQUIRED_MANTISSA_SIGN.
 #[inline(always)]
 const fn is_valid_mantissa_sign_flags(format: u128) -> bool
-    ensures { IsTrue result ↔ Holds rules.mantissa_sign_flags_agree format }
+    ensures { IsTrue result ↔ Holds rules.MantissaSignFlagsAgree format }
 {
     format & NO_POSITIVE_MANTISSA_SIGN == 0 || format & REQUIRED_MANTISSA_SIGN == 0
 }
@@ -297,7 +298,7 @@ const fn is_valid_mantissa_sign_flags(format: u128) -> bool
 // Not both NO_POSITIVE_EXPONENT_SIGN and REQUIRED_EXPONENT_SIGN.
 #[inline(always)]
 const fn is_valid_exponent_sign_flags(format: u128) -> bool
-    ensures { IsTrue result ↔ Holds rules.exponent_sign_flags_agree format }
+    ensures { IsTrue result ↔ Holds rules.ExponentSignFlagsAgree format }
 {
     format & NO_POSITIVE_EXPONENT_SIGN == 0 || format & REQUIRED_EXPONENT_SIGN == 0
 }
@@ -305,7 +306,7 @@ const fn is_valid_exponent_sign_flags(format: u128) -> bool
 // Not both NO_SPECIAL and CASE_SENSITIVE_SPECIAL.
 #[inline(always)]
 const fn is_valid_special_case_flags(format: u128) -> bool
-    ensures { IsTrue result ↔ Holds rules.special_case_flags_agree format }
+    ensures { IsTrue result ↔ Holds rules.SpecialCaseFlagsAgree format }
 {
     format & NO_SPECIAL == 0 || format & CASE_SENSITIVE_SPECIAL == 0
 }
@@ -313,7 +314,7 @@ const fn is_valid_special_case_flags(format: u128) -> bool
 // Not both NO_SPECIAL and SPECIAL_DIGIT_SEPARATOR.
 #[inline(always)]
 const fn is_valid_special_separator_flags(format: u128) -> bool
-    ensures { IsTrue result ↔ Holds rules.special_separator_flags_agree format }
+    ensures { IsTrue result ↔ Holds rules.SpecialSeparatorFlagsAgree format }
 {
     format & NO_SPECIAL == 0 || format & SPECIAL_DIGIT_SEPARATOR == 0
 }
@@ -321,7 +322,7 @@ const fn is_valid_special_separator_flags(format: u128) -> bool
 // Not INTEGER_CONSECUTIVE_DIGIT_SEPARATOR alone among the four separator flags of the integer.
 #[inline(always)]
 const fn is_valid_integer_consecutive_flags(format: u128) -> bool
-    ensures { IsTrue result ↔ Holds rules.integer_consecutive_is_allowed format }
+    ensures { IsTrue result ↔ Holds rules.IntegerConsecutiveIsAllowed format }
 {
     format & INTEGER_DIGIT_SEPARATOR_FLAG_MASK != INTEGER_CONSECUTIVE_DIGIT_SEPARATOR
 }
@@ -329,7 +330,7 @@ const fn is_valid_integer_consecutive_flags(format: u128) -> bool
 // Not FRACTION_CONSECUTIVE_DIGIT_SEPARATOR alone among the four separator flags of the fraction.
 #[inline(always)]
 const fn is_valid_fraction_consecutive_flags(format: u128) -> bool
-    ensures { IsTrue result ↔ Holds rules.fraction_consecutive_is_allowed format }
+    ensures { IsTrue result ↔ Holds rules.FractionConsecutiveIsAllowed format }
 {
     format & FRACTION_DIGIT_SEPARATOR_FLAG_MASK != FRACTION_CONSECUTIVE_DIGIT_SEPARATOR
 }
@@ -337,7 +338,7 @@ const fn is_valid_fraction_consecutive_flags(format: u128) -> bool
 // Not EXPONENT_CONSECUTIVE_DIGIT_SEPARATOR alone among the four separator flags of the exponent.
 #[inline(always)]
 const fn is_valid_exponent_consecutive_flags(format: u128) -> bool
-    ensures { IsTrue result ↔ Holds rules.exponent_consecutive_is_allowed format }
+    ensures { IsTrue result ↔ Holds rules.ExponentConsecutiveIsAllowed format }
 {
     format & EXPONENT_DIGIT_SEPARATOR_FLAG_MASK != EXPONENT_CONSECUTIVE_DIGIT_SEPARATOR
 }
@@ -355,7 +356,7 @@ pub const fn is_clean(format: u128) -> bool
 // Whether all rules of punctuation are kept.
 #[inline(always)]
 const fn keeps_punctuation_rules(format: u128) -> bool
-    ensures { IsTrue result ↔ AllByRecursion (λ rule. Holds rule format) rules.punctuation_rules }
+    ensures { IsTrue result ↔ AllByRecursion (λ rule. Holds rule format) punctuation_rules }
 {
     let are_free = is_valid_digit_separator(format)
         & is_valid_base_prefix(format)
@@ -368,7 +369,7 @@ const fn keeps_punctuation_rules(format: u128) -> bool
 #[inline(always)]
 #[tactic(auto)]
 const fn first_broken_punctuation(format: u128) -> Error
-    ensures { IsFirstError rules.punctuation_rules format result }
+    ensures { IsFirstError punctuation_rules format result }
 {
     if keeps_punctuation_rules(format) {
         Error::Success
@@ -386,7 +387,7 @@ const fn first_broken_punctuation(format: u128) -> Error
 // Whether all rules of flags are kept.
 #[inline(always)]
 const fn keeps_flag_rules(format: u128) -> bool
-    ensures { IsTrue result ↔ AllByRecursion (λ rule. Holds rule format) rules.flag_rules }
+    ensures { IsTrue result ↔ AllByRecursion (λ rule. Holds rule format) flag_rules }
 {
     is_valid_exponent_flags(format)
         & is_valid_mantissa_sign_flags(format)
@@ -402,7 +403,7 @@ const fn keeps_flag_rules(format: u128) -> bool
 #[inline(always)]
 #[tactic(auto)]
 const fn first_broken_flags(format: u128) -> Error
-    ensures { IsFirstError rules.flag_rules format result }
+    ensures { IsFirstError flag_rules format result }
 {
     if keeps_flag_rules(format) {
         Error::Success
@@ -427,7 +428,7 @@ const fn first_broken_flags(format: u128) -> Error
 #[inline(always)]
 #[tactic(auto, unfolding(crate::specs::Rules::Holds))]
 const fn first_broken_reserved(format: u128) -> Error
-    ensures { IsFirstError rules.reserved_rules format result }
+    ensures { IsFirstError reserved_rules format result }
 {
     if is_clean(format) {
         Error::Success
@@ -464,8 +465,8 @@ const fn first_broken(format: u128) -> Error
 #[inline(always)]
 #[tactic(auto)]
 pub const fn radix_error_impl(format: u128) -> Error
-    ensures first { IsFirstError rules.radix_rules format result }
-    ensures only { (other : Error) → IsFirstError rules.radix_rules format other → other ≡ result }
+    ensures first { IsFirstError radix_rules format result }
+    ensures only { (other : Error) → IsFirstError radix_rules format other → other ≡ result }
 {
     if !is_valid_mantissa_radix(format) {
         Error::InvalidMantissaRadix

@@ -9,8 +9,9 @@ ghost use Rattle.lexical_flags.specs.Layout.{Flag, Byte, bit, shift, IsClean};
 ghost use Rattle.lexical_flags.specs.Options.{AreAccepted, HaveOneRole};
 ghost use Rattle.lexical_flags.specs.Record.{raw, fill, trim, pack, IsBuilt};
 ghost use Rattle.lexical_flags.specs.Roles.{Disjoint, cased};
-ghost use Rattle.lexical_flags.specs.Rules as rules;
-ghost use Rattle.lexical_flags.specs.Rules.{Rule, Demands, Holds, Lawful};
+ghost use Rattle.lexical_flags.specs.Rules.{Demands, Holds, Lawful};
+ghost use Rattle.lexical_flags.specs.declared.format_flags.all_rules.Rule.{Rule};
+ghost use Rattle.lexical_flags.specs.declared.format_flags.all_rules.Rule.TheVariants as rules;
 ghost use Rattle.lexical_flags.specs.declared.format_flags.TheConstants.{FLAG_MASK};
 ghost use Rattle.lexical_builder.specs.Writes.{write_flag, write_byte, IsLegal, SameWrites};
 ghost use Rattle.lexical_util.specs.Compose.{Composes, AlwaysCompose};
@@ -99,10 +100,10 @@ pub fn word_law_examples()
     ensures only { (word : ℕ) → word < 2 ^ 128 → IsClean word → raw word ≡ raw 0 → word ≡ 0 }
 
     // The rule of the separator: a normal form keeps it, and if the separator stays it keeps no more.
-    ensures kept { Demands rules.digit_separator_is_free (raw 0x0A0A0A00_0000005F_00000000_0000000C)
-        → Demands rules.digit_separator_is_free (trim (fill (raw 0x0A0A0A00_0000005F_00000000_0000000C))) }
-    ensures same { Demands rules.digit_separator_is_free (raw 0)
-        ↔ Demands rules.digit_separator_is_free (trim (fill (raw 0))) }
+    ensures kept { Demands rules.DigitSeparatorIsFree (raw 0x0A0A0A00_0000005F_00000000_0000000C)
+        → Demands rules.DigitSeparatorIsFree (trim (fill (raw 0x0A0A0A00_0000005F_00000000_0000000C))) }
+    ensures same { Demands rules.DigitSeparatorIsFree (raw 0)
+        ↔ Demands rules.DigitSeparatorIsFree (trim (fill (raw 0))) }
 
     // The rules that a lawful word keeps, two sets that share a byte, and the roles of options that fit.
     ensures lawful { Lawful 0x0A0A0A00_00000000_00000000_0000000C
