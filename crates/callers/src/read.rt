@@ -12,7 +12,7 @@ ghost use Rattle.callers.specs.Reading.{may_stand, number_of, IsNumeral, IsRefus
 
 use lexical_util::digit::char_to_digit;
 use lexical_util::error::Error;
-use lexical_util::format::{NumberFormat, format_error, mantissa_radix};
+use lexical_util::format::{NumberFormat, check, mantissa_radix};
 
 /// Returns the whole number that `text` writes in the mantissa radix of `format`, which is any
 /// lawful format.
@@ -55,10 +55,8 @@ pub fn read_checked(format: u128, text: &[u8]) -> Result<u64, Error>
     ensures refusal { IfErr result (λ error.
         IsErrorOf format error ⊎ (Lawful format × IsRefusal (raw format) text.now error)) }
 {
-    match format_error(format) {
-        Error::Success => read_digits(format, text),
-        error => Err(error),
-    }
+    check(format)?;
+    read_digits(format, text)
 }
 
 /// Returns the value of `byte` as a digit of the mantissa, 0 to 35 in a lawful format; `None` if it

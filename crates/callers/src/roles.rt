@@ -10,7 +10,7 @@ ghost use Rattle.callers.specs.declared.roles.Role as roles;
 
 use crate::read::is_separator;
 use lexical_util::error::Error;
-use lexical_util::format::{NumberFormat, format_error, is_valid_options_punctuation};
+use lexical_util::format::{NumberFormat, check, is_valid_options_punctuation};
 use lexical_util::format_flags::is_digit;
 use lexical_util::laws;
 
@@ -73,10 +73,8 @@ pub fn checked_role_of(
     ensures rule { IfErr result (λ error. Lawful format ⊎ IsErrorOf format error) }
     ensures clash { Lawful format → IfErr result (λ error. error ≡ Error.InvalidPunctuation) }
 {
-    let error = format_error(format);
-    if error != Error::Success {
-        Err(error)
-    } else if is_valid_options_punctuation(format, exponent, decimal_point) {
+    check(format)?;
+    if is_valid_options_punctuation(format, exponent, decimal_point) {
         Ok(role_of(format, exponent, decimal_point, byte))
     } else {
         Err(Error::InvalidPunctuation)

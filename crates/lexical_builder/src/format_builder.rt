@@ -12,7 +12,7 @@ ghost use Rattle.lexical_builder.specs.Writes.{new_record, radix_record};
 
 use lexical_base::error::Error;
 use lexical_flags::format_flags as flags;
-use lexical_flags::format_flags::format_error_impl;
+use lexical_flags::format_flags::check;
 use lexical_flags::laws::rule_facts;
 use std::marker::Model;
 
@@ -230,11 +230,7 @@ impl NumberFormatBuilder {
         // What is packed has no reserved bit set.
         ensures not_flags { result ≢ Err Error.InvalidFlags }
     {
-        let word = self.build_unchecked();
-        match format_error_impl(word) {
-            Error::Success => Ok(word),
-            error => Err(error),
-        }
+        check(self.build_unchecked())
     }
 
     /// Another name of `build_unchecked`. Deprecated in `lexical-util`.

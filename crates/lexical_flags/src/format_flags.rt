@@ -16,7 +16,7 @@ mod rules;
 
 pub use crate::format_flags::all_rules::{RULES, Rule};
 pub use crate::format_flags::rules::{
-    format_error_impl, is_clean, is_digit, is_valid_base_prefix, is_valid_base_suffix,
+    check, format_error_impl, is_clean, is_digit, is_valid_base_prefix, is_valid_base_suffix,
     is_valid_digit_separator, is_valid_exponent_flags, is_valid_options_punctuation,
     is_valid_punctuation, is_valid_radix, radix_error_impl,
 };

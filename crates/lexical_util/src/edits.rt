@@ -16,7 +16,7 @@ ghost use Rattle.lexical_util.specs.SetterNames.{setter_name};
 use crate::laws::{edit_facts, normal_form_facts};
 use lexical_base::error::Error;
 use lexical_builder::format_builder::{NumberFormatBuilder, OptionU8};
-use lexical_flags::format_flags::{FLAG_MASK, format_error_impl};
+use lexical_flags::format_flags::{FLAG_MASK, check};
 
 // Calls `$rows!` with `$args`, a row for each flag, and a row for each group of flags. A row has the
 // variant of `FlagSetter`, and the name that the setter and, for a flag, the getter have.
@@ -402,11 +402,7 @@ pub const fn migrate(format: u128) -> Result<u128, Error>
     ensures not_success { result ≢ Err Error.Success }
     ensures not_flags { result ≢ Err Error.InvalidFlags }
 {
-    let word = normal_form(format);
-    match format_error_impl(word) {
-        Error::Success => Ok(word),
-        error => Err(error),
-    }
+    check(normal_form(format))
 }
 
 /// Returns whether two words mean the same, that is, have the same normal form.

@@ -3,8 +3,9 @@
 //! A word that breaks no rule is *lawful*; the view of a word calls it valid.
 #![tactic(auto, using(crate::proofs::FlagBits::flag_tests), unfolding(crate::specs::Rules::Holds, crate::specs::Rules::IsPunctuation))]
 
-ghost use Rattle.std.specs.Prelude.{◌≡◌, ◌≢◌, ◌↔◌, IsTrue, bit_or, max};
+ghost use Rattle.std.specs.Prelude.{◌≡◌, ◌≢◌, ◌↔◌, Err, IfErr, IsTrue, bit_or, max};
 ghost use Rattle.std.specs.List.{AllByRecursion};
+ghost use Rattle.std.specs.Result.{OkIff};
 ghost use Rattle.lexical_base.specs.Ascii.{letters};
 ghost use Rattle.lexical_flags.specs.Layout.{IsClean};
 ghost use Rattle.lexical_flags.specs.Record.{raw};
@@ -514,4 +515,21 @@ pub const fn format_error_impl(format: u128) -> Error
     ensures clean { IsClean format → result ≢ Error.InvalidFlags }
 {
     first_broken(format)
+}
+
+/// Returns `format` if it is lawful, or else the error of the first rule that it breaks
+/// ([`format_error_impl`]), which is never `Success`.
+///
+/// This is for `?`: `let format = check(format)?;`.
+#[inline(always)]
+pub const fn check(format: u128) -> Result<u128, Error>
+    ensures lawful { OkIff result (Lawful format) format }
+    ensures error { IfErr result (IsErrorOf format) }
+    ensures not_success { result ≢ Err Error.Success }
+    ensures clean { IsClean format → result ≢ Err Error.InvalidFlags }
+{
+    match format_error_impl(format) {
+        Error::Success => Ok(format),
+        error => Err(error),
+    }
 }
