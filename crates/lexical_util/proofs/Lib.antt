@@ -8,3 +8,4 @@ mod ComposeLemmas
 mod SetterNameLemmas
 mod Distance
 mod FieldWrites
+mod NumberLemmas

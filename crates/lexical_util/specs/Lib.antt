@@ -1,5 +1,6 @@
 pub mod Edits
 pub mod SetterNames
+pub mod SettingNumbers
 pub mod Normal
 pub mod Groups
 pub mod Listing

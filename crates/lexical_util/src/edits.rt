@@ -73,8 +73,10 @@ macro_rules! with_setters {
 }
 
 mod listing;
+mod numbers;
 
-pub use listing::{edits_of, is_built};
+pub use listing::{edits_of, field_edits_of, is_built};
+pub use numbers::SETTER_NAMES;
 
 /// A builder setter that takes a `bool`: one for each flag, and one for each of the nine groups of
 /// flags. A variant stands for the setter that its line names.

@@ -72,8 +72,8 @@ pub fn edits_of(format: u128) -> ([Edit; FIELDS], usize)
     (edits, count)
 }
 
-// The edits that write all fields of a word, in the order of their bits.
-const fn field_edits_of(format: u128) -> [Edit; FIELDS]
+/// Returns the edits that write all fields of `format` with their values, in the order of their bits.
+pub const fn field_edits_of(format: u128) -> [Edit; FIELDS]
     ensures { result ≡ field_edits (raw format) }
 {
     macro_rules! edits_of_fields {

@@ -1,0 +1,35 @@
+-- The names of setters are pairwise different, and the flags that an edit of 0 sets.
+use Rattle.std.proofs.Common.{◌≡◌, ℕ, zero, suc, Bool, true, Bor, List, [], ◌∷◌, map, get_or, refl}
+use Rattle.lexical_flags.specs.Record as record_of
+use Rattle.lexical_builder.specs.Writes as writes
+use Rattle.lexical_util.specs.Edits.{edited, all_writes}
+use Rattle.lexical_util.specs.SettingNumbers.{number_of, number_of_name, name_of}
+use Rattle.lexical_util.specs.SettingNumbers.{mask_of_edit}
+use Rattle.lexical_util.specs.declared.edits.FlagSetter.{FlagSetter}
+use Rattle.lexical_util.specs.declared.edits.FlagSetter.TheVariants as setters
+use Rattle.lexical_util.specs.declared.edits.Edit.{Edit}
+use Rattle.lexical_util.specs.declared.edits.Edit.TheVariants as edits
+
+-- the text at an index of a table
+pub text_in_table : (table : List (Bor (List ℕ))) (index : ℕ) (default : Bor (List ℕ))
+    → (get_or table index default).now ≡ get_or (map (λ text. text.now) table) index default.now
+text_in_table [] index default = refl
+text_in_table (text ∷ table) zero default = refl
+text_in_table (text ∷ table) (suc index) default = text_in_table table index default
+
+-- the number of an edit's name is its number: each case is computed
+number_of_flag : (setter : FlagSetter) → number_of_name (name_of (edits.Flag setter true)) ≡ number_of (edits.Flag setter true)
+number_of_flag setters.RequiredIntegerDigits = refl
+number_of_flag _ = refl
+
+pub number_of_its_name : (edit : Edit) → number_of_name (name_of edit) ≡ number_of edit
+number_of_its_name (edits.Flag setter value) = number_of_flag setter
+number_of_its_name (edits.DigitSeparator byte) = refl
+number_of_its_name _ = refl
+
+-- an edit of 0 that sets the flags of a setter makes their mask: each case is computed
+pub flags_of_zero : (setter : FlagSetter) (value : Bool)
+    → edited 0 (all_writes (edits.Flag setter true ∷ [])) ≡ mask_of_edit (edits.Flag setter value)
+unfolding record_of.word_of writes.after
+flags_of_zero setters.RequiredIntegerDigits value = refl
+flags_of_zero _ value = refl
