@@ -4,7 +4,7 @@ use Rattle.std.specs.List.{list_all, range_with_len}
 use Rattle.std.proofs.lemmas.List.Sums.{AllPass-from_list_all, list_all-from_AllPass}
 use Rattle.std.proofs.lemmas.List.FromFn.{length-range_with_len, get_or-range_with_len}
 use Rattle.lexical_base.specs.Ascii.{ByteSet}
-use Rattle.lexical_flags.specs.Roles.{Disjoint}
+use Rattle.lexical_flags.specs.Roles.{Disjoint, are_disjoint}
 
 -- a test of all numbers below n
 each_below : (p : ℕ → Bool) (n : ℕ) → (list_all p (range_with_len 0 n) ≡ true) ↔ ((i : ℕ) → i < n → p i ≡ true)
@@ -22,7 +22,7 @@ not_both a b = grind arith
 -- sets are disjoint exactly if no byte is in both
 pub disjoint_bytes : (A B : ByteSet)
     → Disjoint A B ↔ ((byte : ℕ) → byte < 256 → IsTrue (A byte) → IsTrue (B byte) → ⊥)
-unfolding Disjoint
+unfolding Disjoint are_disjoint
 disjoint_bytes A B =
     let each = each_below (λ byte. not (A byte && B byte)) 256 in (
       λ test byte below. (not_both (A byte) (B byte)).0 (each.0 test byte below),

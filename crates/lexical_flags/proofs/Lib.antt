@@ -6,10 +6,11 @@ pub mod Masks
 pub mod FlagBits
 pub mod CommonLemmas
 mod RuleLemmas
+mod RuleFieldLemmas
 mod NormalRules
 mod DisjointLemmas
 mod CaseLemmas
 mod FreeBytes
-mod RoleLemmas
+pub mod RoleLemmas
 mod OptionLemmas
 mod ReservedBits

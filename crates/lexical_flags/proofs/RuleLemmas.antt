@@ -1,5 +1,5 @@
 -- A word is lawful exactly if it keeps every rule, and has one error.
-use Rattle.std.proofs.Common.{◌≡◌, ℕ, ◌≢◌, ◌↔◌, inl, inr, Bool, true, IsTrue, List, [], ◌∷◌, sym, ◌∙◌}
+use Rattle.std.proofs.Common.{◌≡◌, ℕ, ◌≢◌, ◌↔◌, inl, inr, Bool, true, IsTrue, List, [], ◌∷◌, Option, sym, ap, ◌∙◌}
 use Rattle.std.proofs.Common.{subst, arith}
 use Rattle.std.specs.List.{AllByRecursion}
 use Rattle.std.proofs.lemmas.Bool.{cases_eq}
@@ -14,6 +14,7 @@ use Rattle.lexical_flags.specs.declared.format_flags.all_rules.Rule.{Rule}
 use Rattle.lexical_flags.specs.declared.format_flags.all_rules.Rule.TheVariants as rules
 use Rattle.lexical_flags.specs.Rules.{IsRadix, IsFree, IsTextOrNone, IsPunctuation, Holds, IsFirstError}
 use Rattle.lexical_flags.specs.Rules.{IsErrorOf, Lawful, error_of, flag_rules, rules_in_order}
+use Rattle.lexical_flags.specs.Rules.{AreIfBroken, first_error}
 use Rattle.lexical_flags.proofs.RoleLemmas.{Disjoint-digits-cased, Disjoint-signs-cased, Disjoint-digits-signs, not_in}
 
 -- what a free byte is
@@ -206,3 +207,17 @@ Success-lawful word error h = (
   λ e. Lawful-from_success word (subst (IsErrorOf word) e h),
   λ lawful. success_from_all word error (λ rule. Holds-from_lawful rule word lawful) rules_in_order h,
 )
+
+-- the error of the first rule that is broken, if each is in a list or not
+first_of_list : (word : ℕ) (rules : List Rule) (broken : List (Option Rule)) → AreIfBroken word rules broken
+    → IsFirstError rules word (first_error broken)
+first_of_list word [] broken h = ap first_error h
+first_of_list word (rule ∷ rules) [] h = elim h [ ]
+first_of_list word (rule ∷ rules) (one ∷ more) (inl breaks, others) = inl (breaks.0, ap (λ b. first_error (b ∷ more)) breaks.1)
+first_of_list word (rule ∷ rules) (one ∷ more) (inr keeps, others) =
+    inr (keeps.0, subst (λ b. IsFirstError rules word (first_error (b ∷ more))) (sym keeps.1) (first_of_list word rules more others))
+
+pub first_of_broken : (word : ℕ) (broken : List (Option Rule)) → AreIfBroken word rules_in_order broken
+    → IsErrorOf word (first_error broken)
+unfolding IsErrorOf
+first_of_broken word broken = first_of_list word rules_in_order broken

@@ -5,6 +5,7 @@ pub mod Constants
 pub mod Common
 pub mod Roles
 pub mod Rules
+pub mod RuleFields
 pub mod Options
 pub mod Literals
 pub use Rattle.lexical_base.specs.Ascii

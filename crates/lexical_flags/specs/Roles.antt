@@ -6,9 +6,13 @@ use Rattle.lexical_base.specs.Digits.{digits_of}
 use Rattle.lexical_flags.specs.Pairs.{ArePairwise}
 use Rattle.lexical_flags.specs.Record.{Record, effective_exponent_radix}
 
--- no byte is in both sets: a test of all 256, so that it computes
+-- whether no byte is in both sets: a test of all 256, so that it computes
+unfoldable pub are_disjoint : ByteSet → ByteSet → Bool
+are_disjoint A B = list_all (λ byte. not (A byte && B byte)) (range_with_len 0 256)
+
+-- no byte is in both
 unfoldable pub Disjoint : ByteSet → ByteSet → Type 0
-Disjoint A B = IsTrue (list_all (λ byte. not (A byte && B byte)) (range_with_len 0 256))
+Disjoint A B = IsTrue (are_disjoint A B)
 
 -- no byte is in two of these sets
 abbrev pub AreDisjoint : List ByteSet → Type 0
@@ -58,6 +62,14 @@ point chosen = only chosen
 -- the roles of the bytes that a format names
 abbrev pub own_roles : Record → List ByteSet
 own_roles r = separator r ∷ prefix r ∷ suffix r ∷ []
+
+-- which of these share a byte: the first and the second, the first and the third, the second and the third
+abbrev pub clashes : Record → List Bool
+clashes r =
+    not (are_disjoint (separator r) (prefix r))
+    ∷ not (are_disjoint (separator r) (suffix r))
+    ∷ not (are_disjoint (prefix r) (suffix r))
+    ∷ []
 
 -- the roles of a format
 abbrev pub five_roles : Record → List ByteSet

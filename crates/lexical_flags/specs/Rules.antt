@@ -1,5 +1,6 @@
 -- The rules of a format word, and the error of the first that it breaks.
-use Rattle.std.specs.Prelude.{ℕ, Bool, ◌≡◌, ◌≤◌, ◌⊎◌, ◌&&◌, ◌||◌, IsTrue, IsFalse, List, [], ◌∷◌, ◌++◌, ⊤}
+use Rattle.std.specs.Prelude.{ℕ, Bool, false, not, ◌≡◌, ◌≤◌, ◌⊎◌, ◌&&◌, ◌||◌, IsTrue, IsFalse, List, [], ◌∷◌, ◌++◌}
+use Rattle.std.specs.Prelude.{Option, None, Some}
 use Rattle.std.specs.List.{AllByRecursion}
 use Rattle.lexical_base.specs.Ascii.{allowed_ascii}
 use Rattle.lexical_base.specs.declared.error.Error.{Error}
@@ -26,13 +27,27 @@ IsFree r byte = (byte ≡ 0) ⊎ IsPunctuation r byte
 abbrev pub IsTextOrNone : ℕ → Type 0
 IsTextOrNone byte = (byte ≡ 0) ⊎ IsTrue (allowed_ascii byte)
 
--- at most one of two flags is set
-abbrev pub NotBoth : Bool → Bool → Type 0
-NotBoth a b = IsFalse (a && b)
+-- consecutive separators are allowed, but none between, before or after digits
+abbrev pub has_no_place : Bool → Bool → Bool → Bool → Bool
+has_no_place consecutive internal leading trailing = consecutive && not (internal || leading || trailing)
 
--- consecutive separators are allowed only if one is allowed between, before or after digits
-abbrev pub AllowsOne : Bool → Bool → Bool → Bool → Type 0
-AllowsOne consecutive internal leading trailing = IsTrue consecutive → IsTrue (internal || leading || trailing)
+-- whether the flags that a rule reads contradict each other
+abbrev pub contradict : Rule → Record → Bool
+contradict rules.ExponentFlagsAgree r = r.no_exponent_notation && r.required_exponent_notation
+contradict rules.MantissaSignFlagsAgree r = r.no_positive_mantissa_sign && r.required_mantissa_sign
+contradict rules.ExponentSignFlagsAgree r = r.no_positive_exponent_sign && r.required_exponent_sign
+contradict rules.SpecialCaseFlagsAgree r = r.no_special && r.case_sensitive_special
+contradict rules.SpecialSeparatorFlagsAgree r = r.no_special && r.special_digit_separator
+contradict rules.IntegerConsecutiveIsAllowed r =
+    has_no_place r.integer_consecutive_digit_separator r.integer_internal_digit_separator
+    r.integer_leading_digit_separator r.integer_trailing_digit_separator
+contradict rules.FractionConsecutiveIsAllowed r =
+    has_no_place r.fraction_consecutive_digit_separator r.fraction_internal_digit_separator
+    r.fraction_leading_digit_separator r.fraction_trailing_digit_separator
+contradict rules.ExponentConsecutiveIsAllowed r =
+    has_no_place r.exponent_consecutive_digit_separator r.exponent_internal_digit_separator
+    r.exponent_leading_digit_separator r.exponent_trailing_digit_separator
+contradict _ r = false
 
 -- what a rule demands of the fields of a word; the rule of reserved bits demands nothing of them
 abbrev pub Demands : Rule → Record → Type 0
@@ -43,21 +58,7 @@ Demands rules.DigitSeparatorIsFree r = IsFree r r.digit_separator
 Demands rules.BasePrefixIsFree r = IsFree r r.base_prefix
 Demands rules.BaseSuffixIsFree r = IsFree r r.base_suffix
 Demands rules.PunctuationDiffers r = AreDisjoint (own_roles r)
-Demands rules.ExponentFlagsAgree r = NotBoth r.no_exponent_notation r.required_exponent_notation
-Demands rules.MantissaSignFlagsAgree r = NotBoth r.no_positive_mantissa_sign r.required_mantissa_sign
-Demands rules.ExponentSignFlagsAgree r = NotBoth r.no_positive_exponent_sign r.required_exponent_sign
-Demands rules.SpecialCaseFlagsAgree r = NotBoth r.no_special r.case_sensitive_special
-Demands rules.SpecialSeparatorFlagsAgree r = NotBoth r.no_special r.special_digit_separator
-Demands rules.IntegerConsecutiveIsAllowed r =
-    AllowsOne r.integer_consecutive_digit_separator r.integer_internal_digit_separator
-    r.integer_leading_digit_separator r.integer_trailing_digit_separator
-Demands rules.FractionConsecutiveIsAllowed r =
-    AllowsOne r.fraction_consecutive_digit_separator r.fraction_internal_digit_separator
-    r.fraction_leading_digit_separator r.fraction_trailing_digit_separator
-Demands rules.ExponentConsecutiveIsAllowed r =
-    AllowsOne r.exponent_consecutive_digit_separator r.exponent_internal_digit_separator
-    r.exponent_leading_digit_separator r.exponent_trailing_digit_separator
-Demands rules.ReservedBitsAreZero r = ⊤
+Demands rule r = IsFalse (contradict rule r)
 
 -- a word keeps a rule
 unfoldable pub Holds : Rule → ℕ → Type 0
@@ -108,11 +109,31 @@ reserved_rules = rules.ReservedBitsAreZero ∷ []
 abbrev pub rules_in_order : List Rule
 rules_in_order = radix_rules ++ punctuation_rules ++ flag_rules ++ reserved_rules
 
+-- an error if a demand is not met, and else what follows
+abbrev pub OrElse : Type 0 → Error → (Error → Type 0) → Error → Type 0
+OrElse demand own next error = ((demand → ⊥) × (error ≡ own)) ⊎ (demand × next error)
+
 -- the error of the first of these rules that a word breaks, and Success if it breaks none
 abbrev pub IsFirstError : List Rule → ℕ → Error → Type 0
 IsFirstError [] word error = error ≡ errors.Success
-IsFirstError (rule ∷ rules) word error =
-    ((Holds rule word → ⊥) × (error ≡ error_of rule)) ⊎ (Holds rule word × IsFirstError rules word error)
+IsFirstError (rule ∷ rules) word error = OrElse (Holds rule word) (error_of rule) (IsFirstError rules word) error
+
+-- a rule if a word breaks it, and nothing if it keeps it
+abbrev pub IsIfBroken : ℕ → Rule → Option Rule → Type 0
+IsIfBroken word rule broken =
+    ((Holds rule word → ⊥) × (broken ≡ Some rule)) ⊎ (Holds rule word × (broken ≡ None))
+
+-- the same for each of these rules, in their order
+abbrev pub AreIfBroken : ℕ → List Rule → List (Option Rule) → Type 0
+AreIfBroken word [] broken = broken ≡ []
+AreIfBroken word (rule ∷ rules) [] = ⊥
+AreIfBroken word (rule ∷ rules) (one ∷ more) = IsIfBroken word rule one × AreIfBroken word rules more
+
+-- the error of the first rule, and Success if there is none
+abbrev pub first_error : List (Option Rule) → Error
+first_error [] = errors.Success
+first_error (None ∷ broken) = first_error broken
+first_error (Some rule ∷ broken) = error_of rule
 
 -- the same for all rules; one word, so that a search does not take it apart
 unfoldable pub IsErrorOf : ℕ → Error → Type 0

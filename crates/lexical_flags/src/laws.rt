@@ -1,7 +1,7 @@
 //! Laws of the layout, of packing, of the rules and of the roles, stated as the clauses of functions
 //! with empty bodies; and examples of the definitions, proved by computation.
 
-ghost use Rattle.std.specs.Prelude.{◌≡◌, ℕ, ◌*◌, ◌/◌, ◌^◌, ◌<◌, ◌↔◌, [], ◌∷◌, ◌+◌, ◌-◌, length, map, pos, bit_or, true, false, IsTrue};
+ghost use Rattle.std.specs.Prelude.{◌≡◌, ℕ, ◌*◌, ◌/◌, ◌^◌, ◌<◌, ◌↔◌, [], ◌∷◌, ◌+◌, ◌-◌, length, map, pos, bit_or, true, false, IsTrue, bit_and};
 ghost use Rattle.lexical_base.specs.declared.error.Error.{Error};
 ghost use Rattle.lexical_base.specs.Ascii.{ByteSet};
 ghost use Rattle.lexical_flags.specs.Layout as layout;
@@ -11,6 +11,7 @@ ghost use Rattle.lexical_flags.specs.Record.{effective_exponent_base, effective_
 ghost use Rattle.lexical_flags.specs.Pairs.{ArePairwise};
 ghost use Rattle.lexical_flags.specs.Roles.{Disjoint, digits};
 ghost use Rattle.lexical_flags.specs.Rules.{Demands, Holds, Lawful, IsErrorOf};
+ghost use Rattle.lexical_flags.specs.RuleFields.{mask_read};
 ghost use Rattle.lexical_flags.specs.declared.format_flags.all_rules.Rule.{Rule};
 ghost use Rattle.lexical_flags.specs.Options.{AreAccepted, HaveOneRole};
 ghost use Rattle.lexical_flags.specs.Constants.{flag_constant, byte_mask, byte_shift, mask_of, doublings, ShareNoBit};
@@ -100,6 +101,10 @@ pub const fn rule_facts()
 
     // A word is lawful exactly if it keeps every rule.
     ensures lawful { (word : ℕ) → Lawful word ↔ ((rule : Rule) → Holds rule word) }
+
+    // Words that agree in the bits that a rule reads keep it alike.
+    ensures depends { (rule : Rule) → (v w : ℕ) → bit_and v (mask_read rule) ≡ bit_and w (mask_read rule)
+        → Holds rule v → Holds rule w }
 
     // A word has at most one error.
     ensures one_error { (word : ℕ) → (error other : Error) → IsErrorOf word error → IsErrorOf word other

@@ -9,3 +9,4 @@ mod SetterNameLemmas
 mod Distance
 mod FieldWrites
 mod NumberLemmas
+mod ReasonLemmas

@@ -5,6 +5,8 @@ pub mod Normal
 pub mod Groups
 pub mod Listing
 pub mod Compose
+pub mod Reasons
+pub mod ReasonText
 pub mod Unfoldable
 pub use Rattle.lexical_base.specs.Ascii
 pub use Rattle.lexical_base.specs.Digits

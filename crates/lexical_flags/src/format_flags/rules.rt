@@ -9,8 +9,8 @@ ghost use Rattle.std.specs.Result.{OkIff};
 ghost use Rattle.lexical_base.specs.Ascii.{letters};
 ghost use Rattle.lexical_flags.specs.Layout.{IsClean};
 ghost use Rattle.lexical_flags.specs.Record.{raw};
-ghost use Rattle.lexical_flags.specs.Roles.{Disjoint, cased, other_case, digits, own_roles};
-ghost use Rattle.lexical_flags.specs.Options.{AreAccepted, HaveOneRole, LeavesRoom};
+ghost use Rattle.lexical_flags.specs.Roles.{Disjoint, are_disjoint, clashes, cased, other_case, digits, own_roles};
+ghost use Rattle.lexical_flags.specs.Options.{AreAccepted, IsOptionsError, HaveOneRole, LeavesRoom};
 ghost use Rattle.lexical_flags.specs.Rules.{IsRadix, IsFree, IsPunctuation, Holds, IsFirstError, IsErrorOf, Lawful};
 ghost use Rattle.lexical_flags.specs.Rules.{radix_rules, punctuation_rules, flag_rules, reserved_rules};
 ghost use Rattle.lexical_flags.specs.declared.format_flags.all_rules.Rule.TheVariants as rules;
@@ -151,7 +151,7 @@ pub const fn is_valid_radix(radix: u32) -> bool
 
 // Whether the mantissa radix is 2 to 36.
 #[inline(always)]
-const fn is_valid_mantissa_radix(format: u128) -> bool
+pub(crate) const fn is_valid_mantissa_radix(format: u128) -> bool
     ensures { IsTrue result ↔ Holds rules.MantissaRadixInRange format }
 {
     is_valid_radix(mantissa_radix(format))
@@ -159,7 +159,7 @@ const fn is_valid_mantissa_radix(format: u128) -> bool
 
 // Whether the exponent base, or the mantissa radix if that is 0, is 2 to 36.
 #[inline(always)]
-const fn is_valid_exponent_base(format: u128) -> bool
+pub(crate) const fn is_valid_exponent_base(format: u128) -> bool
     ensures { IsTrue result ↔ Holds rules.ExponentBaseInRange format }
 {
     is_valid_radix(exponent_base(format))
@@ -167,7 +167,7 @@ const fn is_valid_exponent_base(format: u128) -> bool
 
 // Whether the exponent radix, or the mantissa radix if that is 0, is 2 to 36.
 #[inline(always)]
-const fn is_valid_exponent_radix(format: u128) -> bool
+pub(crate) const fn is_valid_exponent_radix(format: u128) -> bool
     ensures { IsTrue result ↔ Holds rules.ExponentRadixInRange format }
 {
     is_valid_radix(exponent_radix(format))
@@ -230,6 +230,24 @@ pub const fn is_valid_punctuation(format: u128) -> bool
             && are_disjoint(prefix, prefix_case, suffix, suffix_case))
 }
 
+/// Returns which of digit separator, base prefix and base suffix share a byte: separator and prefix,
+/// separator and suffix, prefix and suffix. It tells which of them break [`Rule::PunctuationDiffers`].
+#[tactic(auto, unfolding(crate::specs::Roles::Disjoint))]
+pub const fn clashes(format: u128) -> [bool; 3]
+    ensures { result ≡ clashes (raw format) }
+{
+    let separator = digit_separator(format);
+    let prefix = base_prefix(format);
+    let suffix = base_suffix(format);
+    let prefix_case = prefix_case_counts(format);
+    let suffix_case = suffix_case_counts(format);
+    [
+        !are_disjoint(separator, true, prefix, prefix_case),
+        !are_disjoint(separator, true, suffix, suffix_case),
+        !are_disjoint(prefix, prefix_case, suffix, suffix_case),
+    ]
+}
+
 // Whether a byte clashes with none of digit separator, base prefix and base suffix.
 #[inline(always)]
 const fn is_apart_from_own(format: u128, byte: u8, case_counts: bool) -> bool
@@ -278,6 +296,28 @@ pub const fn is_valid_options_punctuation(format: u128, exponent: u8, decimal_po
         && is_apart_from_own(format, exponent, exponent_case)
 }
 
+/// Returns what is wrong with an exponent character and a decimal point in numbers of this format, and
+/// `Success` if [`is_valid_options_punctuation`] accepts them.
+///
+/// It is `InvalidExponentSymbol` if the exponent character is not allowed ASCII, a sign or a digit, else
+/// `InvalidDecimalPoint` if the decimal point is, and else `InvalidPunctuation`. `lexical-util` has no such
+/// function.
+pub const fn options_error(format: u128, exponent: u8, decimal_point: u8) -> Error
+    ensures first { IsOptionsError format exponent decimal_point result }
+    ensures accepted { (result ≡ Error.Success) ↔ AreAccepted format exponent decimal_point }
+    ensures only { (other : Error) → IsOptionsError format exponent decimal_point other → other ≡ result }
+{
+    if !is_punctuation(format, exponent) {
+        Error::InvalidExponentSymbol
+    } else if !is_punctuation(format, decimal_point) {
+        Error::InvalidDecimalPoint
+    } else if !is_valid_options_punctuation(format, exponent, decimal_point) {
+        Error::InvalidPunctuation
+    } else {
+        Error::Success
+    }
+}
+
 // FLAGS
 
 /// Returns whether [`NO_EXPONENT_NOTATION`] and [`REQUIRED_EXPONENT_NOTATION`] are not both set.
@@ -290,7 +330,7 @@ pub const fn is_valid_exponent_flags(format: u128) -> bool
 
 // Not both NO_POSITIVE_MANTISSA_SIGN and REQUIRED_MANTISSA_SIGN.
 #[inline(always)]
-const fn is_valid_mantissa_sign_flags(format: u128) -> bool
+pub(crate) const fn is_valid_mantissa_sign_flags(format: u128) -> bool
     ensures { IsTrue result ↔ Holds rules.MantissaSignFlagsAgree format }
 {
     format & NO_POSITIVE_MANTISSA_SIGN == 0 || format & REQUIRED_MANTISSA_SIGN == 0
@@ -298,7 +338,7 @@ const fn is_valid_mantissa_sign_flags(format: u128) -> bool
 
 // Not both NO_POSITIVE_EXPONENT_SIGN and REQUIRED_EXPONENT_SIGN.
 #[inline(always)]
-const fn is_valid_exponent_sign_flags(format: u128) -> bool
+pub(crate) const fn is_valid_exponent_sign_flags(format: u128) -> bool
     ensures { IsTrue result ↔ Holds rules.ExponentSignFlagsAgree format }
 {
     format & NO_POSITIVE_EXPONENT_SIGN == 0 || format & REQUIRED_EXPONENT_SIGN == 0
@@ -306,7 +346,7 @@ const fn is_valid_exponent_sign_flags(format: u128) -> bool
 
 // Not both NO_SPECIAL and CASE_SENSITIVE_SPECIAL.
 #[inline(always)]
-const fn is_valid_special_case_flags(format: u128) -> bool
+pub(crate) const fn is_valid_special_case_flags(format: u128) -> bool
     ensures { IsTrue result ↔ Holds rules.SpecialCaseFlagsAgree format }
 {
     format & NO_SPECIAL == 0 || format & CASE_SENSITIVE_SPECIAL == 0
@@ -314,7 +354,7 @@ const fn is_valid_special_case_flags(format: u128) -> bool
 
 // Not both NO_SPECIAL and SPECIAL_DIGIT_SEPARATOR.
 #[inline(always)]
-const fn is_valid_special_separator_flags(format: u128) -> bool
+pub(crate) const fn is_valid_special_separator_flags(format: u128) -> bool
     ensures { IsTrue result ↔ Holds rules.SpecialSeparatorFlagsAgree format }
 {
     format & NO_SPECIAL == 0 || format & SPECIAL_DIGIT_SEPARATOR == 0
@@ -322,7 +362,7 @@ const fn is_valid_special_separator_flags(format: u128) -> bool
 
 // Not INTEGER_CONSECUTIVE_DIGIT_SEPARATOR alone among the four separator flags of the integer.
 #[inline(always)]
-const fn is_valid_integer_consecutive_flags(format: u128) -> bool
+pub(crate) const fn is_valid_integer_consecutive_flags(format: u128) -> bool
     ensures { IsTrue result ↔ Holds rules.IntegerConsecutiveIsAllowed format }
 {
     format & INTEGER_DIGIT_SEPARATOR_FLAG_MASK != INTEGER_CONSECUTIVE_DIGIT_SEPARATOR
@@ -330,7 +370,7 @@ const fn is_valid_integer_consecutive_flags(format: u128) -> bool
 
 // Not FRACTION_CONSECUTIVE_DIGIT_SEPARATOR alone among the four separator flags of the fraction.
 #[inline(always)]
-const fn is_valid_fraction_consecutive_flags(format: u128) -> bool
+pub(crate) const fn is_valid_fraction_consecutive_flags(format: u128) -> bool
     ensures { IsTrue result ↔ Holds rules.FractionConsecutiveIsAllowed format }
 {
     format & FRACTION_DIGIT_SEPARATOR_FLAG_MASK != FRACTION_CONSECUTIVE_DIGIT_SEPARATOR
@@ -338,7 +378,7 @@ const fn is_valid_fraction_consecutive_flags(format: u128) -> bool
 
 // Not EXPONENT_CONSECUTIVE_DIGIT_SEPARATOR alone among the four separator flags of the exponent.
 #[inline(always)]
-const fn is_valid_exponent_consecutive_flags(format: u128) -> bool
+pub(crate) const fn is_valid_exponent_consecutive_flags(format: u128) -> bool
     ensures { IsTrue result ↔ Holds rules.ExponentConsecutiveIsAllowed format }
 {
     format & EXPONENT_DIGIT_SEPARATOR_FLAG_MASK != EXPONENT_CONSECUTIVE_DIGIT_SEPARATOR

@@ -1,4 +1,5 @@
 use Rattle.lexical_flags.proofs.NormalRules.{Demands-kept, Demands-same, Lawful-kept, IsErrorOf-kept}
+use Rattle.lexical_flags.proofs.RuleFieldLemmas.{kept_alike}
 use Rattle.lexical_flags.proofs.RuleLemmas.{IsErrorOf-unique, Holds-from_lawful, Lawful-from_all}
 use Rattle.lexical_flags.proofs.laws.rule_facts.Goals as goal
 
@@ -9,5 +10,6 @@ returns c = record {
   kept_lawful = Lawful-kept;
   same_error = IsErrorOf-kept;
   lawful = λ word. ((λ h rule. Holds-from_lawful rule word h), Lawful-from_all word);
+  depends = kept_alike;
   one_error = IsErrorOf-unique;
 }
