@@ -4,7 +4,7 @@
 
 use crate::error::Error;
 use crate::format_builder::{NumberFormatBuilder, OptionU8};
-use crate::format_flags::{format_error_impl, FLAG_MASK};
+use crate::format_flags::{check, FLAG_MASK};
 
 // Calls `$rows!` with `$args`, a row for each flag, and a row for each group of flags. A row has the
 // variant of `FlagSetter`, and the name that the setter and, for a flag, the getter have.
@@ -61,8 +61,10 @@ macro_rules! with_setters {
 }
 
 mod listing;
+mod numbers;
 
-pub use listing::{edits_of, is_built};
+pub use listing::{edits_of, field_edits_of, is_built};
+pub use numbers::SETTER_NAMES;
 
 /// A builder setter that takes a `bool`: one for each flag, and one for each of the nine groups of
 /// flags. A variant stands for the setter that its line names.
@@ -409,11 +411,7 @@ pub const fn normal_form(format: u128) -> u128 {
 /// ensures not_flags { result ≢ Err Error.InvalidFlags }
 /// ```
 pub const fn migrate(format: u128) -> Result<u128, Error> {
-    let word = normal_form(format);
-    match format_error_impl(word) {
-        Error::Success => Ok(word),
-        error => Err(error),
-    }
+    check(normal_form(format))
 }
 
 /// Returns whether two words mean the same, that is, have the same normal form.

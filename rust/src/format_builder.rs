@@ -4,7 +4,7 @@
 
 use crate::error::Error;
 use crate::format_flags as flags;
-use crate::format_flags::format_error_impl;
+use crate::format_flags::check;
 
 mod getters;
 
@@ -193,11 +193,7 @@ impl NumberFormatBuilder {
     /// ```
     #[inline(always)]
     pub const fn build_strict(&self) -> Result<u128, Error> {
-        let word = self.build_unchecked();
-        match format_error_impl(word) {
-            Error::Success => Ok(word),
-            error => Err(error),
-        }
+        check(self.build_unchecked())
     }
 
     /// Another name of `build_unchecked`. Deprecated in `lexical-util`.

@@ -71,6 +71,7 @@ pub mod format;
 pub mod format_builder;
 pub mod format_flags;
 mod lanes;
+pub mod reasons;
 mod view;
 pub mod word;
 

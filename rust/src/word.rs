@@ -8,12 +8,13 @@ use crate::error::Error;
 pub use crate::format_builder::{NonZeroU8, NumberFormatBuilder, OptionU8};
 #[doc(inline)]
 pub use crate::format_flags::{
-    base_prefix, base_suffix, digit_separator, exponent_base, exponent_radix, format_error_impl,
-    is_clean, is_digit, is_valid_base_prefix, is_valid_base_suffix, is_valid_digit_separator,
-    is_valid_exponent_flags, is_valid_options_punctuation, is_valid_punctuation, is_valid_radix,
-    mantissa_radix, radix_error_impl, radix_from_flags, BASE_PREFIX, BASE_PREFIX_SHIFT,
-    BASE_SUFFIX, BASE_SUFFIX_SHIFT, CASE_SENSITIVE_BASE_PREFIX, CASE_SENSITIVE_BASE_SUFFIX,
-    CASE_SENSITIVE_EXPONENT, CASE_SENSITIVE_SPECIAL, CONSECUTIVE_DIGIT_SEPARATOR, DIGIT_SEPARATOR,
+    base_prefix, base_suffix, broken_rules, check, digit_separator, exponent_base, exponent_radix,
+    format_error_impl, is_clean, is_digit, is_valid_base_prefix, is_valid_base_suffix,
+    is_valid_digit_separator, is_valid_exponent_flags, is_valid_options_punctuation,
+    is_valid_punctuation, is_valid_radix, mantissa_radix, options_error, radix_error_impl,
+    radix_from_flags, Rule, BASE_PREFIX, BASE_PREFIX_SHIFT, BASE_SUFFIX, BASE_SUFFIX_SHIFT,
+    CASE_SENSITIVE_BASE_PREFIX, CASE_SENSITIVE_BASE_SUFFIX, CASE_SENSITIVE_EXPONENT,
+    CASE_SENSITIVE_SPECIAL, CONSECUTIVE_DIGIT_SEPARATOR, DIGIT_SEPARATOR,
     DIGIT_SEPARATOR_FLAG_MASK, DIGIT_SEPARATOR_SHIFT, EXPONENT_BASE, EXPONENT_BASE_SHIFT,
     EXPONENT_CONSECUTIVE_DIGIT_SEPARATOR, EXPONENT_DIGIT_SEPARATOR_FLAG_MASK, EXPONENT_FLAG_MASK,
     EXPONENT_INTERNAL_DIGIT_SEPARATOR, EXPONENT_LEADING_DIGIT_SEPARATOR, EXPONENT_RADIX,
@@ -28,7 +29,7 @@ pub use crate::format_flags::{
     NO_INTEGER_LEADING_ZEROS, NO_POSITIVE_EXPONENT_SIGN, NO_POSITIVE_MANTISSA_SIGN, NO_SPECIAL,
     RADIX, RADIX_MASK, RADIX_SHIFT, REQUIRED_DIGITS, REQUIRED_EXPONENT_DIGITS,
     REQUIRED_EXPONENT_NOTATION, REQUIRED_EXPONENT_SIGN, REQUIRED_FRACTION_DIGITS,
-    REQUIRED_INTEGER_DIGITS, REQUIRED_MANTISSA_DIGITS, REQUIRED_MANTISSA_SIGN,
+    REQUIRED_INTEGER_DIGITS, REQUIRED_MANTISSA_DIGITS, REQUIRED_MANTISSA_SIGN, RULES,
     SPECIAL_DIGIT_SEPARATOR, TRAILING_DIGIT_SEPARATOR,
 };
 #[doc(inline)]

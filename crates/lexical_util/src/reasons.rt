@@ -84,7 +84,8 @@ pub const fn reasons_of(rule: Rule, format: u128) -> [Option<Reason>; REASONS]
             out_of_range(radix, Edit::ExponentRadix(NonZeroU8::new(radix as u8)))
         }
         Rule::DigitSeparatorIsFree => {
-            not_free(format, flags::digit_separator(format), separator_edit(format))
+            let byte = flags::digit_separator(format);
+            not_free(format, byte, separator_edit(format))
         }
         Rule::BasePrefixIsFree => not_free(format, flags::base_prefix(format), prefix_edit(format)),
         Rule::BaseSuffixIsFree => not_free(format, flags::base_suffix(format), suffix_edit(format)),

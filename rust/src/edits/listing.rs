@@ -77,8 +77,9 @@ pub fn edits_of(format: u128) -> ([Edit; FIELDS], usize) {
     (edits, count)
 }
 
-// The edits that write all fields of a word, in the order of their bits.
-const fn field_edits_of(format: u128) -> [Edit; FIELDS] {
+/// Returns the edits that write all fields of `format` with their values, in the order of their bits.
+#[must_use]
+pub const fn field_edits_of(format: u128) -> [Edit; FIELDS] {
     macro_rules! edits_of_fields {
         (($view:ident, $base:ident, $radix:ident)
             { $($Flag:ident $flag:ident;)* } $groups:tt) => {

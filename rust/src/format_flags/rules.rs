@@ -116,19 +116,19 @@ pub const fn is_valid_radix(radix: u32) -> bool {
 
 // Whether the mantissa radix is 2 to 36.
 #[inline(always)]
-const fn is_valid_mantissa_radix(format: u128) -> bool {
+pub(crate) const fn is_valid_mantissa_radix(format: u128) -> bool {
     is_valid_radix(mantissa_radix(format))
 }
 
 // Whether the exponent base, or the mantissa radix if that is 0, is 2 to 36.
 #[inline(always)]
-const fn is_valid_exponent_base(format: u128) -> bool {
+pub(crate) const fn is_valid_exponent_base(format: u128) -> bool {
     is_valid_radix(exponent_base(format))
 }
 
 // Whether the exponent radix, or the mantissa radix if that is 0, is 2 to 36.
 #[inline(always)]
-const fn is_valid_exponent_radix(format: u128) -> bool {
+pub(crate) const fn is_valid_exponent_radix(format: u128) -> bool {
     is_valid_radix(exponent_radix(format))
 }
 
@@ -184,6 +184,22 @@ pub const fn is_valid_punctuation(format: u128) -> bool {
             && are_disjoint(prefix, prefix_case, suffix, suffix_case))
 }
 
+/// Returns which of digit separator, base prefix and base suffix share a byte: separator and prefix,
+/// separator and suffix, prefix and suffix. It tells which of them break [`Rule::PunctuationDiffers`].
+#[must_use]
+pub const fn clashes(format: u128) -> [bool; 3] {
+    let separator = digit_separator(format);
+    let prefix = base_prefix(format);
+    let suffix = base_suffix(format);
+    let prefix_case = prefix_case_counts(format);
+    let suffix_case = suffix_case_counts(format);
+    [
+        !are_disjoint(separator, true, prefix, prefix_case),
+        !are_disjoint(separator, true, suffix, suffix_case),
+        !are_disjoint(prefix, prefix_case, suffix, suffix_case),
+    ]
+}
+
 // Whether a byte clashes with none of digit separator, base prefix and base suffix.
 #[inline(always)]
 const fn is_apart_from_own(format: u128, byte: u8, case_counts: bool) -> bool {
@@ -236,6 +252,25 @@ pub const fn is_valid_options_punctuation(format: u128, exponent: u8, decimal_po
         && is_apart_from_own(format, exponent, exponent_case)
 }
 
+/// Returns what is wrong with an exponent character and a decimal point in numbers of this format, and
+/// `Success` if [`is_valid_options_punctuation`] accepts them.
+///
+/// It is `InvalidExponentSymbol` if the exponent character is not allowed ASCII, a sign or a digit, else
+/// `InvalidDecimalPoint` if the decimal point is, and else `InvalidPunctuation`. `lexical-util` has no such
+/// function.
+#[must_use]
+pub const fn options_error(format: u128, exponent: u8, decimal_point: u8) -> Error {
+    if !is_punctuation(format, exponent) {
+        Error::InvalidExponentSymbol
+    } else if !is_punctuation(format, decimal_point) {
+        Error::InvalidDecimalPoint
+    } else if !is_valid_options_punctuation(format, exponent, decimal_point) {
+        Error::InvalidPunctuation
+    } else {
+        Error::Success
+    }
+}
+
 // FLAGS
 
 /// Returns whether [`NO_EXPONENT_NOTATION`] and [`REQUIRED_EXPONENT_NOTATION`] are not both set.
@@ -247,43 +282,43 @@ pub const fn is_valid_exponent_flags(format: u128) -> bool {
 
 // Not both NO_POSITIVE_MANTISSA_SIGN and REQUIRED_MANTISSA_SIGN.
 #[inline(always)]
-const fn is_valid_mantissa_sign_flags(format: u128) -> bool {
+pub(crate) const fn is_valid_mantissa_sign_flags(format: u128) -> bool {
     format & NO_POSITIVE_MANTISSA_SIGN == 0 || format & REQUIRED_MANTISSA_SIGN == 0
 }
 
 // Not both NO_POSITIVE_EXPONENT_SIGN and REQUIRED_EXPONENT_SIGN.
 #[inline(always)]
-const fn is_valid_exponent_sign_flags(format: u128) -> bool {
+pub(crate) const fn is_valid_exponent_sign_flags(format: u128) -> bool {
     format & NO_POSITIVE_EXPONENT_SIGN == 0 || format & REQUIRED_EXPONENT_SIGN == 0
 }
 
 // Not both NO_SPECIAL and CASE_SENSITIVE_SPECIAL.
 #[inline(always)]
-const fn is_valid_special_case_flags(format: u128) -> bool {
+pub(crate) const fn is_valid_special_case_flags(format: u128) -> bool {
     format & NO_SPECIAL == 0 || format & CASE_SENSITIVE_SPECIAL == 0
 }
 
 // Not both NO_SPECIAL and SPECIAL_DIGIT_SEPARATOR.
 #[inline(always)]
-const fn is_valid_special_separator_flags(format: u128) -> bool {
+pub(crate) const fn is_valid_special_separator_flags(format: u128) -> bool {
     format & NO_SPECIAL == 0 || format & SPECIAL_DIGIT_SEPARATOR == 0
 }
 
 // Not INTEGER_CONSECUTIVE_DIGIT_SEPARATOR alone among the four separator flags of the integer.
 #[inline(always)]
-const fn is_valid_integer_consecutive_flags(format: u128) -> bool {
+pub(crate) const fn is_valid_integer_consecutive_flags(format: u128) -> bool {
     format & INTEGER_DIGIT_SEPARATOR_FLAG_MASK != INTEGER_CONSECUTIVE_DIGIT_SEPARATOR
 }
 
 // Not FRACTION_CONSECUTIVE_DIGIT_SEPARATOR alone among the four separator flags of the fraction.
 #[inline(always)]
-const fn is_valid_fraction_consecutive_flags(format: u128) -> bool {
+pub(crate) const fn is_valid_fraction_consecutive_flags(format: u128) -> bool {
     format & FRACTION_DIGIT_SEPARATOR_FLAG_MASK != FRACTION_CONSECUTIVE_DIGIT_SEPARATOR
 }
 
 // Not EXPONENT_CONSECUTIVE_DIGIT_SEPARATOR alone among the four separator flags of the exponent.
 #[inline(always)]
-const fn is_valid_exponent_consecutive_flags(format: u128) -> bool {
+pub(crate) const fn is_valid_exponent_consecutive_flags(format: u128) -> bool {
     format & EXPONENT_DIGIT_SEPARATOR_FLAG_MASK != EXPONENT_CONSECUTIVE_DIGIT_SEPARATOR
 }
 
@@ -445,4 +480,16 @@ pub const fn radix_error_impl(format: u128) -> Error {
 #[must_use]
 pub const fn format_error_impl(format: u128) -> Error {
     first_broken(format)
+}
+
+/// Returns `format` if it is lawful, or else the error of the first rule that it breaks
+/// ([`format_error_impl`]), which is never `Success`.
+///
+/// This is for `?`: `let format = check(format)?;`.
+#[inline(always)]
+pub const fn check(format: u128) -> Result<u128, Error> {
+    match format_error_impl(format) {
+        Error::Success => Ok(format),
+        error => Err(error),
+    }
 }
