@@ -10,3 +10,4 @@ mod Distance
 mod FieldWrites
 mod NumberLemmas
 mod ReasonLemmas
+pub mod NumeralLemmas

@@ -1,6 +1,8 @@
 pub mod Edits
 pub mod SetterNames
 pub mod SettingNumbers
+pub mod Numeral
+pub mod SettingText
 pub mod Normal
 pub mod Groups
 pub mod Listing

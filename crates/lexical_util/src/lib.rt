@@ -9,6 +9,7 @@ pub mod edits;
 pub mod feature_format;
 pub mod format;
 pub mod laws;
+pub mod numeral;
 pub mod reasons;
 
 pub use lexical_base::{ascii, digit, error};

@@ -16,9 +16,9 @@ use Rattle.std.proofs.lemmas.List.{drop-set, take-set-le, length-set, take-appen
 use Rattle.std.proofs.lemmas.List.Sums.{AllPass-from_list_all, list_all-from_AllPass, passes_at_first}
 use Rattle.std.proofs.lemmas.List.Elements.{All-cons, All-head, All-nil, All-tail, All-weaker}
 use Rattle.lexical_util.specs.Digits.{digit_characters, is_lowercase, uppercase, value}
-use Rattle.numfmt.specs.Numeral.{is_digit}
+use Rattle.lexical_util.specs.Numeral.{is_digit}
 use Rattle.numfmt.specs.WordText.{hex, hex_digits, IsPrintedForm, digit_at, last_digits, printed}
-use Rattle.numfmt.proofs.NumeralLemmas.{numeral_from, numeral_parts}
+use Rattle.lexical_util.proofs.NumeralLemmas.{numeral_from, numeral_parts}
 
 -- whether a byte is a hexadecimal digit and no lowercase letter
 abbrev is_printed_digit : ℕ → Bool

@@ -1,7 +1,7 @@
 -- The commands: what arguments ask for, and what the answer to it is.
 use Rattle.std.specs.Prelude.{ℕ, ◌≡◌, ◌↔◌, IsTrue, if◌then◌else◌, List, [], ◌∷◌, length, find, codes, bytes_eq, nat_le}
 use Rattle.std.specs.Prelude.{Option, None, Some, Result, Ok, Err}
-use Rattle.std.specs.Result.{IsOkAnd, MatchResult}
+use Rattle.std.specs.Result.{IsOkAnd, MatchResult, result_ok}
 use Rattle.lexical_util.specs.Record.{IsBuilt}
 use Rattle.lexical_util.specs.Rules.{IsErrorOf, Lawful}
 use Rattle.lexical_util.specs.Options.{AreAccepted}
@@ -15,7 +15,8 @@ use Rattle.numfmt.specs.declared.response.Refusal.{Refusal}
 use Rattle.numfmt.specs.declared.response.Refusal.TheVariants.{UnknownCommand, WrongNumberOfArguments, TooManyEdits}
 use Rattle.numfmt.specs.declared.response.Refusal.TheVariants.{BadWord, BadEdit, BadByte}
 use Rattle.numfmt.specs.WordText.{word_in}
-use Rattle.numfmt.specs.EditText.{byte_in, edits_in}
+use Rattle.lexical_util.specs.SettingText.{byte_in}
+use Rattle.numfmt.specs.EditText.{edits_in}
 use Rattle.numfmt.specs.Response.{Response}
 
 -- a command, with what its arguments write
@@ -64,8 +65,8 @@ two_words ask _ = Err WrongNumberOfArguments
 -- a word and two bytes
 abbrev pub word_and_bytes : (ℕ → ℕ → ℕ → Command) → List (List ℕ) → Request
 word_and_bytes ask (word ∷ e ∷ p ∷ []) =
-    with_value (word_in word) BadWord (λ word. with_value (byte_in e) BadByte (λ e. with_value (byte_in p) BadByte
-    (λ p. Ok (ask word e p))))
+    with_value (word_in word) BadWord (λ word. with_value (result_ok (byte_in e)) BadByte
+    (λ e. with_value (result_ok (byte_in p)) BadByte (λ p. Ok (ask word e p))))
 word_and_bytes ask _ = Err WrongNumberOfArguments
 
 -- a word and at most 64 edits

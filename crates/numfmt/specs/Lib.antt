@@ -1,4 +1,3 @@
-pub mod Numeral
 pub mod WordText
 pub mod EditText
 pub mod Source

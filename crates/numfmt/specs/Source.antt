@@ -2,10 +2,10 @@
 use Rattle.std.specs.Prelude.{ℕ, List, ◌++◌, Option, Some, None, codes, decimal, flat_map}
 use Rattle.lexical_util.specs.Record.{raw}
 use Rattle.lexical_util.specs.Listing.{changing}
-use Rattle.lexical_util.specs.SetterNames.{setter_name}
+use Rattle.lexical_util.specs.SettingNumbers.{name_of}
+use Rattle.lexical_util.specs.SettingText.{truth_text}
 use Rattle.lexical_util.specs.declared.edits.Edit.{Edit}
 use Rattle.lexical_util.specs.declared.edits.Edit.TheVariants as edits
-use Rattle.numfmt.specs.EditText.{truth_text}
 
 -- a byte that may be absent, as Rust code
 abbrev pub option_text : Option ℕ → List ℕ
@@ -16,16 +16,20 @@ option_text (Some byte) = codes "NonZeroU8::new(" ++ decimal byte ++ codes ")"
 abbrev pub call : List ℕ → List ℕ → List ℕ
 call name value = codes "." ++ name ++ codes "(" ++ value ++ codes ")"
 
+-- the argument of an edit, as Rust code
+abbrev pub argument_text : Edit → List ℕ
+argument_text (edits.Flag setter value) = truth_text value
+argument_text (edits.DigitSeparator byte) = option_text byte
+argument_text (edits.BasePrefix byte) = option_text byte
+argument_text (edits.BaseSuffix byte) = option_text byte
+argument_text (edits.MantissaRadix radix) = decimal radix
+argument_text (edits.Radix radix) = decimal radix
+argument_text (edits.ExponentBase base) = option_text base
+argument_text (edits.ExponentRadix radix) = option_text radix
+
 -- the setter call that an edit stands for
 abbrev pub call_text : Edit → List ℕ
-call_text (edits.Flag setter value) = call (setter_name setter) (truth_text value)
-call_text (edits.DigitSeparator byte) = call (codes "digit_separator") (option_text byte)
-call_text (edits.BasePrefix byte) = call (codes "base_prefix") (option_text byte)
-call_text (edits.BaseSuffix byte) = call (codes "base_suffix") (option_text byte)
-call_text (edits.MantissaRadix radix) = call (codes "mantissa_radix") (decimal radix)
-call_text (edits.Radix radix) = call (codes "radix") (decimal radix)
-call_text (edits.ExponentBase base) = call (codes "exponent_base") (option_text base)
-call_text (edits.ExponentRadix radix) = call (codes "exponent_radix") (option_text radix)
+call_text edit = call (name_of edit) (argument_text edit)
 
 -- the calls that some edits stand for
 abbrev pub calls_text : List Edit → List ℕ

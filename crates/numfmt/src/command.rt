@@ -3,14 +3,14 @@
 ghost use Rattle.std.specs.Prelude.{◌≡◌, IfErr, map, string_bytes};
 ghost use Rattle.std.specs.Result.{result_ok};
 ghost use Rattle.numfmt.specs.WordText.{word_in};
-ghost use Rattle.numfmt.specs.EditText.{byte_in};
+ghost use Rattle.lexical_util.specs.SettingText.{byte_in};
 ghost use Rattle.numfmt.specs.Command.{Responds, request_of, one_word, two_words, word_and_bytes, word_and_edits};
 ghost use Rattle.numfmt.specs.Command as commands;
 
-use crate::edit::{read_byte, read_edits};
+use crate::edit::read_edits;
 use crate::response::{Answer, Refusal};
 use crate::word::read_word;
-use lexical_util::edits::{Edit, edit_word, is_built, migrate, same_format};
+use lexical_util::edits::{Edit, byte_from_text, edit_word, is_built, migrate, same_format};
 use lexical_util::format::{STANDARD, format_error};
 use lexical_util::format_flags::is_valid_options_punctuation;
 
@@ -133,8 +133,8 @@ fn parse_word(text: &String) -> Result<u128, Refusal>
 
 // Parses an argument as a byte, or refuses it.
 fn parse_byte(text: &String) -> Result<u8, Refusal>
-    ensures byte { result_ok result ≡ byte_in (string_bytes text.now) }
+    ensures byte { result_ok result ≡ result_ok (byte_in (string_bytes text.now)) }
     ensures refusal { IfErr result (λ refusal. refusal ≡ Refusal.BadByte) }
 {
-    read_byte(text.as_str()).ok_or(Refusal::BadByte)
+    byte_from_text(text.as_str()).ok().ok_or(Refusal::BadByte)
 }

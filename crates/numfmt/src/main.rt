@@ -24,7 +24,6 @@ ghost use Rattle.std.specs.Prelude.{◌≡◌, ◌≤◌, IsErr, IsOk};
 mod command;
 mod edit;
 mod examples;
-mod numeral;
 mod output;
 mod program;
 mod response;

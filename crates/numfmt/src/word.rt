@@ -4,8 +4,8 @@ ghost use Rattle.std.specs.Prelude.{◌≡◌, ℕ, List};
 ghost use Rattle.std.specs.Option.{SomeIff};
 ghost use Rattle.numfmt.specs.WordText.{IsWordText, IsPrintedForm, hex, printed};
 
-use crate::numeral::read_numeral;
 use lexical_util::digit::digit_to_char;
+use lexical_util::numeral::read_numeral;
 
 /// Parses `text` as a format word: `Some` if it is `0x` and 1 to 32 hexadecimal digits of either
 /// case, and else `None`.

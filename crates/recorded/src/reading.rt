@@ -18,9 +18,8 @@
 //! has what the library must return, and ends in ` crate: ` and what the crate returns.
 
 use crate::fact::{Fact, Fields};
-use lexical_util::edits::{Edit, FlagSetter};
+use lexical_util::edits::Edit;
 use lexical_util::error::Error;
-use lexical_util::format_builder::NonZeroU8;
 use std::alloc::{AllocError, Global};
 
 /// The line before the crate's own result, if that is another one.
@@ -177,28 +176,9 @@ fn edits(calls: &[&str], alloc: Global) -> Result<Option<Vec<Edit>>, AllocError>
 // Reads setter calls into the first places of `edits`, each into its own.
 fn read_edits(calls: &[&str], edits: &mut [Edit]) -> Option<()> {
     for (place, call) in edits.iter_mut().zip(calls) {
-        *place = setter_call(call)?;
+        *place = Edit::from_text(call).ok()?;
     }
     Some(())
-}
-
-fn setter_call(call: &str) -> Option<Edit> {
-    let (name, value) = call.split_once('=')?;
-    if let Some(setter) = FlagSetter::from_name(name) {
-        return Some(Edit::Flag(setter, truth(value)?));
-    }
-    let byte = value.parse().ok()?;
-    let optional = NonZeroU8::new(byte);
-    Some(match name {
-        "digit_separator" => Edit::DigitSeparator(optional),
-        "base_prefix" => Edit::BasePrefix(optional),
-        "base_suffix" => Edit::BaseSuffix(optional),
-        "mantissa_radix" => Edit::MantissaRadix(byte),
-        "radix" => Edit::Radix(byte),
-        "exponent_base" => Edit::ExponentBase(optional),
-        "exponent_radix" => Edit::ExponentRadix(optional),
-        _ => return None,
-    })
 }
 
 // The outcome of this name, with an index if it holds one.

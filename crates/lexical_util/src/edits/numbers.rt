@@ -2,7 +2,8 @@
 
 ghost use Rattle.std.specs.Prelude.{◌≡◌, ◌<◌, Some};
 ghost use Rattle.lexical_builder.specs.OptionByte.{byte_of_option};
-ghost use Rattle.lexical_util.specs.SettingNumbers.{number_of, name_of, name_of_setter, byte_of, mask_of_edit, setter_count, edit_of_numbers, edit_of_name};
+ghost use Rattle.lexical_util.specs.SettingNumbers.{number_of, name_of, name_of_setter, byte_of, mask_of_edit};
+ghost use Rattle.lexical_util.specs.SettingNumbers.{setter_count, edit_of_numbers, edit_of_name};
 
 use crate::edits::{Edit, SETTERS, edit_word};
 use lexical_builder::format_builder::{NonZeroU8, OptionU8};

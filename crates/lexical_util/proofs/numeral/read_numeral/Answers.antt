@@ -1,6 +1,6 @@
 use Rattle.std.proofs.Common.{arith}
-use Rattle.numfmt.proofs.NumeralLemmas.{HasRead-fits, HasRead-next, HasRead-whole}
-use Rattle.numfmt.proofs.numeral.read_numeral.Goals as goal
+use Rattle.lexical_util.proofs.NumeralLemmas.{HasRead-fits, HasRead-next, HasRead-whole}
+use Rattle.lexical_util.proofs.numeral.read_numeral.Goals as goal
 
 pub overflow_mul-number : goal.overflow_mul-number
 overflow_mul-number c =

@@ -1,7 +1,7 @@
 -- Numerals: digits of a radix.
 use Rattle.std.specs.Prelude.{ℕ, Bool, ◌&&◌, List, length, nat_lt, nat_le}
 use Rattle.std.specs.List.{list_all}
-use Rattle.lexical_util.specs.Digits.{value}
+use Rattle.lexical_base.specs.Digits.{value}
 
 -- whether a byte is a digit of the radix
 abbrev pub is_digit : ℕ → ℕ → Bool

@@ -2,15 +2,15 @@
 
 ghost use Rattle.std.specs.Prelude.{◌≤◌, IsTrue};
 ghost use Rattle.std.specs.Option.{SomeIff};
-ghost use Rattle.lexical_util.specs.Digits.{numeral};
-ghost use Rattle.numfmt.specs.Numeral.{is_numeral};
+ghost use Rattle.lexical_base.specs.Digits.{numeral};
+ghost use Rattle.lexical_util.specs.Numeral.{is_numeral};
 
-use lexical_util::digit::char_to_digit;
+use lexical_base::digit::char_to_digit;
 
 /// Parses `digits` as a number in `radix`: `Some` if they are 1 to `most` digit characters of this
 /// radix, and else `None`. The radix is at most 16 and `most` at most 32, so that the number fits a
 /// `u128`.
-pub(crate) fn read_numeral(digits: &[u8], radix: u32, most: usize) -> Option<u128>
+pub fn read_numeral(digits: &[u8], radix: u32, most: usize) -> Option<u128>
     requires radix { radix ≤ 16 }
     requires most { most ≤ 32 }
     ensures { SomeIff result (IsTrue (is_numeral radix most digits.now)) (numeral radix digits.now) }

@@ -1,7 +1,7 @@
 -- Numerals, digit by digit.
 use Rattle.std.proofs.Common.{◌≡◌, ℕ, ◌+◌, ◌*◌, ◌^◌, ◌<◌, ◌≤◌, true, IsTrue, List, length, map, take, get_or, nat_lt}
 use Rattle.std.proofs.Common.{nat_le}
-use Rattle.std.proofs.Common.{sym, ap, ◌∙◌, arith, Some}
+use Rattle.std.proofs.Common.{sym, ap, refl, ◌∙◌, arith, Bool, false, Some, None, is_some, cond}
 use Rattle.std.specs.Int.Digits.{number_from_digits}
 use Rattle.std.specs.List.{AllPass, list_all}
 use Rattle.std.proofs.Math.Nat.{pow-le-pow_left, pow-le-pow_right}
@@ -11,8 +11,8 @@ use Rattle.std.proofs.lemmas.List.{length-map, length-take, map_more, take_all}
 use Rattle.std.proofs.lemmas.List.Elements.{All-map, All-more, recursion_from_All}
 use Rattle.std.proofs.lemmas.List.Sums.{AllPass-from_list_all, list_all-from_AllPass}
 use Rattle.std.proofs.lemmas.Option.{cond_some}
-use Rattle.lexical_util.specs.Digits.{value, digit_of, numeral}
-use Rattle.numfmt.specs.Numeral.{is_digit, is_numeral}
+use Rattle.lexical_base.specs.Digits.{value, digit_of, numeral}
+use Rattle.lexical_util.specs.Numeral.{is_digit, is_numeral}
 
 -- the parts of a numeral
 pub record NumeralParts (radix most : ℕ) (digits : List ℕ) : Type 0 where
@@ -78,3 +78,11 @@ HasRead-whole radix most digits count number read done some few =
       numeral_from radix most digits (record { some = some; few = few; all_digits = rw all at read.all_digits }),
       read.sum ∙ ap (numeral radix) all,
     )
+
+-- a byte that has a digit is one
+pub digit_passes : (radix byte : ℕ) → is_some (digit_of byte radix) ≡ true → is_digit radix byte ≡ true
+digit_passes radix byte some = of_test (nat_lt (value byte) radix) some
+  where
+    of_test : (test : Bool) → is_some (cond test (Some (value byte)) None) ≡ true → test ≡ true
+    of_test true some = refl
+    of_test false some = some
