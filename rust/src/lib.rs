@@ -35,6 +35,7 @@
 //! | read settings when the program runs | [`edits::apply_all`] on a new builder, then [`build_strict`][format::NumberFormatBuilder::build_strict] |
 //! | read a word that is known when the program is compiled | [`format::NumberFormat`] |
 //! | read a word that is known only when the program runs | [`word::FormatView`] |
+//! | say what is wrong with settings, and which have no effect | [`format::broken_rules`], [`reasons`] |
 //! | change a finished format, or compare two | [`edits::edit_word`], [`edits::same_format`] |
 //! | take words that `lexical-util` wrote | [`edits::migrate`] |
 //!
@@ -49,7 +50,7 @@
 //! - The slice tests of [`ascii`] are not `const`, and `build` is not deprecated.
 //! - The formats that `lexical-util` has ready made, such as `JSON`, are not here.
 //!
-//! [`word`] and [`edits`] are new.
+//! [`word`], [`edits`] and [`reasons`] are new.
 //!
 //! # What is proved
 //!
@@ -71,11 +72,23 @@ pub mod format;
 pub mod format_builder;
 pub mod format_flags;
 mod lanes;
+pub mod numeral;
 pub mod reasons;
 mod view;
 pub mod word;
 
 impl core::error::Error for error::Error {}
+
+impl core::error::Error for edits::SettingError {}
+
+impl core::str::FromStr for edits::Edit {
+    type Err = edits::SettingError;
+
+    /// Calls [`Edit::from_text`][edits::Edit::from_text].
+    fn from_str(text: &str) -> Result<Self, Self::Err> {
+        Self::from_text(text)
+    }
+}
 
 #[cfg(doctest)]
 #[doc = include_str!("../README.md")]

@@ -5,7 +5,7 @@
 use crate::ascii::is_valid_ascii;
 use crate::digit::char_is_digit;
 use crate::edits::{Edit, FlagSetter};
-use crate::format_builder::NonZeroU8;
+use crate::format_builder::{NonZeroU8, NumberFormatBuilder};
 use crate::format_flags as flags;
 use crate::format_flags::Rule;
 use crate::view::FormatView;
@@ -178,18 +178,33 @@ const fn said<T: Copy>(holds: bool, what: T) -> Option<T> {
 /// may have them.
 #[must_use]
 pub const fn unused_settings(format: u128) -> [Option<Unused>; UNUSED] {
+    unused_beside(format, flags::digit_separator(format))
+}
+
+/// Returns the fields of a builder that have no effect on what it packs, and else `None`.
+///
+/// A digit separator that no flag allows is among them: the word does not have it.
+#[must_use]
+pub const fn unused_fields(builder: &NumberFormatBuilder) -> [Option<Unused>; UNUSED] {
+    let separator = match builder.get_digit_separator() {
+        Some(byte) => byte.get(),
+        None => 0,
+    };
+    unused_beside(builder.build_unchecked(), separator)
+}
+
+// What has no effect in a word with another digit separator.
+const fn unused_beside(format: u128, separator: u8) -> [Option<Unused>; UNUSED] {
     let view = FormatView::new(format);
     let is_allowed = is_separator_allowed(format);
-    let no_separator = view.digit_separator() == 0;
+    let no_separator = separator == 0;
     let no_prefix = view.base_prefix() == 0;
     let no_suffix = view.base_suffix() == 0;
     let prefix_case = view.case_sensitive_base_prefix();
     let suffix_case = view.case_sensitive_base_suffix();
+    let edit = Edit::DigitSeparator(NonZeroU8::new(separator));
     [
-        said(
-            !is_allowed & !no_separator,
-            Unused::NotAllowed(separator_edit(format)),
-        ),
+        said(!is_allowed & !no_separator, Unused::NotAllowed(edit)),
         said(is_allowed & no_separator, Unused::NoSeparator),
         said(
             prefix_case & no_prefix,

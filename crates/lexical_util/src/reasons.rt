@@ -15,7 +15,7 @@ use crate::feature_format::NumberFormat;
 use lexical_base::ascii::is_valid_ascii;
 use lexical_base::digit::char_is_digit;
 use lexical_base::laws::digit_facts;
-use lexical_builder::format_builder::NonZeroU8;
+use lexical_builder::format_builder::{NonZeroU8, NumberFormatBuilder};
 use lexical_flags::format_flags as flags;
 use lexical_flags::format_flags::Rule;
 
@@ -211,18 +211,45 @@ pub const fn unused_settings(format: u128) -> [Option<Unused>; UNUSED]
     ensures suffix_case { (raw format).base_suffix ≡ 0 → (other : ℕ)
         → IsWith (without_suffix_case (raw format)) format other → SameRules format other }
 {
+    unused_beside(format, flags::digit_separator(format))
+}
+
+/// Returns the fields of a builder that have no effect on what it packs, and else `None`.
+///
+/// A digit separator that no flag allows is among them: the word does not have it.
+pub const fn unused_fields(builder: &NumberFormatBuilder) -> [Option<Unused>; UNUSED]
+    ensures { result ≡ map said (unused_cases builder.now) }
+{
+    let separator = match builder.get_digit_separator() {
+        Some(byte) => byte.get(),
+        None => 0,
+    };
+    unused_beside(builder.build_unchecked(), separator)
+}
+
+// What has no effect in a word with another digit separator.
+const fn unused_beside(format: u128, separator: u8) -> [Option<Unused>; UNUSED]
+    ensures { result ≡ map said (unused_cases (record (raw format) { digit_separator = separator })) }
+{
     let view = NumberFormat::new(format);
     let is_allowed = is_separator_allowed(format);
-    let no_separator = view.digit_separator() == 0;
+    let no_separator = separator == 0;
     let no_prefix = view.base_prefix() == 0;
     let no_suffix = view.base_suffix() == 0;
     let prefix_case = view.case_sensitive_base_prefix();
     let suffix_case = view.case_sensitive_base_suffix();
+    let edit = Edit::DigitSeparator(NonZeroU8::new(separator));
     [
-        said(!is_allowed & !no_separator, Unused::NotAllowed(separator_edit(format))),
+        said(!is_allowed & !no_separator, Unused::NotAllowed(edit)),
         said(is_allowed & no_separator, Unused::NoSeparator),
-        said(prefix_case & no_prefix, Unused::NoByte(FlagSetter::CaseSensitiveBasePrefix)),
-        said(suffix_case & no_suffix, Unused::NoByte(FlagSetter::CaseSensitiveBaseSuffix)),
+        said(
+            prefix_case & no_prefix,
+            Unused::NoByte(FlagSetter::CaseSensitiveBasePrefix),
+        ),
+        said(
+            suffix_case & no_suffix,
+            Unused::NoByte(FlagSetter::CaseSensitiveBaseSuffix),
+        ),
     ]
 }
 

@@ -2,10 +2,10 @@
 
 //! The commands: what the program's arguments ask for, and the response to it.
 
-use crate::edit::{read_byte, read_edits};
+use crate::edit::read_edits;
 use crate::response::{Answer, Refusal};
 use crate::word::read_word;
-use peltzivar::edits::{edit_word, is_built, migrate, same_format, Edit};
+use peltzivar::edits::{byte_from_text, edit_word, is_built, migrate, same_format, Edit};
 use peltzivar::format_flags::is_valid_options_punctuation;
 use peltzivar::word::{format_error, STANDARD};
 
@@ -114,5 +114,5 @@ fn parse_word(text: &String) -> Result<u128, Refusal> {
 
 // Parses an argument as a byte, or refuses it.
 fn parse_byte(text: &String) -> Result<u8, Refusal> {
-    read_byte(text.as_str()).ok_or(Refusal::BadByte)
+    byte_from_text(text.as_str()).ok().ok_or(Refusal::BadByte)
 }

@@ -2,61 +2,13 @@
 
 //! Edits as text: `NAME=VALUE`.
 
-use crate::numeral::read_numeral;
-use peltzivar::edits::{Edit, FlagSetter};
-use peltzivar::format_builder::{NonZeroU8, OptionU8};
-
-// Parses `text` as an edit NAME=VALUE, split at the first `=`. NAME is the name of one of the
-// builder's setters. VALUE is `true` or `false` for a flag or a group of flags, a byte for
-// `mantissa_radix` and `radix`, and `none` or a byte for the other five bytes; 0 means `none`.
-fn read_edit(text: &str) -> Option<Edit> {
-    let (name, value) = text.split_once('=')?;
-    named_edit(name, value)
-}
+use peltzivar::edits::Edit;
 
 /// Parses `texts` as edits, in their order, into the front of `edits`, which has to be at least as
 /// long; `None` if any of them is not an edit.
 pub(crate) fn read_edits(texts: &[String], edits: &mut [Edit]) -> Option<()> {
     for (i, text) in texts.iter().enumerate() {
-        edits[i] = read_edit(text.as_str())?;
+        edits[i] = Edit::from_text(text.as_str()).ok()?;
     }
     Some(())
-}
-
-// The edit with this name and the value that a text writes.
-fn named_edit(name: &str, value: &str) -> Option<Edit> {
-    match name {
-        "mantissa_radix" => read_byte(value).map(Edit::MantissaRadix),
-        "radix" => read_byte(value).map(Edit::Radix),
-        "digit_separator" => read_optional_byte(value).map(Edit::DigitSeparator),
-        "base_prefix" => read_optional_byte(value).map(Edit::BasePrefix),
-        "base_suffix" => read_optional_byte(value).map(Edit::BaseSuffix),
-        "exponent_base" => read_optional_byte(value).map(Edit::ExponentBase),
-        "exponent_radix" => read_optional_byte(value).map(Edit::ExponentRadix),
-        _ => Some(Edit::Flag(FlagSetter::from_name(name)?, read_bool(value)?)),
-    }
-}
-
-// Parses `true` or `false`.
-fn read_bool(text: &str) -> Option<bool> {
-    match text {
-        "true" => Some(true),
-        "false" => Some(false),
-        _ => None,
-    }
-}
-
-// Parses `none` or a byte; 0 means `none`.
-fn read_optional_byte(text: &str) -> Option<OptionU8> {
-    match text {
-        "none" => Some(None),
-        _ => Some(NonZeroU8::new(read_byte(text)?)),
-    }
-}
-
-/// Parses `text`, 1 to 3 decimal digits, as a number of at most 255; `None` if it is anything else.
-#[must_use]
-pub fn read_byte(text: &str) -> Option<u8> {
-    let value = read_numeral(text.as_bytes(), 10, 3)?;
-    u8::try_from(value).ok()
 }

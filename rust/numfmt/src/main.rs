@@ -6,7 +6,6 @@
 
 mod command;
 mod edit;
-mod numeral;
 mod output;
 mod program;
 mod response;

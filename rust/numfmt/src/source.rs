@@ -23,16 +23,16 @@ pub fn write_source<W: Output>(word: u128, out: &mut W) -> io::Result<()> {
 
 // Writes the setter call that an edit stands for.
 fn write_call<W: Output>(edit: Edit, out: &mut W) -> io::Result<()> {
-    match edit {
-        Edit::Flag(setter, true) => write!(out, ".{}(true)", setter.name()),
-        Edit::Flag(setter, false) => write!(out, ".{}(false)", setter.name()),
-        Edit::DigitSeparator(byte) => write_option("digit_separator", byte, out),
-        Edit::BasePrefix(byte) => write_option("base_prefix", byte, out),
-        Edit::BaseSuffix(byte) => write_option("base_suffix", byte, out),
-        Edit::MantissaRadix(radix) => write!(out, ".mantissa_radix({radix})"),
-        Edit::Radix(radix) => write!(out, ".radix({radix})"),
-        Edit::ExponentBase(base) => write_option("exponent_base", base, out),
-        Edit::ExponentRadix(radix) => write_option("exponent_radix", radix, out),
+    let name = edit.name();
+    match &edit {
+        Edit::Flag(_, true) => write!(out, ".{name}(true)"),
+        Edit::Flag(_, false) => write!(out, ".{name}(false)"),
+        Edit::MantissaRadix(radix) | Edit::Radix(radix) => write!(out, ".{name}({radix})"),
+        Edit::DigitSeparator(byte)
+        | Edit::BasePrefix(byte)
+        | Edit::BaseSuffix(byte)
+        | Edit::ExponentBase(byte)
+        | Edit::ExponentRadix(byte) => write_option(name, *byte, out),
     }
 }
 

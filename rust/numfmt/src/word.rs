@@ -2,8 +2,8 @@
 
 //! Format words as text: `0x` and hexadecimal digits.
 
-use crate::numeral::read_numeral;
 use peltzivar::digit::digit_to_char;
+use peltzivar::numeral::read_numeral;
 
 /// Parses `text` as a format word: `Some` if it is `0x` and 1 to 32 hexadecimal digits of either
 /// case, and else `None`.

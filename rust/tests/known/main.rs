@@ -46,8 +46,10 @@ mod constants;
 mod debug;
 mod edits;
 mod errors;
+mod reasons;
 mod rules;
 mod setters;
+mod settings;
 mod views;
 
 #[path = "../outcomes/mod.rs"]

@@ -1,13 +1,14 @@
-// Made by rust/erase from crates/numfmt/src/numeral.rt: change that file.
+// Made by rust/erase from crates/lexical_util/src/numeral.rt: change that file.
 
 //! Numbers written as digits of a radix.
 
-use peltzivar::digit::char_to_digit;
+use crate::digit::char_to_digit;
 
 /// Parses `digits` as a number in `radix`: `Some` if they are 1 to `most` digit characters of this
 /// radix, and else `None`. The radix is at most 16 and `most` at most 32, so that the number fits a
 /// `u128`.
-pub(crate) fn read_numeral(digits: &[u8], radix: u32, most: usize) -> Option<u128> {
+#[must_use]
+pub fn read_numeral(digits: &[u8], radix: u32, most: usize) -> Option<u128> {
     if digits.is_empty() || digits.len() > most {
         return None;
     }
