@@ -1,8 +1,10 @@
 -- The table of the 49 outcomes: rank, index, description and printed text of each.
-use Rattle.std.specs.Prelude.{ℕ, ◌++◌, List, Option, Some, None, codes, nat_lt, if◌then◌else◌, unwrap_or}
+use Rattle.std.specs.Prelude.{ℕ, ◌+◌, ◌++◌, List, Option, Some, None, codes, nat_lt, if◌then◌else◌, unwrap_or}
 use Rattle.std.specs.Fmt.{decimal}
 use Rattle.lexical_base.specs.declared.error.Error.{Error}
 use Rattle.lexical_base.specs.declared.error.Error.TheVariants as outcomes
+use Rattle.lexical_base.specs.declared.error.Class.{Class}
+use Rattle.lexical_base.specs.declared.error.Class.TheVariants as classes
 
 -- the rank of an outcome: its index in the table of the 49 outcomes
 abbrev pub rank_of : Error → ℕ
@@ -142,26 +144,22 @@ description_of outcomes.Success = codes "'not actually an error'"
 abbrev pub held_index : Error → ℕ
 held_index error = unwrap_or (index_of error) 0
 
--- the classes of outcomes
-pub data Class : Type 0 where
-  parse_error : Class
-  format_error : Class
-  options_error : Class
-  no_error : Class
-
--- the class of a rank: 19 errors of parsing, 17 of formats, 12 of options, and success
-abbrev pub class_of : ℕ → Class
-class_of rank = if nat_lt rank 19 then parse_error else if nat_lt rank 36 then format_error else if nat_lt rank 48 then
-    options_error else no_error
+-- the class of an outcome by its rank: first come the 19 errors of parsing, then 17 of formats and 12 of options
+abbrev pub class_of : Error → Class
+class_of error =
+    if nat_lt (rank_of error) 19 then classes.Parse
+    else if nat_lt (rank_of error) (19 + 17) then classes.Format
+    else if nat_lt (rank_of error) (19 + 17 + 12) then classes.Options
+    else classes.Success
 
 -- an outcome of a class, with its description and index, as text
 abbrev pub text_in_class : Class → List ℕ → ℕ → List ℕ
-text_in_class parse_error description index = codes "lexical parse error: " ++ description ++ codes " at index "
+text_in_class classes.Parse description index = codes "lexical parse error: " ++ description ++ codes " at index "
     ++ decimal index
-text_in_class format_error description index = codes "lexical number format error: " ++ description
-text_in_class options_error description index = codes "lexical options error: " ++ description
-text_in_class no_error description index = description
+text_in_class classes.Format description index = codes "lexical number format error: " ++ description
+text_in_class classes.Options description index = codes "lexical options error: " ++ description
+text_in_class classes.Success description index = description
 
 -- what `Display` prints of an outcome
 abbrev pub printed_text : Error → List ℕ
-printed_text error = text_in_class (class_of (rank_of error)) (description_of error) (held_index error)
+printed_text error = text_in_class (class_of error) (description_of error) (held_index error)

@@ -3,28 +3,23 @@
 //! A parser or a checker returns one [`Error`], and [`Error::Success`] if nothing is wrong. This
 //! crate only defines them; the crates above return them.
 
-ghost use Rattle.std.specs.Prelude.{◌≡◌, ◌↔◌, ◌<◌, ◌∷◌, [], ◌+◌, ℕ, List, IsTrue, IsSome, IsErr, OnOk, Some, ⊤};
-ghost use Rattle.std.specs.Fmt.{HasWrittenStyled, IsFlush, WritesInCalls, decimal};
+ghost use Rattle.std.specs.Prelude.{◌≡◌, ◌↔◌, ◌<◌, ◌∷◌, [], ◌+◌, ℕ, List, length, IsTrue, IsSome, IfSome, IsErr, OnOk, Some};
+ghost use Rattle.std.specs.Fmt.{WritesInCalls, decimal};
 ghost use Rattle.std.specs.Option.{option_copied};
 ghost use Rattle.std.specs.Cmp.{partial_order_from_own_ties};
 ghost use Rattle.std.specs.Cmp.Rules.{comparing};
 ghost use Rattle.std.specs.Ordering.{as_partial_cmp, ordering_reverse};
 ghost use Rattle.std.proofs.Common.{rules};
-ghost use Rattle.lexical_base.specs.Outcomes.{rank_of, index_of, held_index, description_of, printed_text};
+ghost use Rattle.lexical_base.specs.Outcomes.{rank_of, index_of, held_index, class_of, description_of, printed_text};
 ghost use Rattle.lexical_base.specs.declared.error.Error.TheVariants as errors;
 ghost use Rattle.lexical_base.specs.OutcomeOrder.{compare_outcomes, same_outcome};
 
 use std::cmp::Ordering;
 use std::fmt;
 
-// The rank of the first error of formats, which follows the parse errors.
-const FIRST_FORMAT_ERROR: u8 = 19;
+mod sink;
 
-// The rank of the first error of options.
-const FIRST_OPTIONS_ERROR: u8 = 36;
-
-// The rank of `Success`, which is the last.
-const SUCCESS: u8 = 48;
+pub use sink::Sink;
 
 /// What a parser or a checker found: one of 48 errors, or [`Error::Success`].
 ///
@@ -147,13 +142,27 @@ pub enum Error {
     Success,
 }
 
+/// What an [`Error`] is about.
+#[derive(Clone, Copy, Debug, PartialEq, Eq)]
+pub enum Class {
+    /// The parsing of a number.
+    Parse,
+    /// A number format.
+    Format,
+    /// The options of a parser or a writer.
+    Options,
+    /// Nothing: [`Error::Success`].
+    Success,
+}
+
 impl Error {
     /// Returns what went wrong, as text between single quotes and without the index.
     ///
     /// See [`Error::index`] for the index, and `Display` for the whole text.
     #[inline(always)]
     pub const fn description(&self) -> &'static str
-        ensures { result.now ≡ description_of self.now }
+        ensures text { result.now ≡ description_of self.now }
+        ensures short { length result.now < 128 }
     {
         match self {
             Error::Overflow(_) => "'numeric overflow occurred'",
@@ -654,12 +663,140 @@ impl Error {
         }
     }
 
+    /// Returns the outcome of a rank, at `index` if it is a parse error; `None` if `rank` is 49 or more.
+    ///
+    /// The ranks are those of [`Error::rank`].
+    #[inline(always)]
+    pub const fn from_rank(rank: u8, index: usize) -> Option<Error>
+        ensures some { IsSome result ↔ (rank < 49) }
+        ensures rank { IfSome result (λ error. rank_of error ≡ rank) }
+        ensures index { rank < 19 → IfSome result (λ error. held_index error ≡ index) }
+        ensures back { (error : Error) → rank_of error ≡ rank → held_index error ≡ index → result ≡ Some error }
+    {
+        match rank {
+            0 => Some(Error::Overflow(index)),
+            1 => Some(Error::Underflow(index)),
+            2 => Some(Error::InvalidDigit(index)),
+            3 => Some(Error::Empty(index)),
+            4 => Some(Error::EmptyMantissa(index)),
+            5 => Some(Error::EmptyExponent(index)),
+            6 => Some(Error::EmptyInteger(index)),
+            7 => Some(Error::EmptyFraction(index)),
+            8 => Some(Error::InvalidPositiveMantissaSign(index)),
+            9 => Some(Error::MissingMantissaSign(index)),
+            10 => Some(Error::InvalidExponent(index)),
+            11 => Some(Error::InvalidPositiveExponentSign(index)),
+            12 => Some(Error::MissingExponentSign(index)),
+            13 => Some(Error::ExponentWithoutFraction(index)),
+            14 => Some(Error::InvalidLeadingZeros(index)),
+            15 => Some(Error::MissingExponent(index)),
+            16 => Some(Error::MissingSign(index)),
+            17 => Some(Error::InvalidPositiveSign(index)),
+            18 => Some(Error::InvalidNegativeSign(index)),
+            19 => Some(Error::InvalidMantissaRadix),
+            20 => Some(Error::InvalidExponentBase),
+            21 => Some(Error::InvalidExponentRadix),
+            22 => Some(Error::InvalidDigitSeparator),
+            23 => Some(Error::InvalidDecimalPoint),
+            24 => Some(Error::InvalidExponentSymbol),
+            25 => Some(Error::InvalidBasePrefix),
+            26 => Some(Error::InvalidBaseSuffix),
+            27 => Some(Error::InvalidPunctuation),
+            28 => Some(Error::InvalidExponentFlags),
+            29 => Some(Error::InvalidMantissaSign),
+            30 => Some(Error::InvalidExponentSign),
+            31 => Some(Error::InvalidSpecial),
+            32 => Some(Error::InvalidConsecutiveIntegerDigitSeparator),
+            33 => Some(Error::InvalidConsecutiveFractionDigitSeparator),
+            34 => Some(Error::InvalidConsecutiveExponentDigitSeparator),
+            35 => Some(Error::InvalidFlags),
+            36 => Some(Error::InvalidNanString),
+            37 => Some(Error::NanStringTooLong),
+            38 => Some(Error::InvalidInfString),
+            39 => Some(Error::InfStringTooLong),
+            40 => Some(Error::InvalidInfinityString),
+            41 => Some(Error::InfinityStringTooLong),
+            42 => Some(Error::InfinityStringTooShort),
+            43 => Some(Error::InvalidFloatParseAlgorithm),
+            44 => Some(Error::InvalidRadix),
+            45 => Some(Error::InvalidFloatPrecision),
+            46 => Some(Error::InvalidNegativeExponentBreak),
+            47 => Some(Error::InvalidPositiveExponentBreak),
+            48 => Some(Error::Success),
+            _ => None,
+        }
+    }
+
+    /// Returns what this is about.
+    pub const fn class(&self) -> Class
+        ensures { result ≡ class_of self.now }
+    {
+        match self {
+            Error::InvalidMantissaRadix
+            | Error::InvalidExponentBase
+            | Error::InvalidExponentRadix
+            | Error::InvalidDigitSeparator
+            | Error::InvalidDecimalPoint
+            | Error::InvalidExponentSymbol
+            | Error::InvalidBasePrefix
+            | Error::InvalidBaseSuffix
+            | Error::InvalidPunctuation
+            | Error::InvalidExponentFlags
+            | Error::InvalidMantissaSign
+            | Error::InvalidExponentSign
+            | Error::InvalidSpecial
+            | Error::InvalidConsecutiveIntegerDigitSeparator
+            | Error::InvalidConsecutiveFractionDigitSeparator
+            | Error::InvalidConsecutiveExponentDigitSeparator
+            | Error::InvalidFlags => Class::Format,
+            Error::InvalidNanString
+            | Error::NanStringTooLong
+            | Error::InvalidInfString
+            | Error::InfStringTooLong
+            | Error::InvalidInfinityString
+            | Error::InfinityStringTooLong
+            | Error::InfinityStringTooShort
+            | Error::InvalidFloatParseAlgorithm
+            | Error::InvalidRadix
+            | Error::InvalidFloatPrecision
+            | Error::InvalidNegativeExponentBreak
+            | Error::InvalidPositiveExponentBreak => Class::Options,
+            Error::Success => Class::Success,
+            _ => Class::Parse,
+        }
+    }
+
     // The index of a parse error, and 0 for every other variant.
     #[inline(always)]
     fn held_index(&self) -> usize
         ensures { result ≡ held_index self.now }
     {
         self.index().copied().unwrap_or(0)
+    }
+
+    /// Puts the text that `Display` prints into a sink, whatever options it has. Fails only if the sink does.
+    pub fn put_into<S: Sink>(&self, out: &mut S) -> fmt::Result
+        ensures text { OnOk result (WritesInCalls S.takes out.old (printed_text self.now) out.new) }
+        ensures failed { IsErr result → S.has_failed out.new }
+        ensures short { OnOk result (length (printed_text self.now) < 256) }
+    {
+        match self.class() {
+            Class::Parse => {
+                out.put("lexical parse error: ")?;
+                out.put(self.description())?;
+                out.put(" at index ")?;
+                put_decimal(out, self.held_index())
+            }
+            Class::Format => {
+                out.put("lexical number format error: ")?;
+                out.put(self.description())
+            }
+            Class::Options => {
+                out.put("lexical options error: ")?;
+                out.put(self.description())
+            }
+            Class::Success => out.put(self.description()),
+        }
     }
 }
 
@@ -722,56 +859,7 @@ impl fmt::Display for Error {
     ghost styled_output = { λ error spec. Some (printed_text error) };
 
     fn fmt<W: fmt::Write>(&self, f: &mut fmt::Formatter<W>) -> fmt::Result {
-        put_error(f, self)
-    }
-}
-
-// What a text is put into, piece by piece.
-//
-// What a piece does to it, and when it has failed, is up to the sink. So a function over any `Sink` knows that
-// it has failed only from a piece that failed, and no longer after the next one.
-trait Sink {
-    // Relates the sink before a piece that succeeds, the bytes of the piece, and the sink after it.
-    ghost takes: { Self → List ℕ → Self → Type 0 };
-
-    // The last piece failed.
-    ghost has_failed: { Self → Type 0 };
-
-    fn put(&mut self, piece: &str) -> fmt::Result
-        ensures taken { OnOk result (takes self.old piece.now self.new) }
-        ensures failed { IsErr result → has_failed self.new };
-}
-
-// Std says nothing of a formatter that failed.
-impl<W: fmt::Write> Sink for fmt::Formatter<W> {
-    ghost takes = { λ f text g. IsFlush f → HasWrittenStyled W.write_str_gives f text g };
-
-    ghost has_failed = { λ _. ⊤ };
-
-    fn put(&mut self, piece: &str) -> fmt::Result {
-        self.write_str(piece)
-    }
-}
-
-// Puts the text of an error, whatever options the sink has. Fails only if the sink does.
-fn put_error<S: Sink>(out: &mut S, error: &Error) -> fmt::Result
-    ensures text { OnOk result (WritesInCalls S.takes out.old (printed_text error.now) out.new) }
-    ensures failed { IsErr result → S.has_failed out.new }
-{
-    let rank = error.rank();
-    if rank < FIRST_FORMAT_ERROR {
-        out.put("lexical parse error: ")?;
-        out.put(error.description())?;
-        out.put(" at index ")?;
-        put_decimal(out, error.held_index())
-    } else if rank < FIRST_OPTIONS_ERROR {
-        out.put("lexical number format error: ")?;
-        out.put(error.description())
-    } else if rank < SUCCESS {
-        out.put("lexical options error: ")?;
-        out.put(error.description())
-    } else {
-        out.put(error.description())
+        self.put_into(f)
     }
 }
 
