@@ -1,5 +1,5 @@
 -- The table of the 49 outcomes: rank, index, description and printed text of each.
-use Rattle.std.specs.Prelude.{ℕ, ◌+◌, ◌++◌, List, Option, Some, None, codes, nat_lt, if◌then◌else◌, unwrap_or}
+use Rattle.std.specs.Prelude.{ℕ, ◌≡◌, ◌+◌, ◌++◌, List, Option, Some, None, IsSome, codes, nat_lt, if◌then◌else◌, unwrap_or}
 use Rattle.std.specs.Fmt.{decimal}
 use Rattle.lexical_base.specs.declared.error.Error.{Error}
 use Rattle.lexical_base.specs.declared.error.Error.TheVariants as outcomes
@@ -143,6 +143,10 @@ description_of outcomes.Success = codes "'not actually an error'"
 -- the index of a parse error, and 0 for every other outcome
 abbrev pub held_index : Error → ℕ
 held_index error = unwrap_or (index_of error) 0
+
+-- an outcome that holds this index, or none at all
+abbrev pub IsAt : ℕ → Error → Type 0
+IsAt index error = IsSome (index_of error) → index_of error ≡ Some index
 
 -- the class of an outcome by its rank: first come the 19 errors of parsing, then 17 of formats and 12 of options
 abbrev pub class_of : Error → Class

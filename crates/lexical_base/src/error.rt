@@ -10,7 +10,7 @@ ghost use Rattle.std.specs.Cmp.{partial_order_from_own_ties};
 ghost use Rattle.std.specs.Cmp.Rules.{comparing};
 ghost use Rattle.std.specs.Ordering.{as_partial_cmp, ordering_reverse};
 ghost use Rattle.std.proofs.Common.{rules};
-ghost use Rattle.lexical_base.specs.Outcomes.{rank_of, index_of, held_index, class_of, description_of, printed_text};
+ghost use Rattle.lexical_base.specs.Outcomes.{rank_of, index_of, held_index, IsAt, class_of, description_of, printed_text};
 ghost use Rattle.lexical_base.specs.declared.error.Error.TheVariants as errors;
 ghost use Rattle.lexical_base.specs.OutcomeOrder.{compare_outcomes, same_outcome};
 
@@ -670,8 +670,8 @@ impl Error {
     pub const fn from_rank(rank: u8, index: usize) -> Option<Error>
         ensures some { IsSome result ↔ (rank < 49) }
         ensures rank { IfSome result (λ error. rank_of error ≡ rank) }
-        ensures index { rank < 19 → IfSome result (λ error. held_index error ≡ index) }
-        ensures back { (error : Error) → rank_of error ≡ rank → held_index error ≡ index → result ≡ Some error }
+        ensures index { IfSome result (IsAt index) }
+        ensures back { (error : Error) → rank_of error ≡ rank → IsAt index error → result ≡ Some error }
     {
         match rank {
             0 => Some(Error::Overflow(index)),
