@@ -1,22 +1,16 @@
--- The text of an error of parsing.
-use Rattle.std.proofs.Common.{◌≡◌, ◌<◌, ℕ, ◌++◌, codes, sym, ap, true, if◌then◌else◌, nat_lt}
-use Rattle.std.specs.Fmt.{decimal}
-use Rattle.std.proofs.lemmas.Bool.Decides.{Decides-ltb}
-use Rattle.lexical_util.specs.declared.error.Error.{Error}
-use Rattle.lexical_util.specs.Outcomes.{rank_of, class_of, parse_error, format_error, options_error, no_error}
-use Rattle.lexical_util.specs.Outcomes.{text_in_class, description_of, held_index, printed_text}
+-- The outcome of a word that breaks no rule.
+use Rattle.std.proofs.Common.{ℕ, List, [], ◌∷◌, refl, inr}
+use Rattle.lexical_util.specs.declared.error.Error.TheVariants as errors
+use Rattle.lexical_util.specs.declared.format_flags.Rule.{Rule}
+use Rattle.lexical_util.specs.Rules.{Holds, IsFirstError, IsErrorOf, rules_in_order}
 
--- a rank below 19 is that of an error of parsing
-first_class : (rank : ℕ) → nat_lt rank 19 ≡ true → class_of rank ≡ parse_error
-first_class rank test =
-    ap (λ b. if b then parse_error else if nat_lt rank 36 then format_error
-    else if nat_lt rank 48 then options_error else no_error) test
+-- a word that keeps all of some rules has no error among theirs
+no_first_error : (rules : List Rule) (word : ℕ) → ((rule : Rule) → Holds rule word)
+    → IsFirstError rules word errors.Success
+no_first_error [] word holds = refl
+no_first_error (rule ∷ rules) word holds = inr (holds rule, no_first_error rules word holds)
 
--- its printed text has the index
-pub printed_parse_error : (error : Error) → rank_of error < 19
-    → ((codes "lexical parse error: " ++ description_of error) ++ codes " at index ") ++ decimal (held_index error)
-    ≡ printed_text error
-printed_parse_error error low =
-    let test : nat_lt (rank_of error) 19 ≡ true = (Decides-ltb (rank_of error) 19).1 low in
-    let class = first_class (rank_of error) test in
-    sym (ap (λ kind. text_in_class kind (description_of error) (held_index error)) class)
+-- a word that keeps all rules has none
+pub no_error : (word : ℕ) → ((rule : Rule) → Holds rule word) → IsErrorOf word errors.Success
+unfolding IsErrorOf
+no_error word holds = no_first_error rules_in_order word holds

@@ -1,9 +1,10 @@
--- Texts that are written into a buffer as far as it has room.
-use Rattle.std.specs.Prelude.{ℕ, ◌≡◌, List, length, take, drop, ◌++◌}
+-- Texts that are written into a buffer with a 0 at their end.
+use Rattle.std.specs.Prelude.{ℕ, ◌≡◌, List, [], ◌∷◌, length, take, drop, ◌++◌}
 
--- a buffer after a text was written from its start on, as much as has room
+-- a buffer after a text was written from its start on, as much as leaves room for a final 0; an empty one has no room
 abbrev pub written_over : List ℕ → List ℕ → List ℕ
-written_over text old = take (length old) text ++ drop (length text) old
+written_over text [] = []
+written_over text (_ ∷ rest) = take (length rest) text ++ 0 ∷ drop (length text) rest
 
 -- a text was written so, and its whole length was returned
 pub record IsWritten (text : List ℕ) (returned : ℕ) (old new : List ℕ) : Type 0 where

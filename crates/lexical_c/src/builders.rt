@@ -3,16 +3,15 @@
 ghost use Rattle.std.specs.Prelude.{◌≡◌, ◌↔◌, ◌<◌, ◌^◌, IsTrue, IsFalse, All, length};
 ghost use Rattle.lexical_util.specs.Record.{raw, fill, trim, pack};
 ghost use Rattle.lexical_util.specs.Layout.{IsClean, flags};
-ghost use Rattle.lexical_util.specs.Rules.{IsErrorOf, Lawful};
 ghost use Rattle.lexical_util.specs.Writes.{after};
 ghost use Rattle.lexical_util.specs.Edits.{all_writes};
 ghost use Rattle.lexical_c.specs.Words.{fields_of};
 ghost use Rattle.lexical_c.specs.Edits.{HasSetter, known};
-ghost use Rattle.lexical_c.specs.Outcomes.{IsRankOfOne, SUCCESS};
+ghost use Rattle.lexical_c.specs.Outcomes.{IsKept};
 
 use crate::changes::Change;
 use crate::edits::apply_changes;
-use crate::rules::checked;
+use crate::outcomes::{ErrorNumber, keep};
 use crate::words::{Fields, Word};
 use lexical_util::format_builder::NumberFormatBuilder;
 
@@ -68,14 +67,11 @@ pub extern "C" fn peltzivar_build(fields: &Fields, changes: &[Change], out: &mut
     true
 }
 
-/// Packs the fields into a word. If it is lawful, writes it and returns 48; else writes nothing and returns
-/// the rank of its error.
+/// Packs the fields into a word. If it is lawful, writes it and returns 0; else writes nothing and returns the
+/// number of its error.
 #[unsafe(no_mangle)]
-pub extern "C" fn peltzivar_build_strict(fields: &Fields, out: &mut Word) -> u32
-    ensures error { IsRankOfOne (IsErrorOf (pack (fields_of fields.now))) result }
-    ensures lawful { (result ≡ SUCCESS) ↔ Lawful (pack (fields_of fields.now)) }
-    ensures written { result ≡ SUCCESS → out.new ≡ pack (fields_of fields.now) }
-    ensures unchanged { (result ≡ SUCCESS → ⊥) → out.new ≡ out.old }
+pub extern "C" fn peltzivar_build_strict(fields: &Fields, out: &mut Word) -> ErrorNumber
+    ensures { IsKept (pack (fields_of fields.now)) result out.old out.new }
 {
-    checked(fields.builder().build_unchecked(), out)
+    keep(fields.builder().build_strict(), out)
 }

@@ -1,7 +1,6 @@
 //! Edits of words.
 
 ghost use Rattle.std.specs.Prelude.{◌≡◌, ◌↔◌, ◌++◌, ◌≤◌, IsTrue, IsFalse, IsSome, IfSome, List, All, length, take};
-ghost use Rattle.lexical_util.specs.Rules.{Lawful, IsErrorOf};
 ghost use Rattle.lexical_util.specs.Layout.{IsClean};
 ghost use Rattle.lexical_util.specs.Record.{raw, fill, trim, pack, IsBuilt};
 ghost use Rattle.lexical_util.specs.Edits.{all_writes, edited};
@@ -9,10 +8,10 @@ ghost use Rattle.lexical_util.specs.Listing.{IsBuiltByWrites, changing, unchangi
 ghost use Rattle.lexical_util.specs.Normal.{normal_form_of, SameFormat, IsNormal};
 ghost use Rattle.lexical_util.specs.Writes.{Write, IsLegal, new_record, after};
 ghost use Rattle.lexical_c.specs.Edits.{HasSetter, known};
-ghost use Rattle.lexical_c.specs.Outcomes.{IsRankOfOne, SUCCESS};
+ghost use Rattle.lexical_c.specs.Outcomes.{IsKept};
 
 use crate::changes::Change;
-use crate::rules::checked;
+use crate::outcomes::{ErrorNumber, keep};
 use crate::words::Word;
 use lexical_util::edits;
 use lexical_util::edits::{FIELDS, apply};
@@ -67,16 +66,13 @@ pub extern "C" fn peltzivar_normal_form(format: Word) -> Word
     Word::new(edits::normal_form(format.number()))
 }
 
-/// Writes the normal form of a word and returns 48 if the normal form is lawful; else writes nothing and
-/// returns the rank of its error.
+/// Writes the normal form of a word and returns 0 if the normal form is lawful; else writes nothing and returns
+/// the number of its error.
 #[unsafe(no_mangle)]
-pub extern "C" fn peltzivar_migrate(format: Word, out: &mut Word) -> u32
-    ensures error { IsRankOfOne (IsErrorOf (normal_form_of format)) result }
-    ensures lawful { (result ≡ SUCCESS) ↔ Lawful (normal_form_of format) }
-    ensures written { result ≡ SUCCESS → out.new ≡ normal_form_of format }
-    ensures unchanged { (result ≡ SUCCESS → ⊥) → out.new ≡ out.old }
+pub extern "C" fn peltzivar_migrate(format: Word, out: &mut Word) -> ErrorNumber
+    ensures { IsKept (normal_form_of format) result out.old out.new }
 {
-    checked(edits::normal_form(format.number()), out)
+    keep(edits::migrate(format.number()), out)
 }
 
 /// Returns whether two words mean the same, that is, have the same normal form.

@@ -8,7 +8,7 @@ ghost use Rattle.lexical_util.specs.declared.error.Error.TheVariants as errors;
 ghost use Rattle.lexical_util.specs.declared.edits.Edit.TheVariants as edits;
 ghost use Rattle.lexical_util.specs.declared.edits.FlagSetter.TheVariants as setters;
 ghost use Rattle.lexical_c.specs.Edits.{first_byte, setter_count, edit_of_numbers, name_of_setter};
-ghost use Rattle.lexical_c.specs.Outcomes.{IsRankOfOne};
+ghost use Rattle.lexical_c.specs.Outcomes.{IsNumberOfOne};
 ghost use Rattle.lexical_c.specs.Texts.{IsWritten, written_over};
 
 /// What numbers stand for, and what of a text has room.
@@ -26,18 +26,21 @@ pub fn crossing_examples()
         (95 ∷ 120 ∷ 0 ∷ 16 ∷ 0 ∷ 10 ∷ []))
         ≡ 0x0A001000_7800005F_00001000_0000000C }
 
-    // The front of a longer text, and a shorter one whole.
-    ensures front { written_over (1 ∷ 2 ∷ 3 ∷ []) (9 ∷ 9 ∷ []) ≡ 1 ∷ 2 ∷ [] }
-    ensures whole { written_over (1 ∷ 2 ∷ []) (9 ∷ 9 ∷ 9 ∷ []) ≡ 1 ∷ 2 ∷ 9 ∷ [] }
+    // The front of a longer text, a shorter one whole, and one that has no room.
+    ensures front { written_over (1 ∷ 2 ∷ 3 ∷ []) (9 ∷ 9 ∷ 9 ∷ []) ≡ 1 ∷ 2 ∷ 0 ∷ [] }
+    ensures whole { written_over (1 ∷ []) (9 ∷ 9 ∷ 9 ∷ []) ≡ 1 ∷ 0 ∷ 9 ∷ [] }
+    ensures no_room { written_over (1 ∷ []) [] ≡ [] }
 {}
 
-/// The rank of an outcome with a property, and a text with its length, as they are returned.
+/// The number of an outcome with a property, and a text with its length, as they are returned.
 pub fn returned_examples()
-    ensures rank { IsRankOfOne (λ error. error ≡ errors.Success) 48 }
-    ensures other_rank { IsRankOfOne (λ error. error ≡ errors.Success) 47 → ⊥ }
-    ensures no_outcome { IsRankOfOne (λ error. ⊥) 48 → ⊥ }
+    ensures success { IsNumberOfOne (λ error. error ≡ errors.Success) 0 }
+    ensures first { IsNumberOfOne (λ error. error ≡ errors.Overflow 7) 1 }
+    ensures last { IsNumberOfOne (λ error. error ≡ errors.InvalidPositiveExponentBreak) 48 }
+    ensures other_number { IsNumberOfOne (λ error. error ≡ errors.Success) 48 → ⊥ }
+    ensures no_outcome { IsNumberOfOne (λ error. ⊥) 0 → ⊥ }
 
-    ensures written { IsWritten (1 ∷ 2 ∷ []) 2 (9 ∷ []) (1 ∷ []) }
-    ensures other_byte { IsWritten (1 ∷ 2 ∷ []) 2 (9 ∷ []) (8 ∷ []) → ⊥ }
-    ensures other_length { IsWritten (1 ∷ 2 ∷ []) 1 (9 ∷ []) (1 ∷ []) → ⊥ }
+    ensures written { IsWritten (1 ∷ 2 ∷ []) 2 (9 ∷ 9 ∷ []) (1 ∷ 0 ∷ []) }
+    ensures other_byte { IsWritten (1 ∷ 2 ∷ []) 2 (9 ∷ 9 ∷ []) (1 ∷ 2 ∷ []) → ⊥ }
+    ensures other_length { IsWritten (1 ∷ 2 ∷ []) 1 (9 ∷ 9 ∷ []) (1 ∷ 0 ∷ []) → ⊥ }
 {}

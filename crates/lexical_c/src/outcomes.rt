@@ -1,112 +1,86 @@
-//! The texts of outcomes. An outcome crosses as its rank, 0 to 48.
+//! Outcomes, which cross as numbers, and their texts.
 
-ghost use Rattle.std.specs.Prelude.{◌≡◌, ◌↔◌, ◌<◌, IsSome, IfSome};
-ghost use Rattle.lexical_util.specs.Outcomes.{rank_of, held_index, description_of, printed_text};
-ghost use Rattle.lexical_c.specs.Outcomes.{IsRankOfOne};
+ghost use Rattle.std.specs.Prelude.{◌≡◌, ◌≢◌, ◌↔◌, ◌<◌, ℕ, [], Err, IsSome, IfSome, IfErr};
+ghost use Rattle.std.specs.Result.{OkIff};
+ghost use Rattle.lexical_util.specs.Outcomes.{IsAt, description_of, printed_text};
+ghost use Rattle.lexical_util.specs.Rules.{Lawful, IsErrorOf};
+ghost use Rattle.lexical_c.specs.Outcomes.{outcome_count, error_number, SUCCESS, IsNumberOfOne, IsKept};
 ghost use Rattle.lexical_c.specs.Texts.{IsWritten};
 
-use crate::texts::{write_after, write_decimal, write_text};
+use crate::texts::{Text, write_text};
+use crate::words::Word;
 use lexical_util::error::Error;
+use lexical_util::laws::flags::rule_facts;
 
-/// Writes the front of an outcome's description, as much as has room, and returns the length of the whole.
-/// Writes nothing and returns 0 if there is no such outcome.
-#[unsafe(no_mangle)]
-pub extern "C" fn peltzivar_description(rank: u32, text: &mut [u8]) -> usize
-    ensures text { rank < 49
-        → IsRankOfOne (λ outcome. IsWritten (description_of outcome) result text.old text.new) rank }
-    ensures unknown { (rank < 49 → ⊥) → (result ≡ 0) × (text.new ≡ text.old) }
-{
-    let Some(error) = outcome(rank, 0) else {
-        return 0;
-    };
-    write_text(error.description().as_bytes(), text)
-}
+/// The number of an error: one more than its rank, and 0 for success.
+pub type ErrorNumber = u32;
 
-/// Writes the front of the text that `Display` prints of an outcome, as much as has room, and returns the
-/// length of the whole. A parse error, of rank 0 to 18, is found at `index`; the others have no index. Writes
-/// nothing and returns 0 if there is no such outcome.
-#[unsafe(no_mangle)]
-pub extern "C" fn peltzivar_text(rank: u32, index: usize, text: &mut [u8]) -> usize
-    ensures text { rank < 49 → IsRankOfOne (λ outcome. (rank < 19 → held_index outcome ≡ index)
-        × IsWritten (printed_text outcome) result text.old text.new) rank }
-    ensures unknown { (rank < 49 → ⊥) → (result ≡ 0) × (text.new ≡ text.old) }
+/// Returns the number of an outcome.
+#[inline(always)]
+pub fn error_number(error: Error) -> ErrorNumber
+    ensures value { result ≡ error_number error }
+    ensures success { (result ≡ SUCCESS) ↔ (error ≡ Error.Success) }
 {
-    let Some(error) = outcome(rank, index) else {
-        return 0;
-    };
-    let description = error.description().as_bytes();
-    if rank < 19 {
-        let end = write_text(b"lexical parse error: ", text);
-        let end = write_after(description, text, end);
-        let end = write_after(b" at index ", text, end);
-        write_decimal(index, text, end)
-    } else if rank < 36 {
-        let end = write_text(b"lexical number format error: ", text);
-        write_after(description, text, end)
-    } else if rank < 48 {
-        let end = write_text(b"lexical options error: ", text);
-        write_after(description, text, end)
+    if error.is_success() {
+        0
     } else {
-        write_text(description, text)
+        error.rank() as u32 + 1
     }
 }
 
-// The outcome of a rank, with an index if it holds one, or `None` if there is no such rank.
-fn outcome(rank: u32, index: usize) -> Option<Error>
-    ensures some { IsSome result ↔ (rank < 49) }
-    ensures rank { IfSome result (λ error. rank_of error ≡ rank) }
-    ensures index { rank < 19 → IfSome result (λ error. held_index error ≡ index) }
+/// Writes the word and returns 0, or writes nothing and returns the number of the error.
+#[inline(always)]
+pub fn keep(word: Result<u128, Error>, out: &mut Word) -> ErrorNumber
+    ensures { (lawful : ℕ) → OkIff word (Lawful lawful) lawful → IfErr word (IsErrorOf lawful)
+        → word ≢ Err Error.Success → IsKept lawful result out.old out.new }
 {
-    match rank {
-        0 => Some(Error::Overflow(index)),
-        1 => Some(Error::Underflow(index)),
-        2 => Some(Error::InvalidDigit(index)),
-        3 => Some(Error::Empty(index)),
-        4 => Some(Error::EmptyMantissa(index)),
-        5 => Some(Error::EmptyExponent(index)),
-        6 => Some(Error::EmptyInteger(index)),
-        7 => Some(Error::EmptyFraction(index)),
-        8 => Some(Error::InvalidPositiveMantissaSign(index)),
-        9 => Some(Error::MissingMantissaSign(index)),
-        10 => Some(Error::InvalidExponent(index)),
-        11 => Some(Error::InvalidPositiveExponentSign(index)),
-        12 => Some(Error::MissingExponentSign(index)),
-        13 => Some(Error::ExponentWithoutFraction(index)),
-        14 => Some(Error::InvalidLeadingZeros(index)),
-        15 => Some(Error::MissingExponent(index)),
-        16 => Some(Error::MissingSign(index)),
-        17 => Some(Error::InvalidPositiveSign(index)),
-        18 => Some(Error::InvalidNegativeSign(index)),
-        19 => Some(Error::InvalidMantissaRadix),
-        20 => Some(Error::InvalidExponentBase),
-        21 => Some(Error::InvalidExponentRadix),
-        22 => Some(Error::InvalidDigitSeparator),
-        23 => Some(Error::InvalidDecimalPoint),
-        24 => Some(Error::InvalidExponentSymbol),
-        25 => Some(Error::InvalidBasePrefix),
-        26 => Some(Error::InvalidBaseSuffix),
-        27 => Some(Error::InvalidPunctuation),
-        28 => Some(Error::InvalidExponentFlags),
-        29 => Some(Error::InvalidMantissaSign),
-        30 => Some(Error::InvalidExponentSign),
-        31 => Some(Error::InvalidSpecial),
-        32 => Some(Error::InvalidConsecutiveIntegerDigitSeparator),
-        33 => Some(Error::InvalidConsecutiveFractionDigitSeparator),
-        34 => Some(Error::InvalidConsecutiveExponentDigitSeparator),
-        35 => Some(Error::InvalidFlags),
-        36 => Some(Error::InvalidNanString),
-        37 => Some(Error::NanStringTooLong),
-        38 => Some(Error::InvalidInfString),
-        39 => Some(Error::InfStringTooLong),
-        40 => Some(Error::InvalidInfinityString),
-        41 => Some(Error::InfinityStringTooLong),
-        42 => Some(Error::InfinityStringTooShort),
-        43 => Some(Error::InvalidFloatParseAlgorithm),
-        44 => Some(Error::InvalidRadix),
-        45 => Some(Error::InvalidFloatPrecision),
-        46 => Some(Error::InvalidNegativeExponentBreak),
-        47 => Some(Error::InvalidPositiveExponentBreak),
-        48 => Some(Error::Success),
+    rule_facts();
+    match word {
+        Ok(word) => {
+            *out = Word::new(word);
+            0
+        }
+        Err(error) => error_number(error),
+    }
+}
+
+/// Writes an outcome's description and returns its length. If there is no such outcome, writes an empty text.
+#[unsafe(no_mangle)]
+pub extern "C" fn peltzivar_description(error: ErrorNumber, text: &mut [u8]) -> usize
+    ensures text { error < outcome_count
+        → IsNumberOfOne (λ outcome. IsWritten (description_of outcome) result text.old text.new) error }
+    ensures unknown { (error < outcome_count → ⊥) → IsWritten [] result text.old text.new }
+{
+    match outcome(error, 0) {
+        Some(error) => write_text(error.description().as_bytes(), text),
+        None => write_text(b"", text),
+    }
+}
+
+/// Writes the text that `Display` prints of an outcome, which is found at `index` if it is an error of parsing,
+/// and returns its length. If there is no such outcome, writes an empty text.
+#[unsafe(no_mangle)]
+pub extern "C" fn peltzivar_text(error: ErrorNumber, index: usize, text: &mut [u8]) -> usize
+    ensures text { error < outcome_count → IsNumberOfOne (λ outcome. IsAt index outcome
+        × IsWritten (printed_text outcome) result text.old text.new) error }
+    ensures unknown { (error < outcome_count → ⊥) → IsWritten [] result text.old text.new }
+{
+    let mut whole = Text::new();
+    if let Some(error) = outcome(error, index) {
+        let _ = error.put_into(&mut whole);
+    }
+    whole.write_to(text)
+}
+
+// The outcome of a number, at `index` if it is an error of parsing, or `None` if there is no such number.
+fn outcome(number: ErrorNumber, index: usize) -> Option<Error>
+    ensures some { IsSome result ↔ (number < outcome_count) }
+    ensures number { IfSome result (λ error. error_number error ≡ number) }
+    ensures index { IfSome result (IsAt index) }
+{
+    match number {
+        0 => Some(Error::Success),
+        1..=48 => Error::from_rank((number - 1) as u8, index),
         _ => None,
     }
 }

@@ -7,42 +7,28 @@ ghost use Rattle.lexical_util.specs.declared.format_flags.Rule.TheVariants as ru
 ghost use Rattle.lexical_util.specs.Record.{raw, effective};
 ghost use Rattle.lexical_util.specs.Common.{common};
 ghost use Rattle.lexical_util.specs.Options.{AreAccepted, HaveOneRole, LeavesRoom};
-ghost use Rattle.lexical_c.specs.Outcomes.{IsRankOfOne, SUCCESS};
+ghost use Rattle.lexical_c.specs.Outcomes.{IsNumberOfOne, SUCCESS};
 
+use crate::outcomes::{ErrorNumber, error_number};
 use crate::words::Word;
 use lexical_util::format::format_error;
 use lexical_util::format_flags as flags;
 
-/// Writes a word and returns 48 if it is lawful; else writes nothing and returns the rank of its error.
-#[inline(always)]
-pub fn checked(word: u128, out: &mut Word) -> u32
-    ensures error { IsRankOfOne (IsErrorOf word) result }
-    ensures lawful { (result ≡ SUCCESS) ↔ Lawful word }
-    ensures written { result ≡ SUCCESS → out.new ≡ word }
-    ensures unchanged { (result ≡ SUCCESS → ⊥) → out.new ≡ out.old }
-{
-    let error = format_error(word);
-    if error.is_success() {
-        *out = Word::new(word);
-    }
-    error.rank() as u32
-}
-
-/// Returns the rank of the error of the first rule that a word breaks, or 48 if it is lawful.
+/// Returns the number of the error of the first rule that a word breaks, or 0 if it is lawful.
 #[unsafe(no_mangle)]
-pub extern "C" fn peltzivar_format_error(format: Word) -> u32
-    ensures first { IsRankOfOne (IsErrorOf format) result }
+pub extern "C" fn peltzivar_format_error(format: Word) -> ErrorNumber
+    ensures first { IsNumberOfOne (IsErrorOf format) result }
     ensures lawful { (result ≡ SUCCESS) ↔ Lawful format }
 {
-    format_error(format.number()).rank() as u32
+    error_number(format_error(format.number()))
 }
 
-/// Returns the rank of the error of the first of the three radixes that is not 2 to 36, or 48.
+/// Returns the number of the error of the first of the three radixes that is not 2 to 36, or 0.
 #[unsafe(no_mangle)]
-pub extern "C" fn peltzivar_radix_error(format: Word) -> u32
-    ensures { IsRankOfOne (IsFirstError radix_rules format) result }
+pub extern "C" fn peltzivar_radix_error(format: Word) -> ErrorNumber
+    ensures { IsNumberOfOne (IsFirstError radix_rules format) result }
 {
-    flags::radix_error_impl(format.number()).rank() as u32
+    error_number(flags::radix_error_impl(format.number()))
 }
 
 /// Returns whether a number is 2 to 36.

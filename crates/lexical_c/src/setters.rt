@@ -1,6 +1,6 @@
 //! The names of setters. A setter crosses as its number.
 
-ghost use Rattle.std.specs.Prelude.{◌≡◌, ◌<◌, ℕ};
+ghost use Rattle.std.specs.Prelude.{◌≡◌, ◌<◌, ℕ, []};
 ghost use Rattle.lexical_c.specs.Edits.{name_of_setter, setter_count};
 ghost use Rattle.lexical_c.specs.Texts.{IsWritten};
 
@@ -16,12 +16,12 @@ const SETTER_COUNT: u8 = FIRST_BYTE + 7;
 #[unsafe(no_mangle)]
 pub extern "C" fn peltzivar_setter_name(setter: u8, text: &mut [u8]) -> usize
     ensures text { setter < setter_count → IsWritten (name_of_setter setter) result text.old text.new }
-    ensures unknown { (setter < setter_count → ⊥) → (result ≡ 0) × (text.new ≡ text.old) }
+    ensures unknown { (setter < setter_count → ⊥) → IsWritten [] result text.old text.new }
 {
     if setter < SETTER_COUNT {
         write_text(name(setter).as_bytes(), text)
     } else {
-        0
+        write_text(b"", text)
     }
 }
 

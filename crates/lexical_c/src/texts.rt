@@ -1,40 +1,77 @@
-//! Texts that are written into a buffer as far as it has room.
+//! Texts that are written into a buffer with a 0 at their end.
 
-ghost use Rattle.std.specs.Prelude.{◌≡◌, ◌<◌, ◌≤◌, ◌+◌, ◌++◌, ◌^◌, List, ℕ, length, take};
-ghost use Rattle.std.specs.Fmt.{decimal};
-ghost use Rattle.lexical_c.specs.Texts.{IsWritten, written_over};
+ghost use Rattle.std.specs.Prelude.{◌≡◌, ◌+◌, ◌≤◌, ◌++◌, List, [], length};
+ghost use Rattle.lexical_c.specs.Texts.{IsWritten};
 
-/// Writes a text from the start of a buffer on, as much as has room, and returns the length of the whole.
+use lexical_util::error::Sink;
+use std::fmt;
+use std::marker::Model;
+
+/// Writes a text and a final 0 from the start of a buffer on, of the text as much as leaves room for the 0, and
+/// returns the length of the whole text.
 pub fn write_text(text: &[u8], out: &mut [u8]) -> usize
     ensures { IsWritten text.now result out.old out.new }
 {
-    let count = text.len().min(out.len());
-    out[..count].copy_from_slice(&text[..count]);
+    if !out.is_empty() {
+        let count = text.len().min(out.len() - 1);
+        out[..count].copy_from_slice(&text[..count]);
+        out[count] = 0;
+    }
     text.len()
 }
 
-/// Writes a text after one of length `end`, and returns the length of both.
-pub fn write_after(text: &[u8], out: &mut [u8], end: usize) -> usize
-    requires { end + length text.now < 2 ^ 64 }
-    ensures length { result ≡ end + length text.now }
-    ensures written { (front base : List ℕ) → IsWritten front end base out.old
-        → IsWritten (front ++ text.now) result base out.new }
-{
-    let (_, rest) = out.split_at_mut(end.min(out.len()));
-    end + write_text(text, rest)
+// More bytes than any text of an outcome has.
+const ROOM: usize = 256;
+
+/// A text that is put together from pieces. A piece that has no room is left out.
+pub struct Text {
+    bytes: [u8; ROOM],
+    len: usize,
 }
 
-/// Writes a number in decimal after a text of length `end`, and returns the length of both.
-pub fn write_decimal(number: usize, out: &mut [u8], end: usize) -> usize
-    requires { end ≤ 1000 }
-    ensures length { result ≡ end + length (decimal number) }
-    ensures written { (front base : List ℕ) → IsWritten front end base out.old
-        → IsWritten (front ++ decimal number) result base out.new }
-{
-    let end = if number < 10 {
-        end
-    } else {
-        write_decimal(number / 10, out, end)
-    };
-    write_after(&[b'0' + (number % 10) as u8], out, end)
+impl Model for Text {
+    ghost use Rattle.std.specs.Prelude.{ℕ, ◌≤◌, List, take};
+
+    ghost Value = { List ℕ };
+
+    ghost view = { λ text. take text.len text.bytes };
+
+    ghost invariant = { λ text. text.len ≤ 256 };
+}
+
+impl Text {
+    /// Returns an empty text.
+    pub fn new() -> Text
+        ensures { result ≡ [] }
+    {
+        Text {
+            bytes: [0; ROOM],
+            len: 0,
+        }
+    }
+
+    /// Writes the text as [`write_text`] does.
+    pub fn write_to(self, out: &mut [u8]) -> usize
+        ensures { IsWritten self result out.old out.new }
+    {
+        let Text { bytes, len } = self;
+        write_text(&bytes[..len], out)
+    }
+}
+
+// It never fails.
+impl Sink for Text {
+    ghost takes = { λ text piece whole. length text + length piece ≤ 256 → whole ≡ text ++ piece };
+
+    ghost has_failed = { λ _. ⊥ };
+
+    fn put(&mut self, piece: &str) -> fmt::Result {
+        let piece = piece.as_bytes();
+        let end = self.len + piece.len();
+        if end <= ROOM {
+            self.bytes[self.len..end].copy_from_slice(piece);
+            self.len = end;
+        }
+        Ok(())
+    }
 }
