@@ -18,7 +18,7 @@ static bool apply(peltzivar_fields *fields, const char *setting) {
     char *end;
     const unsigned long value = strtoul(equals + 1, &end, 10);
     if (*end != '\0' || value > 255) return false;
-    const uint8_t setter = peltzivar_setter_of_name((const uint8_t *)setting, (size_t)(equals - setting));
+    const uint8_t setter = peltzivar_setter_of_name(setting, (size_t)(equals - setting));
     const peltzivar_edit edit = {setter, (uint8_t)value};
     return peltzivar_edit_fields(fields, &edit, 1);
 }
@@ -27,9 +27,9 @@ static void print_settings(peltzivar_word word) {
     peltzivar_edit edits[PELTZIVAR_FIELDS];
     const size_t count = peltzivar_edits_of(word, edits);
     for (size_t i = 0; i < count; i++) {
-        uint8_t name[256];
-        const size_t len = peltzivar_setter_name(edits[i].setter, name, sizeof name);
-        printf("%.*s=%d\n", (int)len, (const char *)name, edits[i].value);
+        char name[256];
+        peltzivar_setter_name(edits[i].setter, name, sizeof name);
+        printf("%s=%d\n", name, edits[i].value);
     }
 }
 
@@ -44,11 +44,11 @@ int main(int argc, char **argv) {
         }
     }
     peltzivar_word word;
-    const uint32_t outcome = peltzivar_build_strict(&fields, &word);
-    if (outcome != PELTZIVAR_SUCCESS) {
-        uint8_t text[256];
-        const size_t len = peltzivar_text(outcome, 0, text, sizeof text);
-        fprintf(stderr, "%.*s\n", (int)len, (const char *)text);
+    const peltzivar_error error = peltzivar_build_strict(&fields, &word);
+    if (error) {
+        char text[256];
+        peltzivar_text(error, 0, text, sizeof text);
+        fprintf(stderr, "%s\n", text);
         return 1;
     }
     printf("0x%016" PRIX64 "%016" PRIX64 "\n", word.high, word.low);

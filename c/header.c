@@ -19,9 +19,9 @@ static bool is_word(peltzivar_word word, uint64_t high, uint64_t low) {
     return word.high == high && word.low == low;
 }
 
-/* Whether a text of this length was written, and nothing after it. */
-static bool is_text(const char *wanted, size_t len, const uint8_t *text) {
-    return len == strlen(wanted) && memcmp(wanted, text, len) == 0 && text[len] == '#';
+/* Whether this whole text was written with its final 0, and nothing after it. */
+static bool is_text(const char *wanted, size_t len, const char *text) {
+    return len == strlen(wanted) && strcmp(wanted, text) == 0 && text[len + 1] == '#';
 }
 
 static const peltzivar_word ZERO = {0, 0};
@@ -70,7 +70,7 @@ static void test_words(void) {
     CHECK(peltzivar_migrate(ZERO, &word) == PELTZIVAR_INVALID_MANTISSA_RADIX && is_word(word, 2, 1));
     CHECK(peltzivar_build_strict(&zero, &word) == PELTZIVAR_INVALID_MANTISSA_RADIX);
     CHECK(is_word(word, 2, 1));
-    CHECK(peltzivar_migrate(RESERVED, &word) == PELTZIVAR_SUCCESS && is_word(word, 0x0A0A0A0000000000, 0xC));
+    CHECK(!peltzivar_migrate(RESERVED, &word) && is_word(word, 0x0A0A0A0000000000, 0xC));
     CHECK(peltzivar_build_strict(&PELTZIVAR_NEW_FIELDS, &word) == PELTZIVAR_SUCCESS);
     CHECK(is_word(word, PELTZIVAR_STANDARD.high, PELTZIVAR_STANDARD.low));
     CHECK(is_word(peltzivar_normal_form(PELTZIVAR_STANDARD), 0x0A0A0A0000000000, 0xC));
@@ -82,8 +82,9 @@ static void test_words(void) {
 static void test_edits_of(void) {
     peltzivar_edit edits[PELTZIVAR_FIELDS + 64];
     memset(edits, '#', sizeof edits);
-    CHECK(peltzivar_edits_of((peltzivar_word){0xC, 0x0000100000000000}, edits) == 1);
-    CHECK(edits[0].setter == PELTZIVAR_SET_MANTISSA_RADIX && edits[0].value == 16);
+    CHECK(peltzivar_edits_of((peltzivar_word){0xC | 1, 0x0000100000000000}, edits) == 2);
+    CHECK(edits[0].setter == PELTZIVAR_SET_REQUIRED_INTEGER_DIGITS && edits[0].value == 1);
+    CHECK(edits[1].setter == PELTZIVAR_SET_MANTISSA_RADIX && edits[1].value == 16);
     const peltzivar_edit last = edits[PELTZIVAR_FIELDS - 1];
     CHECK(last.setter == PELTZIVAR_SET_EXPONENT_RADIX && last.value == 0);
     for (size_t i = PELTZIVAR_FIELDS; i < PELTZIVAR_FIELDS + 64; i++) {
@@ -146,26 +147,37 @@ static void test_bytes(void) {
 }
 
 static void test_texts(void) {
-    uint8_t text[256];
+    char text[256];
     memset(text, '#', sizeof text);
     CHECK(is_text("'not actually an error'", peltzivar_description(PELTZIVAR_SUCCESS, text, sizeof text), text));
     memset(text, '#', sizeof text);
     size_t len = peltzivar_text(PELTZIVAR_OVERFLOW, SIZE_MAX, text, sizeof text);
     CHECK(is_text("lexical parse error: 'numeric overflow occurred' at index 18446744073709551615", len, text));
-    for (size_t room = 0; room <= 79; room++) {
+    const char *whole = "lexical number format error: 'invalid flags enabled without the format feature'";
+    for (size_t room = 0; room <= 100; room++) {
+        char wanted[100] = {'#'};
+        snprintf(wanted, room, "%s", whole);
         memset(text, '#', sizeof text);
         CHECK(peltzivar_text(PELTZIVAR_INVALID_FLAGS, 0, text, room) == 79);
-        const char *whole = "lexical number format error: 'invalid flags enabled without the format feature'";
-        CHECK(memcmp(whole, text, room) == 0 && text[room] == '#');
+        CHECK(room == 0 || strcmp(text, wanted) == 0);
+        CHECK(text[room < 80 ? room : 80] == '#');
     }
-    memset(text, '#', sizeof text);
-    CHECK(peltzivar_text(PELTZIVAR_EMPTY, 5, text, 0) == 63 && text[0] == '#');
-    CHECK(peltzivar_text(49, 0, text, sizeof text) == 0 && text[0] == '#');
-    CHECK(peltzivar_description(49, text, sizeof text) == 0 && text[0] == '#');
-    CHECK(peltzivar_setter_name(PELTZIVAR_SET_EXPONENT_RADIX + 1, text, sizeof text) == 0 && text[0] == '#');
+    for (peltzivar_error error = PELTZIVAR_SUCCESS; error <= PELTZIVAR_INVALID_POSITIVE_EXPONENT_BREAK; error++) {
+        CHECK(peltzivar_text(error, SIZE_MAX, text, sizeof text) == strlen(text));
+        CHECK(peltzivar_description(error, text, sizeof text) == strlen(text) && text[0] == '\'');
+    }
+    for (int unknown = 0; unknown < 3; unknown++) {
+        const uint8_t setter = PELTZIVAR_SET_EXPONENT_RADIX + 1;
+        const peltzivar_error error = PELTZIVAR_INVALID_POSITIVE_EXPONENT_BREAK + 1;
+        memset(text, '#', sizeof text);
+        len = unknown == 0   ? peltzivar_setter_name(setter, text, sizeof text)
+              : unknown == 1 ? peltzivar_description(error, text, sizeof text)
+                             : peltzivar_text(error, 0, text, sizeof text);
+        CHECK(is_text("", len, text));
+    }
     for (uint8_t setter = 0; setter <= PELTZIVAR_SET_EXPONENT_RADIX; setter++) {
-        size_t len = peltzivar_setter_name(setter, text, sizeof text);
-        CHECK(peltzivar_setter_of_name(text, len) == setter);
+        len = peltzivar_setter_name(setter, text, sizeof text);
+        CHECK(len == strlen(text) && peltzivar_setter_of_name(text, len) == setter);
         CHECK(peltzivar_setter_of_name(text, len - 1) == PELTZIVAR_NO_SETTER);
     }
     memset(text, '#', sizeof text);

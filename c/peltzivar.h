@@ -6,16 +6,24 @@
  * reserved and 0 in a lawful word.
  *
  * Any word, number, byte or length that fits its type is allowed. A pointer has to point to what its type says, or to as
- * many as the length beside it or the number in brackets says; it may be null only beside a length of 0. What a call writes
- * must not overlap what it reads; *out, the array of peltzivar_edits_of and a text need no values before. No call allocates,
- * keeps a pointer, or sets errno. Calls can be made from several threads at once if what one of them writes is neither read
- * nor written by another thread. */
+ * many as the length beside it or the number in brackets says; it may be null only beside a length of 0. What a call reads
+ * needs a value before, *fields of peltzivar_edit_fields too; *out, the array of peltzivar_edits_of and the text that a call
+ * writes need none. What a call writes must not overlap what it reads. No call allocates, keeps a pointer, or sets errno.
+ * Calls can be made from several threads at once if what one of them writes is neither read nor written by another thread.
+ *
+ * The bits of a word stay as they are for ever. A flag that is added in a new minor version may change the numbers of other
+ * setters and bits of peltzivar_fields: so keep words, or names of setters, and compile with the header of the library. */
 #ifndef PELTZIVAR_H
 #define PELTZIVAR_H
 
 #include <stdbool.h>
 #include <stddef.h>
 #include <stdint.h>
+
+#define PELTZIVAR_VERSION "0.4.0"
+#define PELTZIVAR_VERSION_MAJOR 0
+#define PELTZIVAR_VERSION_MINOR 4
+#define PELTZIVAR_VERSION_PATCH 0
 
 #ifdef __cplusplus
 extern "C" {
@@ -44,15 +52,9 @@ typedef struct {
     uint8_t setter, value;
 } peltzivar_edit;
 
-/* The standard format, which is what a new builder packs, and the fields of a new builder. In C++ they have no address:
- * a variable has to hold them first. */
-#ifdef __cplusplus
-#define PELTZIVAR_STANDARD (peltzivar_word{0xC, 0x00000A0000000000})
-#define PELTZIVAR_NEW_FIELDS (peltzivar_fields{0xC, 0, 0, 0, 10, 0, 0})
-#else
-#define PELTZIVAR_STANDARD ((peltzivar_word){0xC, 0x00000A0000000000})
-#define PELTZIVAR_NEW_FIELDS ((peltzivar_fields){0xC, 0, 0, 0, 10, 0, 0})
-#endif
+/* The standard format, which is what a new builder packs, and the fields of a new builder. */
+static const peltzivar_word PELTZIVAR_STANDARD = {UINT64_C(0xC), UINT64_C(0x00000A0000000000)};
+static const peltzivar_fields PELTZIVAR_NEW_FIELDS = {UINT32_C(0xC), 0, 0, 0, 10, 0, 0};
 
 /* What stands for no setter, no digit, and no digit character. */
 #define PELTZIVAR_NO_SETTER 255
@@ -114,58 +116,59 @@ enum {
 /* How many fields a word has: the flags and six bytes. */
 #define PELTZIVAR_FIELDS (PELTZIVAR_SET_REQUIRED_DIGITS + 6)
 
-/* The outcomes. Those from 0 to 18 are errors of parsing, each with the index at which it was found; 19 to 35 are
- * errors of formats, 36 to 47 of options. */
+/* Success, which is 0, or an error. The errors are numbered by their ranks in the table of outcomes, the first with 1:
+ * those from 1 to 19 are of parsing, each with the index at which it was found; 20 to 36 of formats, 37 to 48 of options. */
+typedef uint32_t peltzivar_error;
 enum {
-    PELTZIVAR_OVERFLOW = 0,
-    PELTZIVAR_UNDERFLOW = 1,
-    PELTZIVAR_INVALID_DIGIT = 2,
-    PELTZIVAR_EMPTY = 3,
-    PELTZIVAR_EMPTY_MANTISSA = 4,
-    PELTZIVAR_EMPTY_EXPONENT = 5,
-    PELTZIVAR_EMPTY_INTEGER = 6,
-    PELTZIVAR_EMPTY_FRACTION = 7,
-    PELTZIVAR_INVALID_POSITIVE_MANTISSA_SIGN = 8,
-    PELTZIVAR_MISSING_MANTISSA_SIGN = 9,
-    PELTZIVAR_INVALID_EXPONENT = 10,
-    PELTZIVAR_INVALID_POSITIVE_EXPONENT_SIGN = 11,
-    PELTZIVAR_MISSING_EXPONENT_SIGN = 12,
-    PELTZIVAR_EXPONENT_WITHOUT_FRACTION = 13,
-    PELTZIVAR_INVALID_LEADING_ZEROS = 14,
-    PELTZIVAR_MISSING_EXPONENT = 15,
-    PELTZIVAR_MISSING_SIGN = 16,
-    PELTZIVAR_INVALID_POSITIVE_SIGN = 17,
-    PELTZIVAR_INVALID_NEGATIVE_SIGN = 18,
-    PELTZIVAR_INVALID_MANTISSA_RADIX = 19,
-    PELTZIVAR_INVALID_EXPONENT_BASE = 20,
-    PELTZIVAR_INVALID_EXPONENT_RADIX = 21,
-    PELTZIVAR_INVALID_DIGIT_SEPARATOR = 22,
-    PELTZIVAR_INVALID_DECIMAL_POINT = 23,
-    PELTZIVAR_INVALID_EXPONENT_SYMBOL = 24,
-    PELTZIVAR_INVALID_BASE_PREFIX = 25,
-    PELTZIVAR_INVALID_BASE_SUFFIX = 26,
-    PELTZIVAR_INVALID_PUNCTUATION = 27,
-    PELTZIVAR_INVALID_EXPONENT_FLAGS = 28,
-    PELTZIVAR_INVALID_MANTISSA_SIGN = 29,
-    PELTZIVAR_INVALID_EXPONENT_SIGN = 30,
-    PELTZIVAR_INVALID_SPECIAL = 31,
-    PELTZIVAR_INVALID_CONSECUTIVE_INTEGER_DIGIT_SEPARATOR = 32,
-    PELTZIVAR_INVALID_CONSECUTIVE_FRACTION_DIGIT_SEPARATOR = 33,
-    PELTZIVAR_INVALID_CONSECUTIVE_EXPONENT_DIGIT_SEPARATOR = 34,
-    PELTZIVAR_INVALID_FLAGS = 35,
-    PELTZIVAR_INVALID_NAN_STRING = 36,
-    PELTZIVAR_NAN_STRING_TOO_LONG = 37,
-    PELTZIVAR_INVALID_INF_STRING = 38,
-    PELTZIVAR_INF_STRING_TOO_LONG = 39,
-    PELTZIVAR_INVALID_INFINITY_STRING = 40,
-    PELTZIVAR_INFINITY_STRING_TOO_LONG = 41,
-    PELTZIVAR_INFINITY_STRING_TOO_SHORT = 42,
-    PELTZIVAR_INVALID_FLOAT_PARSE_ALGORITHM = 43,
-    PELTZIVAR_INVALID_RADIX = 44,
-    PELTZIVAR_INVALID_FLOAT_PRECISION = 45,
-    PELTZIVAR_INVALID_NEGATIVE_EXPONENT_BREAK = 46,
-    PELTZIVAR_INVALID_POSITIVE_EXPONENT_BREAK = 47,
-    PELTZIVAR_SUCCESS = 48,
+    PELTZIVAR_SUCCESS = 0,
+    PELTZIVAR_OVERFLOW = 1,
+    PELTZIVAR_UNDERFLOW = 2,
+    PELTZIVAR_INVALID_DIGIT = 3,
+    PELTZIVAR_EMPTY = 4,
+    PELTZIVAR_EMPTY_MANTISSA = 5,
+    PELTZIVAR_EMPTY_EXPONENT = 6,
+    PELTZIVAR_EMPTY_INTEGER = 7,
+    PELTZIVAR_EMPTY_FRACTION = 8,
+    PELTZIVAR_INVALID_POSITIVE_MANTISSA_SIGN = 9,
+    PELTZIVAR_MISSING_MANTISSA_SIGN = 10,
+    PELTZIVAR_INVALID_EXPONENT = 11,
+    PELTZIVAR_INVALID_POSITIVE_EXPONENT_SIGN = 12,
+    PELTZIVAR_MISSING_EXPONENT_SIGN = 13,
+    PELTZIVAR_EXPONENT_WITHOUT_FRACTION = 14,
+    PELTZIVAR_INVALID_LEADING_ZEROS = 15,
+    PELTZIVAR_MISSING_EXPONENT = 16,
+    PELTZIVAR_MISSING_SIGN = 17,
+    PELTZIVAR_INVALID_POSITIVE_SIGN = 18,
+    PELTZIVAR_INVALID_NEGATIVE_SIGN = 19,
+    PELTZIVAR_INVALID_MANTISSA_RADIX = 20,
+    PELTZIVAR_INVALID_EXPONENT_BASE = 21,
+    PELTZIVAR_INVALID_EXPONENT_RADIX = 22,
+    PELTZIVAR_INVALID_DIGIT_SEPARATOR = 23,
+    PELTZIVAR_INVALID_DECIMAL_POINT = 24,
+    PELTZIVAR_INVALID_EXPONENT_SYMBOL = 25,
+    PELTZIVAR_INVALID_BASE_PREFIX = 26,
+    PELTZIVAR_INVALID_BASE_SUFFIX = 27,
+    PELTZIVAR_INVALID_PUNCTUATION = 28,
+    PELTZIVAR_INVALID_EXPONENT_FLAGS = 29,
+    PELTZIVAR_INVALID_MANTISSA_SIGN = 30,
+    PELTZIVAR_INVALID_EXPONENT_SIGN = 31,
+    PELTZIVAR_INVALID_SPECIAL = 32,
+    PELTZIVAR_INVALID_CONSECUTIVE_INTEGER_DIGIT_SEPARATOR = 33,
+    PELTZIVAR_INVALID_CONSECUTIVE_FRACTION_DIGIT_SEPARATOR = 34,
+    PELTZIVAR_INVALID_CONSECUTIVE_EXPONENT_DIGIT_SEPARATOR = 35,
+    PELTZIVAR_INVALID_FLAGS = 36,
+    PELTZIVAR_INVALID_NAN_STRING = 37,
+    PELTZIVAR_NAN_STRING_TOO_LONG = 38,
+    PELTZIVAR_INVALID_INF_STRING = 39,
+    PELTZIVAR_INF_STRING_TOO_LONG = 40,
+    PELTZIVAR_INVALID_INFINITY_STRING = 41,
+    PELTZIVAR_INFINITY_STRING_TOO_LONG = 42,
+    PELTZIVAR_INFINITY_STRING_TOO_SHORT = 43,
+    PELTZIVAR_INVALID_FLOAT_PARSE_ALGORITHM = 44,
+    PELTZIVAR_INVALID_RADIX = 45,
+    PELTZIVAR_INVALID_FLOAT_PRECISION = 46,
+    PELTZIVAR_INVALID_NEGATIVE_EXPONENT_BREAK = 47,
+    PELTZIVAR_INVALID_POSITIVE_EXPONENT_BREAK = 48,
 };
 
 /* BUILDERS */
@@ -187,7 +190,7 @@ bool peltzivar_build(const peltzivar_fields *fields, const peltzivar_edit *edits
 
 /* Packs the fields as peltzivar_pack does, so without a digit separator that no flag allows. If the word is lawful, writes
  * it to *out and returns PELTZIVAR_SUCCESS; else writes nothing and returns the error of the first rule that it breaks. */
-uint32_t peltzivar_build_strict(const peltzivar_fields *fields, peltzivar_word *out);
+peltzivar_error peltzivar_build_strict(const peltzivar_fields *fields, peltzivar_word *out);
 
 /* WORDS */
 
@@ -200,7 +203,7 @@ peltzivar_word peltzivar_normal_form(peltzivar_word format);
 
 /* Writes the normal form to *out and returns PELTZIVAR_SUCCESS if it is lawful; else writes nothing and returns the
  * error of the first rule that it breaks. */
-uint32_t peltzivar_migrate(peltzivar_word format, peltzivar_word *out);
+peltzivar_error peltzivar_migrate(peltzivar_word format, peltzivar_word *out);
 
 /* Returns whether two words have the same normal form. */
 bool peltzivar_same_format(peltzivar_word a, peltzivar_word b);
@@ -216,10 +219,10 @@ size_t peltzivar_edits_of(peltzivar_word format, peltzivar_edit edits[PELTZIVAR_
 /* RULES */
 
 /* Returns the error of the first rule that a word breaks, or PELTZIVAR_SUCCESS if it is lawful. */
-uint32_t peltzivar_format_error(peltzivar_word format);
+peltzivar_error peltzivar_format_error(peltzivar_word format);
 
 /* Returns the error of the first of the three radixes that is not 2 to 36, or PELTZIVAR_SUCCESS. */
-uint32_t peltzivar_radix_error(peltzivar_word format);
+peltzivar_error peltzivar_radix_error(peltzivar_word format);
 
 /* Returns whether a number is 2 to 36. */
 bool peltzivar_is_valid_radix(uint32_t radix);
@@ -270,20 +273,22 @@ uint32_t peltzivar_char_to_valid_digit_const(uint8_t byte, uint32_t radix);
 bool peltzivar_char_is_digit_const(uint8_t byte, uint32_t radix);
 uint8_t peltzivar_digit_to_char_const(uint32_t digit, uint32_t radix);
 
-/* TEXTS: each is ASCII without a 0 at its end. A call writes as much of it as has room and returns the length of the
- * whole, or writes nothing and returns 0 if there is no such outcome or setter. 256 bytes are enough for each. */
+/* TEXTS: each is ASCII and ends with a 0. As snprintf does, a call writes at most len bytes, the final 0 among them, so the
+ * front of a longer text, and nothing if len is 0; it returns the length of the whole text without that 0. If there is no
+ * such error or setter, the text is empty. 256 bytes are enough for each. */
 
 /* Writes what is wrong, as text between single quotes and without an index. */
-size_t peltzivar_description(uint32_t outcome, uint8_t *text, size_t len);
+size_t peltzivar_description(peltzivar_error error, char *text, size_t len);
 
-/* Writes the class of the outcome, its description, and for an error of parsing the index. */
-size_t peltzivar_text(uint32_t outcome, size_t index, uint8_t *text, size_t len);
+/* Writes what the error is about, its description, and for an error of parsing the index. */
+size_t peltzivar_text(peltzivar_error error, size_t index, char *text, size_t len);
 
 /* Writes the name of a setter: that of its constant in lower case without PELTZIVAR_SET_, such as "digit_separator". */
-size_t peltzivar_setter_name(uint8_t setter, uint8_t *text, size_t len);
+size_t peltzivar_setter_name(uint8_t setter, char *text, size_t len);
 
-/* Returns the setter of a name, or PELTZIVAR_NO_SETTER. */
-uint8_t peltzivar_setter_of_name(const uint8_t *text, size_t len);
+/* Returns the setter of a name, or PELTZIVAR_NO_SETTER. The name is len bytes with no 0 at the end, so it can be a part of
+ * a text, as before the `=` of a setting. */
+uint8_t peltzivar_setter_of_name(const char *name, size_t len);
 
 #ifdef __cplusplus
 }

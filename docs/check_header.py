@@ -1,4 +1,4 @@
-"""What of c/peltzivar.h differs from the exports of lexical_c, and from the tables of setters and outcomes."""
+"""What of c/peltzivar.h differs from the exports of lexical_c, from the tables of setters and outcomes, and from the version."""
 import pathlib
 import re
 
@@ -14,16 +14,19 @@ TYPES = {
     "Word": "peltzivar_word",
     "Fields": "peltzivar_fields",
     "Change": "peltzivar_edit",
+    "ErrorNumber": "peltzivar_error",
 }
+# The slices that are texts in C.
+TEXTS = ("name", "text")
 # What C names otherwise than Rust.
-NAMES = {"changes": "edits", "rank": "outcome"}
+NAMES = {"changes": "edits"}
 
 
 def argument(name, kind):
     """Returns the argument, or the pointer and the length, that stand in C for an argument of an export."""
     name = NAMES.get(name, name)
     reference, slice_of, kind, length = re.fullmatch(r"(&mut |&|)(\[?)(\w+)(?:; (\w+))?\]?", kind).groups()
-    kind = TYPES[kind]
+    kind = "char" if slice_of and name in TEXTS else TYPES[kind]
     if length:
         return f"{kind} {name}[PELTZIVAR_{length}]"
     const = "const " if reference == "&" else ""
@@ -52,10 +55,18 @@ def setters():
 
 
 def outcomes():
-    """Returns the names in C of the outcomes, with their numbers."""
+    """Returns the names in C of the outcomes, with their numbers: 0 for success, and one more than its rank for an error."""
     table = (TOP / "crates/lexical_base/specs/Outcomes.antt").read_text()
     ranks = re.findall(r"^rank_of \(?outcomes\.(\w+).*= (\d+)$", table, re.M)
-    return [(constant(name), number) for name, number in ranks]
+    return [(constant(name), 0 if name == "Success" else int(rank) + 1) for name, rank in ranks]
+
+
+def version():
+    """Returns the lines of the header that say the version of the library."""
+    number = re.search(r'^version = "(.*)"', (TOP / "rust/Cargo.toml").read_text(), re.M)[1]
+    yield f'#define PELTZIVAR_VERSION "{number}"\n'
+    for part, value in zip(("MAJOR", "MINOR", "PATCH"), number.split(".")):
+        yield f"#define PELTZIVAR_VERSION_{part} {value}\n"
 
 
 def header(wanted):
@@ -71,6 +82,7 @@ def header(wanted):
     for name, number in outcomes():
         if HEADER.count(f"    {name} = {number},\n") != 1:
             yield f"not there once: {name} = {number}"
+    yield from (f"has not: {line.strip()}" for line in version() if line not in HEADER)
     # `radix` is one more setter.
     if len(names) != wanted["fields"] + wanted["groups"] + 1 or len(outcomes()) != wanted["outcomes"]:
         yield f"{len(names)} setters and {len(outcomes())} outcomes are named"

@@ -94,7 +94,8 @@ impl Section<'_> {
         input: impl Fn(&mut Random) -> I,
         call: impl Fn(&Exports, &I, *mut u8, usize) -> usize,
     ) {
-        let with_room = |random: &mut Random| (input(random), random.below(200) as usize);
+        let room = |random: &mut Random| random.below(if random.one_in(4) { 4 } else { 200 }) as usize;
+        let with_room = |random: &mut Random| (input(random), room(random));
         self.on_random(with_room, |exports, (input, room)| {
             let mut text = vec![UNTOUCHED; room + 8];
             (call(exports, input, text.as_mut_ptr(), *room), text)
@@ -161,8 +162,8 @@ fn masks(random: &mut Random) -> (Word, Word, u32) {
     (random.word().into(), mask.into(), shift)
 }
 
-/// The rank of an outcome, sometimes one of none.
-fn rank(random: &mut Random) -> u32 {
+/// The number of an error, or of success, and sometimes one of none.
+fn error(random: &mut Random) -> u32 {
     if random.one_in(16) {
         random.next() as u32
     } else {
@@ -170,10 +171,10 @@ fn rank(random: &mut Random) -> u32 {
     }
 }
 
-/// A rank, and an index of any length in decimal.
-fn outcome(random: &mut Random) -> (u32, usize) {
+/// The number of an error, and an index of any length in decimal.
+fn error_at(random: &mut Random) -> (u32, usize) {
     let digits = random.below(64);
-    (rank(random), (random.next() >> digits) as usize)
+    (error(random), (random.next() >> digits) as usize)
 }
 
 fn setter(random: &mut Random) -> u8 {
@@ -273,8 +274,8 @@ const COMPARED: &[(&str, Compare)] = compared! {
     });
     char_is_digit_const: on_digits(|it, byte, radix| unsafe { (it.char_is_digit_const)(byte, radix) });
     digit_to_char_const: on_digits(|it, digit, radix| unsafe { (it.digit_to_char_const)(digit.into(), radix) });
-    description: on_texts(rank, |it, rank, text, room| unsafe { (it.description)(*rank, text, room) });
-    text: on_texts(outcome, |it, (rank, index), text, room| unsafe { (it.text)(*rank, *index, text, room) });
+    description: on_texts(error, |it, error, text, room| unsafe { (it.description)(*error, text, room) });
+    text: on_texts(error_at, |it, (error, index), text, room| unsafe { (it.text)(*error, *index, text, room) });
     setter_name: on_texts(setter, |it, setter, text, room| unsafe { (it.setter_name)(*setter, text, room) });
     setter_of_name: on_random(name, |it, name| unsafe { (it.setter_of_name)(name.as_ptr(), name.len()) });
 };

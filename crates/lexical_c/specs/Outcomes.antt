@@ -23,8 +23,8 @@ pub record IsNumberOfOne (P : Error → Type 0) (number : ℕ) : Type 0 where
   pub holds : P outcome
   pub number_is : error_number outcome ≡ number
 
--- a lawful word was written, or else nothing, and the number of its error was returned
-pub record IsKept (word returned old new : ℕ) : Type 0 where
+-- a word was written if it is lawful, and nothing if not, and the number of its error was returned
+pub record IsWrittenIfLawful (word returned old new : ℕ) : Type 0 where
   pub error : IsNumberOfOne (IsErrorOf word) returned
   pub lawful : (returned ≡ SUCCESS) ↔ Lawful word
   pub written : returned ≡ SUCCESS → new ≡ word

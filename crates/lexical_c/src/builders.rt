@@ -7,11 +7,11 @@ ghost use Rattle.lexical_util.specs.Writes.{after};
 ghost use Rattle.lexical_util.specs.Edits.{all_writes};
 ghost use Rattle.lexical_c.specs.Words.{fields_of};
 ghost use Rattle.lexical_c.specs.Edits.{HasSetter, known};
-ghost use Rattle.lexical_c.specs.Outcomes.{IsKept};
+ghost use Rattle.lexical_c.specs.Outcomes.{IsWrittenIfLawful};
 
 use crate::changes::Change;
 use crate::edits::apply_changes;
-use crate::outcomes::{ErrorNumber, keep};
+use crate::outcomes::{ErrorNumber, write_if_lawful};
 use crate::words::{Fields, Word};
 use lexical_util::format_builder::NumberFormatBuilder;
 
@@ -71,7 +71,7 @@ pub extern "C" fn peltzivar_build(fields: &Fields, changes: &[Change], out: &mut
 /// number of its error.
 #[unsafe(no_mangle)]
 pub extern "C" fn peltzivar_build_strict(fields: &Fields, out: &mut Word) -> ErrorNumber
-    ensures { IsKept (pack (fields_of fields.now)) result out.old out.new }
+    ensures { IsWrittenIfLawful (pack (fields_of fields.now)) result out.old out.new }
 {
-    keep(fields.builder().build_strict(), out)
+    write_if_lawful(fields.builder().build_strict(), out)
 }

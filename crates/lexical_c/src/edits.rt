@@ -8,10 +8,10 @@ ghost use Rattle.lexical_util.specs.Listing.{IsBuiltByWrites, changing, unchangi
 ghost use Rattle.lexical_util.specs.Normal.{normal_form_of, SameFormat, IsNormal};
 ghost use Rattle.lexical_util.specs.Writes.{Write, IsLegal, new_record, after};
 ghost use Rattle.lexical_c.specs.Edits.{HasSetter, known};
-ghost use Rattle.lexical_c.specs.Outcomes.{IsKept};
+ghost use Rattle.lexical_c.specs.Outcomes.{IsWrittenIfLawful};
 
 use crate::changes::Change;
-use crate::outcomes::{ErrorNumber, keep};
+use crate::outcomes::{ErrorNumber, write_if_lawful};
 use crate::words::Word;
 use lexical_util::edits;
 use lexical_util::edits::{FIELDS, apply};
@@ -70,9 +70,9 @@ pub extern "C" fn peltzivar_normal_form(format: Word) -> Word
 /// the number of its error.
 #[unsafe(no_mangle)]
 pub extern "C" fn peltzivar_migrate(format: Word, out: &mut Word) -> ErrorNumber
-    ensures { IsKept (normal_form_of format) result out.old out.new }
+    ensures { IsWrittenIfLawful (normal_form_of format) result out.old out.new }
 {
-    keep(edits::migrate(format.number()), out)
+    write_if_lawful(edits::migrate(format.number()), out)
 }
 
 /// Returns whether two words mean the same, that is, have the same normal form.

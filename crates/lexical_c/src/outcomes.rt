@@ -4,7 +4,7 @@ ghost use Rattle.std.specs.Prelude.{◌≡◌, ◌≢◌, ◌↔◌, ◌<◌, �
 ghost use Rattle.std.specs.Result.{OkIff};
 ghost use Rattle.lexical_util.specs.Outcomes.{IsAt, description_of, printed_text};
 ghost use Rattle.lexical_util.specs.Rules.{Lawful, IsErrorOf};
-ghost use Rattle.lexical_c.specs.Outcomes.{outcome_count, error_number, SUCCESS, IsNumberOfOne, IsKept};
+ghost use Rattle.lexical_c.specs.Outcomes.{outcome_count, error_number, SUCCESS, IsNumberOfOne, IsWrittenIfLawful};
 ghost use Rattle.lexical_c.specs.Texts.{IsWritten};
 
 use crate::texts::{Text, write_text};
@@ -30,9 +30,9 @@ pub fn error_number(error: Error) -> ErrorNumber
 
 /// Writes the word and returns 0, or writes nothing and returns the number of the error.
 #[inline(always)]
-pub fn keep(word: Result<u128, Error>, out: &mut Word) -> ErrorNumber
+pub fn write_if_lawful(word: Result<u128, Error>, out: &mut Word) -> ErrorNumber
     ensures { (lawful : ℕ) → OkIff word (Lawful lawful) lawful → IfErr word (IsErrorOf lawful)
-        → word ≢ Err Error.Success → IsKept lawful result out.old out.new }
+        → word ≢ Err Error.Success → IsWrittenIfLawful lawful result out.old out.new }
 {
     rule_facts();
     match word {

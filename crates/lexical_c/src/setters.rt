@@ -19,7 +19,7 @@ pub extern "C" fn peltzivar_setter_name(setter: u8, text: &mut [u8]) -> usize
     ensures unknown { (setter < setter_count → ⊥) → IsWritten [] result text.old text.new }
 {
     if setter < SETTER_COUNT {
-        write_text(name(setter).as_bytes(), text)
+        write_text(name_of(setter).as_bytes(), text)
     } else {
         write_text(b"", text)
     }
@@ -27,13 +27,13 @@ pub extern "C" fn peltzivar_setter_name(setter: u8, text: &mut [u8]) -> usize
 
 /// Returns the number of the setter of this name, or 255 if there is none.
 #[unsafe(no_mangle)]
-pub extern "C" fn peltzivar_setter_of_name(text: &[u8]) -> u8
-    ensures named { result < setter_count → name_of_setter result ≡ text.now }
+pub extern "C" fn peltzivar_setter_of_name(name: &[u8]) -> u8
+    ensures named { result < setter_count → name_of_setter result ≡ name.now }
     ensures none { (result < setter_count → ⊥) → (result ≡ 255)
-        × ((setter : ℕ) → setter < setter_count → name_of_setter setter ≡ text.now → ⊥) }
+        × ((setter : ℕ) → setter < setter_count → name_of_setter setter ≡ name.now → ⊥) }
 {
     for setter in 0..SETTER_COUNT {
-        if name(setter).as_bytes() == text {
+        if name_of(setter).as_bytes() == name {
             return setter;
         }
     }
@@ -41,7 +41,7 @@ pub extern "C" fn peltzivar_setter_of_name(text: &[u8]) -> u8
 }
 
 // The name of a setter.
-fn name(setter: u8) -> &'static str
+fn name_of(setter: u8) -> &'static str
     requires { setter < setter_count }
     ensures { result.now ≡ name_of_setter setter }
 {

@@ -4,7 +4,7 @@
 
 use crate::changes::Change;
 use crate::edits::apply_changes;
-use crate::rules::checked;
+use crate::outcomes::{write_if_lawful, ErrorNumber};
 use crate::words::{Fields, Word};
 use peltzivar::format_builder::NumberFormatBuilder;
 
@@ -55,9 +55,9 @@ pub unsafe extern "C" fn peltzivar_build(
     true
 }
 
-/// Packs the fields into a word. If it is lawful, writes it and returns 48; else writes nothing and returns
-/// the rank of its error.
+/// Packs the fields into a word. If it is lawful, writes it and returns 0; else writes nothing and returns the
+/// number of its error.
 #[unsafe(no_mangle)]
-pub extern "C" fn peltzivar_build_strict(fields: &Fields, out: &mut Word) -> u32 {
-    checked(fields.builder().build_unchecked(), out)
+pub extern "C" fn peltzivar_build_strict(fields: &Fields, out: &mut Word) -> ErrorNumber {
+    write_if_lawful(fields.builder().build_strict(), out)
 }

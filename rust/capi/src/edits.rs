@@ -3,7 +3,7 @@
 //! Edits of words.
 
 use crate::changes::Change;
-use crate::rules::checked;
+use crate::outcomes::{write_if_lawful, ErrorNumber};
 use crate::words::Word;
 use peltzivar::edits;
 use peltzivar::edits::{apply, FIELDS};
@@ -50,11 +50,11 @@ pub extern "C" fn peltzivar_normal_form(format: Word) -> Word {
     Word::new(edits::normal_form(format.number()))
 }
 
-/// Writes the normal form of a word and returns 48 if the normal form is lawful; else writes nothing and
-/// returns the rank of its error.
+/// Writes the normal form of a word and returns 0 if the normal form is lawful; else writes nothing and returns
+/// the number of its error.
 #[unsafe(no_mangle)]
-pub extern "C" fn peltzivar_migrate(format: Word, out: &mut Word) -> u32 {
-    checked(edits::normal_form(format.number()), out)
+pub extern "C" fn peltzivar_migrate(format: Word, out: &mut Word) -> ErrorNumber {
+    write_if_lawful(edits::migrate(format.number()), out)
 }
 
 /// Returns whether two words mean the same, that is, have the same normal form.

@@ -2,31 +2,21 @@
 
 //! The rules of words.
 
+use crate::outcomes::{error_number, ErrorNumber};
 use crate::words::Word;
 use peltzivar::format_flags as flags;
 use peltzivar::word::format_error;
 
-/// Writes a word and returns 48 if it is lawful; else writes nothing and returns the rank of its error.
-#[must_use]
-#[inline(always)]
-pub fn checked(word: u128, out: &mut Word) -> u32 {
-    let error = format_error(word);
-    if error.is_success() {
-        *out = Word::new(word);
-    }
-    error.rank() as u32
+/// Returns the number of the error of the first rule that a word breaks, or 0 if it is lawful.
+#[unsafe(no_mangle)]
+pub extern "C" fn peltzivar_format_error(format: Word) -> ErrorNumber {
+    error_number(format_error(format.number()))
 }
 
-/// Returns the rank of the error of the first rule that a word breaks, or 48 if it is lawful.
+/// Returns the number of the error of the first of the three radixes that is not 2 to 36, or 0.
 #[unsafe(no_mangle)]
-pub extern "C" fn peltzivar_format_error(format: Word) -> u32 {
-    format_error(format.number()).rank() as u32
-}
-
-/// Returns the rank of the error of the first of the three radixes that is not 2 to 36, or 48.
-#[unsafe(no_mangle)]
-pub extern "C" fn peltzivar_radix_error(format: Word) -> u32 {
-    flags::radix_error_impl(format.number()).rank() as u32
+pub extern "C" fn peltzivar_radix_error(format: Word) -> ErrorNumber {
+    error_number(flags::radix_error_impl(format.number()))
 }
 
 /// Returns whether a number is 2 to 36.

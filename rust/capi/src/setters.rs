@@ -20,19 +20,19 @@ pub unsafe extern "C" fn peltzivar_setter_name(
     // SAFETY: c/peltzivar.h asks this of its callers.
     let text = unsafe { crate::slices::of_mut(text, text_len) };
     if setter < SETTER_COUNT {
-        write_text(name(setter).as_bytes(), text)
+        write_text(name_of(setter).as_bytes(), text)
     } else {
-        0
+        write_text(b"", text)
     }
 }
 
 /// Returns the number of the setter of this name, or 255 if there is none.
 #[unsafe(no_mangle)]
-pub unsafe extern "C" fn peltzivar_setter_of_name(text: *const u8, text_len: usize) -> u8 {
+pub unsafe extern "C" fn peltzivar_setter_of_name(name: *const u8, name_len: usize) -> u8 {
     // SAFETY: c/peltzivar.h asks this of its callers.
-    let text = unsafe { crate::slices::of(text, text_len) };
+    let name = unsafe { crate::slices::of(name, name_len) };
     for setter in 0..SETTER_COUNT {
-        if name(setter).as_bytes() == text {
+        if name_of(setter).as_bytes() == name {
             return setter;
         }
     }
@@ -40,7 +40,7 @@ pub unsafe extern "C" fn peltzivar_setter_of_name(text: *const u8, text_len: usi
 }
 
 // The name of a setter.
-fn name(setter: u8) -> &'static str {
+fn name_of(setter: u8) -> &'static str {
     if setter < FIRST_BYTE {
         return SETTERS[setter as usize].name();
     }

@@ -1,29 +1,58 @@
 // Made by rust/erase from crates/lexical_c/src/texts.rt: change that file.
 
-//! Texts that are written into a buffer as far as it has room.
+//! Texts that are written into a buffer with a 0 at their end.
 
-/// Writes a text from the start of a buffer on, as much as has room, and returns the length of the whole.
+use core::fmt;
+use peltzivar::error::Sink;
+
+/// Writes a text and a final 0 from the start of a buffer on, of the text as much as leaves room for the 0, and
+/// returns the length of the whole text.
 #[must_use]
 pub fn write_text(text: &[u8], out: &mut [u8]) -> usize {
-    let count = text.len().min(out.len());
-    out[..count].copy_from_slice(&text[..count]);
+    if !out.is_empty() {
+        let count = text.len().min(out.len() - 1);
+        out[..count].copy_from_slice(&text[..count]);
+        out[count] = 0;
+    }
     text.len()
 }
 
-/// Writes a text after one of length `end`, and returns the length of both.
-#[must_use]
-pub fn write_after(text: &[u8], out: &mut [u8], end: usize) -> usize {
-    let (_, rest) = out.split_at_mut(end.min(out.len()));
-    end + write_text(text, rest)
+// More bytes than any text of an outcome has.
+const ROOM: usize = 256;
+
+/// A text that is put together from pieces. A piece that has no room is left out.
+pub struct Text {
+    bytes: [u8; ROOM],
+    len: usize,
 }
 
-/// Writes a number in decimal after a text of length `end`, and returns the length of both.
-#[must_use]
-pub fn write_decimal(number: usize, out: &mut [u8], end: usize) -> usize {
-    let end = if number < 10 {
-        end
-    } else {
-        write_decimal(number / 10, out, end)
-    };
-    write_after(&[b'0' + (number % 10) as u8], out, end)
+impl Text {
+    /// Returns an empty text.
+    #[must_use]
+    pub fn new() -> Text {
+        Text {
+            bytes: [0; ROOM],
+            len: 0,
+        }
+    }
+
+    /// Writes the text as [`write_text`] does.
+    #[must_use]
+    pub fn write_to(self, out: &mut [u8]) -> usize {
+        let Text { bytes, len } = self;
+        write_text(&bytes[..len], out)
+    }
+}
+
+// It never fails.
+impl Sink for Text {
+    fn put(&mut self, piece: &str) -> fmt::Result {
+        let piece = piece.as_bytes();
+        let end = self.len + piece.len();
+        if end <= ROOM {
+            self.bytes[self.len..end].copy_from_slice(piece);
+            self.len = end;
+        }
+        Ok(())
+    }
 }

@@ -10,7 +10,7 @@ loop-setter-preserved c setter below named = elim (cases_lt setter c.loop-setter
   | inl less ↦ c.loop-setter.invariant setter less named
   | inr last ↦
       let same : c.loop-setter.setter ≡ setter = omega arith in
-      let decides = bytes_eq-Decides c.as_bytes.result.now c.args.text.now in
+      let decides = bytes_eq-Decides c.as_bytes.result.now c.args.name.now in
       let other = not_from_Decides _ decides (sym c.eq.ensures ∙ c.if-eq.false) in
-      other (c.as_bytes.ensures.value ∙ c.name.ensures ∙ ap name_of_setter same ∙ named)
+      other (c.as_bytes.ensures.value ∙ c.name_of.ensures ∙ ap name_of_setter same ∙ named)
 ]

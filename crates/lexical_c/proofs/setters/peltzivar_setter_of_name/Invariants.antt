@@ -4,4 +4,4 @@ use Rattle.lexical_c.proofs.setters.peltzivar_setter_of_name.Given as goal
 
 -- no setter so far has the name
 abbrev pub invariant-loop-setter : goal.invariant-loop-setter
-invariant-loop-setter l = (setter : ℕ) → setter < l.setter → name_of_setter setter ≡ l.text → ⊥
+invariant-loop-setter l = (setter : ℕ) → setter < l.setter → name_of_setter setter ≡ l.name → ⊥

@@ -2,7 +2,7 @@ use Rattle.std.proofs.Common.{◌≡◌, Err, refl, sym, ap, ◌∙◌}
 use Rattle.lexical_util.specs.declared.error.Error.TheVariants as errors
 use Rattle.lexical_c.specs.Outcomes.{SUCCESS}
 use Rattle.lexical_c.proofs.OutcomeLemmas.{no_error}
-use Rattle.lexical_c.proofs.outcomes.keep.Goals as goal
+use Rattle.lexical_c.proofs.outcomes.write_if_lawful.Goals as goal
 
 pub returns-in-Ok : goal.returns-in-Ok
 returns-in-Ok c word ok error not =
