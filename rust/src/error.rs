@@ -703,8 +703,7 @@ impl Error {
     }
 
     /// Puts the text that `Display` prints into a sink, whatever options it has. Fails only if the sink does.
-    #[must_use]
-    pub fn put_into<S: Sink>(&self, out: &mut S) -> fmt::Result {
+    pub fn put_into<S: Sink>(&self, out: &mut S) -> Result<(), fmt::Error> {
         match self.class() {
             Class::Parse => {
                 out.put("lexical parse error: ")?;

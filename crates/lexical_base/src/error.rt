@@ -775,7 +775,7 @@ impl Error {
     }
 
     /// Puts the text that `Display` prints into a sink, whatever options it has. Fails only if the sink does.
-    pub fn put_into<S: Sink>(&self, out: &mut S) -> fmt::Result
+    pub fn put_into<S: Sink>(&self, out: &mut S) -> Result<(), fmt::Error>
         ensures text { OnOk result (WritesInCalls S.takes out.old (printed_text self.now) out.new) }
         ensures failed { IsErr result → S.has_failed out.new }
         ensures short { OnOk result (length (printed_text self.now) < 256) }
