@@ -13,18 +13,15 @@ TYPES = {
     "usize": "size_t",
     "Word": "peltzivar_word",
     "Fields": "peltzivar_fields",
-    "Change": "peltzivar_edit",
+    "NumberedEdit": "peltzivar_edit",
     "ErrorNumber": "peltzivar_error",
 }
 # The slices that are texts in C.
 TEXTS = ("name", "text")
-# What C names otherwise than Rust.
-NAMES = {"changes": "edits"}
 
 
 def argument(name, kind):
     """Returns the argument, or the pointer and the length, that stand in C for an argument of an export."""
-    name = NAMES.get(name, name)
     reference, slice_of, kind, length = re.fullmatch(r"(&mut |&|)(\[?)(\w+)(?:; (\w+))?\]?", kind).groups()
     kind = "char" if slice_of and name in TEXTS else TYPES[kind]
     if length:
@@ -48,9 +45,9 @@ def constant(name):
 
 def setters():
     """Returns the names in C of the setters, in the order of their numbers."""
-    edits = (TOP / "crates/lexical_util/src/edits.rt").read_text()
+    edits, numbers = ((TOP / f"crates/lexical_util/src/edits{it}.rt").read_text() for it in ("", "/numbers"))
     variants = re.search(r"pub enum FlagSetter \{(.*?)^\}", edits, re.M | re.S)[1]
-    names = re.findall(r"^    (\w+),", variants, re.M) + re.findall(r"\d+ => Some\(Edit::(\w+)\(", EXPORTS)
+    names = re.findall(r"^    (\w+),", variants, re.M) + re.findall(r"\d+ => Some\(Edit::(\w+)\(", numbers)
     return [constant(f"SET_{name}") for name in names]
 
 

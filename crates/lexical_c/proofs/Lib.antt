@@ -1,4 +1,5 @@
 mod FieldLemmas
-mod ChangeLemmas
+mod EditLemmas
 mod TextLemmas
 mod OutcomeLemmas
+mod NameLemmas

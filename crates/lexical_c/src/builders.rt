@@ -9,10 +9,9 @@ ghost use Rattle.lexical_c.specs.Words.{fields_of};
 ghost use Rattle.lexical_c.specs.Edits.{HasSetter, known};
 ghost use Rattle.lexical_c.specs.Outcomes.{IsWrittenIfLawful};
 
-use crate::changes::Change;
-use crate::edits::apply_changes;
+use crate::edits::apply_edits;
 use crate::outcomes::{ErrorNumber, write_if_lawful};
-use crate::words::{Fields, Word};
+use crate::words::{Fields, NumberedEdit, Word};
 use lexical_util::format_builder::NumberFormatBuilder;
 
 /// Returns the fields of a word, empty exponent bytes filled from its mantissa radix. The bits above the flags are 0.
@@ -24,17 +23,17 @@ pub extern "C" fn peltzivar_fields_of(format: Word) -> Fields
     Fields::new(&NumberFormatBuilder::rebuild(format.number()))
 }
 
-/// Applies the changes to the fields in order, clears the bits above the flags and returns `true`. If one of the
-/// changes has no setter, it returns `false` and leaves the fields as they were.
+/// Applies the edits to the fields in order, clears the bits above the flags and returns `true`. If one of
+/// them has no setter, it returns `false` and leaves the fields as they were.
 #[unsafe(no_mangle)]
-pub extern "C" fn peltzivar_edit_fields(fields: &mut Fields, changes: &[Change]) -> bool
-    ensures known { IsTrue result ↔ All HasSetter changes.now }
+pub extern "C" fn peltzivar_edit_fields(fields: &mut Fields, edits: &[NumberedEdit]) -> bool
+    ensures known { IsTrue result ↔ All HasSetter edits.now }
     ensures fields { IsTrue result → fields_of fields.new
-        ≡ after (fields_of fields.old) (all_writes (known changes.now)) }
+        ≡ after (fields_of fields.old) (all_writes (known edits.now)) }
     ensures clear { IsTrue result → fields.new.flags < 2 ^ length flags }
     ensures unchanged { IsFalse result → fields.new ≡ fields.old }
 {
-    let Some(builder) = apply_changes(fields.builder(), changes) else {
+    let Some(builder) = apply_edits(fields.builder(), edits) else {
         return false;
     };
     *fields = Fields::new(&builder);
@@ -51,16 +50,16 @@ pub extern "C" fn peltzivar_pack(fields: &Fields) -> Word
     Word::new(fields.builder().build_unchecked())
 }
 
-/// Applies the changes to the fields in order, writes the word that they are packed into and returns `true`.
+/// Applies the edits to the fields in order, writes the word that they are packed into and returns `true`.
 /// If one of them has no setter, it returns `false` and writes nothing.
 #[unsafe(no_mangle)]
-pub extern "C" fn peltzivar_build(fields: &Fields, changes: &[Change], out: &mut Word) -> bool
-    ensures known { IsTrue result ↔ All HasSetter changes.now }
-    ensures word { IsTrue result → out.new ≡ pack (after (fields_of fields.now) (all_writes (known changes.now))) }
+pub extern "C" fn peltzivar_build(fields: &Fields, edits: &[NumberedEdit], out: &mut Word) -> bool
+    ensures known { IsTrue result ↔ All HasSetter edits.now }
+    ensures word { IsTrue result → out.new ≡ pack (after (fields_of fields.now) (all_writes (known edits.now))) }
     ensures clean { IsTrue result → IsClean out.new }
     ensures unchanged { IsFalse result → out.new ≡ out.old }
 {
-    let Some(builder) = apply_changes(fields.builder(), changes) else {
+    let Some(builder) = apply_edits(fields.builder(), edits) else {
         return false;
     };
     *out = Word::new(builder.build_unchecked());

@@ -1,35 +1,34 @@
 //! Edits of words.
 
-ghost use Rattle.std.specs.Prelude.{◌≡◌, ◌↔◌, ◌++◌, ◌≤◌, IsTrue, IsFalse, IsSome, IfSome, List, All, length, take};
+ghost use Rattle.std.specs.Prelude.{◌≡◌, ◌↔◌, ◌++◌, ◌≤◌, IsTrue, IsFalse, IsSome, IfSome, List, All, length, map, take};
 ghost use Rattle.lexical_util.specs.Layout.{IsClean};
 ghost use Rattle.lexical_util.specs.Record.{raw, fill, trim, pack, IsBuilt};
 ghost use Rattle.lexical_util.specs.Edits.{all_writes, edited};
 ghost use Rattle.lexical_util.specs.Listing.{IsBuiltByWrites, changing, unchanging};
 ghost use Rattle.lexical_util.specs.Normal.{normal_form_of, SameFormat, IsNormal};
 ghost use Rattle.lexical_util.specs.Writes.{Write, IsLegal, new_record, after};
-ghost use Rattle.lexical_c.specs.Edits.{HasSetter, known};
+ghost use Rattle.lexical_c.specs.Edits.{HasSetter, known, numbered};
 ghost use Rattle.lexical_c.specs.Outcomes.{IsWrittenIfLawful};
 
-use crate::changes::Change;
 use crate::outcomes::{ErrorNumber, write_if_lawful};
-use crate::words::Word;
+use crate::words::{NumberedEdit, Word};
 use lexical_util::edits;
-use lexical_util::edits::{FIELDS, apply};
+use lexical_util::edits::{Edit, FIELDS, apply, edits_of};
 use lexical_util::format_builder::NumberFormatBuilder;
 use lexical_util::laws::write_facts;
 
-/// Applies the changes to a builder in order. Returns `None` if one of them has no setter.
+/// Applies the edits to a builder in order. Returns `None` if one of them has no setter.
 #[inline(always)]
-pub fn apply_changes(
+pub fn apply_edits(
     mut builder: NumberFormatBuilder,
-    changes: &[Change],
+    edits: &[NumberedEdit],
 ) -> Option<NumberFormatBuilder>
-    ensures known { IsSome result ↔ All HasSetter changes.now }
-    ensures fields { IfSome result (λ applied. applied ≡ after builder (all_writes (known changes.now))) }
+    ensures known { IsSome result ↔ All HasSetter edits.now }
+    ensures fields { IfSome result (λ applied. applied ≡ after builder (all_writes (known edits.now))) }
 {
     write_facts();
-    for change in changes {
-        let Some(edit) = change.edit() else {
+    for edit in edits {
+        let Some(edit) = Edit::from_number(edit.setter, edit.value) else {
             return None;
         };
         builder = apply(builder, edit);
@@ -37,18 +36,18 @@ pub fn apply_changes(
     Some(builder)
 }
 
-/// Applies the changes to a word in order, writes the new word and returns `true`. If one of them has no
+/// Applies the edits to a word in order, writes the new word and returns `true`. If one of them has no
 /// setter, it returns `false` and writes nothing.
 #[unsafe(no_mangle)]
-pub extern "C" fn peltzivar_edit_word(format: Word, changes: &[Change], out: &mut Word) -> bool
-    ensures known { IsTrue result ↔ All HasSetter changes.now }
-    ensures word { IsTrue result → out.new ≡ edited format (all_writes (known changes.now)) }
-    ensures fields { IsTrue result → raw out.new ≡ trim (after (fill (raw format)) (all_writes (known changes.now))) }
+pub extern "C" fn peltzivar_edit_word(format: Word, edits: &[NumberedEdit], out: &mut Word) -> bool
+    ensures known { IsTrue result ↔ All HasSetter edits.now }
+    ensures word { IsTrue result → out.new ≡ edited format (all_writes (known edits.now)) }
+    ensures fields { IsTrue result → raw out.new ≡ trim (after (fill (raw format)) (all_writes (known edits.now))) }
     ensures clean { IsTrue result → IsClean out.new }
     ensures unchanged { IsFalse result → out.new ≡ out.old }
 {
     let start = NumberFormatBuilder::rebuild(format.number());
-    let Some(builder) = apply_changes(start, changes) else {
+    let Some(builder) = apply_edits(start, edits) else {
         return false;
     };
     *out = Word::new(builder.build_unchecked());
@@ -93,21 +92,27 @@ pub extern "C" fn peltzivar_is_built(format: Word) -> bool
     edits::is_built(format.number())
 }
 
-/// Writes one change for each field, with the field's value in the word, and returns how many of
-/// them make these fields from those of a new builder. These come first, and no shorter list of changes
-/// of single fields makes a word that a builder can pack.
+/// Writes one edit for each field, with the field's value in the word, and returns how many of them make these
+/// fields from those of a new builder. These come first, and no shorter list of edits of single fields makes a
+/// word that a builder can pack.
 #[unsafe(no_mangle)]
-pub extern "C" fn peltzivar_edits_of(format: Word, changes: &mut [Change; FIELDS]) -> usize
-    ensures each { All HasSetter changes.new }
-    ensures list { known changes.new ≡ changing (raw format) ++ unchanging (raw format) }
+pub extern "C" fn peltzivar_edits_of(format: Word, edits: &mut [NumberedEdit; FIELDS]) -> usize
+    ensures numbers { edits.new ≡ map numbered (changing (raw format) ++ unchanging (raw format)) }
+    ensures each { All HasSetter edits.new }
+    ensures list { known edits.new ≡ changing (raw format) ++ unchanging (raw format) }
     ensures number { result ≡ length (changing (raw format)) }
-    ensures first { after new_record (all_writes (take result (known changes.new))) ≡ raw format }
+    ensures legal { All IsLegal (all_writes (known edits.new)) }
+    ensures first { after new_record (all_writes (take result (known edits.new))) ≡ raw format }
+    ensures whole { after new_record (all_writes (known edits.new)) ≡ raw format }
     ensures fewest { (writes : List Write) → All IsLegal writes
         → pack (after new_record writes) ≡ format → result ≤ length writes }
 {
-    let (edits, count) = edits::edits_of(format.number());
-    for index in 0..edits.len() {
-        changes[index] = Change::new(edits[index]);
+    let (list, count) = edits_of(format.number());
+    for index in 0..list.len() {
+        edits[index] = NumberedEdit {
+            setter: list[index].number(),
+            value: list[index].byte(),
+        };
     }
     count
 }

@@ -9,7 +9,6 @@
 
 mod builders;
 mod bytes;
-mod changes;
 mod edits;
 mod laws;
 mod outcomes;

@@ -2,10 +2,9 @@
 
 //! Builders, which are structs of fields here.
 
-use crate::changes::Change;
-use crate::edits::apply_changes;
+use crate::edits::apply_edits;
 use crate::outcomes::{write_if_lawful, ErrorNumber};
-use crate::words::{Fields, Word};
+use crate::words::{Fields, NumberedEdit, Word};
 use peltzivar::format_builder::NumberFormatBuilder;
 
 /// Returns the fields of a word, empty exponent bytes filled from its mantissa radix. The bits above the flags are 0.
@@ -14,17 +13,17 @@ pub extern "C" fn peltzivar_fields_of(format: Word) -> Fields {
     Fields::new(&NumberFormatBuilder::rebuild(format.number()))
 }
 
-/// Applies the changes to the fields in order, clears the bits above the flags and returns `true`. If one of the
-/// changes has no setter, it returns `false` and leaves the fields as they were.
+/// Applies the edits to the fields in order, clears the bits above the flags and returns `true`. If one of
+/// them has no setter, it returns `false` and leaves the fields as they were.
 #[unsafe(no_mangle)]
 pub unsafe extern "C" fn peltzivar_edit_fields(
     fields: &mut Fields,
-    changes: *const Change,
-    changes_len: usize,
+    edits: *const NumberedEdit,
+    edits_len: usize,
 ) -> bool {
     // SAFETY: c/peltzivar.h asks this of its callers.
-    let changes = unsafe { crate::slices::of(changes, changes_len) };
-    let Some(builder) = apply_changes(fields.builder(), changes) else {
+    let edits = unsafe { crate::slices::of(edits, edits_len) };
+    let Some(builder) = apply_edits(fields.builder(), edits) else {
         return false;
     };
     *fields = Fields::new(&builder);
@@ -37,18 +36,18 @@ pub extern "C" fn peltzivar_pack(fields: &Fields) -> Word {
     Word::new(fields.builder().build_unchecked())
 }
 
-/// Applies the changes to the fields in order, writes the word that they are packed into and returns `true`.
+/// Applies the edits to the fields in order, writes the word that they are packed into and returns `true`.
 /// If one of them has no setter, it returns `false` and writes nothing.
 #[unsafe(no_mangle)]
 pub unsafe extern "C" fn peltzivar_build(
     fields: &Fields,
-    changes: *const Change,
-    changes_len: usize,
+    edits: *const NumberedEdit,
+    edits_len: usize,
     out: &mut Word,
 ) -> bool {
     // SAFETY: c/peltzivar.h asks this of its callers.
-    let changes = unsafe { crate::slices::of(changes, changes_len) };
-    let Some(builder) = apply_changes(fields.builder(), changes) else {
+    let edits = unsafe { crate::slices::of(edits, edits_len) };
+    let Some(builder) = apply_edits(fields.builder(), edits) else {
         return false;
     };
     *out = Word::new(builder.build_unchecked());

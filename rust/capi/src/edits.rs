@@ -2,22 +2,21 @@
 
 //! Edits of words.
 
-use crate::changes::Change;
 use crate::outcomes::{write_if_lawful, ErrorNumber};
-use crate::words::Word;
+use crate::words::{NumberedEdit, Word};
 use peltzivar::edits;
-use peltzivar::edits::{apply, FIELDS};
+use peltzivar::edits::{apply, edits_of, Edit, FIELDS};
 use peltzivar::format_builder::NumberFormatBuilder;
 
-/// Applies the changes to a builder in order. Returns `None` if one of them has no setter.
+/// Applies the edits to a builder in order. Returns `None` if one of them has no setter.
 #[must_use]
 #[inline(always)]
-pub fn apply_changes(
+pub fn apply_edits(
     mut builder: NumberFormatBuilder,
-    changes: &[Change],
+    edits: &[NumberedEdit],
 ) -> Option<NumberFormatBuilder> {
-    for change in changes {
-        let Some(edit) = change.edit() else {
+    for edit in edits {
+        let Some(edit) = Edit::from_number(edit.setter, edit.value) else {
             return None;
         };
         builder = apply(builder, edit);
@@ -25,19 +24,19 @@ pub fn apply_changes(
     Some(builder)
 }
 
-/// Applies the changes to a word in order, writes the new word and returns `true`. If one of them has no
+/// Applies the edits to a word in order, writes the new word and returns `true`. If one of them has no
 /// setter, it returns `false` and writes nothing.
 #[unsafe(no_mangle)]
 pub unsafe extern "C" fn peltzivar_edit_word(
     format: Word,
-    changes: *const Change,
-    changes_len: usize,
+    edits: *const NumberedEdit,
+    edits_len: usize,
     out: &mut Word,
 ) -> bool {
     // SAFETY: c/peltzivar.h asks this of its callers.
-    let changes = unsafe { crate::slices::of(changes, changes_len) };
+    let edits = unsafe { crate::slices::of(edits, edits_len) };
     let start = NumberFormatBuilder::rebuild(format.number());
-    let Some(builder) = apply_changes(start, changes) else {
+    let Some(builder) = apply_edits(start, edits) else {
         return false;
     };
     *out = Word::new(builder.build_unchecked());
@@ -69,14 +68,17 @@ pub extern "C" fn peltzivar_is_built(format: Word) -> bool {
     edits::is_built(format.number())
 }
 
-/// Writes one change for each field, with the field's value in the word, and returns how many of
-/// them make these fields from those of a new builder. These come first, and no shorter list of changes
-/// of single fields makes a word that a builder can pack.
+/// Writes one edit for each field, with the field's value in the word, and returns how many of them make these
+/// fields from those of a new builder. These come first, and no shorter list of edits of single fields makes a
+/// word that a builder can pack.
 #[unsafe(no_mangle)]
-pub extern "C" fn peltzivar_edits_of(format: Word, changes: &mut [Change; FIELDS]) -> usize {
-    let (edits, count) = edits::edits_of(format.number());
-    for index in 0..edits.len() {
-        changes[index] = Change::new(edits[index]);
+pub extern "C" fn peltzivar_edits_of(format: Word, edits: &mut [NumberedEdit; FIELDS]) -> usize {
+    let (list, count) = edits_of(format.number());
+    for index in 0..list.len() {
+        edits[index] = NumberedEdit {
+            setter: list[index].number(),
+            value: list[index].byte(),
+        };
     }
     count
 }

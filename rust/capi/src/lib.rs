@@ -10,7 +10,6 @@
 
 mod builders;
 mod bytes;
-mod changes;
 mod edits;
 mod outcomes;
 mod rules;

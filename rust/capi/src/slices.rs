@@ -6,13 +6,13 @@ use core::slice;
 ///
 /// # Safety
 ///
-/// If `len` is not 0, `start` points to `len` values of C, bytes or changes. Nothing writes to them while the call that
+/// If `len` is not 0, `start` points to `len` values of C, bytes or edits. Nothing writes to them while the call that
 /// passed them runs.
 pub unsafe fn of<'a, T>(start: *const T, len: usize) -> &'a [T] {
     if len == 0 {
         return &[];
     }
-    // SAFETY: as the caller promises. Bytes and changes need no alignment, all their bits are values, and no object of C
+    // SAFETY: as the caller promises. Bytes and edits need no alignment, all their bits are values, and no object of C
     // has more than `isize::MAX` bytes.
     unsafe { slice::from_raw_parts(start, len) }
 }
@@ -21,7 +21,7 @@ pub unsafe fn of<'a, T>(start: *const T, len: usize) -> &'a [T] {
 ///
 /// # Safety
 ///
-/// If `len` is not 0, `start` points to `len` values of C, bytes or changes. Nothing else reads or writes them while the
+/// If `len` is not 0, `start` points to `len` values of C, bytes or edits. Nothing else reads or writes them while the
 /// call that passed them runs.
 pub unsafe fn of_mut<'a, T>(start: *mut T, len: usize) -> &'a mut [T] {
     if len == 0 {

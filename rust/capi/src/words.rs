@@ -1,6 +1,6 @@
 // Made by rust/erase from crates/lexical_c/src/words.rt: change that file.
 
-//! The structs that stand for a word and for the fields of a builder.
+//! The structs that stand for a word, an edit, and the fields of a builder.
 
 use peltzivar::format_builder::NumberFormatBuilder;
 
@@ -29,6 +29,14 @@ impl Word {
     pub fn number(self) -> u128 {
         self.low as u128 + self.high as u128 * (1 << 64)
     }
+}
+
+/// An edit: the number of a setter and its argument.
+#[repr(C)]
+#[derive(Clone, Copy)]
+pub struct NumberedEdit {
+    pub setter: u8,
+    pub value: u8,
 }
 
 /// The fields of a builder: the flags, the first at bit 0, and six bytes, each 0 if it is absent. The bits

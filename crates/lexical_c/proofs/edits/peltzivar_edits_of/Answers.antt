@@ -1,29 +1,32 @@
-use Rattle.std.proofs.Common.{◌++◌, Some, length, take, sym, ap, ◌∙◌, arith}
+use Rattle.std.proofs.Common.{◌++◌, length, map, take, sym, ap, subst, ◌∙◌, arith, All}
 use Rattle.lexical_util.specs.Record.{raw}
 use Rattle.lexical_util.specs.Listing.{changing, unchanging}
-use Rattle.lexical_util.specs.Writes.{new_record, after}
+use Rattle.lexical_util.specs.Writes.{IsLegal, new_record, after}
 use Rattle.lexical_util.specs.Edits.{all_writes}
-use Rattle.lexical_c.proofs.ChangeLemmas.{more_stand, all_stand}
+use Rattle.lexical_c.specs.Edits.{numbered}
+use Rattle.lexical_c.proofs.EditLemmas.{more_numbered, all_numbered}
 use Rattle.lexical_c.proofs.edits.peltzivar_edits_of.Goals as goal
 
 pub loop-index-preserved : goal.loop-index-preserved
 loop-index-preserved c =
-    let edit = c.new.ensures ∙ ap Some (sym c.index-edits-index.is) in
-    more_stand c.new.result c.loop-index.invariant (omega (arith, c.loop-index-test.true)) c.index-edits-index.is edit
+    let number = c.number-in-loop-index.ensures in
+    more_numbered _ _ _ c.loop-index.invariant (omega (arith, c.loop-index-test.true)) number.number c.byte.ensures
+    number.read_back
 
-pub returns-clause-each : goal.returns-clause-each
-returns-clause-each c = (all_stand c.loop-index.invariant (omega (arith, c.loop-index-test.false))).1
-
-pub returns-clause-list : goal.returns-clause-list
-returns-clause-list c =
-    (all_stand c.loop-index.invariant (omega (arith, c.loop-index-test.false))).0 ∙ c.edits_of-edits.ensures.list
-    ∙ ap (λ word. changing (raw word) ++ unchanging (raw word)) c.number.ensures
-
-pub returns-clause-number : goal.returns-clause-number
-returns-clause-number c = c.edits_of-edits.ensures.number ∙ ap (λ word. length (changing (raw word))) c.number.ensures
-
-pub returns-clause-first : goal.returns-clause-first
-returns-clause-first c =
-    ap (λ xs. after new_record (all_writes (take c.edits_of-edits.result.1 xs)))
-    (all_stand c.loop-index.invariant (omega (arith, c.loop-index-test.false))).0
-    ∙ c.edits_of-edits.ensures.first ∙ ap raw c.number.ensures
+pub returns : goal.returns
+returns c =
+    let listed = c.edits_of-list.ensures in
+    let format = c.number.ensures in
+    let list = listed.list ∙ ap (λ word. changing (raw word) ++ unchanging (raw word)) format in
+    let (numbers, known, each) = all_numbered c.loop-index.invariant (omega (arith, c.loop-index-test.false)) in
+    record {
+      numbers = numbers ∙ ap (map numbered) list;
+      each = each;
+      list = known ∙ list;
+      number = listed.number ∙ ap (λ word. length (changing (raw word))) format;
+      legal = subst (λ edits. All IsLegal (all_writes edits)) (sym known) listed.legal;
+      first = ap (λ edits. after new_record (all_writes (take c.edits_of-list.result.1 edits))) known
+          ∙ listed.first ∙ ap raw format;
+      whole = ap (λ edits. after new_record (all_writes edits)) known ∙ listed.whole ∙ ap raw format;
+      fewest = λ writes legal is. listed.fewest writes legal (is ∙ sym format);
+    }

@@ -1,5 +1,5 @@
 use Rattle.std.proofs.Common.{◌≡◌, ◌<◌, ℕ}
-use Rattle.lexical_c.specs.Edits.{name_of_setter}
+use Rattle.lexical_util.specs.SettingNumbers.{name_of_setter}
 use Rattle.lexical_c.proofs.setters.peltzivar_setter_of_name.Given as goal
 
 -- no setter so far has the name

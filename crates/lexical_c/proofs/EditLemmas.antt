@@ -1,0 +1,90 @@
+-- Edits as numbers that are applied one after another.
+use Rattle.std.proofs.Common.{◌≡◌, rules, ℕ, ◌+◌, ◌<◌, ◌≤◌, Some, IsSome, List, [], ◌∷◌, ◌++◌, length}
+use Rattle.std.proofs.Common.{get_or, map, take, set, sym, ap, ap₂, ◌∙◌, subst, length-set, take_all, All}
+use Rattle.std.proofs.Common.{arith}
+use Rattle.std.proofs.lemmas.List.{flat_map_more, take_more, take_more_set, map-append, get_or_default}
+use Rattle.std.proofs.lemmas.List.Elements.{All-more, All-push, All-same, filter_map-append}
+use Rattle.std.specs.List.{cons_option}
+use Rattle.lexical_util.specs.Record.{Record}
+use Rattle.lexical_util.specs.Writes.{Write, after}
+use Rattle.lexical_util.specs.Edits.{all_writes, writes_of}
+use Rattle.lexical_util.specs.SettingNumbers.{number_of, byte_of, edit_of_numbers}
+use Rattle.lexical_util.specs.declared.edits.Edit.{Edit}
+use Rattle.lexical_c.specs.declared.words.NumberedEdit.{NumberedEdit}
+use Rattle.lexical_c.specs.Edits.{numbered, edit_of, HasSetter, known}
+
+-- the first i of them have setters, and are applied to a record
+pub record HaveApplied (R : Record) (numbers : List NumberedEdit) (i : ℕ) (b : Record) : Type 0 where
+  pub fields : b ≡ after R (all_writes (known (take i numbers)))
+  pub each : All HasSetter (take i numbers)
+
+-- before the first
+pub none_applied : (none : (r : Record) → after r [] ≡ r) (R : Record) (numbers : List NumberedEdit)
+    → HaveApplied R numbers 0 R
+none_applied none R numbers = record { fields = sym (none R); each = λ k d h. absurd (omega arith) }
+
+-- two numbers that stand for an edit have a setter
+has_setter : (c : NumberedEdit) (e : Edit) → edit_of c ≡ Some e → HasSetter c
+has_setter c e is = subst IsSome (sym is) (search rules)
+
+-- its edit comes last
+known_push : (front : List NumberedEdit) (c : NumberedEdit) (e : Edit) → edit_of c ≡ Some e
+    → known (front ++ c ∷ []) ≡ known front ++ e ∷ []
+known_push front c e is = filter_map-append edit_of front (c ∷ []) ∙ ap (λ o. known front ++ cons_option o []) is
+
+-- one more
+pub more_applied : {R : Record} {numbers : List NumberedEdit} {i : ℕ} {b next : Record} {e : Edit}
+    → (append : (r : Record) (first second : List Write) → after (after r first) second ≡ after r (first ++ second))
+    → (d : NumberedEdit) → HaveApplied R numbers i b → i < length numbers
+    → edit_of (get_or numbers i d) ≡ Some e → next ≡ after b (writes_of e)
+    → HaveApplied R numbers (i + 1) next
+more_applied {R} {numbers} {i} {b} {next} {e} append d h inside edit applied =
+    let front = take i numbers in
+    let edits : known (take (i + 1) numbers) ≡ known front ++ e ∷ [] =
+    ap known (take_more numbers i d inside) ∙ known_push front (get_or numbers i d) e edit in
+    record {
+      fields = applied ∙ ap (λ S. after S (writes_of e)) h.fields
+          ∙ append R (all_writes (known front)) (writes_of e)
+          ∙ ap (after R) (flat_map_more writes_of [] (known front) e ∙ ap all_writes (sym edits));
+      each = All-more HasSetter numbers i d inside h.each (has_setter (get_or numbers i d) e edit);
+    }
+
+-- as many pairs of numbers as edits, the first i of which are the first i edits
+pub record AreNumbered (numbers : List NumberedEdit) (edits : List Edit) (i : ℕ) : Type 0 where
+  pub count : length numbers ≡ length edits
+  pub are : take i numbers ≡ map numbered (take i edits)
+  pub stand : known (take i numbers) ≡ take i edits
+  pub each : All HasSetter (take i numbers)
+
+-- one more
+pub more_numbered : {numbers : List NumberedEdit} {edits : List Edit} {i : ℕ} (c : NumberedEdit) (d e : Edit)
+    → AreNumbered numbers edits i → i < length edits → c.setter ≡ number_of (get_or edits i d)
+    → c.value ≡ byte_of (get_or edits i e)
+    → edit_of_numbers c.setter (byte_of (get_or edits i d)) ≡ Some (get_or edits i d)
+    → AreNumbered (set numbers i c) edits (i + 1)
+more_numbered {numbers} {edits} {i} c d e h some setter value read =
+    let front = take i numbers in
+    let edit = get_or edits i d in
+    let byte : c.value ≡ byte_of edit = value ∙ ap byte_of (get_or_default edits i e d some) in
+    let stands : edit_of c ≡ Some edit = ap (edit_of_numbers c.setter) byte ∙ read in
+    let last : c ≡ numbered edit = ap₂ (λ s v. record { setter = s; value = v }) setter byte in
+    let taken : take (i + 1) (set numbers i c) ≡ front ++ c ∷ [] = take_more_set numbers i c (omega (arith, h.count)) in
+    let more : take (i + 1) edits ≡ take i edits ++ edit ∷ [] = take_more edits i d some in
+    record {
+      count = length-set numbers i c ∙ h.count;
+      are = taken ∙ ap₂ (λ xs x. xs ++ x ∷ []) h.are last
+          ∙ sym (ap (map numbered) more ∙ map-append numbered (take i edits) (edit ∷ []));
+      stand = ap known taken ∙ known_push front c edit stands ∙ ap (λ xs. xs ++ edit ∷ []) h.stand ∙ sym more;
+      each = All-same HasSetter _ _ taken (All-push HasSetter front c h.each (has_setter c edit stands));
+    }
+
+-- after the last all are
+pub all_numbered : {numbers : List NumberedEdit} {edits : List Edit} {i : ℕ} → AreNumbered numbers edits i
+    → length edits ≤ i → (numbers ≡ map numbered edits) × (known numbers ≡ edits) × All HasSetter numbers
+all_numbered {numbers} {edits} {i} h ends =
+    let all : take i numbers ≡ numbers = take_all i numbers (omega (arith, h.count)) in
+    let whole : take i edits ≡ edits = take_all i edits ends in (
+      sym all ∙ h.are ∙ ap (map numbered) whole,
+      ap known (sym all) ∙ h.stand ∙ whole,
+      All-same HasSetter _ _ (sym all) h.each,
+    )
