@@ -1,5 +1,3 @@
-mod FieldLemmas
 mod EditLemmas
 mod TextLemmas
 mod OutcomeLemmas
-mod NameLemmas

@@ -1,5 +1,5 @@
 -- The numbers and records that the structs which cross to C stand for.
-use Rattle.std.specs.Prelude.{ℕ, ◌+◌, ◌*◌, ◌^◌, ◌%◌, length, [], ◌∷◌}
+use Rattle.std.specs.Prelude.{ℕ, ◌+◌, ◌*◌, ◌^◌, ◌%◌, length}
 use Rattle.lexical_util.specs.Layout.{flags}
 use Rattle.lexical_util.specs.BuilderBits.{record_of_parts}
 use Rattle.lexical_util.specs.Record.{Record}
@@ -12,6 +12,4 @@ number_of w = w.low + w.high * 2 ^ 64
 
 -- the record of fields that cross; the bits above the flags are ignored
 abbrev pub fields_of : fields.Fields → Record
-fields_of f =
-    record_of_parts (f.flags % 2 ^ length flags)
-    (f.digit_separator ∷ f.base_prefix ∷ f.base_suffix ∷ f.mantissa_radix ∷ f.exponent_base ∷ f.exponent_radix ∷ [])
+fields_of f = record_of_parts (f.flags % 2 ^ length flags) f.bytes

@@ -7,7 +7,6 @@
 //! value, or to as many as the length says.
 #![tactic(auto)]
 
-mod builders;
 mod bytes;
 mod edits;
 mod laws;

@@ -60,38 +60,24 @@ pub struct NumberedEdit {
     pub value: u8,
 }
 
-/// The fields of a builder: the flags, the first at bit 0, and six bytes, each 0 if it is absent. The bits
-/// above the flags are ignored.
+/// The fields of a builder: the flags, the first at bit 0, and the six bytes in the order of their bits, each 0 if
+/// it is absent. The bits above the flags are ignored.
 #[repr(C)]
 #[derive(Clone, Copy)]
 pub struct Fields {
     pub flags: u32,
-    pub digit_separator: u8,
-    pub base_prefix: u8,
-    pub base_suffix: u8,
-    pub mantissa_radix: u8,
-    pub exponent_base: u8,
-    pub exponent_radix: u8,
+    pub bytes: [u8; 6],
 }
 
 impl Fields {
     /// Returns the fields of a builder.
     #[inline(always)]
-    #[tactic(auto, using(crate::proofs::FieldLemmas::same_fields))]
     pub fn new(builder: &NumberFormatBuilder) -> Fields
         ensures fields { fields_of result ≡ builder.now }
         ensures clear { result.flags < 2 ^ length flags }
     {
         let (flags, bytes) = builder.to_parts();
-        Fields {
-            flags,
-            digit_separator: bytes[0],
-            base_prefix: bytes[1],
-            base_suffix: bytes[2],
-            mantissa_radix: bytes[3],
-            exponent_base: bytes[4],
-            exponent_radix: bytes[5],
-        }
+        Fields { flags, bytes }
     }
 
     /// Returns a builder with these fields.
@@ -99,16 +85,6 @@ impl Fields {
     pub fn builder(self) -> NumberFormatBuilder
         ensures { result ≡ fields_of self }
     {
-        NumberFormatBuilder::from_parts(
-            self.flags,
-            [
-                self.digit_separator,
-                self.base_prefix,
-                self.base_suffix,
-                self.mantissa_radix,
-                self.exponent_base,
-                self.exponent_radix,
-            ],
-        )
+        NumberFormatBuilder::from_parts(self.flags, self.bytes)
     }
 }

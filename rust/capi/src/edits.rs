@@ -1,9 +1,9 @@
 // Made by rust/erase from crates/lexical_c/src/edits.rt: change that file.
 
-//! Edits of words.
+//! Builders, which are structs of fields here, and edits of words.
 
 use crate::outcomes::{write_if_lawful, ErrorNumber};
-use crate::words::{NumberedEdit, Word};
+use crate::words::{Fields, NumberedEdit, Word};
 use peltzivar::edits;
 use peltzivar::edits::{apply, edits_of, Edit, FIELDS};
 use peltzivar::format_builder::NumberFormatBuilder;
@@ -22,6 +22,60 @@ pub fn apply_edits(
         builder = apply(builder, edit);
     }
     Some(builder)
+}
+
+/// Returns the fields of a word, empty exponent bytes filled from its mantissa radix. The bits above the flags are 0.
+#[unsafe(no_mangle)]
+pub extern "C" fn peltzivar_fields_of(format: Word) -> Fields {
+    Fields::new(&NumberFormatBuilder::rebuild(format.number()))
+}
+
+/// Applies the edits to the fields in order, clears the bits above the flags and returns `true`. If one of
+/// them has no setter, it returns `false` and leaves the fields as they were.
+#[unsafe(no_mangle)]
+pub unsafe extern "C" fn peltzivar_edit_fields(
+    fields: &mut Fields,
+    edits: *const NumberedEdit,
+    edits_len: usize,
+) -> bool {
+    // SAFETY: c/peltzivar.h asks this of its callers.
+    let edits = unsafe { crate::slices::of(edits, edits_len) };
+    let Some(builder) = apply_edits(fields.builder(), edits) else {
+        return false;
+    };
+    *fields = Fields::new(&builder);
+    true
+}
+
+/// Packs the fields into a word, lawful or not.
+#[unsafe(no_mangle)]
+pub extern "C" fn peltzivar_pack(fields: &Fields) -> Word {
+    Word::new(fields.builder().build_unchecked())
+}
+
+/// Applies the edits to the fields in order, writes the word that they are packed into and returns `true`.
+/// If one of them has no setter, it returns `false` and writes nothing.
+#[unsafe(no_mangle)]
+pub unsafe extern "C" fn peltzivar_build(
+    fields: &Fields,
+    edits: *const NumberedEdit,
+    edits_len: usize,
+    out: &mut Word,
+) -> bool {
+    // SAFETY: c/peltzivar.h asks this of its callers.
+    let edits = unsafe { crate::slices::of(edits, edits_len) };
+    let Some(builder) = apply_edits(fields.builder(), edits) else {
+        return false;
+    };
+    *out = Word::new(builder.build_unchecked());
+    true
+}
+
+/// Packs the fields into a word. If it is lawful, writes it and returns 0; else writes nothing and returns the
+/// number of its error.
+#[unsafe(no_mangle)]
+pub extern "C" fn peltzivar_build_strict(fields: &Fields, out: &mut Word) -> ErrorNumber {
+    write_if_lawful(fields.builder().build_strict(), out)
 }
 
 /// Applies the edits to a word in order, writes the new word and returns `true`. If one of them has no
@@ -62,7 +116,7 @@ pub extern "C" fn peltzivar_same_format(a: Word, b: Word) -> bool {
     edits::same_format(a.number(), b.number())
 }
 
-/// Returns whether [`peltzivar_pack`][crate::builders::peltzivar_pack] can return this word.
+/// Returns whether [`peltzivar_pack`] can return this word.
 #[unsafe(no_mangle)]
 pub extern "C" fn peltzivar_is_built(format: Word) -> bool {
     edits::is_built(format.number())

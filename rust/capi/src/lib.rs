@@ -8,7 +8,6 @@
 //! not see how C made it.
 #![no_std]
 
-mod builders;
 mod bytes;
 mod edits;
 mod outcomes;

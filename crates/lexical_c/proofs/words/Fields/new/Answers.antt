@@ -1,7 +1,5 @@
-use Rattle.lexical_c.proofs.FieldLemmas.{same_fields}
+use Rattle.std.proofs.Math.Nat.{mod-eq_of_lt}
 use Rattle.lexical_c.proofs.words.Fields.new.Goals as goal
 
 pub returns-clause-fields : goal.returns-clause-fields
-returns-clause-fields c =
-    let parts = c.to_parts-flags in
-    same_fields _ parts.result.0 parts.result.1 c.args.builder.now parts.ensures.flags parts.ensures.fields
+returns-clause-fields c = rw (mod-eq_of_lt c.to_parts-flags.ensures.flags) c.to_parts-flags.ensures.fields
