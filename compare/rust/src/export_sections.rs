@@ -94,8 +94,11 @@ impl Section<'_> {
         input: impl Fn(&mut Random) -> I,
         call: impl Fn(&Exports, &I, *mut u8, usize) -> usize,
     ) {
-        let room = |random: &mut Random| random.below(if random.one_in(4) { 4 } else { 200 }) as usize;
-        let with_room = |random: &mut Random| (input(random), room(random));
+        // Often a room that has a byte or none beside the final 0.
+        let with_room = |random: &mut Random| {
+            let most = if random.one_in(4) { 4 } else { 200 };
+            (input(random), random.below(most) as usize)
+        };
         self.on_random(with_room, |exports, (input, room)| {
             let mut text = vec![UNTOUCHED; room + 8];
             (call(exports, input, text.as_mut_ptr(), *room), text)
