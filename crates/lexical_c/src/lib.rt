@@ -2,9 +2,9 @@
 //!
 //! Each export is a call of the library. Its clauses say what it returns, over the library's definitions;
 //! what follows from them by the library's laws is not said again. None has a `requires`: a number that
-//! names no setter, outcome or digit makes it return `false` or a value that means none, and what the
-//! caller passed is then unchanged. What a caller owes is what C's types say: a pointer points to a whole
-//! value, or to as many as the length says.
+//! names no setter, outcome or digit makes it return `false` or a value that means none, or write an empty
+//! text; words and fields of the caller are then unchanged. What a caller owes is what C's types say: a pointer
+//! points to a whole value, or to as many as the length says.
 #![tactic(auto)]
 
 mod bytes;

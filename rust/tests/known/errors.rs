@@ -1,7 +1,7 @@
 //! The outcomes: tests, ranks, texts, and what the standard library asks of an error.
 
 use crate::outcomes::OUTCOMES;
-use peltzivar::error::Error;
+use peltzivar::error::{Class, Error};
 use std::collections::HashSet;
 use std::io::Write as _;
 
@@ -13,6 +13,7 @@ fn each_outcome_has_its_test_rank_and_text() {
         assert_eq!(usize::from(error.rank()), rank, "{name}");
         assert_eq!(error.description(), outcome.description, "{name}");
         assert_eq!(error.index(), outcome.holds_index.then_some(&7), "{name}");
+        assert_eq!(Error::from_rank(rank as u8, 7), Some(error), "{name}");
         let tests: Vec<usize> = (0..49)
             .filter(|test| (OUTCOMES[*test].test)(&error))
             .collect();
@@ -24,17 +25,21 @@ fn each_outcome_has_its_test_rank_and_text() {
         };
         assert_eq!(format!("{error:?}"), debug);
     }
+    for rank in 49..=255 {
+        assert_eq!(Error::from_rank(rank, 7), None);
+    }
 }
 
 #[test]
 fn each_outcome_prints_its_class_text_and_index() {
     for (rank, outcome) in OUTCOMES.iter().enumerate() {
-        let class = match rank {
-            0..19 => "lexical parse error: ",
-            19..36 => "lexical number format error: ",
-            36..48 => "lexical options error: ",
-            _ => "",
+        let (class, about) = match rank {
+            0..19 => ("lexical parse error: ", Class::Parse),
+            19..36 => ("lexical number format error: ", Class::Format),
+            36..48 => ("lexical options error: ", Class::Options),
+            _ => ("", Class::Success),
         };
+        assert_eq!((outcome.at)(7).class(), about);
         let at = if rank < 19 { " at index 7" } else { "" };
         let text = format!("{class}{}{at}", outcome.description);
         assert_eq!((outcome.at)(7).to_string(), text);
