@@ -62,9 +62,11 @@ macro_rules! with_setters {
 
 mod listing;
 mod numbers;
+mod text;
 
 pub use listing::{edits_of, field_edits_of, is_built};
 pub use numbers::SETTER_NAMES;
+pub use text::{byte_from_text, SettingError};
 
 /// A builder setter that takes a `bool`: one for each flag, and one for each of the nine groups of
 /// flags. A variant stands for the setter that its line names.

@@ -28,7 +28,7 @@ macro_rules! names {
 
 /// The names of all setters, each at the index of its number: those of [`SETTERS`] in their order, and
 /// then those of seven setters of bytes.
-pub const SETTER_NAMES: [&'static str; SETTERS.len() + 7] = with_setters!(names());
+pub const SETTER_NAMES: [&str; SETTERS.len() + 7] = with_setters!(names());
 
 // How many setters there are.
 const SETTER_COUNT: u8 = FIRST_BYTE + 7;

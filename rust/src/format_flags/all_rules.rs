@@ -2,6 +2,10 @@
 
 //! The rules as values.
 
+use crate::error::Error;
+use crate::format_flags::rules::*;
+use crate::format_flags::*;
+
 /// A rule of format words. A word that breaks none is lawful.
 ///
 /// The variants are in the order in which the rules are tried; each is named by what it demands. A byte is free if it is
@@ -61,3 +65,121 @@ pub const RULES: [Rule; 16] = [
     Rule::ExponentConsecutiveIsAllowed,
     Rule::ReservedBitsAreZero,
 ];
+
+// The bytes that say which bytes are digits.
+const DIGIT_RADIXES: u128 = MANTISSA_RADIX | EXPONENT_RADIX;
+
+impl Rule {
+    /// Returns the error of a word that breaks this rule, and no rule before it.
+    #[must_use]
+    pub const fn error(self) -> Error {
+        match self {
+            Rule::MantissaRadixInRange => Error::InvalidMantissaRadix,
+            Rule::ExponentBaseInRange => Error::InvalidExponentBase,
+            Rule::ExponentRadixInRange => Error::InvalidExponentRadix,
+            Rule::DigitSeparatorIsFree => Error::InvalidDigitSeparator,
+            Rule::BasePrefixIsFree => Error::InvalidBasePrefix,
+            Rule::BaseSuffixIsFree => Error::InvalidBaseSuffix,
+            Rule::PunctuationDiffers => Error::InvalidPunctuation,
+            Rule::ExponentFlagsAgree => Error::InvalidExponentFlags,
+            Rule::MantissaSignFlagsAgree => Error::InvalidMantissaSign,
+            Rule::ExponentSignFlagsAgree => Error::InvalidExponentSign,
+            Rule::SpecialCaseFlagsAgree | Rule::SpecialSeparatorFlagsAgree => Error::InvalidSpecial,
+            Rule::IntegerConsecutiveIsAllowed => Error::InvalidConsecutiveIntegerDigitSeparator,
+            Rule::FractionConsecutiveIsAllowed => Error::InvalidConsecutiveFractionDigitSeparator,
+            Rule::ExponentConsecutiveIsAllowed => Error::InvalidConsecutiveExponentDigitSeparator,
+            Rule::ReservedBitsAreZero => Error::InvalidFlags,
+        }
+    }
+
+    /// Returns whether a word keeps this rule.
+    #[must_use]
+    pub const fn is_kept(self, format: u128) -> bool {
+        match self {
+            Rule::MantissaRadixInRange => is_valid_mantissa_radix(format),
+            Rule::ExponentBaseInRange => is_valid_exponent_base(format),
+            Rule::ExponentRadixInRange => is_valid_exponent_radix(format),
+            Rule::DigitSeparatorIsFree => is_valid_digit_separator(format),
+            Rule::BasePrefixIsFree => is_valid_base_prefix(format),
+            Rule::BaseSuffixIsFree => is_valid_base_suffix(format),
+            Rule::PunctuationDiffers => is_valid_punctuation(format),
+            Rule::ExponentFlagsAgree => is_valid_exponent_flags(format),
+            Rule::MantissaSignFlagsAgree => is_valid_mantissa_sign_flags(format),
+            Rule::ExponentSignFlagsAgree => is_valid_exponent_sign_flags(format),
+            Rule::SpecialCaseFlagsAgree => is_valid_special_case_flags(format),
+            Rule::SpecialSeparatorFlagsAgree => is_valid_special_separator_flags(format),
+            Rule::IntegerConsecutiveIsAllowed => is_valid_integer_consecutive_flags(format),
+            Rule::FractionConsecutiveIsAllowed => is_valid_fraction_consecutive_flags(format),
+            Rule::ExponentConsecutiveIsAllowed => is_valid_exponent_consecutive_flags(format),
+            Rule::ReservedBitsAreZero => is_clean(format),
+        }
+    }
+
+    /// Returns this rule if a word breaks it, and `None` if it keeps it.
+    #[must_use]
+    pub const fn if_broken(self, format: u128) -> Option<Rule> {
+        if self.is_kept(format) {
+            None
+        } else {
+            Some(self)
+        }
+    }
+
+    /// Returns the bits of a word that this rule reads: those of certain fields, and for
+    /// [`Rule::ReservedBitsAreZero`] those that no field has. Words that agree in these bits all keep the
+    /// rule, or all break it.
+    #[must_use]
+    pub const fn mask(self) -> u128 {
+        match self {
+            Rule::MantissaRadixInRange => MANTISSA_RADIX,
+            Rule::ExponentBaseInRange => EXPONENT_BASE | MANTISSA_RADIX,
+            Rule::ExponentRadixInRange => DIGIT_RADIXES,
+            Rule::DigitSeparatorIsFree => DIGIT_SEPARATOR | DIGIT_RADIXES,
+            Rule::BasePrefixIsFree => BASE_PREFIX | DIGIT_RADIXES,
+            Rule::BaseSuffixIsFree => BASE_SUFFIX | DIGIT_RADIXES,
+            Rule::PunctuationDiffers => {
+                DIGIT_SEPARATOR
+                    | BASE_PREFIX
+                    | BASE_SUFFIX
+                    | CASE_SENSITIVE_BASE_PREFIX
+                    | CASE_SENSITIVE_BASE_SUFFIX
+            }
+            Rule::ExponentFlagsAgree => NO_EXPONENT_NOTATION | REQUIRED_EXPONENT_NOTATION,
+            Rule::MantissaSignFlagsAgree => NO_POSITIVE_MANTISSA_SIGN | REQUIRED_MANTISSA_SIGN,
+            Rule::ExponentSignFlagsAgree => NO_POSITIVE_EXPONENT_SIGN | REQUIRED_EXPONENT_SIGN,
+            Rule::SpecialCaseFlagsAgree => NO_SPECIAL | CASE_SENSITIVE_SPECIAL,
+            Rule::SpecialSeparatorFlagsAgree => NO_SPECIAL | SPECIAL_DIGIT_SEPARATOR,
+            Rule::IntegerConsecutiveIsAllowed => INTEGER_DIGIT_SEPARATOR_FLAG_MASK,
+            Rule::FractionConsecutiveIsAllowed => FRACTION_DIGIT_SEPARATOR_FLAG_MASK,
+            Rule::ExponentConsecutiveIsAllowed => EXPONENT_DIGIT_SEPARATOR_FLAG_MASK,
+            Rule::ReservedBitsAreZero => RESERVED_MASK,
+        }
+    }
+}
+
+/// Returns the rules that a word breaks: at the index of each rule in [`RULES`], that rule if the word
+/// breaks it, and else `None`.
+///
+/// In plain Rust `broken_rules(format).into_iter().flatten()` goes through them. The error of the first is
+/// that of [`format_error_impl`].
+#[must_use]
+pub const fn broken_rules(format: u128) -> [Option<Rule>; RULES.len()] {
+    [
+        Rule::MantissaRadixInRange.if_broken(format),
+        Rule::ExponentBaseInRange.if_broken(format),
+        Rule::ExponentRadixInRange.if_broken(format),
+        Rule::DigitSeparatorIsFree.if_broken(format),
+        Rule::BasePrefixIsFree.if_broken(format),
+        Rule::BaseSuffixIsFree.if_broken(format),
+        Rule::PunctuationDiffers.if_broken(format),
+        Rule::ExponentFlagsAgree.if_broken(format),
+        Rule::MantissaSignFlagsAgree.if_broken(format),
+        Rule::ExponentSignFlagsAgree.if_broken(format),
+        Rule::SpecialCaseFlagsAgree.if_broken(format),
+        Rule::SpecialSeparatorFlagsAgree.if_broken(format),
+        Rule::IntegerConsecutiveIsAllowed.if_broken(format),
+        Rule::FractionConsecutiveIsAllowed.if_broken(format),
+        Rule::ExponentConsecutiveIsAllowed.if_broken(format),
+        Rule::ReservedBitsAreZero.if_broken(format),
+    ]
+}
