@@ -104,20 +104,22 @@ SameRules-alike s v w alike like =
     }
 
 -- the case of an absent prefix or suffix has no effect on them
-pub without_prefix : (v w : ℕ) → (raw v).base_prefix ≡ 0 → IsWith (without_prefix_case (raw v)) v w → SameRules v w
+without_prefix : (v w : ℕ) → (raw v).base_prefix ≡ 0 → IsWith (without_prefix_case (raw v)) v w → SameRules v w
 without_prefix v w none = SameRules-alike _ v w (AreAlike-prefix (raw v) none)
 
-pub without_suffix : (v w : ℕ) → (raw v).base_suffix ≡ 0 → IsWith (without_suffix_case (raw v)) v w → SameRules v w
+without_suffix : (v w : ℕ) → (raw v).base_suffix ≡ 0 → IsWith (without_suffix_case (raw v)) v w → SameRules v w
 without_suffix v w none = SameRules-alike _ v w (AreAlike-suffix (raw v) none)
 
 -- and a separator that no flag allows none on the normal form
-pub normal_without_separator : (v w : ℕ) → separator_on (raw v) ≡ false → raw w ≡ without_separator (raw v)
+normal_without_separator : (v w : ℕ) → separator_on (raw v) ≡ false → raw w ≡ without_separator (raw v)
     → normal_form_of w ≡ normal_form_of v
 unfolding after
 normal_without_separator v w off fields =
     ap (λ r. pack (fill r)) fields
     ∙ ap (λ n. word_of (record (fill (raw v)) { digit_separator = n }))
     (cond-false (separator_on (raw v)) 0 0 off ∙ sym (cond-false (separator_on (raw v)) _ 0 off))
+
+pub ruleset clearing = (without_prefix, without_suffix, normal_without_separator)
 
 -- nothing is said exactly if no case holds
 none_said : (cases : List (Case Reason)) → (filter_map said cases ≡ []) ↔ AllByRecursion (λ c. IsFalse c.0) cases
@@ -182,8 +184,11 @@ no_case rules.PunctuationDiffers word =
     let first = disjoint_pair (separator r) (prefix r) in
     let second = disjoint_pair (separator r) (suffix r) in
     let third = disjoint_pair (prefix r) (suffix r) in (
-      λ h. (first.0 h.0.0, (second.0 h.0.1.0, (third.0 h.1.0.0, tt))),
-      λ h. ((first.1 h.0, (second.1 h.1.0, tt)), ((third.1 h.1.1.0, tt), (tt, tt))),
+      λ apart. (first.0 (assumption apart), (second.0 (assumption apart), (third.0 (assumption apart), tt))),
+      λ cases. (
+        (first.1 (assumption cases), (second.1 (assumption cases), tt)),
+        ((third.1 (assumption cases), tt), (tt, tt)),
+      ),
     )
 no_case rules.ReservedBitsAreZero word = with_nothing (clean_word word)
 no_case rule word = with_nothing ((λ h. h), (λ h. h))

@@ -197,7 +197,7 @@ const fn said<T: Copy>(holds: bool, what: T) -> Option<T>
 
 /// Returns the settings of a word that have no effect, and else `None`. They are no errors: a lawful word
 /// may have them.
-#[tactic(auto, using(crate::proofs::ReasonLemmas::without_prefix, crate::proofs::ReasonLemmas::without_suffix, crate::proofs::ReasonLemmas::normal_without_separator))]
+#[tactic(auto, using(crate::proofs::ReasonLemmas::clearing))]
 pub const fn unused_settings(format: u128) -> [Option<Unused>; UNUSED]
     ensures each { result ≡ map said (unused_cases (raw format)) }
 
