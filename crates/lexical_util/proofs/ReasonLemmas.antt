@@ -104,14 +104,14 @@ SameRules-alike s v w alike like =
     }
 
 -- the case of an absent prefix or suffix has no effect on them
-without_prefix : (v w : ℕ) → (raw v).base_prefix ≡ 0 → IsWith (without_prefix_case (raw v)) v w → SameRules v w
+pub without_prefix : (v w : ℕ) → (raw v).base_prefix ≡ 0 → IsWith (without_prefix_case (raw v)) v w → SameRules v w
 without_prefix v w none = SameRules-alike _ v w (AreAlike-prefix (raw v) none)
 
-without_suffix : (v w : ℕ) → (raw v).base_suffix ≡ 0 → IsWith (without_suffix_case (raw v)) v w → SameRules v w
+pub without_suffix : (v w : ℕ) → (raw v).base_suffix ≡ 0 → IsWith (without_suffix_case (raw v)) v w → SameRules v w
 without_suffix v w none = SameRules-alike _ v w (AreAlike-suffix (raw v) none)
 
 -- and a separator that no flag allows none on the normal form
-normal_without_separator : (v w : ℕ) → separator_on (raw v) ≡ false → raw w ≡ without_separator (raw v)
+pub normal_without_separator : (v w : ℕ) → separator_on (raw v) ≡ false → raw w ≡ without_separator (raw v)
     → normal_form_of w ≡ normal_form_of v
 unfolding after
 normal_without_separator v w off fields =

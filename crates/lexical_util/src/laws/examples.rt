@@ -18,6 +18,7 @@ ghost use Rattle.lexical_util.specs.Compose.{Composes, AlwaysCompose};
 ghost use Rattle.lexical_util.specs.Edits.{all_writes, edited};
 ghost use Rattle.lexical_util.specs.Listing.{IsBuiltByWrites};
 ghost use Rattle.lexical_util.specs.Normal.{normal_form_of};
+ghost use Rattle.lexical_util.specs.Reasons.{without_prefix_case, IsWith, SameRules};
 ghost use Rattle.lexical_util.specs.declared.edits.Edit.TheVariants as edits;
 
 use crate::laws::{base, edit_facts, flags, normal_form_facts, write_facts};
@@ -130,3 +131,14 @@ pub fn edit_law_examples()
     normal_form_facts();
     edit_facts();
 }
+
+/// What has no effect: the case of a prefix that is absent, cleared and not, and words with the same rules and not.
+#[tactic(auto, unfolding(crate::specs::Unfoldable::on_literals))]
+pub fn unused_examples()
+    ensures cleared { IsWith (without_prefix_case (raw 0x0A0A0A00_00000000_00000000_0001000C))
+        0x0A0A0A00_00000000_00000000_0001000C 0x0A0A0A00_00000000_00000000_0000000C }
+    ensures another_flag { IsWith (without_prefix_case (raw 0x0A0A0A00_00000000_00000000_0001000C))
+        0x0A0A0A00_00000000_00000000_0001000C 0x0A0A0A00_00000000_00000000_0000000D → ⊥ }
+    ensures same { SameRules 12 12 }
+    ensures other_rules { SameRules 0x0A0A0A00_00000000_00000000_0000000C 0x0A0A0A00_00000000_00000000_0000003C → ⊥ }
+{}

@@ -1,0 +1,15 @@
+use Rattle.std.proofs.Common.{true, false, ◌≡◌, refl, sym}
+use Rattle.std.proofs.lemmas.Bool.{true≢false}
+use Rattle.lexical_flags.specs.declared.format_flags.all_rules.Rule.TheVariants as rules
+use Rattle.lexical_flags.specs.Rules.{Holds}
+use Rattle.lexical_util.proofs.laws.examples.unused_examples.Goals as goal
+
+pub returns-clause-same : goal.returns-clause-same
+returns-clause-same c = record {
+  rules = λ rule. (λ h. h, λ h. h);
+  options = λ e p. (λ h. h, λ h. h);
+}
+
+pub returns-clause-other_rules : goal.returns-clause-other_rules
+unfolding Holds
+returns-clause-other_rules c same = true≢false ((same.rules rules.MantissaSignFlagsAgree).0 refl)
