@@ -10,4 +10,5 @@ mod Distance
 mod FieldWrites
 mod NumberLemmas
 mod ReasonLemmas
+mod SettingTextLemmas
 pub mod NumeralLemmas

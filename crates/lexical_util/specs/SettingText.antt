@@ -1,12 +1,12 @@
 -- The texts of settings: NAME=VALUE, with the name of a setter, and a `bool` or a byte.
-use Rattle.std.specs.Prelude.{ℕ, if◌then◌else◌, ◌==◌, ◌&&◌, Bool, true, false, Option, None, Some}
+use Rattle.std.specs.Prelude.{ℕ, ◌≡◌, ◌<◌, if◌then◌else◌, ◌==◌, ◌&&◌, Bool, true, false, Option, None, Some}
 use Rattle.std.specs.Prelude.{List, ◌∷◌, ◌++◌, length, codes, decimal, bytes_eq, nat_le, Result, Ok, Err}
 use Rattle.std.specs.List.{before_first, after_first}
 use Rattle.std.specs.Result.{result_ok}
 use Rattle.lexical_base.specs.Digits.{numeral}
 use Rattle.lexical_builder.specs.OptionByte.{option_of_byte}
 use Rattle.lexical_util.specs.Numeral.{is_numeral}
-use Rattle.lexical_util.specs.SettingNumbers.{name_of, edit_of_name}
+use Rattle.lexical_util.specs.SettingNumbers.{name_of, byte_of, edit_of_name}
 use Rattle.lexical_util.specs.declared.edits.Edit.{Edit}
 use Rattle.lexical_util.specs.declared.edits.Edit.TheVariants as edits
 use Rattle.lexical_util.specs.declared.edits.text.SettingError.{SettingError}
@@ -97,3 +97,7 @@ error_text errors.UnknownName = codes "no setting has this name"
 error_text errors.BadValue =
     codes "a flag takes `true` or `false`, and a byte a decimal number, or `none` where it may be absent"
 error_text errors.OutOfRange = codes "the number must be 0 to 255, in at most 3 digits"
+
+-- an edit as a program has it: its byte is below 256, and a byte that is not absent is not 0
+abbrev pub HasByte : Edit → Type 0
+HasByte edit = (byte_of edit < 256) × (edit_of_name (name_of edit) (byte_of edit) ≡ Some edit)

@@ -1,7 +1,7 @@
 //! Laws and worked examples, each a clause of a function with an empty body. To use a law, call its
 //! function.
 
-ghost use Rattle.std.specs.Prelude.{◌≡◌, ◌≢◌, ◌↔◌, ◌<◌, ◌^◌, ◌+◌, ℕ, true, false, Some, List, [], ◌∷◌, ◌++◌, All};
+ghost use Rattle.std.specs.Prelude.{◌≡◌, ◌≢◌, ◌↔◌, ◌<◌, ◌^◌, ◌+◌, ℕ, true, false, Some, Ok, List, [], ◌∷◌, ◌++◌, All};
 ghost use Rattle.lexical_base.specs.declared.error.Error.{Error};
 ghost use Rattle.lexical_flags.specs.Layout.{Flag, IsClean};
 ghost use Rattle.lexical_flags.specs.Layout as layout;
@@ -14,6 +14,7 @@ ghost use Rattle.lexical_util.specs.Normal.{normal_form_of, SameFormat, IsNormal
 ghost use Rattle.lexical_util.specs.Compose.{Composes, AlwaysCompose};
 ghost use Rattle.lexical_util.specs.Groups.{any_flag, bits_of};
 ghost use Rattle.lexical_util.specs.Listing.{changing};
+ghost use Rattle.lexical_util.specs.SettingText.{HasByte, edit_or_error_in, setting_text};
 ghost use Rattle.lexical_util.specs.declared.edits.Edit.{Edit};
 ghost use Rattle.lexical_util.specs.declared.edits.Edit.TheVariants as edits;
 ghost use Rattle.lexical_util.specs.declared.edits.FlagSetter.TheVariants as setters;
@@ -91,6 +92,11 @@ pub const fn edit_facts()
         → (edited (edited word first) second ≡ edited word (first ++ second)) ↔ Composes word first second }
     ensures always { (word : ℕ) → (first second : List Write) → (raw word).mantissa_radix ≢ 0
         → AlwaysCompose first second → Composes word first second }
+{}
+
+/// What an edit prints is read as that edit.
+pub fn setting_facts()
+    ensures read_back { (edit : Edit) → HasByte edit → edit_or_error_in (setting_text edit) ≡ Ok edit }
 {}
 
 /// Normal forms, written out.

@@ -1,7 +1,7 @@
 //! For each predicate that stands on one side alone of a public clause a case that holds and one that does not; and
 //! uses of the laws.
 
-ghost use Rattle.std.specs.Prelude.{◌≡◌, ◌↔◌, ◌⊎◌, ◌<◌, ◌*◌, ◌/◌, ◌^◌, ◌||◌, ◌++◌, ℕ, max, pos, [], ◌∷◌, true, false, IsSome, IsTrue};
+ghost use Rattle.std.specs.Prelude.{◌≡◌, ◌↔◌, ◌⊎◌, ◌<◌, ◌*◌, ◌/◌, ◌^◌, ◌||◌, ◌++◌, ℕ, max, pos, [], ◌∷◌, true, false, Some, None, Ok, IsSome, IsTrue};
 ghost use Rattle.lexical_base.specs.Digits.{value, digit_of, digits_of};
 ghost use Rattle.lexical_flags.specs.Constants.{flag_constant, byte_mask, byte_shift, ShareNoBit};
 ghost use Rattle.lexical_flags.specs.Layout as layout;
@@ -18,10 +18,11 @@ ghost use Rattle.lexical_util.specs.Compose.{Composes, AlwaysCompose};
 ghost use Rattle.lexical_util.specs.Edits.{all_writes, edited};
 ghost use Rattle.lexical_util.specs.Listing.{IsBuiltByWrites};
 ghost use Rattle.lexical_util.specs.Normal.{normal_form_of};
+ghost use Rattle.lexical_util.specs.SettingText.{HasByte, edit_or_error_in, setting_text};
 ghost use Rattle.lexical_util.specs.Reasons.{without_prefix_case, IsWith, SameRules};
 ghost use Rattle.lexical_util.specs.declared.edits.Edit.TheVariants as edits;
 
-use crate::laws::{base, edit_facts, flags, normal_form_facts, write_facts};
+use crate::laws::{base, edit_facts, flags, normal_form_facts, setting_facts, write_facts};
 
 /// Writes: legal values, and lists that write the same.
 pub fn write_examples()
@@ -130,6 +131,16 @@ pub fn edit_law_examples()
     write_facts();
     normal_form_facts();
     edit_facts();
+}
+
+/// An edit that a program can have, and one that none has, since a byte that is there is not 0; and what is read back.
+#[tactic(auto, unfolding(crate::specs::Unfoldable::on_literals))]
+pub fn setting_law_examples()
+    ensures has { HasByte (edits.BasePrefix None) }
+    ensures lacks { HasByte (edits.BasePrefix (Some 0)) → ⊥ }
+    ensures read_back { HasByte (edits.Radix 16) → edit_or_error_in (setting_text (edits.Radix 16)) ≡ Ok (edits.Radix 16) }
+{
+    setting_facts();
 }
 
 /// What has no effect: the case of a prefix that is absent, cleared and not, and words with the same rules and not.

@@ -1,0 +1,70 @@
+-- What an edit prints is read as that edit.
+use Rattle.std.proofs.Common.{ℕ, ◌≡◌, ◌<◌, ◌==◌, ◌∙◌, Bool, true, false, decimal, codes, bytes_eq, refl, ap}
+use Rattle.std.proofs.Common.{Option, None, Some, Result, Ok, Err}
+use Rattle.std.specs.Fmt.{digits}
+use Rattle.std.specs.Option.{ok_or}
+use Rattle.std.proofs.lemmas.Bool.{agree_below_at, eqb-true, cond-false}
+use Rattle.lexical_base.specs.Digits.{value}
+use Rattle.lexical_builder.specs.OptionByte.{option_of_byte}
+use Rattle.lexical_util.specs.declared.edits.Edit.{Edit}
+use Rattle.lexical_util.specs.declared.edits.Edit.TheVariants as edits
+use Rattle.lexical_util.specs.declared.edits.FlagSetter.{FlagSetter}
+use Rattle.lexical_util.specs.declared.edits.FlagSetter.TheVariants as setters
+use Rattle.lexical_util.specs.declared.edits.text.SettingError.{SettingError}
+use Rattle.lexical_util.specs.declared.edits.text.SettingError.TheVariants.{UnknownName}
+use Rattle.lexical_util.specs.SettingText.{HasByte, byte_in, optional_byte_in, map_ok, edit_or_error_in, setting_text}
+
+-- whether a byte was read
+abbrev is_read : Result ℕ SettingError → ℕ → Bool
+is_read (Ok other) byte = other == byte
+is_read (Err error) byte = false
+
+read_byte : (found : Result ℕ SettingError) (byte : ℕ) → is_read found byte ≡ true → found ≡ Ok byte
+read_byte (Ok other) byte held = ap Ok (eqb-true other byte held)
+read_byte (Err error) byte held = cc
+
+-- the digits of a byte are read as that byte: each of them is computed
+byte_back : (byte : ℕ) → byte < 256 → byte_in (decimal byte) ≡ Ok byte
+unfolding value digits
+byte_back byte small =
+    read_byte _ byte (agree_below_at (λ b. is_read (byte_in (decimal b)) b) (λ _. true) 256 byte refl small)
+
+-- they are not `none`
+not_none : (byte : ℕ) → byte < 256 → bytes_eq (decimal byte) (codes "none") ≡ false
+unfolding digits
+not_none byte small = agree_below_at (λ b. bytes_eq (decimal b) (codes "none")) (λ _. false) 256 byte refl small
+
+-- so they are read as a byte that may be absent
+option_back : (byte : ℕ) → byte < 256 → optional_byte_in (decimal byte) ≡ Ok (option_of_byte byte)
+option_back byte small =
+    cond-false (bytes_eq (decimal byte) (codes "none")) _ _ (not_none byte small)
+    ∙ ap (map_ok option_of_byte) (byte_back byte small)
+
+-- an edit that is found by name is read
+found : (read : Result (Option ℕ) SettingError) (make : Option ℕ → Edit) (byte : ℕ) (edit : Edit)
+    → read ≡ Ok (option_of_byte byte) → Some (make (option_of_byte byte)) ≡ Some edit → map_ok make read ≡ Ok edit
+found read make byte edit is same = ap (map_ok make) is ∙ ap (λ o. ok_or o UnknownName) same
+
+flag_back : (setter : FlagSetter) (flag : Bool)
+    → edit_or_error_in (setting_text (edits.Flag setter flag)) ≡ Ok (edits.Flag setter flag)
+unfolding edit_or_error_in
+flag_back setters.RequiredIntegerDigits true = refl
+flag_back setters.RequiredIntegerDigits false = refl
+flag_back _ true = refl
+flag_back _ false = refl
+
+pub setting_back : (edit : Edit) → HasByte edit → edit_or_error_in (setting_text edit) ≡ Ok edit
+unfolding edit_or_error_in
+setting_back (edits.Flag setter flag) h = flag_back setter flag
+setting_back (edits.MantissaRadix radix) h = ap (map_ok edits.MantissaRadix) (byte_back radix h.0)
+setting_back (edits.Radix radix) h = ap (map_ok edits.Radix) (byte_back radix h.0)
+setting_back (edits.DigitSeparator None) h = refl
+setting_back (edits.BasePrefix None) h = refl
+setting_back (edits.BaseSuffix None) h = refl
+setting_back (edits.ExponentBase None) h = refl
+setting_back (edits.ExponentRadix None) h = refl
+setting_back (edits.DigitSeparator (Some byte)) h = found _ edits.DigitSeparator byte _ (option_back byte h.0) h.1
+setting_back (edits.BasePrefix (Some byte)) h = found _ edits.BasePrefix byte _ (option_back byte h.0) h.1
+setting_back (edits.BaseSuffix (Some byte)) h = found _ edits.BaseSuffix byte _ (option_back byte h.0) h.1
+setting_back (edits.ExponentBase (Some byte)) h = found _ edits.ExponentBase byte _ (option_back byte h.0) h.1
+setting_back (edits.ExponentRadix (Some byte)) h = found _ edits.ExponentRadix byte _ (option_back byte h.0) h.1
