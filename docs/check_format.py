@@ -12,7 +12,7 @@ SETTERS = (CRATES / "lexical_builder/src/format_builder/setters.rt").read_text()
 FLAGS = re.findall(r"^\| (\d+) \| `(\w+)` \| \w+ \| (.*) \|$", PAGE, re.M)
 GROUPS = re.findall(r"^\| `(\w+)` \| ([\d ]+) \| (.*) \|$", PAGE, re.M)
 BYTES = re.findall(r"^\| (\d+) to (\d+) \| `(\w+)` \| \d+ \| (.*) \|$", PAGE, re.M)
-RULES = re.findall(r"^\| (\d+) \| (.*) \| `Invalid(\w+)` \| `(\w+)` \|$", PAGE, re.M)
+RULES = re.findall(r"^\| (\d+) \| (.*) \| `Invalid(\w+)` \| `(\w+)` \| .* \|$", PAGE, re.M)
 # What FORMAT.md and the comment of a setter say of a text.
 VERBS = {"refuses": "rejects", "accepts": "accepts"}
 # The words that a group's text has exactly if its name has the other ones.

@@ -3,61 +3,89 @@
 //!
 //!     cargo run --example settings -- examples/settings.txt
 
-use peltzivar::edits::{apply_all, Edit, SettingError};
-use peltzivar::format::{broken_rules, NumberFormatBuilder};
-use peltzivar::reasons::{reasons_of, unused_fields};
+use peltzivar::edits::{apply_all, Edit, SettingError, SETTER_NAMES};
+use peltzivar::format::{broken_rules, NumberFormatBuilder, DIGIT_SEPARATOR_FLAG_MASK};
+use peltzivar::reasons::{reasons_of, unused_fields, Unused};
 use peltzivar::word::FormatView;
 use std::process::ExitCode;
 
+/// A line of the file that sets something.
+struct Setting<'a> {
+    number: usize,
+    line: &'a str,
+    edit: Edit,
+}
+
 /// The edit that a line writes, or `None` if it is empty or a comment. A byte is a number, or a character in quotes.
-fn edit(line: &str) -> Option<Result<Edit, SettingError>> {
-    let line = line.trim();
+fn edit(line: &str) -> Option<Result<Edit, String>> {
     let (name, value) = line.split_once('=').unwrap_or((line, ""));
     let value = match value.trim().as_bytes() {
         [b'\'', byte, b'\''] => byte.to_string(),
         _ => value.trim().to_string(),
     };
-    (!line.is_empty() && !line.starts_with('#')).then(|| Edit::from_setting(name.trim(), &value))
+    let edit = Edit::from_setting(name.trim(), &value).map_err(|error| match error {
+        SettingError::UnknownName => format!("{error}; did you mean {}?", nearest(name.trim())),
+        _ => error.to_string(),
+    });
+    (!line.is_empty() && !line.starts_with('#')).then_some(edit)
 }
 
-/// The lines that write one of these bits of a format, such as ` (line 2: mantissa_radix=16)`.
-fn lines(edits: &[(usize, Edit)], bits: u128) -> String {
-    let written = edits.iter().filter(|(_, edit)| edit.mask() & bits != 0);
-    let written: Vec<String> = written
-        .map(|(line, edit)| format!("line {line}: {edit}"))
+/// The name of a setting that begins like another name for longest.
+fn nearest(name: &str) -> &'static str {
+    let alike = |other: &str| {
+        name.bytes()
+            .zip(other.bytes())
+            .take_while(|(a, b)| a == b)
+            .count()
+    };
+    SETTER_NAMES
+        .into_iter()
+        .max_by_key(|other| alike(other))
+        .unwrap()
+}
+
+/// The lines that write one of these bits of a format, such as ` (line 2: mantissa_radix = 16)`.
+fn lines(settings: &[Setting], bits: u128) -> String {
+    let about = settings
+        .iter()
+        .filter(|setting| setting.edit.mask() & bits != 0);
+    let about: Vec<String> = about
+        .map(|it| format!("line {}: {}", it.number, it.line))
         .collect();
-    if written.is_empty() {
+    if about.is_empty() {
         String::new()
     } else {
-        format!(" ({})", written.join(", "))
+        format!(" ({})", about.join(", "))
     }
 }
 
-/// The format that settings make of a new builder, and all that is to be said of them. What is not set keeps its default:
-/// exponent base and exponent radix follow the mantissa radix.
-fn format_of(settings: &str) -> (u128, Vec<String>) {
-    let (mut edits, mut said) = (Vec::new(), Vec::new());
-    for (index, line) in settings.lines().enumerate() {
+/// The format that a file of settings makes of a new builder, and all that is to be said of it. What is not set keeps its
+/// default: exponent base and exponent radix follow the mantissa radix.
+fn format_of(file: &str) -> (u128, Vec<String>) {
+    let (mut settings, mut said) = (Vec::new(), Vec::new());
+    for (number, line) in (1..).zip(file.lines().map(str::trim)) {
         match edit(line) {
-            Some(Ok(edit)) => edits.push((index + 1, edit)),
-            Some(Err(error)) => said.push(format!("line {}: {}: {error}", index + 1, line.trim())),
+            Some(Ok(edit)) => settings.push(Setting { number, line, edit }),
+            Some(Err(error)) => said.push(format!("line {number}: {line}: {error}")),
             None => {}
         }
     }
-    let all: Vec<Edit> = edits.iter().map(|(_, edit)| *edit).collect();
-    let builder = apply_all(NumberFormatBuilder::new(), &all);
+    let edits: Vec<Edit> = settings.iter().map(|setting| setting.edit).collect();
+    let builder = apply_all(NumberFormatBuilder::new(), &edits);
     let format = builder.build_unchecked();
     for rule in broken_rules(format).into_iter().flatten() {
         for reason in reasons_of(rule, format).into_iter().flatten() {
-            said.push(format!("{reason}{}", lines(&edits, rule.mask())));
+            said.push(format!("{reason}{}", lines(&settings, rule.mask())));
         }
     }
-    said.extend(
-        unused_fields(&builder)
-            .iter()
-            .flatten()
-            .map(ToString::to_string),
-    );
+    for unused in unused_fields(&builder).into_iter().flatten() {
+        let bits = match unused {
+            Unused::NotAllowed(edit) => edit.mask(),
+            Unused::NoSeparator => DIGIT_SEPARATOR_FLAG_MASK,
+            Unused::NoByte(flag, _) => Edit::Flag(flag, true).mask(),
+        };
+        said.push(format!("{unused}{}", lines(&settings, bits)));
+    }
     (format, said)
 }
 

@@ -53,4 +53,4 @@ reason_text reasons.ReservedBits = codes "a reserved bit is set"
 abbrev pub unused_text : Unused → List ℕ
 unused_text (unused.NotAllowed edit) = described edit ++ codes " has no effect: no flag allows one"
 unused_text unused.NoSeparator = codes "the digit separator flags have no effect: there is no digit separator"
-unused_text (unused.NoByte flag) = setter_name flag ++ codes " has no effect: its byte is absent"
+unused_text (unused.NoByte flag byte) = setter_name flag ++ codes " has no effect: there is no " ++ words_of byte

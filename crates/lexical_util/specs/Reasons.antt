@@ -112,8 +112,8 @@ abbrev pub unused_cases : Record → List (Case Unused)
 unused_cases r =
     (not (separator_on r) && not (r.digit_separator == 0), unused.NotAllowed (separator_edit r))
     ∷ (separator_on r && (r.digit_separator == 0), unused.NoSeparator)
-    ∷ (r.case_sensitive_base_prefix && (r.base_prefix == 0), unused.NoByte setters.CaseSensitiveBasePrefix)
-    ∷ (r.case_sensitive_base_suffix && (r.base_suffix == 0), unused.NoByte setters.CaseSensitiveBaseSuffix)
+    ∷ (r.case_sensitive_base_prefix && (r.base_prefix == 0), unused.NoByte setters.CaseSensitiveBasePrefix (edits.BasePrefix None))
+    ∷ (r.case_sensitive_base_suffix && (r.base_suffix == 0), unused.NoByte setters.CaseSensitiveBaseSuffix (edits.BaseSuffix None))
     ∷ []
 
 -- what of a word has no effect

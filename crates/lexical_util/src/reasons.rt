@@ -58,7 +58,7 @@ pub enum Unused {
     /// The flags that allow a digit separator, since there is none.
     NoSeparator,
     /// The flag by which the case of a byte counts, since the byte is absent.
-    NoByte(FlagSetter),
+    NoByte(FlagSetter, Edit),
 }
 
 /// Returns the reasons for which a word breaks a rule: none exactly if it keeps the rule.
@@ -244,11 +244,11 @@ const fn unused_beside(format: u128, separator: u8) -> [Option<Unused>; UNUSED]
         said(is_allowed & no_separator, Unused::NoSeparator),
         said(
             prefix_case & no_prefix,
-            Unused::NoByte(FlagSetter::CaseSensitiveBasePrefix),
+            Unused::NoByte(FlagSetter::CaseSensitiveBasePrefix, Edit::BasePrefix(None)),
         ),
         said(
             suffix_case & no_suffix,
-            Unused::NoByte(FlagSetter::CaseSensitiveBaseSuffix),
+            Unused::NoByte(FlagSetter::CaseSensitiveBaseSuffix, Edit::BaseSuffix(None)),
         ),
     ]
 }

@@ -41,14 +41,21 @@ impl fmt::Display for Reason {
 /// One sentence without a stop, such as `the digit separator '_' has no effect: no flag allows one`.
 impl fmt::Display for Unused {
     fn fmt(&self, f: &mut fmt::Formatter<'_>) -> fmt::Result {
-        match *self {
+        match self {
             Unused::NotAllowed(edit) => {
-                write!(f, "{} has no effect: no flag allows one", Described(edit))
+                write!(f, "{} has no effect: no flag allows one", Described(*edit))
             }
             Unused::NoSeparator => {
                 f.write_str("the digit separator flags have no effect: there is no digit separator")
             }
-            Unused::NoByte(flag) => write!(f, "{} has no effect: its byte is absent", flag.name()),
+            Unused::NoByte(flag, byte) => {
+                write!(
+                    f,
+                    "{} has no effect: there is no {}",
+                    flag.name(),
+                    words(*byte)
+                )
+            }
         }
     }
 }

@@ -33,7 +33,7 @@ fn each_reason_has_its_sentence() {
         "the digit separator flags have no effect: there is no digit separator".to_string();
     let flags = |flag: &str| format!("{flag} {NO_PLACE}");
     let exclude = |first: &str, second: &str| format!("{first} and {second} exclude each other");
-    let none = |flag: &str| format!("{flag} has no effect: its byte is absent");
+    let none = |flag: &str, byte: &str| format!("{flag} has no effect: there is no {byte}");
     let text = |sentence: &str| sentence.to_string();
     #[rustfmt::skip]
     let rows: [(u128, &[Rule], &[String]); 23] = [
@@ -59,7 +59,7 @@ fn each_reason_has_its_sentence() {
         (0x100A0A6600000000000000000000000C, &[Rule::BaseSuffixIsFree], &[text("the base suffix 'f' is a digit of radix 16")]),
         (0x0A0A0A4868000000000000000000000C, &[Rule::PunctuationDiffers], &[text("the base prefix 'h' and the base suffix 'H' differ only in case, which counts only if both are case-sensitive")]),
         (0x0A0A0A4868000000000000000003000C, &[], &[]),
-        (0x0A0A0A0000000000000000000003000C, &[], &[none("case_sensitive_base_prefix"), none("case_sensitive_base_suffix")]),
+        (0x0A0A0A0000000000000000000003000C, &[], &[none("case_sensitive_base_prefix", "base prefix"), none("case_sensitive_base_suffix", "base suffix")]),
     ];
     for (word, rules, sentences) in rows {
         assert_eq!(

@@ -34,12 +34,16 @@ impl fmt::Display for Unused {
     ghost output = { λ setting. Some (unused_text setting) };
 
     fn fmt<W: fmt::Write>(&self, f: &mut fmt::Formatter<W>) -> fmt::Result {
-        match *self {
-            Unused::NotAllowed(edit) => write!(f, "{} has no effect: no flag allows one", Described(edit)),
+        match self {
+            Unused::NotAllowed(edit) => {
+                write!(f, "{} has no effect: no flag allows one", Described(*edit))
+            }
             Unused::NoSeparator => {
                 f.write_str("the digit separator flags have no effect: there is no digit separator")
             }
-            Unused::NoByte(flag) => write!(f, "{} has no effect: its byte is absent", flag.name()),
+            Unused::NoByte(flag, byte) => {
+                write!(f, "{} has no effect: there is no {}", flag.name(), words(*byte))
+            }
         }
     }
 }
