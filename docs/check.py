@@ -4,7 +4,7 @@
 - Each link between pages has a file and a heading to lead to.
 - Each block of code is a piece of a file; `..` stands for lines that it leaves out.
 - Each name with a `_` or `::` is in some code, but for those of the changelog, and each word of FORMAT.md.
-- check_format.py compares FORMAT.md, and check_header.py the header of C.
+- check_format.py compares FORMAT.md, check_header.py the header of C, and check_clauses.py the clauses in PROVED.md.
 - PROVED.md names each file of definitions, and DIFFERENCES.md each public name that the Rust crate does not have.
 - A format word outside of a block of code can be pasted: it has no `_`.
 - Flags, fields, rules, reserved bits and outcomes are as many as a page says.
@@ -17,6 +17,7 @@ import re
 import sys
 
 sys.dont_write_bytecode = True
+import check_clauses
 import check_format
 import check_header
 
@@ -171,7 +172,7 @@ def main():
         for it in found:
             print(f"{page.relative_to(TOP)}: {it}")
         wrong += len(found)
-    for it in (*(f"c/peltzivar.h: {it}" for it in check_header.header(wanted)), *not_run(), *layout()):
+    for it in (*(f"c/peltzivar.h: {it}" for it in check_header.header(wanted)), *check_clauses.clauses(), *not_run(), *layout()):
         print(it)
         wrong += 1
     return 1 if wrong else 0

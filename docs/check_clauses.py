@@ -1,0 +1,115 @@
+"""What of the tables of clauses in PROVED.md and CALLING.md differs from the contracts in crates/*/src.
+
+A row stands on the functions that its first cell names in backquotes, as `name`, `Type::name` or `name` of `Type`, or by words
+of TOLD. Each clause that it names is one of theirs. A row of a crate also names each of theirs, and each named clause of a
+public function of the libraries is named by some row.
+"""
+import pathlib
+import re
+
+TOP = pathlib.Path(__file__).resolve().parent.parent
+HEADER = re.compile(r"^ *(?:pub(?:\(\w+\))? )?(?:const )?(fn|impl|trait)\b(.*)$")
+# The functions that words of a cell stand for.
+TOLD = {
+    "`==`": "eq",
+    "`Display` of": "fmt",
+    "`Default`": "default",
+    "the six extractors": "digit_separator base_prefix base_suffix mantissa_radix exponent_base exponent_radix",
+    "`.._slice` of both": "is_valid_ascii_slice is_valid_letter_slice",
+    "`is_..`": "is_success",
+    "group getters": "required_digits internal_digit_separator leading_digit_separator trailing_digit_separator"
+    " consecutive_digit_separator",
+    "flag groups": "flags interface_flags digit_separator_flags exponent_flags integer_digit_separator_flags"
+    " fraction_digit_separator_flags exponent_digit_separator_flags",
+    "byte getters": "mantissa_radix radix exponent_base exponent_radix",
+    "the same three": "error format_error format_error_impl",
+    "`.._facts` of `callers::formats`": "decimal_facts rust_integer_facts hexadecimal_float_facts octal_facts",
+}
+# Rows that cannot be matched by names, with the reason.
+UNMATCHED = {
+    "each getter and setter": "some hundred functions, whose clauses have no names",
+    "getters of `NumberFormat`": "the same, in CALLING",
+    "flag getters of `NumberFormat`": "31 functions, whose clauses have no names",
+    "fields, edits, rules, bytes and digits": "most of the exports, each with the clauses of the call that it passes on",
+    "calls that write a result": "a part of the exports, told by what they do",
+    "texts and names": "a part of the exports, told by what they do",
+}
+# Rows that leave out clauses of their functions, with the reason.
+PARTIAL = {
+    "`exit_status`, `print`, `write_source`": "what follows from a failure is told once, at `run`",
+    "`laws::layout_facts`": "one clause a fact, all told together",
+    "`laws::normal_form_facts`, `edit_facts`": "the clauses of `normal_form` and `edit_word`, told there",
+}
+LIBRARIES = ["lexical_base", "lexical_flags", "lexical_builder", "lexical_util"]
+# Functions with clauses that stand in no row: examples, the method of a trait that callers implement, texts of private types.
+UNTOLD = re.compile(r"\w+::(\w+_examples|put)|(Described|Numbered)::fmt")
+
+
+def functions():
+    """Returns (crate, type or file, name, clauses) of each function that is public, or of an `impl` or a `trait`."""
+    for path in sorted((TOP / "crates").glob("*/src/**/*.rt")):
+        crate = path.relative_to(TOP / "crates").parts[0]
+        owner, clauses, output = "", None, []
+        for line in path.read_text().splitlines():
+            head = HEADER.match(line)
+            if line.startswith("}"):
+                owner, clauses, output = "", None, []
+            elif re.match(r" *ghost \w*output = ", line):
+                output.append(line.split()[1])
+            elif head and head[1] != "fn":
+                names = re.findall(r"\w+", re.sub("<.*?>", "", head[2]).split(" for ")[-1])
+                owner, clauses = names[-1] if " for " in head[2] else names[0], None
+            elif head:
+                clauses = [*output] if owner or "pub" in line else None
+                if clauses is not None:
+                    yield crate, owner or path.stem, re.match(r" (\w+)", head[2])[1], clauses
+            elif clauses is not None:
+                clauses += re.findall(r"^ *ensures (\w+) \{", line)
+
+
+def rows(page):
+    """Returns (section, cells) of each row of the page's tables with a column of clauses."""
+    for section in re.split(r"^## ", (TOP / "docs" / page).read_text(), flags=re.M)[1:]:
+        for table in re.findall(r"^\| .*Clauses? \|.*\n\|[-|]*\|\n((?:\|.*\n)+)", section, re.M):
+            for row in table.splitlines():
+                yield section.split("\n", 1)[0].strip("`"), [cell.strip() for cell in row.strip("|").split(" |")]
+
+
+def named(cell, section, known):
+    """Returns the functions that a cell names: those of the section's crate, if it is one, and of the types that it names."""
+    words = set(re.findall(r"`([\w:]+)`", cell))
+    types = {word for path in words for word in path.split("::") if word[:1].isupper()}
+    names = {word.split("::")[-1] for word in words - types}
+    for told, others in TOLD.items():
+        names |= set(others.split()) if told in cell else set()
+    crates = {crate for crate, *_ in known}
+    found = [it for it in known if it[2] in names and (it[0] == section or section not in crates)]
+    owned = {it[2] for it in found if it[1] in types}
+    return [it for it in found if it[1] in types or it[2] not in owned]
+
+
+def clauses():
+    """Returns what differs."""
+    known, told, seen = list(functions()), set(), set()
+    for page in ("PROVED.md", "CALLING.md"):
+        for section, cells in rows(page):
+            last = 1 if page == "CALLING.md" else 2
+            calls, where = cells[1 if section == "The headline" else 0], cells[last]
+            found = named(calls, section, known)
+            have = {clause for *_, names in found for clause in names}
+            said = set(re.findall(r"`(\w+)`", where)) - {name for _, _, name, _ in known if name.endswith("_facts")}
+            seen.add(calls)
+            if calls in UNMATCHED:
+                continue
+            if not found:
+                yield f"{page}: no function is named by: {calls}"
+            yield from (f"{page}: no clause `{clause}` of: {calls}" for clause in sorted(said - have))
+            if page == "PROVED.md":
+                told |= {(*it[:3], clause) for it in found for clause in (have if calls in PARTIAL else said)}
+                if section != "The headline" and calls not in PARTIAL:
+                    yield from (f"{page}: not named, the clause `{clause}` of: {calls}" for clause in sorted(have - said))
+    for crate, owner, name, names in known:
+        if crate in LIBRARIES and not UNTOLD.fullmatch(f"{owner}::{name}"):
+            missing = [clause for clause in names if (crate, owner, name, clause) not in told]
+            yield from (f"PROVED.md: in no row, the clause `{clause}` of `{owner}::{name}`" for clause in missing)
+    yield from (f"check_clauses.py: no such row: {calls}" for calls in sorted({*UNMATCHED, *PARTIAL} - seen))
