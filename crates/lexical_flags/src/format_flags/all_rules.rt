@@ -4,8 +4,8 @@ ghost use Rattle.std.specs.Prelude.{◌≡◌, ◌↔◌, IsTrue};
 ghost use Rattle.lexical_flags.specs.RuleFields.{mask_read};
 ghost use Rattle.lexical_flags.specs.Rules.{Holds, IsErrorOf, IsIfBroken, AreIfBroken, error_of, first_error, rules_in_order};
 
-use crate::format_flags::*;
 use crate::format_flags::rules::*;
+use crate::format_flags::*;
 use lexical_base::error::Error;
 
 /// A rule of format words. A word that breaks none is lawful.

@@ -14,11 +14,30 @@ impl fmt::Display for Reason {
     fn fmt<W: fmt::Write>(&self, f: &mut fmt::Formatter<W>) -> fmt::Result {
         match self {
             Reason::OutOfRange(edit) => write!(f, "{} is not 2 to 36", Numbered(*edit)),
-            Reason::NotText(edit) => write!(f, "{} is not a character of ASCII text", Described(*edit)),
+            Reason::NotText(edit) => write!(
+                f,
+                "{} is not a character of ASCII text",
+                Described(*edit)
+            ),
             Reason::IsSign(edit) => write!(f, "{} is a sign", Described(*edit)),
-            Reason::IsDigit(edit, radix) => write!(f, "{} is a digit of radix {radix}", Described(*edit)),
-            Reason::AreSame(a, b) => write!(f, "{} and {}{}", Described(*a), Described(*b), sameness(*a, *b)),
-            Reason::Contradict(a, b) => write!(f, "{} and {} exclude each other", a.name(), b.name()),
+            Reason::IsDigit(edit, radix) => write!(
+                f,
+                "{} is a digit of radix {radix}",
+                Described(*edit)
+            ),
+            Reason::AreSame(a, b) => write!(
+                f,
+                "{} and {}{}",
+                Described(*a),
+                Described(*b),
+                sameness(*a, *b)
+            ),
+            Reason::Contradict(a, b) => write!(
+                f,
+                "{} and {} exclude each other",
+                a.name(),
+                b.name()
+            ),
             Reason::HasNoPlace(flag) => write!(
                 f,
                 "{} needs the internal, leading or trailing flag of the same part",
@@ -42,7 +61,12 @@ impl fmt::Display for Unused {
                 f.write_str("the digit separator flags have no effect: there is no digit separator")
             }
             Unused::NoByte(flag, byte) => {
-                write!(f, "{} has no effect: there is no {}", flag.name(), words(*byte))
+                write!(
+                    f,
+                    "{} has no effect: there is no {}",
+                    flag.name(),
+                    words(*byte)
+                )
             }
         }
     }
