@@ -21,6 +21,7 @@ pub use Rattle.lexical_flags.specs.Common
 pub use Rattle.lexical_flags.specs.Pairs
 pub use Rattle.lexical_flags.specs.Roles
 pub use Rattle.lexical_flags.specs.Rules
+pub use Rattle.lexical_flags.specs.RuleFields
 pub use Rattle.lexical_flags.specs.Options
 pub use Rattle.lexical_builder.specs.BuilderBits
 pub use Rattle.lexical_builder.specs.OptionByte

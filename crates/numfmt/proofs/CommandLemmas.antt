@@ -40,6 +40,9 @@ one_answer one (commands.migrate word) (answers.Outcome e) _ h h' = absurd h'
 one_answer one (commands.source word) (answers.Source x t) (answers.Source y t') h h' =
     (λ i. answers.Source ((h.0 ∙ sym h'.0) i) (same_truth t t' h.1 h'.1 i))
 one_answer one (commands.source word) (answers.Source x t) _ h h' = absurd h'
+one_answer one (commands.explain word) (answers.Explanation x t) (answers.Explanation y t') h h' =
+    (λ i. answers.Explanation ((h.0 ∙ sym h'.0) i) (same_truth t t' h.1 h'.1 i))
+one_answer one (commands.explain word) (answers.Explanation x t) _ h h' = absurd h'
 one_answer one _ _ _ h h' = absurd h
 
 pub one_response : HasOneError → (request : Request) (a b : Response) → Responds request a → Responds request b → a ≡ b

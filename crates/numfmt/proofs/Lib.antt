@@ -3,3 +3,4 @@ mod CommandLemmas
 mod ItemLemmas
 mod EditsLemmas
 mod SourceLemmas
+mod ExplanationLemmas

@@ -9,6 +9,7 @@ use Rattle.lexical_util.specs.declared.edits.Edit.{Edit}
 use Rattle.lexical_util.specs.declared.format.TheConstants.{STANDARD}
 use Rattle.lexical_util.specs.Edits.{edited, all_writes}
 use Rattle.lexical_util.specs.Normal.{normal_form_of}
+use Rattle.lexical_util.specs.Reasons.{unused_of}
 use Rattle.numfmt.specs.declared.response.Answer.{Answer}
 use Rattle.numfmt.specs.declared.response.Answer.TheVariants as answers
 use Rattle.numfmt.specs.declared.response.Refusal.{Refusal}
@@ -28,6 +29,7 @@ pub data Command : Type 0 where
   options : ℕ → ℕ → ℕ → Command
   migrate : ℕ → Command
   source : ℕ → Command
+  explain : ℕ → Command
 
 -- the answer to each command, in the library's words
 abbrev pub Answers : Command → Answer → Type 0
@@ -40,6 +42,8 @@ Answers (migrate word) (answers.Word normal) = Lawful (normal_form_of word) × (
 Answers (migrate word) (answers.Outcome error) =
     (¬ Lawful (normal_form_of word)) × IsErrorOf (normal_form_of word) error
 Answers (source word) (answers.Source written truth) = (written ≡ word) × (IsTrue truth ↔ IsBuilt word)
+Answers (explain word) (answers.Explanation written truth) =
+    (written ≡ word) × (IsTrue truth ↔ (Lawful word × (unused_of word ≡ [])))
 Answers _ _ = ⊥
 
 -- what arguments ask for, or why they are refused
@@ -87,6 +91,7 @@ commands =
     ∷ (codes "options", word_and_bytes options)
     ∷ (codes "migrate", one_word migrate)
     ∷ (codes "source", one_word source)
+    ∷ (codes "explain", one_word explain)
     ∷ []
 
 -- what the program's arguments ask for, without its name: a command and its arguments, or none

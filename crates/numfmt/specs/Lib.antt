@@ -1,5 +1,6 @@
 pub mod WordText
 pub mod EditText
 pub mod Source
+pub mod Explanation
 pub mod Response
 pub mod Command

@@ -12,14 +12,11 @@ use Rattle.numfmt.specs.declared.response.Refusal.{Refusal}
 use Rattle.numfmt.specs.declared.response.Refusal.TheVariants as refusals
 use Rattle.numfmt.specs.WordText.{printed}
 use Rattle.numfmt.specs.Source.{source_text}
+use Rattle.numfmt.specs.Explanation.{explanation, line}
 
 -- an answer, or the reason why the arguments are refused
 abbrev pub Response : Type 0
 Response = Result Answer Refusal
-
--- a line of text
-abbrev pub line : List ℕ → List ℕ
-line text = text ++ 10 ∷ []
 
 -- a name, a space and a value
 abbrev pub field : List ℕ → List ℕ → List ℕ
@@ -47,6 +44,7 @@ answer_text (answers.Outcome error) = line (printed_text error)
 answer_text (answers.Acceptance true) = line (codes "accepted")
 answer_text (answers.Acceptance false) = line (codes "refused")
 answer_text (answers.Source word is_built) = line (source_text word)
+answer_text (answers.Explanation word is_silent) = explanation word
 
 -- the reason as a refusal states it
 abbrev pub reason_text : Refusal → List ℕ
@@ -74,4 +72,6 @@ status_of (Ok (answers.Acceptance true)) = 0
 status_of (Ok (answers.Acceptance false)) = 1
 status_of (Ok (answers.Source word true)) = 0
 status_of (Ok (answers.Source word false)) = 1
+status_of (Ok (answers.Explanation word true)) = 0
+status_of (Ok (answers.Explanation word false)) = 1
 status_of (Err refusal) = 2

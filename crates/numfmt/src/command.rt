@@ -8,6 +8,7 @@ ghost use Rattle.numfmt.specs.Command.{Responds, request_of, one_word, two_words
 ghost use Rattle.numfmt.specs.Command as commands;
 
 use crate::edit::read_edits;
+use crate::explanation::is_silent;
 use crate::response::{Answer, Refusal};
 use crate::word::read_word;
 use lexical_util::edits::{Edit, byte_from_text, edit_word, is_built, migrate, same_format};
@@ -33,6 +34,7 @@ pub fn response_to(args: &[String]) -> Result<Answer, Refusal>
             "options" => options(args),
             "migrate" => migrate_word(args),
             "source" => source(args),
+            "explain" => explain(args),
             _ => Err(Refusal::UnknownCommand),
         },
     }
@@ -118,6 +120,19 @@ fn source(args: &[String]) -> Result<Answer, Refusal>
         [word] => {
             let word = parse_word(word)?;
             Ok(Answer::Source(word, is_built(word)))
+        }
+        _ => Err(Refusal::WrongNumberOfArguments),
+    }
+}
+
+// `explain WORD`
+fn explain(args: &[String]) -> Result<Answer, Refusal>
+    ensures { Responds (one_word commands.explain (map string_bytes args.now)) result }
+{
+    match args {
+        [word] => {
+            let word = parse_word(word)?;
+            Ok(Answer::Explanation(word, is_silent(word)))
         }
         _ => Err(Refusal::WrongNumberOfArguments),
     }

@@ -1,4 +1,5 @@
-//! `numfmt` shows, edits, compares, checks and migrates number formats, and writes them as Rust code.
+//! `numfmt` shows, edits, compares, checks, explains and migrates number formats, and writes them as
+//! Rust code.
 //!
 //! A number format is a format word, a `u128`. A WORD is written as `0x` and 1 to 32 hexadecimal
 //! digits.
@@ -13,6 +14,7 @@
 //! | `options WORD E P` | whether the exponent byte E and the point byte P fit the word: `accepted` or `refused` |
 //! | `migrate WORD` | the normal form of an old word, or what is wrong with it |
 //! | `source WORD` | the builder expression with the fewest setter calls of single fields that make the word's fields |
+//! | `explain WORD` | what is wrong with the word and with which fields, and which settings have no effect |
 //!
 //! The exit status is 0 on success; 1 if the answer is no; 2 if the arguments are refused, and then
 //! one line says why; 3 if a write fails or the arguments cannot be read, and then nothing more is
@@ -24,6 +26,7 @@ ghost use Rattle.std.specs.Prelude.{◌≡◌, ◌≤◌, IsErr, IsOk};
 mod command;
 mod edit;
 mod examples;
+mod explanation;
 mod output;
 mod program;
 mod response;

@@ -4,8 +4,10 @@ ghost use Rattle.std.specs.Prelude.{◌≡◌, ◌++◌, IsErr, OnOk, codes, dec
 ghost use Rattle.std.specs.Io.KnownBytes.{Appends};
 ghost use Rattle.numfmt.specs.WordText.{printed};
 ghost use Rattle.numfmt.specs.Source.{source_text};
-ghost use Rattle.numfmt.specs.Response.{answer_text, field, fields, line, reason_text, status_of, text_of};
+ghost use Rattle.numfmt.specs.Explanation.{line};
+ghost use Rattle.numfmt.specs.Response.{answer_text, field, fields, reason_text, status_of, text_of};
 
+use crate::explanation::write_explanation;
 use crate::output::Output;
 use crate::source::write_source;
 use crate::word::word_text;
@@ -28,6 +30,8 @@ pub enum Answer {
     Acceptance(bool),
     /// The builder expression of a format word, and whether it makes the word itself.
     Source(u128, bool),
+    /// What is wrong with a format word, and what of it has no effect; and whether that is nothing.
+    Explanation(u128, bool),
 }
 
 /// Why arguments are refused.
@@ -52,7 +56,8 @@ pub fn exit_status(response: Result<Answer, Refusal>) -> u8
     ensures { result ≡ status_of response }
 {
     match response {
-        Ok(Answer::Sameness(false) | Answer::Acceptance(false) | Answer::Source(_, false)) => 1,
+        Ok(Answer::Sameness(false) | Answer::Acceptance(false)) => 1,
+        Ok(Answer::Source(_, false) | Answer::Explanation(_, false)) => 1,
         Ok(Answer::Outcome(error)) if error != Error::Success => 1,
         Ok(_) => 0,
         Err(_) => 2,
@@ -102,6 +107,7 @@ impl Answer {
             Answer::Acceptance(true) => out.write_all(b"accepted\n"),
             Answer::Acceptance(false) => out.write_all(b"refused\n"),
             Answer::Source(format, _) => print_source(format, out),
+            Answer::Explanation(format, _) => write_explanation(format, out),
         }
     }
 }
