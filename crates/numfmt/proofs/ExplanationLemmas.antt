@@ -76,7 +76,7 @@ reason_texts f rule word = padded_texts f rule word ∙ said_texts f (cases_of r
 -- what is said where there is a reason
 pub text_for-some : (rule : Rule) (word : ℕ) (reasons : List Reason) → reasons ≢ []
     → text_for rule word reasons ≡ line (printed_text (error_of rule))
-      ++ flat_map (λ edit. indented (setting_text edit)) (fields_of rule word)
-      ++ flat_map (λ reason. indented (reason_text reason)) reasons
+    ++ flat_map (λ edit. indented (setting_text edit)) (fields_of rule word)
+    ++ flat_map (λ reason. indented (reason_text reason)) reasons
 text_for-some rule word [] some = absurd (some refl)
 text_for-some rule word (first ∷ others) some = refl

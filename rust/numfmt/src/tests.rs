@@ -15,6 +15,7 @@ const RESERVED_BIT: &str = "0x00000A0000000000000000008000000C";
 
 const SEPARATED: &str = "0x000010000000005F000002490000000C";
 
+const PREFIX_B: &str = "0x0A0A10006200005F000000000000000C";
 const PREFIX_E: &str = "0x00000A0045000000000000000001000C";
 
 const STANDARD_FIELDS: &str = "flags 0x0000000000000000000000000000000C
@@ -40,10 +41,16 @@ base_suffix 3
 mantissa_radix 4
 exponent_base 5
 exponent_radix 6";
+const PREFIX_B_EXPLAINED: &str = "lexical number format error: 'invalid base prefix character'
+    base_prefix=98
+    mantissa_radix=16
+    exponent_radix=10
+    the base prefix 'b' is a digit of radix 16
+the digit separator '_' has no effect: no flag allows one";
 
 /// Arguments, the text without its last newline, and the exit status.
 #[rustfmt::skip]
-const RUNS: [(&[&str], &str, u8); 47] = [
+const RUNS: [(&[&str], &str, u8); 49] = [
     (&[], STANDARD_FIELDS, 0),
     (&["show", STANDARD], STANDARD_FIELDS, 0),
     (&["show", ALL_ONES], ALL_FIELDS, 0),
@@ -65,6 +72,7 @@ const RUNS: [(&[&str], &str, u8); 47] = [
     (&["migrate", "0x0"], "lexical number format error: 'invalid radix for mantissa digits'", 1),
     (&["source", STANDARD], "NumberFormatBuilder::new().build_unchecked()", 0),
     (&["source", RESERVED_BIT], "NumberFormatBuilder::new().build_unchecked()", 1),
+    (&["explain", PREFIX_B], PREFIX_B_EXPLAINED, 1),
     (&[""], "numfmt: unknown command", 2),
     (&["show"], "numfmt: wrong number of arguments", 2),
     (&["edit"], "numfmt: wrong number of arguments", 2),
@@ -72,6 +80,7 @@ const RUNS: [(&[&str], &str, u8); 47] = [
     (&["same", STANDARD], "numfmt: wrong number of arguments", 2),
     (&["options", STANDARD, "101"], "numfmt: wrong number of arguments", 2),
     (&["migrate"], "numfmt: wrong number of arguments", 2),
+    (&["explain"], "numfmt: wrong number of arguments", 2),
     (&["show", "0x"], "numfmt: bad word", 2),
     (&["show", "0x000000000000000000000000000000000"], "numfmt: bad word", 2),
     (&["show", "0X1"], "numfmt: bad word", 2),
