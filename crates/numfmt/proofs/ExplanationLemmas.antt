@@ -8,14 +8,15 @@ use Rattle.std.proofs.KnownBytes.{Appends-trans}
 use Rattle.std.proofs.lemmas.Bool.Decides.{nat_tests}
 use Rattle.std.proofs.lemmas.List.{flat_map_more, take_more}
 use Rattle.lexical_util.specs.Outcomes.{printed_text}
-use Rattle.lexical_util.specs.Reasons.{Case, said, padded, cases_of, reasons_of}
-use Rattle.lexical_util.specs.ReasonText.{reason_text}
-use Rattle.lexical_util.specs.Rules.{error_of}
+use Rattle.lexical_util.specs.Reasons.{Case, said, padded, cases_of, reasons_of, unused_of}
+use Rattle.lexical_util.specs.ReasonText.{reason_text, unused_text}
+use Rattle.lexical_util.specs.Rules.{Holds, error_of, rules_in_order}
 use Rattle.lexical_util.specs.SettingText.{setting_text}
 use Rattle.lexical_util.specs.declared.format_flags.Rule.{Rule}
 use Rattle.lexical_util.specs.declared.format_flags.Rule.TheVariants as rules
 use Rattle.lexical_util.specs.declared.reasons.Reason.{Reason}
-use Rattle.numfmt.specs.Explanation.{fields_of, indented, line, text_for}
+use Rattle.lexical_util.proofs.ReasonLemmas.{kept_without_reason}
+use Rattle.numfmt.specs.Explanation.{explanation, fields_of, indented, line, rule_text, text_for}
 
 -- one element more
 pub one_more : {T : Type 0} (f : T → List ℕ) (list : List T) (i : ℕ) (x : T) (a b c : Option (List ℕ)) (text : List ℕ)
@@ -80,3 +81,16 @@ pub text_for-some : (rule : Rule) (word : ℕ) (reasons : List Reason) → reaso
     ++ flat_map (λ reason. indented (reason_text reason)) reasons
 text_for-some rule word [] some = absurd (some refl)
 text_for-some rule word (first ∷ others) some = refl
+
+-- nothing is written of a list if nothing is of an element
+no_texts : {T : Type 0} (f : T → List ℕ) → ((x : T) → f x ≡ []) → (list : List T) → flat_map f list ≡ []
+no_texts f none [] = refl
+no_texts f none (x ∷ list) = λ i. none x i ++ no_texts f none list i
+
+-- nothing is said of a word that keeps all rules, and whose settings all have an effect
+pub nothing_said : (word : ℕ) → ((rule : Rule) → Holds rule word) → unused_of word ≡ [] → explanation word ≡ []
+unfolding explanation
+nothing_said word keeps none =
+    let of_rules = no_texts (rule_text word)
+    (λ rule. ap (text_for rule word) ((kept_without_reason rule word).0 (keeps rule))) rules_in_order in
+    λ i. of_rules i ++ flat_map (λ setting. line (unused_text setting)) (none i)
