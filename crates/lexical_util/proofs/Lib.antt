@@ -9,6 +9,6 @@ mod SetterNameLemmas
 mod Distance
 mod FieldWrites
 mod NumberLemmas
-mod ReasonLemmas
+pub mod ReasonLemmas
 mod SettingTextLemmas
 pub mod NumeralLemmas
