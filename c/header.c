@@ -101,6 +101,19 @@ static void test_rules(void) {
     CHECK(!peltzivar_is_valid_options_punctuation(hexadecimal, 'e', '.'));
     CHECK(peltzivar_is_valid_options_punctuation(hexadecimal, '^', '.'));
     CHECK(peltzivar_is_digit(hexadecimal, 'f') && !peltzivar_is_digit(hexadecimal, 'g'));
+    CHECK(peltzivar_options_error(PELTZIVAR_STANDARD, 'e', '.') == PELTZIVAR_SUCCESS);
+    CHECK(peltzivar_options_error(PELTZIVAR_STANDARD, '5', '5') == PELTZIVAR_INVALID_EXPONENT_SYMBOL);
+    CHECK(peltzivar_options_error(PELTZIVAR_STANDARD, 'e', '+') == PELTZIVAR_INVALID_DECIMAL_POINT);
+    CHECK(peltzivar_options_error(PELTZIVAR_STANDARD, 'e', 'e') == PELTZIVAR_INVALID_PUNCTUATION);
+    for (int rule = 0; rule < 256; rule++) {
+        const bool known = rule < PELTZIVAR_RULES;
+        CHECK(peltzivar_keeps_rule(PELTZIVAR_STANDARD, (uint8_t)rule) == known);
+        const bool keeps = known && rule != PELTZIVAR_RULE_RESERVED_BITS_ARE_ZERO;
+        CHECK(peltzivar_keeps_rule(RESERVED, (uint8_t)rule) == keeps);
+        CHECK((peltzivar_rule_error((uint8_t)rule) == PELTZIVAR_SUCCESS) == !known);
+    }
+    CHECK(peltzivar_rule_error(PELTZIVAR_RULE_SPECIAL_SEPARATOR_FLAGS_AGREE) == PELTZIVAR_INVALID_SPECIAL);
+    CHECK(peltzivar_rule_error(PELTZIVAR_RULE_RESERVED_BITS_ARE_ZERO) == PELTZIVAR_INVALID_FLAGS);
     const peltzivar_word mask = {0, 0xFF00000000000000};
     CHECK(peltzivar_radix_from_flags(hexadecimal, mask, 120) == 16);
     CHECK(peltzivar_radix_from_flags(hexadecimal, mask, 128) == UINT32_MAX);
@@ -184,6 +197,32 @@ static void test_texts(void) {
     CHECK(is_text("exponent_base", peltzivar_setter_name(PELTZIVAR_SET_EXPONENT_BASE, text, sizeof text), text));
 }
 
+/* Settings as text, and the bits that an edit writes. */
+static void test_settings(void) {
+    static const struct {
+        const char *text;
+        uint32_t wanted;
+        peltzivar_edit edit;
+    } rows[] = {
+        {"mantissa_radix=16", 0, {PELTZIVAR_SET_MANTISSA_RADIX, 16}},
+        {"no_special=true", 0, {PELTZIVAR_SET_NO_SPECIAL, 1}},
+        {"base_prefix=none", 0, {PELTZIVAR_SET_BASE_PREFIX, 0}},
+        {"", 1, {7, 9}},
+        {"no_special =true", 1, {7, 9}},
+        {"\xFF=1", 1, {7, 9}},
+        {"mantissa_radix=none", 2, {7, 9}},
+        {"mantissa_radix=256", 3, {7, 9}},
+    };
+    for (size_t row = 0; row < sizeof rows / sizeof *rows; row++) {
+        peltzivar_edit edit = {7, 9};
+        CHECK(peltzivar_edit_of_text(rows[row].text, strlen(rows[row].text), &edit) == rows[row].wanted);
+        CHECK(edit.setter == rows[row].edit.setter && edit.value == rows[row].edit.value);
+    }
+    CHECK(is_word(peltzivar_edit_mask(rows[0].edit), 0x0000FF0000000000, 0));
+    CHECK(is_word(peltzivar_edit_mask(rows[1].edit), 0, 0x400));
+    CHECK(is_word(peltzivar_edit_mask((peltzivar_edit){PELTZIVAR_SET_EXPONENT_RADIX + 1, 1}), 0, 0));
+}
+
 /* A null pointer beside a length of 0 is an empty array. */
 static void test_null(void) {
     peltzivar_fields fields = PELTZIVAR_NEW_FIELDS;
@@ -197,6 +236,8 @@ static void test_null(void) {
           strlen("lexical parse error: 'numeric overflow occurred' at index 7"));
     CHECK(peltzivar_setter_name(PELTZIVAR_SET_RADIX, NULL, 0) == strlen("radix"));
     CHECK(peltzivar_setter_of_name(NULL, 0) == PELTZIVAR_NO_SETTER);
+    peltzivar_edit edit;
+    CHECK(peltzivar_edit_of_text(NULL, 0, &edit) == 1);
 }
 
 int main(void) {
@@ -207,6 +248,7 @@ int main(void) {
     test_one_rule_each();
     test_bytes();
     test_texts();
+    test_settings();
     test_null();
     return failed;
 }

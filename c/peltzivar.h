@@ -171,6 +171,27 @@ enum {
     PELTZIVAR_INVALID_POSITIVE_EXPONENT_BREAK = 48,
 };
 
+/* The rules of words, in the order in which they are tried, and how many there are. */
+enum {
+    PELTZIVAR_RULE_MANTISSA_RADIX_IN_RANGE = 0,
+    PELTZIVAR_RULE_EXPONENT_BASE_IN_RANGE,
+    PELTZIVAR_RULE_EXPONENT_RADIX_IN_RANGE,
+    PELTZIVAR_RULE_DIGIT_SEPARATOR_IS_FREE,
+    PELTZIVAR_RULE_BASE_PREFIX_IS_FREE,
+    PELTZIVAR_RULE_BASE_SUFFIX_IS_FREE,
+    PELTZIVAR_RULE_PUNCTUATION_DIFFERS,
+    PELTZIVAR_RULE_EXPONENT_FLAGS_AGREE,
+    PELTZIVAR_RULE_MANTISSA_SIGN_FLAGS_AGREE,
+    PELTZIVAR_RULE_EXPONENT_SIGN_FLAGS_AGREE,
+    PELTZIVAR_RULE_SPECIAL_CASE_FLAGS_AGREE,
+    PELTZIVAR_RULE_SPECIAL_SEPARATOR_FLAGS_AGREE,
+    PELTZIVAR_RULE_INTEGER_CONSECUTIVE_IS_ALLOWED,
+    PELTZIVAR_RULE_FRACTION_CONSECUTIVE_IS_ALLOWED,
+    PELTZIVAR_RULE_EXPONENT_CONSECUTIVE_IS_ALLOWED,
+    PELTZIVAR_RULE_RESERVED_BITS_ARE_ZERO,
+};
+#define PELTZIVAR_RULES 16
+
 /* BUILDERS */
 
 /* Returns the fields of a word; an exponent base or exponent radix of 0 becomes the mantissa radix. */
@@ -239,6 +260,17 @@ bool peltzivar_is_valid_punctuation(peltzivar_word format);
  * digit, and they differ from each other and from separator, prefix and suffix. */
 bool peltzivar_is_valid_options_punctuation(peltzivar_word format, uint8_t exponent, uint8_t decimal_point);
 
+/* Returns PELTZIVAR_SUCCESS if they fit; else PELTZIVAR_INVALID_EXPONENT_SYMBOL if the exponent character is not allowed
+ * ASCII, a sign or a digit; else PELTZIVAR_INVALID_DECIMAL_POINT if the decimal point is; else
+ * PELTZIVAR_INVALID_PUNCTUATION. */
+peltzivar_error peltzivar_options_error(peltzivar_word format, uint8_t exponent, uint8_t decimal_point);
+
+/* Returns whether a word keeps a rule: true only if there is such a rule. */
+bool peltzivar_keeps_rule(peltzivar_word format, uint8_t rule);
+
+/* Returns the error of a word that breaks this rule and none before it, or PELTZIVAR_SUCCESS if there is no such rule. */
+peltzivar_error peltzivar_rule_error(uint8_t rule);
+
 /* Returns whether a byte is a digit of the mantissa radix or of the exponent radix. */
 bool peltzivar_is_digit(peltzivar_word format, uint8_t byte);
 
@@ -289,6 +321,15 @@ size_t peltzivar_setter_name(uint8_t setter, char *text, size_t len);
 /* Returns the setter of a name, or PELTZIVAR_NO_SETTER. The name is len bytes with no 0 at the end, so it can be a part of
  * a text, as before the `=` of a setting. */
 uint8_t peltzivar_setter_of_name(const char *name, size_t len);
+
+/* Reads a setting, NAME=VALUE, writes its edit to *out and returns 0. Else writes nothing and returns 1 if no setter has the
+ * name, 2 if the value is not of the setter's type, and 3 if the number is above 255 or has more than 3 digits. The value of
+ * flags is `true` or `false`, that of a byte a decimal number, or `none` where it may be absent. The text is len bytes with
+ * no 0 at the end; bytes that are no UTF-8 are an unknown name. */
+uint32_t peltzivar_edit_of_text(const char *text, size_t len, peltzivar_edit *out);
+
+/* Returns the bits of a word that an edit writes, or 0 if it has no setter. */
+peltzivar_word peltzivar_edit_mask(peltzivar_edit edit);
 
 #ifdef __cplusplus
 }

@@ -1,18 +1,21 @@
 //! The rules of words.
 
-ghost use Rattle.std.specs.Prelude.{◌≡◌, ◌↔◌, ℕ, ◌<◌, ◌^◌, ◌-◌, ◌/◌, ◌%◌, IsTrue, pos, unsigned_abs, ◌≤ℤ◌, ◌<ℤ◌};
+ghost use Rattle.std.specs.Prelude.{◌≡◌, ◌↔◌, ℕ, ◌<◌, ◌^◌, ◌-◌, ◌/◌, ◌%◌, IsTrue, IsFalse, IfSome, None};
+ghost use Rattle.std.specs.Prelude.{pos, unsigned_abs, ◌≤ℤ◌, ◌<ℤ◌};
 ghost use Rattle.lexical_util.specs.Roles.{digits};
-ghost use Rattle.lexical_util.specs.Rules.{Lawful, IsErrorOf, IsRadix, IsFirstError, Holds, radix_rules};
+ghost use Rattle.lexical_util.specs.Rules.{Lawful, IsErrorOf, IsRadix, IsFirstError, Holds, radix_rules, error_of};
 ghost use Rattle.lexical_util.specs.declared.format_flags.Rule.TheVariants as rules;
 ghost use Rattle.lexical_util.specs.Record.{raw, effective};
 ghost use Rattle.lexical_util.specs.Common.{common};
-ghost use Rattle.lexical_util.specs.Options.{AreAccepted, HaveOneRole, LeavesRoom};
-ghost use Rattle.lexical_c.specs.Outcomes.{IsNumberOfOne, SUCCESS};
+ghost use Rattle.lexical_util.specs.Options.{AreAccepted, HaveOneRole, LeavesRoom, IsOptionsError};
+ghost use Rattle.lexical_c.specs.Outcomes.{IsNumberOfOne, SUCCESS, error_number};
+ghost use Rattle.lexical_c.specs.RuleNumbers.{rule_of};
 
 use crate::outcomes::{ErrorNumber, error_number};
 use crate::words::Word;
 use lexical_util::format::format_error;
 use lexical_util::format_flags as flags;
+use lexical_util::format_flags::{RULES, Rule};
 
 /// Returns the number of the error of the first rule that a word breaks, or 0 if it is lawful.
 #[unsafe(no_mangle)]
@@ -93,6 +96,44 @@ pub extern "C" fn peltzivar_is_valid_options_punctuation(
     flags::is_valid_options_punctuation(format.number(), exponent, decimal_point)
 }
 
+/// Returns the number of what is wrong with an exponent character and a decimal point in numbers of a word, or 0.
+#[unsafe(no_mangle)]
+pub extern "C" fn peltzivar_options_error(
+    format: Word,
+    exponent: u8,
+    decimal_point: u8,
+) -> ErrorNumber
+    ensures first { IsNumberOfOne (IsOptionsError format exponent decimal_point) result }
+    ensures accepted { (result ≡ SUCCESS) ↔ AreAccepted format exponent decimal_point }
+{
+    error_number(flags::options_error(format.number(), exponent, decimal_point))
+}
+
+/// Returns whether there is a rule of this number and a word keeps it.
+#[unsafe(no_mangle)]
+pub extern "C" fn peltzivar_keeps_rule(format: Word, rule: u8) -> bool
+    ensures kept { IfSome (rule_of rule) (λ known. IsTrue result ↔ Holds known format) }
+    ensures unknown { rule_of rule ≡ None → IsFalse result }
+{
+    match rule_of(rule) {
+        Some(rule) => rule.is_kept(format.number()),
+        None => false,
+    }
+}
+
+/// Returns the number of the error of a word that breaks this rule, and no rule before it, or 0 if there is no such
+/// rule.
+#[unsafe(no_mangle)]
+pub extern "C" fn peltzivar_rule_error(rule: u8) -> ErrorNumber
+    ensures error { IfSome (rule_of rule) (λ known. result ≡ error_number (error_of known)) }
+    ensures unknown { rule_of rule ≡ None → result ≡ SUCCESS }
+{
+    match rule_of(rule) {
+        Some(rule) => error_number(rule.error()),
+        None => 0,
+    }
+}
+
 /// Returns whether a byte is a digit of the mantissa radix or of the exponent radix.
 #[unsafe(no_mangle)]
 pub extern "C" fn peltzivar_is_digit(format: Word, byte: u8) -> bool
@@ -113,5 +154,16 @@ pub extern "C" fn peltzivar_radix_from_flags(format: Word, mask: Word, shift: u3
         flags::radix_from_flags(format.number(), mask.number(), shift as i32)
     } else {
         u32::MAX
+    }
+}
+
+// The rule of a number: that at this index.
+fn rule_of(number: u8) -> Option<Rule>
+    ensures { result ≡ rule_of number }
+{
+    if (number as usize) < RULES.len() {
+        Some(RULES[number as usize])
+    } else {
+        None
     }
 }

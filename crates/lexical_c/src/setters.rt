@@ -1,11 +1,15 @@
-//! The names of setters. A setter crosses as its number.
+//! The names of setters, and settings as text. A setter crosses as its number.
 
-ghost use Rattle.std.specs.Prelude.{◌≡◌, ◌<◌, ℕ, []};
-ghost use Rattle.lexical_util.specs.SettingNumbers.{name_of_setter, setter_count};
+ghost use Rattle.std.specs.Prelude.{◌≡◌, ◌<◌, ℕ, [], None, IfSome, IfOk, IfErr};
+ghost use Rattle.std.specs.Str.{IsUtf8};
+ghost use Rattle.lexical_util.specs.SettingNumbers.{name_of_setter, setter_count, mask_of_edit};
+ghost use Rattle.lexical_util.specs.SettingText.{edit_or_error_in};
+ghost use Rattle.lexical_c.specs.Edits.{edit_of, numbered, error_code};
 ghost use Rattle.lexical_c.specs.Texts.{IsWritten};
 
 use crate::texts::write_text;
-use lexical_util::edits::SETTER_NAMES;
+use crate::words::{NumberedEdit, Word};
+use lexical_util::edits::{Edit, SETTER_NAMES, SettingError};
 
 /// Writes a setter's name and returns its length. If there is no such setter, writes an empty text.
 #[unsafe(no_mangle)]
@@ -35,10 +39,58 @@ pub extern "C" fn peltzivar_setter_of_name(name: &[u8]) -> u8
     255
 }
 
+/// Writes the edit of a text `NAME=VALUE` and returns 0. If there is none, writes nothing and returns 1 for a name
+/// that no setter has, 2 for a value that is none of the setter's, and 3 for a number that is out of range. Bytes
+/// that are no UTF-8 are no name.
+#[unsafe(no_mangle)]
+pub extern "C" fn peltzivar_edit_of_text(text: &[u8], out: &mut NumberedEdit) -> u32
+    ensures edit { IsUtf8 text.now → IfOk (edit_or_error_in text.now)
+        (λ edit. (result ≡ 0) × (out.new ≡ numbered edit)) }
+    ensures none { IsUtf8 text.now → IfErr (edit_or_error_in text.now)
+        (λ error. (result ≡ error_code error) × (out.new ≡ out.old)) }
+    ensures no_text { (IsUtf8 text.now → ⊥) → (result ≡ 1) × (out.new ≡ out.old) }
+{
+    let edit = match std::str::from_utf8(text) {
+        Ok(text) => Edit::from_text(text),
+        Err(_) => Err(SettingError::UnknownName),
+    };
+    match edit {
+        Ok(edit) => {
+            *out = numbered(&edit);
+            0
+        }
+        Err(SettingError::UnknownName) => 1,
+        Err(SettingError::BadValue) => 2,
+        Err(SettingError::OutOfRange) => 3,
+    }
+}
+
+/// Returns the bits of a word that an edit writes, or 0 if it has no setter.
+#[unsafe(no_mangle)]
+pub extern "C" fn peltzivar_edit_mask(edit: NumberedEdit) -> Word
+    ensures mask { IfSome (edit_of edit) (λ known. result ≡ mask_of_edit known) }
+    ensures unknown { edit_of edit ≡ None → result ≡ 0 }
+{
+    match Edit::from_number(edit.setter, edit.value) {
+        Some(edit) => Word::new(edit.mask()),
+        None => Word::new(0),
+    }
+}
+
 // The name of the setter of a number.
 fn name_of(setter: u8) -> &'static str
     requires { setter < setter_count }
     ensures { result.now ≡ name_of_setter setter }
 {
     SETTER_NAMES[setter as usize]
+}
+
+// An edit as the number of its setter and its argument.
+fn numbered(edit: &Edit) -> NumberedEdit
+    ensures { result ≡ numbered edit.now }
+{
+    NumberedEdit {
+        setter: edit.number(),
+        value: edit.byte(),
+    }
 }

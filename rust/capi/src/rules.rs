@@ -5,6 +5,7 @@
 use crate::outcomes::{error_number, ErrorNumber};
 use crate::words::Word;
 use peltzivar::format_flags as flags;
+use peltzivar::format_flags::{Rule, RULES};
 use peltzivar::word::format_error;
 
 /// Returns the number of the error of the first rule that a word breaks, or 0 if it is lawful.
@@ -65,6 +66,39 @@ pub extern "C" fn peltzivar_is_valid_options_punctuation(
     flags::is_valid_options_punctuation(format.number(), exponent, decimal_point)
 }
 
+/// Returns the number of what is wrong with an exponent character and a decimal point in numbers of a word, or 0.
+#[unsafe(no_mangle)]
+pub extern "C" fn peltzivar_options_error(
+    format: Word,
+    exponent: u8,
+    decimal_point: u8,
+) -> ErrorNumber {
+    error_number(flags::options_error(
+        format.number(),
+        exponent,
+        decimal_point,
+    ))
+}
+
+/// Returns whether there is a rule of this number and a word keeps it.
+#[unsafe(no_mangle)]
+pub extern "C" fn peltzivar_keeps_rule(format: Word, rule: u8) -> bool {
+    match rule_of(rule) {
+        Some(rule) => rule.is_kept(format.number()),
+        None => false,
+    }
+}
+
+/// Returns the number of the error of a word that breaks this rule, and no rule before it, or 0 if there is no such
+/// rule.
+#[unsafe(no_mangle)]
+pub extern "C" fn peltzivar_rule_error(rule: u8) -> ErrorNumber {
+    match rule_of(rule) {
+        Some(rule) => error_number(rule.error()),
+        None => 0,
+    }
+}
+
 /// Returns whether a byte is a digit of the mantissa radix or of the exponent radix.
 #[unsafe(no_mangle)]
 pub extern "C" fn peltzivar_is_digit(format: Word, byte: u8) -> bool {
@@ -79,5 +113,14 @@ pub extern "C" fn peltzivar_radix_from_flags(format: Word, mask: Word, shift: u3
         flags::radix_from_flags(format.number(), mask.number(), shift as i32)
     } else {
         u32::MAX
+    }
+}
+
+// The rule of a number: that at this index.
+fn rule_of(number: u8) -> Option<Rule> {
+    if (number as usize) < RULES.len() {
+        Some(RULES[number as usize])
+    } else {
+        None
     }
 }

@@ -1,9 +1,10 @@
 // Made by rust/erase from crates/lexical_c/src/setters.rt: change that file.
 
-//! The names of setters. A setter crosses as its number.
+//! The names of setters, and settings as text. A setter crosses as its number.
 
 use crate::texts::write_text;
-use peltzivar::edits::SETTER_NAMES;
+use crate::words::{NumberedEdit, Word};
+use peltzivar::edits::{Edit, SettingError, SETTER_NAMES};
 
 /// Writes a setter's name and returns its length. If there is no such setter, writes an empty text.
 #[unsafe(no_mangle)]
@@ -34,7 +35,50 @@ pub unsafe extern "C" fn peltzivar_setter_of_name(name: *const u8, name_len: usi
     255
 }
 
+/// Writes the edit of a text `NAME=VALUE` and returns 0. If there is none, writes nothing and returns 1 for a name
+/// that no setter has, 2 for a value that is none of the setter's, and 3 for a number that is out of range. Bytes
+/// that are no UTF-8 are no name.
+#[unsafe(no_mangle)]
+pub unsafe extern "C" fn peltzivar_edit_of_text(
+    text: *const u8,
+    text_len: usize,
+    out: &mut NumberedEdit,
+) -> u32 {
+    // SAFETY: c/peltzivar.h asks this of its callers.
+    let text = unsafe { crate::slices::of(text, text_len) };
+    let edit = match core::str::from_utf8(text) {
+        Ok(text) => Edit::from_text(text),
+        Err(_) => Err(SettingError::UnknownName),
+    };
+    match edit {
+        Ok(edit) => {
+            *out = numbered(&edit);
+            0
+        }
+        Err(SettingError::UnknownName) => 1,
+        Err(SettingError::BadValue) => 2,
+        Err(SettingError::OutOfRange) => 3,
+    }
+}
+
+/// Returns the bits of a word that an edit writes, or 0 if it has no setter.
+#[unsafe(no_mangle)]
+pub extern "C" fn peltzivar_edit_mask(edit: NumberedEdit) -> Word {
+    match Edit::from_number(edit.setter, edit.value) {
+        Some(edit) => Word::new(edit.mask()),
+        None => Word::new(0),
+    }
+}
+
 // The name of the setter of a number.
 fn name_of(setter: u8) -> &'static str {
     SETTER_NAMES[setter as usize]
+}
+
+// An edit as the number of its setter and its argument.
+fn numbered(edit: &Edit) -> NumberedEdit {
+    NumberedEdit {
+        setter: edit.number(),
+        value: edit.byte(),
+    }
 }
