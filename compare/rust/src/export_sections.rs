@@ -1,6 +1,6 @@
 //! The comparison of the proved exports with the same as plain Rust, a section for each export.
 
-use crate::exports::{CEdit, CFields, Exports, Word, NAMES};
+use crate::exports::{CEdit, CFields, Exports, OneEdit, Word, NAMES};
 use crate::inputs::{bits_turned, BASES, SETTER_NAMES};
 use crate::random::Random;
 use crate::sections::Task;
@@ -211,6 +211,13 @@ fn name(random: &mut Random) -> Vec<u8> {
     name
 }
 
+/// A name with a value, mostly of a setting.
+fn setting(random: &mut Random) -> Vec<u8> {
+    let mut text = name(random);
+    text.extend(random.pick(&["=true", "=false", "=none", "=0", "=16", "=255", "=256", "=0016", "=", "", "=x"]).bytes());
+    text
+}
+
 /// What a call returns that may write a word, and that word.
 fn written<T>(call: impl FnOnce(&mut Word) -> T) -> (T, Word) {
     let mut word = Word::from(u128::from_ne_bytes([UNTOUCHED; 16]));
@@ -260,6 +267,13 @@ const COMPARED: &[(&str, Compare)] = compared! {
     is_valid_options_punctuation: on_random(options, |it, (word, exponent, point)| {
         unsafe { (it.is_valid_options_punctuation)(*word, *exponent, *point) }
     });
+    options_error: on_random(options, |it, (word, exponent, point)| {
+        unsafe { (it.options_error)(*word, *exponent, *point) }
+    });
+    keeps_rule: on_words(|it, word| {
+        (0..18).map(|rule| unsafe { (it.keeps_rule)(word, rule) }).collect::<Vec<u8>>()
+    });
+    rule_error: on_bytes(|it, rule| unsafe { (it.rule_error)(rule) });
     is_digit: on_random(options, |it, (word, byte, _)| unsafe { (it.is_digit)(*word, *byte) });
     radix_from_flags: on_random(masks, |it, (word, mask, shift)| {
         unsafe { (it.radix_from_flags)(*word, *mask, *shift) }
@@ -281,6 +295,11 @@ const COMPARED: &[(&str, Compare)] = compared! {
     text: on_texts(error_at, |it, (error, index), text, room| unsafe { (it.text)(*error, *index, text, room) });
     setter_name: on_texts(setter, |it, setter, text, room| unsafe { (it.setter_name)(*setter, text, room) });
     setter_of_name: on_random(name, |it, name| unsafe { (it.setter_of_name)(name.as_ptr(), name.len()) });
+    edit_of_text: on_random(setting, |it, text| {
+        let mut edit = [UNTOUCHED; 2];
+        (unsafe { (it.edit_of_text)(text.as_ptr(), text.len(), &mut edit) }, edit)
+    });
+    edit_mask: on_random(setter, |it, setter| unsafe { (it.edit_mask)(OneEdit(*setter, 1)) });
 };
 
 /// The names that the header declares, without `peltzivar_`.

@@ -34,6 +34,11 @@ pub struct CFields {
 /// An edit as C has it: setter and value.
 pub type CEdit = [u8; 2];
 
+/// The same as an argument.
+#[repr(C)]
+#[derive(Clone, Copy, Debug)]
+pub struct OneEdit(pub u8, pub u8);
+
 extern "C" {
     fn dlopen(path: *const c_char, flags: c_int) -> *mut c_void;
     fn dlsym(library: *mut c_void, name: *const c_char) -> *mut c_void;
@@ -104,6 +109,9 @@ exports! {
     is_valid_base_suffix(Word) -> u8;
     is_valid_punctuation(Word) -> u8;
     is_valid_options_punctuation(Word, u8, u8) -> u8;
+    options_error(Word, u8, u8) -> u32;
+    keeps_rule(Word, u8) -> u8;
+    rule_error(u8) -> u32;
     is_digit(Word, u8) -> u8;
     radix_from_flags(Word, Word, u32) -> u32;
     is_valid_ascii(u8) -> u8;
@@ -121,4 +129,6 @@ exports! {
     text(u32, usize, *mut u8, usize) -> usize;
     setter_name(u8, *mut u8, usize) -> usize;
     setter_of_name(*const u8, usize) -> u8;
+    edit_of_text(*const u8, usize, *mut CEdit) -> u32;
+    edit_mask(OneEdit) -> Word;
 }
