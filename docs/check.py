@@ -11,6 +11,10 @@
 - Each file of a folder must-fail/ is an edit. There are no fewer edits and tests than before.
 - No line of code or proof has over 160 columns, and at most 150 have over 120.
 - No proof reaches a fact by two positions.
+- README has at most 800 words, and its ratios of time are those of bench/README.md.
+
+The last line counts the lines of the pages, the words of README, and transcripts (which the tests of numfmt, of rust/ and of c/
+run) and blocks of code (which are compared here).
 """
 import pathlib
 import re
@@ -28,6 +32,8 @@ LANGUAGES = ["rust", "antt", "c", "python", "toml"]
 LIBRARIES = ["lexical_base", "lexical_flags", "lexical_builder", "lexical_util"]
 # How many must-fail edits and tests there are at least.
 LEAST_EDITS, LEAST_TESTS = 80, 39
+# How many words README has at most.
+MOST_WORDS = 800
 # What only the Rust crate has.
 NOT_HERE = ["format::JSON"]
 WORDS = {"six": "6", "seven": "7", "eight": "8", "nine": "9", "ten": "10", "eleven": "11", "twelve": "12"}
@@ -151,6 +157,27 @@ def layout():
         yield f"crates: {wide} lines of over 120 columns"
 
 
+def readme(text):
+    """Returns whether README is too long, and its rows of ratios that bench/README.md does not begin so."""
+    if len(text.split()) > MOST_WORDS:
+        yield f"{len(text.split())} words, more than {MOST_WORDS}"
+    measured = (TOP / "bench/README.md").read_text().splitlines()
+    for row in re.findall(r"^\| .* \| \d\.\d\d \| \d\.\d\d \|$", text, re.M):
+        if not any(line.startswith(row) for line in measured):
+            yield f"not in bench/README.md: {row}"
+
+
+def counted():
+    """Returns the counts of the last line."""
+    pages = [TOP / name for name in ("README.md", "CONTRIBUTING.md", "CHANGELOG.md")] + sorted((TOP / "docs").glob("*.md"))
+    texts = [page.read_text() for page in pages]
+    lines = sum(len(text.splitlines()) for text in texts)
+    transcripts = sum(len(re.findall(r"^    \$ ", FENCED.sub("", text), re.M)) for text in texts)
+    blocks = sum(language in LANGUAGES for text in texts for language, _ in FENCED.findall(text))
+    words = len(texts[0].split())
+    return f"{lines} lines of pages, {words} words of README, {transcripts} transcripts, {blocks} blocks of code"
+
+
 def main():
     files = {path: lines_of(path.read_text()) for folder, pattern in SOURCES for path in files_of(folder, pattern)}
     words = words_of(files)
@@ -167,6 +194,8 @@ def main():
         if page.name == "PROVED.md":
             specs = {path.stem for path in (TOP / "crates").glob("*/specs/*.antt")} - {"Lib"}
             found += [f"has no `{name}` of specs/" for name in sorted(specs) if f"`{name}`" not in text]
+        if page == TOP / "README.md":
+            found += readme(text)
         if page.name == "DIFFERENCES.md":
             found += added_names(text)
         for it in found:
@@ -175,6 +204,7 @@ def main():
     for it in (*(f"c/peltzivar.h: {it}" for it in check_header.header(wanted)), *check_clauses.clauses(), *not_run(), *layout()):
         print(it)
         wrong += 1
+    print(counted())
     return 1 if wrong else 0
 
 
