@@ -1,4 +1,4 @@
-"""What of the tables of clauses in PROVED.md and CALLING.md differs from the contracts in crates/*/src.
+"""What of the tables of clauses in PROVED.md differs from the contracts in crates/*/src.
 
 A row stands on the functions that its first cell names in backquotes, as `name`, `Type::name` or `name` of `Type`, or by words
 of TOLD. Each clause that it names is one of theirs. A row of a crate also names each of theirs, and each named clause of a
@@ -28,7 +28,6 @@ TOLD = {
 # Rows that cannot be matched by names, with the reason.
 UNMATCHED = {
     "each getter and setter": "some hundred functions, whose clauses have no names",
-    "getters of `NumberFormat`": "the same, in CALLING",
     "flag getters of `NumberFormat`": "31 functions, whose clauses have no names",
     "fields, edits, rules, bytes and digits": "most of the exports, each with the clauses of the call that it passes on",
     "calls that write a result": "a part of the exports, told by what they do",
@@ -91,25 +90,23 @@ def named(cell, section, known):
 def clauses():
     """Returns what differs."""
     known, told, seen = list(functions()), set(), set()
-    for page in ("PROVED.md", "CALLING.md"):
-        for section, cells in rows(page):
-            last = 1 if page == "CALLING.md" else 2
-            calls, where = cells[1 if section == "The headline" else 0], cells[last]
-            found = named(calls, section, known)
-            have = {clause for *_, names in found for clause in names}
-            said = set(re.findall(r"`(\w+)`", where)) - {name for _, _, name, _ in known if name.endswith("_facts")}
-            seen.add(calls)
-            if calls in UNMATCHED:
-                continue
-            if not found:
-                yield f"{page}: no function is named by: {calls}"
-            yield from (f"{page}: no clause `{clause}` of: {calls}" for clause in sorted(said - have))
-            if page == "PROVED.md":
-                told |= {(*it[:3], clause) for it in found for clause in (have if calls in PARTIAL else said)}
-                if section != "The headline" and calls not in PARTIAL:
-                    yield from (f"{page}: not named, the clause `{clause}` of: {calls}" for clause in sorted(have - said))
+    for section, cells in rows("PROVED.md"):
+        headline = section == "The headline"
+        calls, where = cells[1 if headline else 0], cells[2]
+        found = named(calls, section, known)
+        have = {clause for *_, names in found for clause in names}
+        said = set(re.findall(r"`(\w+)`", where))
+        seen.add(calls)
+        if calls in UNMATCHED:
+            continue
+        if not found:
+            yield f"no function is named by: {calls}"
+        yield from (f"no clause `{clause}` of: {calls}" for clause in sorted(said - have))
+        told |= {(*it[:3], clause) for it in found for clause in (have if calls in PARTIAL else said)}
+        if not headline and calls not in PARTIAL:
+            yield from (f"not named, the clause `{clause}` of: {calls}" for clause in sorted(have - said))
     for crate, owner, name, names in known:
         if crate in LIBRARIES and not UNTOLD.fullmatch(f"{owner}::{name}"):
             missing = [clause for clause in names if (crate, owner, name, clause) not in told]
-            yield from (f"PROVED.md: in no row, the clause `{clause}` of `{owner}::{name}`" for clause in missing)
-    yield from (f"check_clauses.py: no such row: {calls}" for calls in sorted({*UNMATCHED, *PARTIAL} - seen))
+            yield from (f"in no row, the clause `{clause}` of `{owner}::{name}`" for clause in missing)
+    yield from (f"check_clauses.py has no row: {calls}" for calls in sorted({*UNMATCHED, *PARTIAL} - seen))
