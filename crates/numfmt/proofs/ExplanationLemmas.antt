@@ -1,7 +1,8 @@
 -- Writing a list, one element after the other, where nothing may be written of an element.
 use Rattle.std.proofs.Common.{◌≡◌, ◌≢◌, ℕ, ◌+◌, ◌<◌, ◌==◌, Bool, true, false, not, cond, List, [], ◌∷◌}
 use Rattle.std.proofs.Common.{◌++◌, length, take, get_or}
-use Rattle.std.proofs.Common.{Option, None, Some, Result, Ok, Err, OnOk, filter, flat_map, map, refl, sym, ap, subst, ◌∙◌, arith}
+use Rattle.std.proofs.Common.{Option, None, Some, Result, Ok, Err, OnOk, filter, flat_map, map, refl, sym, ap, subst}
+use Rattle.std.proofs.Common.{◌∙◌, arith}
 use Rattle.std.specs.Io.KnownBytes.{Appends}
 use Rattle.std.specs.List.{filter_map}
 use Rattle.std.proofs.KnownBytes.{Appends-trans}

@@ -1,5 +1,5 @@
-//! That arguments have one response, and that nothing is said of a word without fault; and for each predicate, one case that holds and one that does not. The functions
-//! are not called.
+//! That arguments have one response, and that nothing is said of a lawful word whose settings all have an effect; and
+//! for each predicate, one case that holds and one that does not. The functions are not called.
 
 ghost use Rattle.std.specs.Prelude.{◌≡◌, ℕ, List, [], codes, Ok, Err};
 ghost use Rattle.numfmt.specs.Command.{Responds, request_of};

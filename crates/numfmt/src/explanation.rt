@@ -39,7 +39,8 @@ pub fn write_explanation<W: Output>(word: u128, out: &mut W) -> io::Result<()>
 
 // Writes what is wrong with a word by each of some rules.
 fn write_rules<W: Output>(rules: &[Rule], word: u128, out: &mut W) -> io::Result<()>
-    ensures text { OnOk result (Appends (W.contents out.old) (W.contents out.new) (flat_map (rule_text word) rules.now)) }
+    ensures text { OnOk result
+        (Appends (W.contents out.old) (W.contents out.new) (flat_map (rule_text word) rules.now)) }
     ensures failed { IsErr result → W.has_failed out.new }
 {
     for rule in rules {

@@ -1,14 +1,9 @@
 -- Seven lines, one after the other.
-use Rattle.std.proofs.Common.{ℕ, List, [], ◌++◌, append-nil, Option, Result, Ok, Err, OnOk, codes, ◌∙◌}
+use Rattle.std.proofs.Common.{ℕ, List, [], ◌++◌, append-nil, Option, Result, OnOk, codes, ◌∙◌}
 use Rattle.std.specs.Io.KnownBytes.{Appends}
 use Rattle.std.proofs.KnownBytes.{Appends-trans}
+use Rattle.numfmt.proofs.ExplanationLemmas.{then}
 use Rattle.numfmt.proofs.response.print_fields.Goals as goal
-
--- a text is written, and then the rest if the last call returns `Ok`
-then : {T E : Type 0} (r : Result T E) (a b c : Option (List ℕ)) (text rest : List ℕ) → Appends a b text
-    → OnOk r (Appends b c rest) → OnOk r (Appends a c (text ++ rest))
-then (Ok x) a b c text rest first others = Appends-trans a b c text rest first others
-then (Err e) a b c text rest first others = tt
 
 -- nothing is written after the last line
 end : {T E : Type 0} (r : Result T E) (a b : Option (List ℕ)) (text : List ℕ) → OnOk r (Appends a b text)
