@@ -3,6 +3,7 @@
 //! The commands: what the program's arguments ask for, and the response to it.
 
 use crate::edit::read_edits;
+use crate::explanation::is_silent;
 use crate::response::{Answer, Refusal};
 use crate::word::read_word;
 use peltzivar::edits::{byte_from_text, edit_word, is_built, migrate, same_format, Edit};
@@ -26,6 +27,7 @@ pub fn response_to(args: &[String]) -> Result<Answer, Refusal> {
             "options" => options(args),
             "migrate" => migrate_word(args),
             "source" => source(args),
+            "explain" => explain(args),
             _ => Err(Refusal::UnknownCommand),
         },
     }
@@ -102,6 +104,17 @@ fn source(args: &[String]) -> Result<Answer, Refusal> {
         [word] => {
             let word = parse_word(word)?;
             Ok(Answer::Source(word, is_built(word)))
+        }
+        _ => Err(Refusal::WrongNumberOfArguments),
+    }
+}
+
+// `explain WORD`
+fn explain(args: &[String]) -> Result<Answer, Refusal> {
+    match args {
+        [word] => {
+            let word = parse_word(word)?;
+            Ok(Answer::Explanation(word, is_silent(word)))
         }
         _ => Err(Refusal::WrongNumberOfArguments),
     }

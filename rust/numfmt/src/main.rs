@@ -6,6 +6,7 @@
 
 mod command;
 mod edit;
+mod explanation;
 mod output;
 mod program;
 mod response;

@@ -2,6 +2,7 @@
 
 //! The responses of the program: answers and refusals, their texts and their exit statuses.
 
+use crate::explanation::write_explanation;
 use crate::output::Output;
 use crate::source::write_source;
 use crate::word::word_text;
@@ -24,6 +25,8 @@ pub enum Answer {
     Acceptance(bool),
     /// The builder expression of a format word, and whether it makes the word itself.
     Source(u128, bool),
+    /// What is wrong with a format word, and what of it has no effect; and whether that is nothing.
+    Explanation(u128, bool),
 }
 
 /// Why arguments are refused.
@@ -47,7 +50,8 @@ pub enum Refusal {
 #[must_use]
 pub fn exit_status(response: Result<Answer, Refusal>) -> u8 {
     match response {
-        Ok(Answer::Sameness(false) | Answer::Acceptance(false) | Answer::Source(_, false)) => 1,
+        Ok(Answer::Sameness(false) | Answer::Acceptance(false)) => 1,
+        Ok(Answer::Source(_, false) | Answer::Explanation(_, false)) => 1,
         Ok(Answer::Outcome(error)) if error != Error::Success => 1,
         Ok(_) => 0,
         Err(_) => 2,
@@ -88,6 +92,7 @@ impl Answer {
             Answer::Acceptance(true) => out.write_all(b"accepted\n"),
             Answer::Acceptance(false) => out.write_all(b"refused\n"),
             Answer::Source(format, _) => print_source(format, out),
+            Answer::Explanation(format, _) => write_explanation(format, out),
         }
     }
 }
