@@ -1,15 +1,18 @@
 -- An exponent character and a decimal point beside the five roles of a word.
 use Rattle.std.proofs.Common.{ℕ, ◌≡◌, ◌+◌, ◌≤◌, ◌≢◌, ◌⊎◌, ◌==◌, ◌||◌, not, if◌then◌else◌, Bool, true, false, IsTrue}
-use Rattle.std.proofs.Common.{◌↔◌, arith}
+use Rattle.std.proofs.Common.{◌↔◌, ◌∙◌, sym, inl, inr, arith}
 use Rattle.std.specs.List.{AllByRecursion}
 use Rattle.std.proofs.lemmas.Bool.Decides.{nat_tests}
 use Rattle.lexical_base.specs.Ascii.{ByteSet, allowed_ascii}
 use Rattle.lexical_flags.specs.Record.{Record, raw}
 use Rattle.lexical_flags.specs.Roles.{Disjoint, cased, digits, signs, exponent, point, own_roles, five_roles}
 use Rattle.lexical_flags.specs.Rules.{IsPunctuation, Lawful}
-use Rattle.lexical_flags.specs.Options.{AreAccepted, HaveOneRole, LeavesRoom}
+use Rattle.lexical_base.specs.declared.error.Error.{Error}
+use Rattle.lexical_base.specs.declared.error.Error.TheVariants.{Success}
+use Rattle.lexical_flags.specs.Options.{AreAccepted, HaveOneRole, LeavesRoom, IsOptionsError}
 use Rattle.lexical_flags.proofs.DisjointLemmas.{Disjoint-from, Disjoint-sym}
 use Rattle.lexical_flags.proofs.RoleLemmas.{Disjoint-digits-cased, Disjoint-signs-cased, not_in, no_digit}
+use Rattle.lexical_flags.proofs.RuleLemmas.{OrElse-unique}
 
 -- 0 is no text
 text-positive : (byte : ℕ) → IsTrue (allowed_ascii byte) → byte ≢ 0
@@ -133,3 +136,15 @@ room_from_lawful word lawful =
       point_is_new = is_new r p true (omega arith) p_free.1 p_free.2 p_free.3 p_free.4;
     } in
     record { exponent_byte = e; point_byte = p; fit = roles_from_accepted word e p lawful accepted }
+
+-- an exponent character and a decimal point have one error
+pub one_options_error : (word e p : ℕ) (a b : Error) → IsOptionsError word e p a → IsOptionsError word e p b → a ≡ b
+one_options_error word e p = OrElse-unique (OrElse-unique (OrElse-unique (λ a b h k. h ∙ sym k)))
+
+-- it is Success exactly if they are accepted
+pub options_success : (word e p : ℕ) (error : Error) → IsOptionsError word e p error
+    → (error ≡ Success) ↔ AreAccepted word e p
+options_success word e p error (inl h) = (λ same. cc, λ accepted. absurd (h.0 accepted.exponent_is_punctuation))
+options_success word e p error (inr (_, inl h)) = (λ same. cc, λ accepted. absurd (h.0 accepted.point_is_punctuation))
+options_success word e p error (inr (_, inr (_, inl h))) = (λ same. cc, λ accepted. absurd (h.0 accepted))
+options_success word e p error (inr (_, inr (_, inr h))) = (λ same. h.0, λ accepted. h.1)

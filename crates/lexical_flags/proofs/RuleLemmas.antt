@@ -14,7 +14,7 @@ use Rattle.lexical_flags.specs.declared.format_flags.all_rules.Rule.{Rule}
 use Rattle.lexical_flags.specs.declared.format_flags.all_rules.Rule.TheVariants as rules
 use Rattle.lexical_flags.specs.Rules.{IsRadix, IsFree, IsTextOrNone, IsPunctuation, Holds, IsFirstError}
 use Rattle.lexical_flags.specs.Rules.{IsErrorOf, Lawful, error_of, flag_rules, rules_in_order}
-use Rattle.lexical_flags.specs.Rules.{AreIfBroken, first_error}
+use Rattle.lexical_flags.specs.Rules.{AreIfBroken, first_error, OrElse}
 use Rattle.lexical_flags.proofs.RoleLemmas.{Disjoint-digits-cased, Disjoint-signs-cased, Disjoint-digits-signs, not_in}
 
 -- what a free byte is
@@ -144,17 +144,21 @@ success_from_all word error all (rule ∷ rules) (inl broken) = absurd (broken.0
 success_from_all word error all (rule ∷ rules) (inr kept) = success_from_all word error all rules kept.1
 
 -- there is one error
-pub IsFirstError-unique : (word : ℕ) (a b : Error) (rules : List Rule) → IsFirstError rules word a
+pub OrElse-unique : {demand : Type 0} {own : Error} {next : Error → Type 0} → ((a b : Error) → next a → next b → a ≡ b)
+    → (a b : Error) → OrElse demand own next a → OrElse demand own next b → a ≡ b
+OrElse-unique one a b (inl h) (inl k) = h.1 ∙ sym k.1
+OrElse-unique one a b (inl h) (inr k) = absurd (h.0 k.0)
+OrElse-unique one a b (inr h) (inl k) = absurd (k.0 h.0)
+OrElse-unique one a b (inr h) (inr k) = one a b h.1 k.1
+
+pub IsFirstError-unique : (word : ℕ) (rules : List Rule) (a b : Error) → IsFirstError rules word a
     → IsFirstError rules word b → a ≡ b
-IsFirstError-unique word a b [] h k = h ∙ sym k
-IsFirstError-unique word a b (rule ∷ rules) (inl h) (inl k) = h.1 ∙ sym k.1
-IsFirstError-unique word a b (rule ∷ rules) (inl h) (inr k) = absurd (h.0 k.0)
-IsFirstError-unique word a b (rule ∷ rules) (inr h) (inl k) = absurd (k.0 h.0)
-IsFirstError-unique word a b (rule ∷ rules) (inr h) (inr k) = IsFirstError-unique word a b rules h.1 k.1
+IsFirstError-unique word [] a b h k = h ∙ sym k
+IsFirstError-unique word (rule ∷ rules) a b h k = OrElse-unique (IsFirstError-unique word rules) a b h k
 
 pub IsErrorOf-unique : (word : ℕ) (a b : Error) → IsErrorOf word a → IsErrorOf word b → a ≡ b
 unfolding IsErrorOf
-IsErrorOf-unique word a b = IsFirstError-unique word a b rules_in_order
+IsErrorOf-unique word = IsFirstError-unique word rules_in_order
 
 -- words that keep the same rules have the same error
 IsFirstError-same : (v w : ℕ) → ((rule : Rule) → Holds rule v ↔ Holds rule w) → (rules : List Rule) (error : Error)

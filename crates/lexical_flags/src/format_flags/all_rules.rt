@@ -96,7 +96,6 @@ impl Rule {
     }
 
     /// Returns whether a word keeps this rule.
-    #[tactic(auto, unfolding(crate::specs::Rules::Holds))]
     pub const fn is_kept(self, format: u128) -> bool
         ensures { IsTrue result ↔ Holds self format }
     {

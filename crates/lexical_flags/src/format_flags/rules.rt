@@ -396,6 +396,7 @@ pub const fn is_clean(format: u128) -> bool
 
 // Whether all rules of punctuation are kept.
 #[inline(always)]
+#[tactic(auto)]
 const fn keeps_punctuation_rules(format: u128) -> bool
     ensures { IsTrue result ↔ AllByRecursion (λ rule. Holds rule format) punctuation_rules }
 {
