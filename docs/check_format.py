@@ -13,8 +13,9 @@ FLAGS = re.findall(r"^\| (\d+) \| `(\w+)` \| \w+ \| (.*) \|$", PAGE, re.M)
 GROUPS = re.findall(r"^\| `(\w+)` \| ([\d ]+) \| (.*) \|$", PAGE, re.M)
 BYTES = re.findall(r"^\| (\d+) to (\d+) \| `(\w+)` \| \d+ \| (.*) \|$", PAGE, re.M)
 RULES = re.findall(r"^\| (\d+) \| (.*) \| `Invalid(\w+)` \| `(\w+)` \| .* \|$", PAGE, re.M)
-# What FORMAT.md and the comment of a setter say of a text.
-VERBS = {"refuses": "rejects", "accepts": "accepts"}
+# The files in which a constant or a getter points to the setter that says what it means.
+POINTING = ["flags/src/format_flags", "builder/src/format_builder/getters"]
+POINTING += ["util/src/feature_format", "util/src/feature_format/getters"]
 # The words that a group's text has exactly if its name has the other ones.
 CUES = {
     "required": "must",
@@ -80,18 +81,25 @@ def docs_of(setter):
 
 def meanings():
     """Returns the meanings of flags, groups and bytes that are not those of their setters."""
-    for _, name, meaning in FLAGS:
-        docs = docs_of(name)
-        verb, first, others = re.match(r"(\w*) ?(`.*?`|)(.*)", meaning).groups()
-        told = re.search(rf"{VERBS.get(verb)} [^`]*(`.*?`)", docs)
-        if not told or told[1] != first or any(other not in docs for other in re.findall("`.*?`", others)):
+    told = [(name, f"If set, a parser {meaning}") for _, name, meaning in FLAGS]
+    told += [(name, f"Sets the flags about {meaning}") for name, _, meaning in GROUPS]
+    told += [(name, re.sub("^.*; (else )?", "", meaning)) for _, _, name, meaning in BYTES]
+    for name, meaning in told:
+        if not re.search(re.escape(meaning) + "[.:,;]", docs_of(name)):
             yield f"the setter `{name}` does not say: {meaning}"
     for name, _, meaning in GROUPS:
         if any((part in name) != (cue in meaning) for part, cue in CUES.items()):
             yield f"`{name}` is about something else: {meaning}"
-    for _, _, name, meaning in BYTES:
-        if re.sub("^.*; (else )?", "", meaning) not in docs_of(name):
-            yield f"the setter `{name}` does not say: {meaning}"
+
+
+def pointers():
+    """Returns the constants and getters that point to another setter than that of their field."""
+    for path in POINTING:
+        text = (CRATES / f"lexical_{path}.rt").read_text()
+        pointer = r"(?:Builder::|of \[`Self::)(\w+)`?\].*\n(?: *[/#].*\n)* *pub const (?:fn )?(\w+)"
+        for setter, item in re.findall(pointer, text):
+            if re.sub("_mask$", "s", item.lower().removeprefix("get_")) != setter:
+                yield f"{path}.rt: `{item}` points to the setter `{setter}`"
 
 
 def demand(number, error, word):
@@ -137,7 +145,7 @@ def drawing():
 
 def format_page():
     """Returns what differs."""
-    yield from (*tables(), *meanings(), *drawing())
+    yield from (*tables(), *meanings(), *pointers(), *drawing())
     for number, text, error, word in RULES:
         if demand(number, error, word) != text:
             yield f"rule {number} demands another thing: {text}"

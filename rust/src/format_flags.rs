@@ -20,115 +20,114 @@ pub use crate::format_flags::rules::{
 
 // FLAGS OTHER THAN DIGIT SEPARATOR FLAGS
 
-/// Digits are required before the decimal point.
+/// The [flag][crate::format_builder::NumberFormatBuilder::required_integer_digits].
 pub const REQUIRED_INTEGER_DIGITS: u128 = 0x1;
 
-/// Digits are required after the decimal point, if there is one.
+/// The [flag][crate::format_builder::NumberFormatBuilder::required_fraction_digits].
 pub const REQUIRED_FRACTION_DIGITS: u128 = 0x2;
 
-/// Digits are required after the exponent character, if there is one.
+/// The [flag][crate::format_builder::NumberFormatBuilder::required_exponent_digits].
 pub const REQUIRED_EXPONENT_DIGITS: u128 = 0x4;
 
-/// At least one digit is required before or after the decimal point.
+/// The [flag][crate::format_builder::NumberFormatBuilder::required_mantissa_digits].
 pub const REQUIRED_MANTISSA_DIGITS: u128 = 0x8;
 
-/// Mask of the four flags that require digits, [`REQUIRED_INTEGER_DIGITS`] to
-/// [`REQUIRED_MANTISSA_DIGITS`].
+/// Mask of the [group][crate::format_builder::NumberFormatBuilder::required_digits].
 pub const REQUIRED_DIGITS: u128 = 0xF;
 
-/// A `+` before the number is not allowed.
+/// The [flag][crate::format_builder::NumberFormatBuilder::no_positive_mantissa_sign].
 pub const NO_POSITIVE_MANTISSA_SIGN: u128 = 0x10;
 
-/// A sign, `+` or `-`, is required before the number.
+/// The [flag][crate::format_builder::NumberFormatBuilder::required_mantissa_sign].
 pub const REQUIRED_MANTISSA_SIGN: u128 = 0x20;
 
-/// An exponent is not allowed.
+/// The [flag][crate::format_builder::NumberFormatBuilder::no_exponent_notation].
 pub const NO_EXPONENT_NOTATION: u128 = 0x40;
 
-/// A `+` before the digits of an exponent is not allowed.
+/// The [flag][crate::format_builder::NumberFormatBuilder::no_positive_exponent_sign].
 pub const NO_POSITIVE_EXPONENT_SIGN: u128 = 0x80;
 
-/// A sign, `+` or `-`, is required before the digits of an exponent.
+/// The [flag][crate::format_builder::NumberFormatBuilder::required_exponent_sign].
 pub const REQUIRED_EXPONENT_SIGN: u128 = 0x100;
 
-/// An exponent is allowed only after a decimal point.
+/// The [flag][crate::format_builder::NumberFormatBuilder::no_exponent_without_fraction].
 pub const NO_EXPONENT_WITHOUT_FRACTION: u128 = 0x200;
 
-/// Special values, such as NaN and infinity, are not allowed.
+/// The [flag][crate::format_builder::NumberFormatBuilder::no_special].
 pub const NO_SPECIAL: u128 = 0x400;
 
-/// Special values are case-sensitive: `NaN` and `nan` differ.
+/// The [flag][crate::format_builder::NumberFormatBuilder::case_sensitive_special].
 pub const CASE_SENSITIVE_SPECIAL: u128 = 0x800;
 
-/// Leading zeros are not allowed in an integer.
+/// The [flag][crate::format_builder::NumberFormatBuilder::no_integer_leading_zeros].
 pub const NO_INTEGER_LEADING_ZEROS: u128 = 0x1000;
 
-/// Leading zeros are not allowed in the integer digits of a float.
+/// The [flag][crate::format_builder::NumberFormatBuilder::no_float_leading_zeros].
 pub const NO_FLOAT_LEADING_ZEROS: u128 = 0x2000;
 
-/// An exponent is required.
+/// The [flag][crate::format_builder::NumberFormatBuilder::required_exponent_notation].
 pub const REQUIRED_EXPONENT_NOTATION: u128 = 0x4000;
 
-/// The exponent character is case-sensitive.
+/// The [flag][crate::format_builder::NumberFormatBuilder::case_sensitive_exponent].
 pub const CASE_SENSITIVE_EXPONENT: u128 = 0x8000;
 
-/// The base prefix is case-sensitive.
+/// The [flag][crate::format_builder::NumberFormatBuilder::case_sensitive_base_prefix].
 pub const CASE_SENSITIVE_BASE_PREFIX: u128 = 0x1_0000;
 
-/// The base suffix is case-sensitive.
+/// The [flag][crate::format_builder::NumberFormatBuilder::case_sensitive_base_suffix].
 pub const CASE_SENSITIVE_BASE_SUFFIX: u128 = 0x2_0000;
 
 // DIGIT SEPARATOR FLAGS
 
-/// A digit separator is allowed between integer digits.
+/// The [flag][crate::format_builder::NumberFormatBuilder::integer_internal_digit_separator].
 pub const INTEGER_INTERNAL_DIGIT_SEPARATOR: u128 = 0x1_0000_0000;
 
-/// A digit separator is allowed between fraction digits.
+/// The [flag][crate::format_builder::NumberFormatBuilder::fraction_internal_digit_separator].
 pub const FRACTION_INTERNAL_DIGIT_SEPARATOR: u128 = 0x2_0000_0000;
 
-/// A digit separator is allowed between exponent digits.
+/// The [flag][crate::format_builder::NumberFormatBuilder::exponent_internal_digit_separator].
 pub const EXPONENT_INTERNAL_DIGIT_SEPARATOR: u128 = 0x4_0000_0000;
 
-/// A digit separator is allowed before integer digits.
+/// The [flag][crate::format_builder::NumberFormatBuilder::integer_leading_digit_separator].
 pub const INTEGER_LEADING_DIGIT_SEPARATOR: u128 = 0x8_0000_0000;
 
-/// A digit separator is allowed before fraction digits.
+/// The [flag][crate::format_builder::NumberFormatBuilder::fraction_leading_digit_separator].
 pub const FRACTION_LEADING_DIGIT_SEPARATOR: u128 = 0x10_0000_0000;
 
-/// A digit separator is allowed before exponent digits.
+/// The [flag][crate::format_builder::NumberFormatBuilder::exponent_leading_digit_separator].
 pub const EXPONENT_LEADING_DIGIT_SEPARATOR: u128 = 0x20_0000_0000;
 
-/// A digit separator is allowed after integer digits.
+/// The [flag][crate::format_builder::NumberFormatBuilder::integer_trailing_digit_separator].
 pub const INTEGER_TRAILING_DIGIT_SEPARATOR: u128 = 0x40_0000_0000;
 
-/// A digit separator is allowed after fraction digits.
+/// The [flag][crate::format_builder::NumberFormatBuilder::fraction_trailing_digit_separator].
 pub const FRACTION_TRAILING_DIGIT_SEPARATOR: u128 = 0x80_0000_0000;
 
-/// A digit separator is allowed after exponent digits.
+/// The [flag][crate::format_builder::NumberFormatBuilder::exponent_trailing_digit_separator].
 pub const EXPONENT_TRAILING_DIGIT_SEPARATOR: u128 = 0x100_0000_0000;
 
-/// Consecutive digit separators are allowed wherever a single one is allowed in the integer.
+/// The [flag][crate::format_builder::NumberFormatBuilder::integer_consecutive_digit_separator].
 pub const INTEGER_CONSECUTIVE_DIGIT_SEPARATOR: u128 = 0x200_0000_0000;
 
-/// Consecutive digit separators are allowed wherever a single one is allowed in the fraction.
+/// The [flag][crate::format_builder::NumberFormatBuilder::fraction_consecutive_digit_separator].
 pub const FRACTION_CONSECUTIVE_DIGIT_SEPARATOR: u128 = 0x400_0000_0000;
 
-/// Consecutive digit separators are allowed wherever a single one is allowed in the exponent.
+/// The [flag][crate::format_builder::NumberFormatBuilder::exponent_consecutive_digit_separator].
 pub const EXPONENT_CONSECUTIVE_DIGIT_SEPARATOR: u128 = 0x800_0000_0000;
 
-/// Mask of the three flags that allow a digit separator between digits.
+/// Mask of the [group][crate::format_builder::NumberFormatBuilder::internal_digit_separator].
 pub const INTERNAL_DIGIT_SEPARATOR: u128 = 0x7_0000_0000;
 
-/// Mask of the three flags that allow a digit separator before digits.
+/// Mask of the [group][crate::format_builder::NumberFormatBuilder::leading_digit_separator].
 pub const LEADING_DIGIT_SEPARATOR: u128 = 0x38_0000_0000;
 
-/// Mask of the three flags that allow a digit separator after digits.
+/// Mask of the [group][crate::format_builder::NumberFormatBuilder::trailing_digit_separator].
 pub const TRAILING_DIGIT_SEPARATOR: u128 = 0x1C0_0000_0000;
 
-/// Mask of the three flags that allow consecutive digit separators.
+/// Mask of the [group][crate::format_builder::NumberFormatBuilder::consecutive_digit_separator].
 pub const CONSECUTIVE_DIGIT_SEPARATOR: u128 = 0xE00_0000_0000;
 
-/// Digit separators are allowed anywhere in special values.
+/// The [flag][crate::format_builder::NumberFormatBuilder::special_digit_separator].
 pub const SPECIAL_DIGIT_SEPARATOR: u128 = 0x1000_0000_0000;
 
 // BYTES
@@ -136,27 +135,25 @@ pub const SPECIAL_DIGIT_SEPARATOR: u128 = 0x1000_0000_0000;
 /// The lowest bit of the digit separator byte.
 pub const DIGIT_SEPARATOR_SHIFT: i32 = 64;
 
-/// Mask of the digit separator byte: the byte that separates digits, 0 if there is none.
+/// Mask of the [digit separator][crate::format_builder::NumberFormatBuilder::digit_separator].
 pub const DIGIT_SEPARATOR: u128 = 0x00000000_000000FF_00000000_00000000;
 
 /// The lowest bit of the base prefix byte.
 pub const BASE_PREFIX_SHIFT: i32 = 88;
 
-/// Mask of the base prefix byte: the byte that follows a leading zero and tells the radix, such as
-/// the `x` in `0x1F`; 0 if there is none.
+/// Mask of the [base prefix][crate::format_builder::NumberFormatBuilder::base_prefix].
 pub const BASE_PREFIX: u128 = 0x00000000_FF000000_00000000_00000000;
 
 /// The lowest bit of the base suffix byte.
 pub const BASE_SUFFIX_SHIFT: i32 = 96;
 
-/// Mask of the base suffix byte: the byte that follows the digits and tells the radix, such as the
-/// `h` in `1Fh`; 0 if there is none.
+/// Mask of the [base suffix][crate::format_builder::NumberFormatBuilder::base_suffix].
 pub const BASE_SUFFIX: u128 = 0x000000FF_00000000_00000000_00000000;
 
 /// The lowest bit of the mantissa radix byte.
 pub const MANTISSA_RADIX_SHIFT: i32 = 104;
 
-/// Mask of the mantissa radix byte: the radix of the significant digits.
+/// Mask of the [mantissa radix][crate::format_builder::NumberFormatBuilder::mantissa_radix].
 pub const MANTISSA_RADIX: u128 = 0x0000FF00_00000000_00000000_00000000;
 
 /// Another name of [`MANTISSA_RADIX_SHIFT`].
@@ -168,13 +165,13 @@ pub const RADIX: u128 = 0x0000FF00_00000000_00000000_00000000;
 /// The lowest bit of the exponent base byte.
 pub const EXPONENT_BASE_SHIFT: i32 = 112;
 
-/// Mask of the exponent base byte: the number that an exponent raises, 0 for the mantissa radix.
+/// Mask of the [exponent base][crate::format_builder::NumberFormatBuilder::exponent_base].
 pub const EXPONENT_BASE: u128 = 0x00FF0000_00000000_00000000_00000000;
 
 /// The lowest bit of the exponent radix byte.
 pub const EXPONENT_RADIX_SHIFT: i32 = 120;
 
-/// Mask of the exponent radix byte: the radix of the digits of an exponent, 0 for the mantissa radix.
+/// Mask of the [exponent radix][crate::format_builder::NumberFormatBuilder::exponent_radix].
 pub const EXPONENT_RADIX: u128 = 0xFF000000_00000000_00000000_00000000;
 
 /// Mask of the mantissa radix and the exponent radix, without the exponent base.
@@ -189,19 +186,19 @@ pub const FLAG_MASK: u128 = 0x1FFF_0003_FFFF;
 /// the character), leading zeros of floats, and digit separators (except in special values).
 pub const INTERFACE_FLAG_MASK: u128 = 0xFFF_0000_63CF;
 
-/// Mask of the flags that allow a digit separator somewhere, with [`SPECIAL_DIGIT_SEPARATOR`].
+/// Mask of the [group][crate::format_builder::NumberFormatBuilder::digit_separator_flags].
 pub const DIGIT_SEPARATOR_FLAG_MASK: u128 = 0x1FFF_0000_0000;
 
 /// Mask of the flags of exponents, without [`CASE_SENSITIVE_EXPONENT`].
 pub const EXPONENT_FLAG_MASK: u128 = 0x924_0000_43C4;
 
-/// Mask of the four digit separator flags of the integer.
+/// Mask of the [group][crate::format_builder::NumberFormatBuilder::integer_digit_separator_flags].
 pub const INTEGER_DIGIT_SEPARATOR_FLAG_MASK: u128 = 0x249_0000_0000;
 
-/// Mask of the four digit separator flags of the fraction.
+/// Mask of the [group][crate::format_builder::NumberFormatBuilder::fraction_digit_separator_flags].
 pub const FRACTION_DIGIT_SEPARATOR_FLAG_MASK: u128 = 0x492_0000_0000;
 
-/// Mask of the four digit separator flags of the exponent.
+/// Mask of the [group][crate::format_builder::NumberFormatBuilder::exponent_digit_separator_flags].
 pub const EXPONENT_DIGIT_SEPARATOR_FLAG_MASK: u128 = 0x924_0000_0000;
 
 // Mask of the reserved bits: all but the flags, the digit separator, and what stands from the base
@@ -213,36 +210,35 @@ const RESERVED_MASK: u128 = !(FLAG_MASK | DIGIT_SEPARATOR | !0 << BASE_PREFIX_SH
 // An exponent byte and the mantissa radix are both read before one is chosen, so that the compiler needs no
 // branch.
 
-/// Returns the raw digit separator byte, even if no flag allows a separator; 0 if there is none.
+/// Returns the digit separator, even if no flag allows one; 0 if there is none.
 #[must_use]
 #[inline(always)]
 pub const fn digit_separator(format: u128) -> u8 {
     ((format & DIGIT_SEPARATOR) >> DIGIT_SEPARATOR_SHIFT) as u8
 }
 
-/// Returns the base prefix byte, 0 if there is none.
+/// Returns the base prefix, 0 if there is none.
 #[must_use]
 #[inline(always)]
 pub const fn base_prefix(format: u128) -> u8 {
     ((format & BASE_PREFIX) >> BASE_PREFIX_SHIFT) as u8
 }
 
-/// Returns the base suffix byte, 0 if there is none.
+/// Returns the base suffix, 0 if there is none.
 #[must_use]
 #[inline(always)]
 pub const fn base_suffix(format: u128) -> u8 {
     ((format & BASE_SUFFIX) >> BASE_SUFFIX_SHIFT) as u8
 }
 
-/// Returns the radix of the significant digits: 0 to 255, and 2 to 36 if the format is lawful.
+/// Returns the mantissa radix: 0 to 255, and 2 to 36 if lawful.
 #[must_use]
 #[inline(always)]
 pub const fn mantissa_radix(format: u128) -> u32 {
     ((format & MANTISSA_RADIX) >> MANTISSA_RADIX_SHIFT) as u32
 }
 
-/// Returns the base of exponents: with base b, an exponent e multiplies by b to the power e. It is
-/// the byte of the format, or the mantissa radix if that is 0; 2 to 36 if the format is lawful.
+/// Returns the exponent base, or the mantissa radix if that byte is 0; 2 to 36 if lawful.
 #[must_use]
 #[inline(always)]
 pub const fn exponent_base(format: u128) -> u32 {
@@ -255,8 +251,7 @@ pub const fn exponent_base(format: u128) -> u32 {
     }
 }
 
-/// Returns the radix of the digits of an exponent: the byte of the format, or the mantissa radix if
-/// that is 0; 2 to 36 if the format is lawful.
+/// Returns the exponent radix, or the mantissa radix if that byte is 0; 2 to 36 if lawful.
 #[must_use]
 #[inline(always)]
 pub const fn exponent_radix(format: u128) -> u32 {

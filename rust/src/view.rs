@@ -88,9 +88,7 @@ impl FormatView {
 
     // BYTES
 
-    /// Returns the raw digit separator byte, even if no flag allows a separator; 0 if there is
-    /// none. A parser skips it wherever a flag allows it, so that digits can be grouped, such as
-    /// the `_` in `1_000`. Default: 0.
+    /// Returns the [digit separator][NumberFormatBuilder::digit_separator], allowed or not; 0 if there is none.
     #[must_use]
     #[inline(always)]
     pub const fn digit_separator(&self) -> u8 {
@@ -104,8 +102,7 @@ impl FormatView {
         has_any!(self, DIGIT_SEPARATOR)
     }
 
-    /// Returns the base prefix, 0 if there is none. A parser accepts it after a leading zero, such
-    /// as the `x` in `0x1F`. Default: 0.
+    /// Returns the [base prefix][NumberFormatBuilder::base_prefix], 0 if there is none.
     #[must_use]
     #[inline(always)]
     pub const fn base_prefix(&self) -> u8 {
@@ -119,8 +116,7 @@ impl FormatView {
         has_any!(self, BASE_PREFIX)
     }
 
-    /// Returns the base suffix, 0 if there is none. A parser accepts it after the digits, such as
-    /// the `h` in `1Fh`. Default: 0.
+    /// Returns the [base suffix][NumberFormatBuilder::base_suffix], 0 if there is none.
     #[must_use]
     #[inline(always)]
     pub const fn base_suffix(&self) -> u8 {
@@ -136,8 +132,7 @@ impl FormatView {
 
     // RADIXES
 
-    /// Returns the radix of the integer and fraction digits, 0 to 255; a lawful format has 2 to 36.
-    /// Default: 10.
+    /// Returns the [mantissa radix][NumberFormatBuilder::mantissa_radix]: 0 to 255, and 2 to 36 if lawful.
     #[must_use]
     #[inline(always)]
     pub const fn mantissa_radix(&self) -> u32 {
@@ -176,17 +171,16 @@ impl FormatView {
         fourth.wrapping_mul(fourth)
     }
 
-    /// Returns the base of the exponent: with base b, an exponent e multiplies by b^e. It is the
-    /// byte of the format, or the mantissa radix if that is 0; a lawful format has 2 to 36.
-    /// Default: the mantissa radix.
+    /// Returns the [exponent base][NumberFormatBuilder::exponent_base], or the mantissa radix if that byte is 0; 2 to
+    /// 36 if lawful.
     #[must_use]
     #[inline(always)]
     pub const fn exponent_base(&self) -> u32 {
         flags::exponent_base(self.format)
     }
 
-    /// Returns the radix of the exponent's digits: the byte of the format, or the mantissa radix if
-    /// that is 0; a lawful format has 2 to 36. Default: the mantissa radix.
+    /// Returns the [exponent radix][NumberFormatBuilder::exponent_radix], or the mantissa radix if that byte is 0; 2 to
+    /// 36 if lawful.
     #[must_use]
     #[inline(always)]
     pub const fn exponent_radix(&self) -> u32 {

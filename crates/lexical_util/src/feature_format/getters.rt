@@ -14,8 +14,7 @@ use lexical_flags::format_flags as flags;
 impl NumberFormat {
     // FLAGS OTHER THAN DIGIT SEPARATOR FLAGS
 
-    /// Returns whether the flag `required_integer_digits` is set. If true, a parser rejects a float
-    /// with no digits before its decimal point, such as `.5`. Default: false.
+    /// Returns whether the [flag][super::NumberFormatBuilder::required_integer_digits] is set.
     #[inline(always)]
     pub const fn required_integer_digits(&self) -> bool
         ensures { result ≡ (raw self.now).required_integer_digits }
@@ -23,9 +22,7 @@ impl NumberFormat {
         has_any!(self, REQUIRED_INTEGER_DIGITS)
     }
 
-    /// Returns whether the flag `required_fraction_digits` is set. If true, a parser rejects a
-    /// float with a decimal point and no digits after it, such as `1.`. A float with no decimal
-    /// point is still accepted. Default: false.
+    /// Returns whether the [flag][super::NumberFormatBuilder::required_fraction_digits] is set.
     #[inline(always)]
     pub const fn required_fraction_digits(&self) -> bool
         ensures { result ≡ (raw self.now).required_fraction_digits }
@@ -33,8 +30,7 @@ impl NumberFormat {
         has_any!(self, REQUIRED_FRACTION_DIGITS)
     }
 
-    /// Returns whether the flag `required_exponent_digits` is set. If true, a parser rejects an
-    /// exponent character with no digits after it, such as `1e`. Default: true.
+    /// Returns whether the [flag][super::NumberFormatBuilder::required_exponent_digits] is set.
     #[inline(always)]
     pub const fn required_exponent_digits(&self) -> bool
         ensures { result ≡ (raw self.now).required_exponent_digits }
@@ -42,9 +38,7 @@ impl NumberFormat {
         has_any!(self, REQUIRED_EXPONENT_DIGITS)
     }
 
-    /// Returns whether the flag `required_mantissa_digits` is set. If true, a parser rejects a
-    /// float with no significant digit at all, such as `.`. If false, it reads this as 0; the empty
-    /// text is still rejected. Default: true.
+    /// Returns whether the [flag][super::NumberFormatBuilder::required_mantissa_digits] is set.
     #[inline(always)]
     pub const fn required_mantissa_digits(&self) -> bool
         ensures { result ≡ (raw self.now).required_mantissa_digits }
@@ -52,8 +46,7 @@ impl NumberFormat {
         has_any!(self, REQUIRED_MANTISSA_DIGITS)
     }
 
-    /// Returns whether any of the four flags is set that require digits: in the integer, in the
-    /// fraction, in the exponent, or in the mantissa. Default: true.
+    /// Returns whether any flag of the [group][super::NumberFormatBuilder::required_digits] is set.
     #[inline(always)]
     pub const fn required_digits(&self) -> bool
         ensures any { result ≡ any_flag self.now layout.required_digits }
@@ -62,8 +55,7 @@ impl NumberFormat {
         has_any!(self, REQUIRED_DIGITS)
     }
 
-    /// Returns whether the flag `no_positive_mantissa_sign` is set. If true, a parser of integers
-    /// and floats rejects `+1`. A `-` is still accepted. Default: false.
+    /// Returns whether the [flag][super::NumberFormatBuilder::no_positive_mantissa_sign] is set.
     #[inline(always)]
     pub const fn no_positive_mantissa_sign(&self) -> bool
         ensures { result ≡ (raw self.now).no_positive_mantissa_sign }
@@ -71,9 +63,7 @@ impl NumberFormat {
         has_any!(self, NO_POSITIVE_MANTISSA_SIGN)
     }
 
-    /// Returns whether the flag `required_mantissa_sign` is set. If true, a parser of integers and
-    /// floats rejects a number with no sign, such as `1`, and a writer writes `+` before a number
-    /// that is not negative. Default: false.
+    /// Returns whether the [flag][super::NumberFormatBuilder::required_mantissa_sign] is set.
     #[inline(always)]
     pub const fn required_mantissa_sign(&self) -> bool
         ensures { result ≡ (raw self.now).required_mantissa_sign }
@@ -81,9 +71,7 @@ impl NumberFormat {
         has_any!(self, REQUIRED_MANTISSA_SIGN)
     }
 
-    /// Returns whether the flag `no_exponent_notation` is set. If true, a parser rejects a float
-    /// with an exponent, such as `1e5`, and a writer writes all digits instead of an exponent.
-    /// Default: false.
+    /// Returns whether the [flag][super::NumberFormatBuilder::no_exponent_notation] is set.
     #[inline(always)]
     pub const fn no_exponent_notation(&self) -> bool
         ensures { result ≡ (raw self.now).no_exponent_notation }
@@ -91,8 +79,7 @@ impl NumberFormat {
         has_any!(self, NO_EXPONENT_NOTATION)
     }
 
-    /// Returns whether the flag `no_positive_exponent_sign` is set. If true, a parser rejects
-    /// `1e+5`. `1e5` and `1e-5` are still accepted. Default: false.
+    /// Returns whether the [flag][super::NumberFormatBuilder::no_positive_exponent_sign] is set.
     #[inline(always)]
     pub const fn no_positive_exponent_sign(&self) -> bool
         ensures { result ≡ (raw self.now).no_positive_exponent_sign }
@@ -100,9 +87,7 @@ impl NumberFormat {
         has_any!(self, NO_POSITIVE_EXPONENT_SIGN)
     }
 
-    /// Returns whether the flag `required_exponent_sign` is set. If true, a parser rejects an
-    /// exponent with no sign, such as `1e5`, and a writer writes `+` before an exponent that is not
-    /// negative. Default: false.
+    /// Returns whether the [flag][super::NumberFormatBuilder::required_exponent_sign] is set.
     #[inline(always)]
     pub const fn required_exponent_sign(&self) -> bool
         ensures { result ≡ (raw self.now).required_exponent_sign }
@@ -110,9 +95,7 @@ impl NumberFormat {
         has_any!(self, REQUIRED_EXPONENT_SIGN)
     }
 
-    /// Returns whether the flag `no_exponent_without_fraction` is set. If true, a parser rejects an
-    /// exponent in a float with no decimal point, such as `1e5`, and accepts `1.0e5`. This flag
-    /// does not require digits after the point. Default: false.
+    /// Returns whether the [flag][super::NumberFormatBuilder::no_exponent_without_fraction] is set.
     #[inline(always)]
     pub const fn no_exponent_without_fraction(&self) -> bool
         ensures { result ≡ (raw self.now).no_exponent_without_fraction }
@@ -120,8 +103,7 @@ impl NumberFormat {
         has_any!(self, NO_EXPONENT_WITHOUT_FRACTION)
     }
 
-    /// Returns whether the flag `no_special` is set. If true, a parser rejects every special value,
-    /// such as `NaN` and `inf`. Default: false.
+    /// Returns whether the [flag][super::NumberFormatBuilder::no_special] is set.
     #[inline(always)]
     pub const fn no_special(&self) -> bool
         ensures { result ≡ (raw self.now).no_special }
@@ -129,8 +111,7 @@ impl NumberFormat {
         has_any!(self, NO_SPECIAL)
     }
 
-    /// Returns whether the flag `case_sensitive_special` is set. If true, a parser accepts only the
-    /// spelling of `NaN` and the like that its options give; if false, any case. Default: false.
+    /// Returns whether the [flag][super::NumberFormatBuilder::case_sensitive_special] is set.
     #[inline(always)]
     pub const fn case_sensitive_special(&self) -> bool
         ensures { result ≡ (raw self.now).case_sensitive_special }
@@ -138,8 +119,7 @@ impl NumberFormat {
         has_any!(self, CASE_SENSITIVE_SPECIAL)
     }
 
-    /// Returns whether the flag `no_integer_leading_zeros` is set. If true, a parser of integers
-    /// rejects `01`. `0` by itself is still accepted. Default: false.
+    /// Returns whether the [flag][super::NumberFormatBuilder::no_integer_leading_zeros] is set.
     #[inline(always)]
     pub const fn no_integer_leading_zeros(&self) -> bool
         ensures { result ≡ (raw self.now).no_integer_leading_zeros }
@@ -147,8 +127,7 @@ impl NumberFormat {
         has_any!(self, NO_INTEGER_LEADING_ZEROS)
     }
 
-    /// Returns whether the flag `no_float_leading_zeros` is set. If true, a parser of floats
-    /// rejects `01` and `01.0`. `0`, `0.1` and the like are still accepted. Default: false.
+    /// Returns whether the [flag][super::NumberFormatBuilder::no_float_leading_zeros] is set.
     #[inline(always)]
     pub const fn no_float_leading_zeros(&self) -> bool
         ensures { result ≡ (raw self.now).no_float_leading_zeros }
@@ -156,9 +135,7 @@ impl NumberFormat {
         has_any!(self, NO_FLOAT_LEADING_ZEROS)
     }
 
-    /// Returns whether the flag `required_exponent_notation` is set. If true, a parser rejects a
-    /// float with no exponent, such as `1.0`, and a writer writes an exponent with every float.
-    /// Default: false.
+    /// Returns whether the [flag][super::NumberFormatBuilder::required_exponent_notation] is set.
     #[inline(always)]
     pub const fn required_exponent_notation(&self) -> bool
         ensures { result ≡ (raw self.now).required_exponent_notation }
@@ -166,8 +143,7 @@ impl NumberFormat {
         has_any!(self, REQUIRED_EXPONENT_NOTATION)
     }
 
-    /// Returns whether the flag `case_sensitive_exponent` is set. If true, a parser whose exponent
-    /// character is `e` rejects `1E5`. If false, it accepts both cases. Default: false.
+    /// Returns whether the [flag][super::NumberFormatBuilder::case_sensitive_exponent] is set.
     #[inline(always)]
     pub const fn case_sensitive_exponent(&self) -> bool
         ensures { result ≡ (raw self.now).case_sensitive_exponent }
@@ -175,8 +151,7 @@ impl NumberFormat {
         has_any!(self, CASE_SENSITIVE_EXPONENT)
     }
 
-    /// Returns whether the flag `case_sensitive_base_prefix` is set. If true, a parser whose base
-    /// prefix is `x` rejects `0X1F`. If false, it accepts both cases. Default: false.
+    /// Returns whether the [flag][super::NumberFormatBuilder::case_sensitive_base_prefix] is set.
     #[inline(always)]
     pub const fn case_sensitive_base_prefix(&self) -> bool
         ensures { result ≡ (raw self.now).case_sensitive_base_prefix }
@@ -184,8 +159,7 @@ impl NumberFormat {
         has_any!(self, CASE_SENSITIVE_BASE_PREFIX)
     }
 
-    /// Returns whether the flag `case_sensitive_base_suffix` is set. If true, a parser whose base
-    /// suffix is `h` rejects `1FH`. If false, it accepts both cases. Default: false.
+    /// Returns whether the [flag][super::NumberFormatBuilder::case_sensitive_base_suffix] is set.
     #[inline(always)]
     pub const fn case_sensitive_base_suffix(&self) -> bool
         ensures { result ≡ (raw self.now).case_sensitive_base_suffix }
@@ -195,9 +169,7 @@ impl NumberFormat {
 
     // DIGIT SEPARATOR FLAGS
 
-    /// Returns whether the flag `integer_internal_digit_separator` is set. If true, a parser whose
-    /// digit separator is `_` accepts `1_2`: the separator may stand between integer digits.
-    /// Default: false.
+    /// Returns whether the [flag][super::NumberFormatBuilder::integer_internal_digit_separator] is set.
     #[inline(always)]
     pub const fn integer_internal_digit_separator(&self) -> bool
         ensures { result ≡ (raw self.now).integer_internal_digit_separator }
@@ -205,9 +177,7 @@ impl NumberFormat {
         has_any!(self, INTEGER_INTERNAL_DIGIT_SEPARATOR)
     }
 
-    /// Returns whether the flag `fraction_internal_digit_separator` is set. If true, a parser whose
-    /// digit separator is `_` accepts `0.1_2`: the separator may stand between fraction digits.
-    /// Default: false.
+    /// Returns whether the [flag][super::NumberFormatBuilder::fraction_internal_digit_separator] is set.
     #[inline(always)]
     pub const fn fraction_internal_digit_separator(&self) -> bool
         ensures { result ≡ (raw self.now).fraction_internal_digit_separator }
@@ -215,9 +185,7 @@ impl NumberFormat {
         has_any!(self, FRACTION_INTERNAL_DIGIT_SEPARATOR)
     }
 
-    /// Returns whether the flag `exponent_internal_digit_separator` is set. If true, a parser whose
-    /// digit separator is `_` accepts `1e1_2`: the separator may stand between exponent digits.
-    /// Default: false.
+    /// Returns whether the [flag][super::NumberFormatBuilder::exponent_internal_digit_separator] is set.
     #[inline(always)]
     pub const fn exponent_internal_digit_separator(&self) -> bool
         ensures { result ≡ (raw self.now).exponent_internal_digit_separator }
@@ -225,9 +193,7 @@ impl NumberFormat {
         has_any!(self, EXPONENT_INTERNAL_DIGIT_SEPARATOR)
     }
 
-    /// Returns whether the flag `integer_leading_digit_separator` is set. If true, a parser whose
-    /// digit separator is `_` accepts `_12`: the separator may stand before integer digits.
-    /// Default: false.
+    /// Returns whether the [flag][super::NumberFormatBuilder::integer_leading_digit_separator] is set.
     #[inline(always)]
     pub const fn integer_leading_digit_separator(&self) -> bool
         ensures { result ≡ (raw self.now).integer_leading_digit_separator }
@@ -235,9 +201,7 @@ impl NumberFormat {
         has_any!(self, INTEGER_LEADING_DIGIT_SEPARATOR)
     }
 
-    /// Returns whether the flag `fraction_leading_digit_separator` is set. If true, a parser whose
-    /// digit separator is `_` accepts `0._12`: the separator may stand before fraction digits.
-    /// Default: false.
+    /// Returns whether the [flag][super::NumberFormatBuilder::fraction_leading_digit_separator] is set.
     #[inline(always)]
     pub const fn fraction_leading_digit_separator(&self) -> bool
         ensures { result ≡ (raw self.now).fraction_leading_digit_separator }
@@ -245,9 +209,7 @@ impl NumberFormat {
         has_any!(self, FRACTION_LEADING_DIGIT_SEPARATOR)
     }
 
-    /// Returns whether the flag `exponent_leading_digit_separator` is set. If true, a parser whose
-    /// digit separator is `_` accepts `1e_12`: the separator may stand before exponent digits.
-    /// Default: false.
+    /// Returns whether the [flag][super::NumberFormatBuilder::exponent_leading_digit_separator] is set.
     #[inline(always)]
     pub const fn exponent_leading_digit_separator(&self) -> bool
         ensures { result ≡ (raw self.now).exponent_leading_digit_separator }
@@ -255,9 +217,7 @@ impl NumberFormat {
         has_any!(self, EXPONENT_LEADING_DIGIT_SEPARATOR)
     }
 
-    /// Returns whether the flag `integer_trailing_digit_separator` is set. If true, a parser whose
-    /// digit separator is `_` accepts `12_`: the separator may stand after integer digits. Default:
-    /// false.
+    /// Returns whether the [flag][super::NumberFormatBuilder::integer_trailing_digit_separator] is set.
     #[inline(always)]
     pub const fn integer_trailing_digit_separator(&self) -> bool
         ensures { result ≡ (raw self.now).integer_trailing_digit_separator }
@@ -265,9 +225,7 @@ impl NumberFormat {
         has_any!(self, INTEGER_TRAILING_DIGIT_SEPARATOR)
     }
 
-    /// Returns whether the flag `fraction_trailing_digit_separator` is set. If true, a parser whose
-    /// digit separator is `_` accepts `0.12_`: the separator may stand after fraction digits.
-    /// Default: false.
+    /// Returns whether the [flag][super::NumberFormatBuilder::fraction_trailing_digit_separator] is set.
     #[inline(always)]
     pub const fn fraction_trailing_digit_separator(&self) -> bool
         ensures { result ≡ (raw self.now).fraction_trailing_digit_separator }
@@ -275,9 +233,7 @@ impl NumberFormat {
         has_any!(self, FRACTION_TRAILING_DIGIT_SEPARATOR)
     }
 
-    /// Returns whether the flag `exponent_trailing_digit_separator` is set. If true, a parser whose
-    /// digit separator is `_` accepts `1e12_`: the separator may stand after exponent digits.
-    /// Default: false.
+    /// Returns whether the [flag][super::NumberFormatBuilder::exponent_trailing_digit_separator] is set.
     #[inline(always)]
     pub const fn exponent_trailing_digit_separator(&self) -> bool
         ensures { result ≡ (raw self.now).exponent_trailing_digit_separator }
@@ -285,10 +241,7 @@ impl NumberFormat {
         has_any!(self, EXPONENT_TRAILING_DIGIT_SEPARATOR)
     }
 
-    /// Returns whether the flag `integer_consecutive_digit_separator` is set. If true, a parser
-    /// whose digit separator is `_` accepts `1__2`, provided that a separator is allowed at this
-    /// position of the integer digits at all. A format with this flag and none for the three
-    /// positions is not lawful. Default: false.
+    /// Returns whether the [flag][super::NumberFormatBuilder::integer_consecutive_digit_separator] is set.
     #[inline(always)]
     pub const fn integer_consecutive_digit_separator(&self) -> bool
         ensures { result ≡ (raw self.now).integer_consecutive_digit_separator }
@@ -296,10 +249,7 @@ impl NumberFormat {
         has_any!(self, INTEGER_CONSECUTIVE_DIGIT_SEPARATOR)
     }
 
-    /// Returns whether the flag `fraction_consecutive_digit_separator` is set. If true, a parser
-    /// whose digit separator is `_` accepts `0.1__2`, provided that a separator is allowed at this
-    /// position of the fraction digits at all. A format with this flag and none for the three
-    /// positions is not lawful. Default: false.
+    /// Returns whether the [flag][super::NumberFormatBuilder::fraction_consecutive_digit_separator] is set.
     #[inline(always)]
     pub const fn fraction_consecutive_digit_separator(&self) -> bool
         ensures { result ≡ (raw self.now).fraction_consecutive_digit_separator }
@@ -307,10 +257,7 @@ impl NumberFormat {
         has_any!(self, FRACTION_CONSECUTIVE_DIGIT_SEPARATOR)
     }
 
-    /// Returns whether the flag `exponent_consecutive_digit_separator` is set. If true, a parser
-    /// whose digit separator is `_` accepts `1e1__2`, provided that a separator is allowed at this
-    /// position of the exponent digits at all. A format with this flag and none for the three
-    /// positions is not lawful. Default: false.
+    /// Returns whether the [flag][super::NumberFormatBuilder::exponent_consecutive_digit_separator] is set.
     #[inline(always)]
     pub const fn exponent_consecutive_digit_separator(&self) -> bool
         ensures { result ≡ (raw self.now).exponent_consecutive_digit_separator }
@@ -318,8 +265,7 @@ impl NumberFormat {
         has_any!(self, EXPONENT_CONSECUTIVE_DIGIT_SEPARATOR)
     }
 
-    /// Returns whether a digit separator may stand between integer, fraction or exponent digits:
-    /// whether any of these three flags is set. Default: false.
+    /// Returns whether any flag of the [group][super::NumberFormatBuilder::internal_digit_separator] is set.
     #[inline(always)]
     pub const fn internal_digit_separator(&self) -> bool
         ensures any { result ≡ any_flag self.now layout.internal_digit_separator }
@@ -328,8 +274,7 @@ impl NumberFormat {
         has_any!(self, INTERNAL_DIGIT_SEPARATOR)
     }
 
-    /// Returns whether a digit separator may stand before integer, fraction or exponent digits:
-    /// whether any of these three flags is set. Default: false.
+    /// Returns whether any flag of the [group][super::NumberFormatBuilder::leading_digit_separator] is set.
     #[inline(always)]
     pub const fn leading_digit_separator(&self) -> bool
         ensures any { result ≡ any_flag self.now layout.leading_digit_separator }
@@ -338,8 +283,7 @@ impl NumberFormat {
         has_any!(self, LEADING_DIGIT_SEPARATOR)
     }
 
-    /// Returns whether a digit separator may stand after integer, fraction or exponent digits:
-    /// whether any of these three flags is set. Default: false.
+    /// Returns whether any flag of the [group][super::NumberFormatBuilder::trailing_digit_separator] is set.
     #[inline(always)]
     pub const fn trailing_digit_separator(&self) -> bool
         ensures any { result ≡ any_flag self.now layout.trailing_digit_separator }
@@ -348,8 +292,7 @@ impl NumberFormat {
         has_any!(self, TRAILING_DIGIT_SEPARATOR)
     }
 
-    /// Returns whether several digit separators in a row may stand in integer, fraction or exponent
-    /// digits: whether any of these three flags is set. Default: false.
+    /// Returns whether any flag of the [group][super::NumberFormatBuilder::consecutive_digit_separator] is set.
     #[inline(always)]
     pub const fn consecutive_digit_separator(&self) -> bool
         ensures any { result ≡ any_flag self.now layout.consecutive_digit_separator }
@@ -358,9 +301,7 @@ impl NumberFormat {
         has_any!(self, CONSECUTIVE_DIGIT_SEPARATOR)
     }
 
-    /// Returns whether the flag `special_digit_separator` is set. If true, a parser whose digit
-    /// separator is `_` accepts `N__a_N_` for `NaN`: separators may stand before, between and after
-    /// the letters, also several in a row. Default: false.
+    /// Returns whether the [flag][super::NumberFormatBuilder::special_digit_separator] is set.
     #[inline(always)]
     pub const fn special_digit_separator(&self) -> bool
         ensures { result ≡ (raw self.now).special_digit_separator }
@@ -409,8 +350,7 @@ impl NumberFormat {
         self.format & flags::EXPONENT_FLAG_MASK
     }
 
-    /// Returns the word with everything but the four digit separator flags of integer digits masked
-    /// out.
+    /// Returns the word with everything but the digit separator flags of its integer masked out.
     #[inline(always)]
     pub const fn integer_digit_separator_flags(&self) -> u128
         ensures bits { result ≡ bits_of self.now layout.integer_digit_separator_flags }
@@ -419,8 +359,7 @@ impl NumberFormat {
         self.format & flags::INTEGER_DIGIT_SEPARATOR_FLAG_MASK
     }
 
-    /// Returns the word with everything but the four digit separator flags of fraction digits
-    /// masked out.
+    /// Returns the word with everything but the digit separator flags of its fraction masked out.
     #[inline(always)]
     pub const fn fraction_digit_separator_flags(&self) -> u128
         ensures bits { result ≡ bits_of self.now layout.fraction_digit_separator_flags }
@@ -429,8 +368,7 @@ impl NumberFormat {
         self.format & flags::FRACTION_DIGIT_SEPARATOR_FLAG_MASK
     }
 
-    /// Returns the word with everything but the four digit separator flags of exponent digits
-    /// masked out.
+    /// Returns the word with everything but the digit separator flags of its exponent masked out.
     #[inline(always)]
     pub const fn exponent_digit_separator_flags(&self) -> u128
         ensures bits { result ≡ bits_of self.now layout.exponent_digit_separator_flags }
