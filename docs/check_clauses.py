@@ -14,28 +14,21 @@ TOLD = {
     "`==`": "eq",
     "`Display` of": "fmt",
     "`Default`": "default",
-    "the six extractors": "digit_separator base_prefix base_suffix mantissa_radix exponent_base exponent_radix",
-    "`.._slice` of both": "is_valid_ascii_slice is_valid_letter_slice",
     "`is_..`": "is_success",
     "group getters": "required_digits internal_digit_separator leading_digit_separator trailing_digit_separator"
     " consecutive_digit_separator",
     "flag groups": "flags interface_flags digit_separator_flags exponent_flags integer_digit_separator_flags"
     " fraction_digit_separator_flags exponent_digit_separator_flags",
     "byte getters": "mantissa_radix radix exponent_base exponent_radix",
-    "the same three": "error format_error format_error_impl",
-    "`.._facts` of `callers::formats`": "decimal_facts rust_integer_facts hexadecimal_float_facts octal_facts",
 }
 # Rows that cannot be matched by names, with the reason.
 UNMATCHED = {
-    "each getter and setter": "some hundred functions, whose clauses have no names",
-    "flag getters of `NumberFormat`": "31 functions, whose clauses have no names",
     "fields, edits, rules, bytes and digits": "most of the exports, each with the clauses of the call that it passes on",
     "calls that write a result": "a part of the exports, told by what they do",
     "texts and names": "a part of the exports, told by what they do",
 }
 # Rows that leave out clauses of their functions, with the reason.
 PARTIAL = {
-    "`exit_status`, `print`, `write_source`": "what follows from a failure is told once, at `run`",
     "`laws::layout_facts`": "one clause a fact, all told together",
     "`laws::normal_form_facts`, `edit_facts`": "the clauses of `normal_form` and `edit_word`, told there",
 }
@@ -91,8 +84,7 @@ def clauses():
     """Returns what differs."""
     known, told, seen = list(functions()), set(), set()
     for section, cells in rows("PROVED.md"):
-        headline = section == "The headline"
-        calls, where = cells[1 if headline else 0], cells[2]
+        calls, _, where = cells
         found = named(calls, section, known)
         have = {clause for *_, names in found for clause in names}
         said = set(re.findall(r"`(\w+)`", where))
@@ -103,7 +95,7 @@ def clauses():
             yield f"no function is named by: {calls}"
         yield from (f"no clause `{clause}` of: {calls}" for clause in sorted(said - have))
         told |= {(*it[:3], clause) for it in found for clause in (have if calls in PARTIAL else said)}
-        if not headline and calls not in PARTIAL:
+        if calls not in PARTIAL:
             yield from (f"not named, the clause `{clause}` of: {calls}" for clause in sorted(have - said))
     for crate, owner, name, names in known:
         if crate in LIBRARIES and not UNTOLD.fullmatch(f"{owner}::{name}"):
