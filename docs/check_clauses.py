@@ -21,12 +21,6 @@ TOLD = {
     " fraction_digit_separator_flags exponent_digit_separator_flags",
     "byte getters": "mantissa_radix radix exponent_base exponent_radix",
 }
-# Rows that cannot be matched by names, with the reason.
-UNMATCHED = {
-    "fields, edits, rules, bytes and digits": "most of the exports, each with the clauses of the call that it passes on",
-    "calls that write a result": "a part of the exports, told by what they do",
-    "texts and names": "a part of the exports, told by what they do",
-}
 # Rows that leave out clauses of their functions, with the reason.
 PARTIAL = {
     "`laws::layout_facts`": "one clause a fact, all told together",
@@ -89,8 +83,6 @@ def clauses():
         have = {clause for *_, names in found for clause in names}
         said = set(re.findall(r"`(\w+)`", where))
         seen.add(calls)
-        if calls in UNMATCHED:
-            continue
         if not found:
             yield f"no function is named by: {calls}"
         yield from (f"no clause `{clause}` of: {calls}" for clause in sorted(said - have))
@@ -101,4 +93,4 @@ def clauses():
         if crate in LIBRARIES and not UNTOLD.fullmatch(f"{owner}::{name}"):
             missing = [clause for clause in names if (crate, owner, name, clause) not in told]
             yield from (f"in no row, the clause `{clause}` of `{owner}::{name}`" for clause in missing)
-    yield from (f"check_clauses.py has no row: {calls}" for calls in sorted({*UNMATCHED, *PARTIAL} - seen))
+    yield from (f"check_clauses.py has no row: {calls}" for calls in sorted(PARTIAL.keys() - seen))
