@@ -19,7 +19,6 @@ TOLD = {
     " consecutive_digit_separator",
     "flag groups": "flags interface_flags digit_separator_flags exponent_flags integer_digit_separator_flags"
     " fraction_digit_separator_flags exponent_digit_separator_flags",
-    "byte getters": "mantissa_radix radix exponent_base exponent_radix",
 }
 # Rows that leave out clauses of their functions, with the reason.
 PARTIAL = {
