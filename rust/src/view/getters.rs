@@ -271,9 +271,7 @@ impl FormatView {
         self.format & flags::FLAG_MASK
     }
 
-    /// Returns the word with everything masked out but the flags that the front end of a parser
-    /// handles: required digits, exponents except the case of their character, leading zeros of
-    /// floats, and digit separators except in special values.
+    /// Returns the word with everything but [`INTERFACE_FLAG_MASK`][flags::INTERFACE_FLAG_MASK] masked out.
     #[must_use]
     #[inline(always)]
     pub const fn interface_flags(&self) -> u128 {
@@ -287,8 +285,7 @@ impl FormatView {
         self.format & flags::DIGIT_SEPARATOR_FLAG_MASK
     }
 
-    /// Returns the word with everything but its exponent flags masked out.
-    /// `case_sensitive_exponent` is not one of them.
+    /// Returns the word with everything but [`EXPONENT_FLAG_MASK`][flags::EXPONENT_FLAG_MASK] masked out.
     #[must_use]
     #[inline(always)]
     pub const fn exponent_flags(&self) -> u128 {

@@ -320,9 +320,7 @@ impl NumberFormat {
         self.format & flags::FLAG_MASK
     }
 
-    /// Returns the word with everything masked out but the flags that the front end of a parser
-    /// handles: required digits, exponents except the case of their character, leading zeros of
-    /// floats, and digit separators except in special values.
+    /// Returns the word with everything but [`INTERFACE_FLAG_MASK`][flags::INTERFACE_FLAG_MASK] masked out.
     #[inline(always)]
     pub const fn interface_flags(&self) -> u128
         ensures bits { result ≡ bits_of self.now layout.interface_flags }
@@ -340,8 +338,7 @@ impl NumberFormat {
         self.format & flags::DIGIT_SEPARATOR_FLAG_MASK
     }
 
-    /// Returns the word with everything but its exponent flags masked out.
-    /// `case_sensitive_exponent` is not one of them.
+    /// Returns the word with everything but [`EXPONENT_FLAG_MASK`][flags::EXPONENT_FLAG_MASK] masked out.
     #[inline(always)]
     pub const fn exponent_flags(&self) -> u128
         ensures bits { result ≡ bits_of self.now layout.exponent_flags }
