@@ -24,24 +24,23 @@ fn edit(line: &str) -> Option<Result<Edit, String>> {
         _ => value.trim().to_string(),
     };
     let edit = Edit::from_setting(name.trim(), &value).map_err(|error| match error {
-        SettingError::UnknownName => format!("{error}; did you mean {}?", nearest(name.trim())),
-        _ => error.to_string(),
+        SettingError::UnknownName => format!("{error}{}", nearest(name.trim())),
+        SettingError::BadValue => format!("{error}; here also a character, as '_' or 'x'"),
+        SettingError::OutOfRange => error.to_string(),
     });
     (!line.is_empty() && !line.starts_with('#')).then_some(edit)
 }
 
-/// The name of a setting that begins like another name for longest.
-fn nearest(name: &str) -> &'static str {
+/// The setting whose name begins like another for longest, if that is four letters or more, as the end of a sentence.
+fn nearest(name: &str) -> String {
     let alike = |other: &str| {
-        name.bytes()
-            .zip(other.bytes())
-            .take_while(|(a, b)| a == b)
-            .count()
+        let pairs = name.bytes().zip(other.bytes());
+        pairs.take_while(|(a, b)| a == b).count()
     };
-    SETTER_NAMES
-        .into_iter()
-        .max_by_key(|other| alike(other))
-        .unwrap()
+    match SETTER_NAMES.iter().max_by_key(|other| alike(other)) {
+        Some(near) if alike(near) >= 4 => format!("; did you mean {near}?"),
+        _ => String::new(),
+    }
 }
 
 /// The lines that write one of these bits of a format, such as ` (line 2: mantissa_radix = 16)`.
