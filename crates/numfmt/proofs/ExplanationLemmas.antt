@@ -1,97 +1,103 @@
 -- Writing a list, one element after the other, where nothing may be written of an element.
-use Rattle.std.proofs.Common.{◌≡◌, ◌≢◌, ℕ, ◌+◌, ◌<◌, ◌==◌, Bool, true, false, not, cond, List, [], ◌∷◌}
-use Rattle.std.proofs.Common.{◌++◌, length, take, get_or}
-use Rattle.std.proofs.Common.{Option, None, Some, Result, Ok, Err, OnOk, filter, flat_map, map, refl, sym, ap, subst}
-use Rattle.std.proofs.Common.{◌∙◌, arith}
-use Rattle.std.specs.Io.KnownBytes.{Appends}
-use Rattle.std.specs.List.{filter_map}
-use Rattle.std.proofs.KnownBytes.{Appends-trans}
-use Rattle.std.proofs.lemmas.Bool.Decides.{nat_tests}
-use Rattle.std.proofs.lemmas.List.{flat_map_more, take_more}
+use Rattle.std.proofs.Common.{◌≡◌, ◌≢◌, ◌↔◌, ℕ, List, [], ◌∷◌, ◌++◌, map, codes}
+use Rattle.std.proofs.Common.{Option, None, Some, flat_map, refl, sym, ap, ◌∙◌}
+use Rattle.std.specs.List.{AllByRecursion, cons_option, filter_map}
 use Rattle.lexical_util.specs.Outcomes.{printed_text}
-use Rattle.lexical_util.specs.Reasons.{Case, said, padded, cases_of, reasons_of, unused_of}
+use Rattle.lexical_util.specs.Reasons.{said, padded, cases_of, reasons_of, unused_of}
 use Rattle.lexical_util.specs.ReasonText.{reason_text, unused_text}
-use Rattle.lexical_util.specs.Rules.{Holds, error_of, rules_in_order}
-use Rattle.lexical_util.specs.SettingText.{setting_text}
+use Rattle.lexical_util.specs.Listing.{field_edits}
+use Rattle.lexical_util.specs.Record.{raw}
+use Rattle.lexical_util.specs.Rules.{Holds, Lawful, error_of, rules_in_order}
 use Rattle.lexical_util.specs.declared.format_flags.Rule.{Rule}
 use Rattle.lexical_util.specs.declared.format_flags.Rule.TheVariants as rules
 use Rattle.lexical_util.specs.declared.reasons.Reason.{Reason}
+use Rattle.lexical_util.specs.declared.reasons.Unused.{Unused}
 use Rattle.lexical_util.proofs.ReasonLemmas.{kept_without_reason}
-use Rattle.numfmt.specs.Explanation.{explanation, fields_of, indented, line, rule_text, text_for}
+use Rattle.numfmt.specs.Explanation.{explanation, field_line, indented, line, line_of, rule_text, text_for}
 
--- one element more
-pub one_more : {T : Type 0} (f : T → List ℕ) (list : List T) (i : ℕ) (x : T) (a b c : Option (List ℕ)) (text : List ℕ)
-    → i < length list → Appends a b (flat_map f (take i list)) → f (get_or list i x) ≡ text → Appends b c text
-    → Appends a c (flat_map f (take (i + 1) list))
-one_more f list i x a b c text inside before is one =
-    let more = ap (flat_map f) (take_more list i x inside)
-    ∙ sym (flat_map_more f [] (take i list) (get_or list i x)) ∙ ap (λ t. flat_map f (take i list) ++ t) is in
-    subst (Appends a c) (sym more) (Appends-trans a b c _ _ before one)
+-- the lines of what a function gives of some items
+some_line : {T : Type 0} (indent : List ℕ) (text : T → List ℕ) (item : Option T) (items : List T)
+    → line_of indent text item ++ flat_map (λ x. indent ++ line (text x)) items
+    ≡ flat_map (λ x. indent ++ line (text x)) (cons_option item items)
+some_line indent text None items = refl
+some_line indent text (Some item) items = refl
 
--- a test that a number is not 0
-pub if_nonzero : (n : ℕ) (text : List ℕ) → n ≢ 0 → cond (not (n == 0)) text [] ≡ text
-if_nonzero n text some = grind (arith, nat_tests)
+pub line_texts : {S T : Type 0} (indent : List ℕ) (text : T → List ℕ) (g : S → Option T) (list : List S)
+    → flat_map (line_of indent text) (map g list) ≡ flat_map (λ x. indent ++ line (text x)) (filter_map g list)
+line_texts indent text g [] = refl
+line_texts indent text g (x ∷ list) =
+    ap (λ rest. line_of indent text (g x) ++ rest) (line_texts indent text g list)
+    ∙ some_line indent text (g x) (filter_map g list)
 
--- a text is written, and then the rest if the last call returns `Ok`
-pub then : {T E : Type 0} (r : Result T E) (a b c : Option (List ℕ)) (text rest : List ℕ) → Appends a b text
-    → OnOk r (Appends b c rest) → OnOk r (Appends a c (text ++ rest))
-then (Ok x) a b c text rest first others = Appends-trans a b c text rest first others
-then (Err e) a b c text rest first others = tt
-
--- the text of an element that passes a test
-abbrev pub kept_text : {T : Type 0} → (T → Bool) → (T → List ℕ) → T → List ℕ
-kept_text p f x = cond (p x) (f x) []
-
--- that of an element that there may be
-abbrev pub some_text : {T : Type 0} → (T → List ℕ) → Option T → List ℕ
-some_text f None = []
-some_text f (Some x) = f x
-
--- to keep some elements is to write nothing of the others
-pub kept_texts : {T : Type 0} (p : T → Bool) (f : T → List ℕ) (list : List T)
-    → flat_map (kept_text p f) list ≡ flat_map f (filter p list)
-kept_texts p f [] = refl
-kept_texts p f (x ∷ list) =
-    ap (λ rest. kept_text p f x ++ rest) (kept_texts p f list) ∙ either (p x) where
-      either : (t : Bool) → cond t (f x) [] ++ flat_map f (filter p list)
-          ≡ flat_map f (cond t (x ∷ filter p list) (filter p list))
-      either true = refl
-      either false = refl
-
--- the same of the cases that hold
-pub said_texts : {T : Type 0} (f : T → List ℕ) (cases : List (Case T))
-    → flat_map (some_text f) (map said cases) ≡ flat_map f (filter_map said cases)
-said_texts f [] = refl
-said_texts f ((true, x) ∷ cases) = ap (λ rest. f x ++ rest) (said_texts f cases)
-said_texts f ((false, x) ∷ cases) = said_texts f cases
-
--- and of the cases of a rule, with nothing behind them
-padded_texts : (f : Reason → List ℕ) (rule : Rule) (word : ℕ)
-    → flat_map (some_text f) (padded (cases_of rule word)) ≡ flat_map (some_text f) (map said (cases_of rule word))
-padded_texts f rules.MantissaRadixInRange word = refl
-padded_texts f _ word = refl
-
-pub reason_texts : (f : Reason → List ℕ) (rule : Rule) (word : ℕ)
-    → flat_map (some_text f) (padded (cases_of rule word)) ≡ flat_map f (reasons_of rule word)
-reason_texts f rule word = padded_texts f rule word ∙ said_texts f (cases_of rule word)
+-- and of the reasons, with nothing behind them
+padded_texts : (rule : Rule) (word : ℕ) → flat_map (line_of (codes "    ") reason_text) (padded (cases_of rule word))
+    ≡ flat_map (line_of (codes "    ") reason_text) (map said (cases_of rule word))
+padded_texts rules.MantissaRadixInRange word = refl
+padded_texts _ word = refl
 
 -- what is said where there is a reason
-pub text_for-some : (rule : Rule) (word : ℕ) (reasons : List Reason) → reasons ≢ []
-    → text_for rule word reasons ≡ line (printed_text (error_of rule))
-    ++ flat_map (λ edit. indented (setting_text edit)) (fields_of rule word)
-    ++ flat_map (λ reason. indented (reason_text reason)) reasons
-text_for-some rule word [] some = absurd (some refl)
-text_for-some rule word (first ∷ others) some = refl
+pub text_for-some : (rule : Rule) (word : ℕ) → reasons_of rule word ≢ []
+    → rule_text word rule ≡ line (printed_text (error_of rule)) ++ flat_map (field_line rule) (field_edits (raw word))
+    ++ flat_map (line_of (codes "    ") reason_text) (padded (cases_of rule word))
+text_for-some rule word some =
+    rw (padded_texts rule word, line_texts (codes "    ") reason_text said (cases_of rule word))
+    (either (reasons_of rule word) some) where
+      either : (reasons : List Reason) → reasons ≢ [] → text_for rule word reasons
+          ≡ line (printed_text (error_of rule)) ++ flat_map (field_line rule) (field_edits (raw word))
+          ++ flat_map (λ reason. indented (reason_text reason)) reasons
+      either [] some = absurd (some refl)
+      either (first ∷ others) some = refl
 
--- nothing is written of a list if nothing is of an element
-no_texts : {T : Type 0} (f : T → List ℕ) → ((x : T) → f x ≡ []) → (list : List T) → flat_map f list ≡ []
-no_texts f none [] = refl
-no_texts f none (x ∷ list) = λ i. none x i ++ no_texts f none list i
+-- two texts have no byte exactly if neither has
+no_front : (s t : List ℕ) → s ++ t ≡ [] → s ≡ []
+no_front [] t none = refl
+no_front (b ∷ s) t none = cc
 
--- nothing is said of a word that keeps all rules, and whose settings all have an effect
-pub nothing_said : (word : ℕ) → ((rule : Rule) → Holds rule word) → unused_of word ≡ [] → explanation word ≡ []
+no_back : (s t : List ℕ) → s ++ t ≡ [] → t ≡ []
+no_back s t none = ap (λ front. front ++ t) (sym (no_front s t none)) ∙ none
+
+no_texts : {T : Type 0} (f : T → List ℕ) (list : List T)
+    → (flat_map f list ≡ []) ↔ AllByRecursion (λ x. f x ≡ []) list
+no_texts f [] = (λ none. tt, λ none. refl)
+no_texts f (x ∷ list) =
+    let rest = no_texts f list in
+    (λ none. (no_front (f x) _ none, rest.0 (no_back (f x) _ none)), λ none. λ i. none.0 i ++ rest.1 none.1 i)
+
+-- nothing is said of a rule exactly if the word keeps it
+rule_kept : (rule : Rule) (word : ℕ) → (rule_text word rule ≡ []) ↔ Holds rule word
+rule_kept rule word =
+    let kept = kept_without_reason rule word in
+    (λ none. kept.1 (no_reason (reasons_of rule word) none), λ holds. ap (text_for rule word) (kept.0 holds)) where
+      no_reason : (reasons : List Reason) → text_for rule word reasons ≡ [] → reasons ≡ []
+      no_reason [] none = refl
+      no_reason (first ∷ others) none = let some = no_back (line (printed_text (error_of rule)) ++ flat_map (field_line rule) (field_edits (raw word))) _ none in cc
+
+each_rule : (word : ℕ) → AllByRecursion (λ rule. rule_text word rule ≡ []) rules_in_order → (rule : Rule)
+    → rule_text word rule ≡ []
+each_rule word all rules.MantissaRadixInRange = assumption all
+each_rule word all _ = assumption all
+
+-- nothing is said of a word exactly if it keeps all rules, and its settings all have an effect
+pub nothing_said : (word : ℕ) → (Lawful word ↔ ((rule : Rule) → Holds rule word))
+    → (explanation word ≡ []) ↔ (Lawful word × (unused_of word ≡ []))
 unfolding explanation
-nothing_said word keeps none =
-    let of_rules = no_texts (rule_text word)
-    (λ rule. ap (text_for rule word) ((kept_without_reason rule word).0 (keeps rule))) rules_in_order in
-    λ i. of_rules i ++ flat_map (λ setting. line (unused_text setting)) (none i)
+nothing_said word lawful =
+    let unused_line = λ (setting : Unused). line (unused_text setting) in
+    let of_rules = flat_map (rule_text word) rules_in_order in
+    let texts = no_texts (rule_text word) rules_in_order in (
+      λ none.
+          let rules_none = texts.0 (no_front of_rules _ none) in (
+            lawful.1 (λ rule. (rule_kept rule word).0 (each_rule word rules_none rule)),
+            no_lines (unused_of word) (no_back of_rules _ none),
+          ),
+      λ both. λ i. texts.1 (all_rules word (lawful.0 both.0) rules_in_order) i ++ flat_map unused_line (both.1 i),
+    ) where
+      all_rules : (word : ℕ) → ((rule : Rule) → Holds rule word) → (list : List Rule)
+          → AllByRecursion (λ rule. rule_text word rule ≡ []) list
+      all_rules word keeps [] = tt
+      all_rules word keeps (rule ∷ list) = ((rule_kept rule word).1 (keeps rule), all_rules word keeps list)
+
+      no_lines : (list : List Unused) → flat_map (λ setting. line (unused_text setting)) list ≡ [] → list ≡ []
+      no_lines [] none = refl
+      no_lines (setting ∷ list) none =
+          let some = no_back (unused_text setting) _ (no_front (line (unused_text setting)) _ none) in cc

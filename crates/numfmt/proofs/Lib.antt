@@ -2,5 +2,5 @@ mod TextLemmas
 mod CommandLemmas
 mod ItemLemmas
 mod EditsLemmas
-mod SourceLemmas
+mod WritingLemmas
 mod ExplanationLemmas

@@ -1,5 +1,5 @@
 -- What there is to say of a format word: the rules that it breaks, and the settings without effect.
-use Rattle.std.specs.Prelude.{ℕ, Bool, not, ◌==◌, bit_and, List, [], ◌∷◌, ◌++◌, codes, filter, flat_map}
+use Rattle.std.specs.Prelude.{ℕ, ◌==◌, bit_and, if◌then◌else◌, List, [], ◌∷◌, ◌++◌, Option, None, Some, codes, flat_map}
 use Rattle.lexical_util.specs.RuleFields.{mask_read}
 use Rattle.lexical_util.specs.Outcomes.{printed_text}
 use Rattle.lexical_util.specs.Record.{raw}
@@ -21,19 +21,21 @@ line text = text ++ 10 ∷ []
 abbrev pub indented : List ℕ → List ℕ
 indented text = codes "    " ++ line text
 
--- whether a rule reads a bit that an edit writes
-abbrev pub is_read : Rule → Edit → Bool
-is_read rule edit = not (bit_and (mask_of_edit edit) (mask_read rule) == 0)
+-- the same of an item that there may be, after an indent, by the text of an item
+abbrev pub line_of : {T : Type 0} → List ℕ → (T → List ℕ) → Option T → List ℕ
+line_of indent text None = []
+line_of indent text (Some item) = indent ++ line (text item)
 
--- the fields of a word that a rule reads
-abbrev pub fields_of : Rule → ℕ → List Edit
-fields_of rule word = filter (is_read rule) (field_edits (raw word))
+-- the line of a field, if a rule reads a bit that the edit of the field writes
+abbrev pub field_line : Rule → Edit → List ℕ
+field_line rule edit =
+    if bit_and (mask_of_edit edit) (mask_read rule) == 0 then [] else indented (setting_text edit)
 
 -- the error of a rule, the fields that it reads, and the reasons why a word breaks it; nothing without a reason
 abbrev pub text_for : Rule → ℕ → List Reason → List ℕ
 text_for rule word [] = []
 text_for rule word (first ∷ others) =
-    line (printed_text (error_of rule)) ++ flat_map (λ edit. indented (setting_text edit)) (fields_of rule word)
+    line (printed_text (error_of rule)) ++ flat_map (field_line rule) (field_edits (raw word))
     ++ flat_map (λ reason. indented (reason_text reason)) (first ∷ others)
 
 -- what is said of a word and a rule: nothing if the word keeps it

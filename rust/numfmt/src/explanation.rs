@@ -4,10 +4,10 @@
 
 use crate::output::Output;
 use peltzivar::edits::field_edits_of;
-use peltzivar::error::Error;
 use peltzivar::format_flags::{Rule, RULES};
 use peltzivar::reasons::{reasons_of, unused_settings};
 use peltzivar::word::format_is_valid;
+use std::fmt::Display;
 use std::io;
 
 /// Returns whether there is nothing to say of `word`: it is lawful, and each of its settings has an effect.
@@ -22,16 +22,10 @@ pub fn is_silent(word: u128) -> bool {
 ///
 /// Any word may be passed. After an error nothing is known of what was written.
 pub fn write_explanation<W: Output>(word: u128, out: &mut W) -> io::Result<()> {
-    write_rules(&RULES, word, out)?;
-    write_unused(word, out)
-}
-
-// Writes what is wrong with a word by each of some rules.
-fn write_rules<W: Output>(rules: &[Rule], word: u128, out: &mut W) -> io::Result<()> {
-    for rule in rules {
+    for rule in &RULES {
         write_rule(*rule, word, out)?;
     }
-    Ok(())
+    write_lines("", &unused_settings(word), out)
 }
 
 // Writes what is wrong with a word by one rule, if it breaks the rule.
@@ -39,44 +33,24 @@ fn write_rule<W: Output>(rule: Rule, word: u128, out: &mut W) -> io::Result<()> 
     if rule.is_kept(word) {
         return Ok(());
     }
-    write_error(rule.error(), out)?;
-    write_fields(rule, word, out)?;
-    write_reasons(rule, word, out)
-}
-
-// Writes what `check` prints of an error.
-fn write_error<W: Output>(error: Error, out: &mut W) -> io::Result<()> {
-    writeln!(out, "{error}")
-}
-
-// Writes the fields of a word that a rule reads.
-fn write_fields<W: Output>(rule: Rule, word: u128, out: &mut W) -> io::Result<()> {
-    let edits = field_edits_of(word);
-    for edit in &edits {
+    writeln!(out, "{}", rule.error())?;
+    for edit in &field_edits_of(word) {
         if edit.mask() & rule.mask() != 0 {
             writeln!(out, "    {edit}")?;
         }
     }
-    Ok(())
+    write_lines("    ", &reasons_of(rule, word), out)
 }
 
-// Writes the reasons why a word breaks a rule.
-fn write_reasons<W: Output>(rule: Rule, word: u128, out: &mut W) -> io::Result<()> {
-    let reasons = reasons_of(rule, word);
-    for reason in &reasons {
-        if let Some(reason) = reason {
-            writeln!(out, "    {reason}")?;
-        }
-    }
-    Ok(())
-}
-
-// Writes the settings of a word that have no effect.
-fn write_unused<W: Output>(word: u128, out: &mut W) -> io::Result<()> {
-    let settings = unused_settings(word);
-    for setting in &settings {
-        if let Some(setting) = setting {
-            writeln!(out, "{setting}")?;
+// Writes those of some items that there are, each on a line after an indent.
+fn write_lines<T: Display, W: Output>(
+    indent: &str,
+    items: &[Option<T>],
+    out: &mut W,
+) -> io::Result<()> {
+    for item in items {
+        if let Some(item) = item {
+            writeln!(out, "{indent}{item}")?;
         }
     }
     Ok(())

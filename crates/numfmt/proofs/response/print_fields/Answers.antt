@@ -2,7 +2,7 @@
 use Rattle.std.proofs.Common.{ℕ, List, [], ◌++◌, append-nil, Option, Result, OnOk, codes, ◌∙◌}
 use Rattle.std.specs.Io.KnownBytes.{Appends}
 use Rattle.std.proofs.KnownBytes.{Appends-trans}
-use Rattle.numfmt.proofs.ExplanationLemmas.{then}
+use Rattle.numfmt.proofs.WritingLemmas.{then}
 use Rattle.numfmt.proofs.response.print_fields.Goals as goal
 
 -- nothing is written after the last line
