@@ -1,6 +1,6 @@
 -- Writing a list, one element after the other, where nothing may be written of an element.
 use Rattle.std.proofs.Common.{◌≡◌, ◌≢◌, ◌↔◌, ℕ, List, [], ◌∷◌, ◌++◌, map, codes}
-use Rattle.std.proofs.Common.{Option, None, Some, flat_map, refl, sym, ap, ◌∙◌}
+use Rattle.std.proofs.Common.{Option, None, Some, flat_map, length, length-append, arith, refl, sym, ap, ◌∙◌}
 use Rattle.std.specs.List.{AllByRecursion, cons_option, filter_map}
 use Rattle.lexical_util.specs.Outcomes.{printed_text}
 use Rattle.lexical_util.specs.Reasons.{said, padded, cases_of, reasons_of, unused_of}
@@ -48,7 +48,7 @@ text_for-some rule word some =
       either [] some = absurd (some refl)
       either (first ∷ others) some = refl
 
--- two texts have no byte exactly if neither has
+-- two texts have no byte only if neither has
 no_front : (s t : List ℕ) → s ++ t ≡ [] → s ≡ []
 no_front [] t none = refl
 no_front (b ∷ s) t none = cc
@@ -56,48 +56,43 @@ no_front (b ∷ s) t none = cc
 no_back : (s t : List ℕ) → s ++ t ≡ [] → t ≡ []
 no_back s t none = ap (λ front. front ++ t) (sym (no_front s t none)) ∙ none
 
-no_texts : {T : Type 0} (f : T → List ℕ) (list : List T)
-    → (flat_map f list ≡ []) ↔ AllByRecursion (λ x. f x ≡ []) list
-no_texts f [] = (λ none. tt, λ none. refl)
-no_texts f (x ∷ list) =
-    let rest = no_texts f list in
-    (λ none. (no_front (f x) _ none, rest.0 (no_back (f x) _ none)), λ none. λ i. none.0 i ++ rest.1 none.1 i)
+-- the texts of a list have no byte exactly if none of them has
+each_text : {T : Type 0} (f : T → List ℕ) (list : List T) → flat_map f list ≡ [] → AllByRecursion (λ x. f x ≡ []) list
+each_text f [] none = tt
+each_text f (x ∷ list) none = (no_front (f x) _ none, each_text f list (no_back (f x) _ none))
 
--- nothing is said of a rule exactly if the word keeps it
-rule_kept : (rule : Rule) (word : ℕ) → (rule_text word rule ≡ []) ↔ Holds rule word
-rule_kept rule word =
-    let kept = kept_without_reason rule word in
-    (λ none. kept.1 (no_reason (reasons_of rule word) none), λ holds. ap (text_for rule word) (kept.0 holds)) where
-      no_reason : (reasons : List Reason) → text_for rule word reasons ≡ [] → reasons ≡ []
-      no_reason [] none = refl
-      no_reason (first ∷ others) none = let some = no_back (line (printed_text (error_of rule)) ++ flat_map (field_line rule) (field_edits (raw word))) _ none in cc
+no_texts : {T : Type 0} (f : T → List ℕ) → ((x : T) → f x ≡ []) → (list : List T) → flat_map f list ≡ []
+no_texts f none [] = refl
+no_texts f none (x ∷ list) = λ i. none x i ++ no_texts f none list i
 
-each_rule : (word : ℕ) → AllByRecursion (λ rule. rule_text word rule ≡ []) rules_in_order → (rule : Rule)
-    → rule_text word rule ≡ []
-each_rule word all rules.MantissaRadixInRange = assumption all
-each_rule word all _ = assumption all
+-- a rule of which nothing is said is kept
+no_reason : (rule : Rule) (word : ℕ) (reasons : List Reason) → text_for rule word reasons ≡ [] → reasons ≡ []
+no_reason rule word [] none = refl
+no_reason rule word (first ∷ others) none = absurd (omega (arith, simp length-append at (ap length none)))
+
+kept_rule : (word : ℕ) → AllByRecursion (λ rule. rule_text word rule ≡ []) rules_in_order → (rule : Rule) → Holds rule word
+kept_rule word all rule = (kept_without_reason rule word).1 (no_reason rule word _ (text rule)) where
+  text : (rule : Rule) → rule_text word rule ≡ []
+  text rules.MantissaRadixInRange = assumption all
+  text _ = assumption all
+
+-- a setting of which nothing is said is none
+no_setting : (list : List Unused) → flat_map (λ setting. line (unused_text setting)) list ≡ [] → list ≡ []
+no_setting [] none = refl
+no_setting (setting ∷ list) none = absurd (omega (arith, simp length-append at (ap length none)))
 
 -- nothing is said of a word exactly if it keeps all rules, and its settings all have an effect
 pub nothing_said : (word : ℕ) → (Lawful word ↔ ((rule : Rule) → Holds rule word))
     → (explanation word ≡ []) ↔ (Lawful word × (unused_of word ≡ []))
 unfolding explanation
 nothing_said word lawful =
-    let unused_line = λ (setting : Unused). line (unused_text setting) in
     let of_rules = flat_map (rule_text word) rules_in_order in
-    let texts = no_texts (rule_text word) rules_in_order in (
-      λ none.
-          let rules_none = texts.0 (no_front of_rules _ none) in (
-            lawful.1 (λ rule. (rule_kept rule word).0 (each_rule word rules_none rule)),
-            no_lines (unused_of word) (no_back of_rules _ none),
-          ),
-      λ both. λ i. texts.1 (all_rules word (lawful.0 both.0) rules_in_order) i ++ flat_map unused_line (both.1 i),
-    ) where
-      all_rules : (word : ℕ) → ((rule : Rule) → Holds rule word) → (list : List Rule)
-          → AllByRecursion (λ rule. rule_text word rule ≡ []) list
-      all_rules word keeps [] = tt
-      all_rules word keeps (rule ∷ list) = ((rule_kept rule word).1 (keeps rule), all_rules word keeps list)
-
-      no_lines : (list : List Unused) → flat_map (λ setting. line (unused_text setting)) list ≡ [] → list ≡ []
-      no_lines [] none = refl
-      no_lines (setting ∷ list) none =
-          let some = no_back (unused_text setting) _ (no_front (line (unused_text setting)) _ none) in cc
+    let kept : (rule : Rule) → Holds rule word → rule_text word rule ≡ [] =
+    λ rule holds. ap (text_for rule word) ((kept_without_reason rule word).0 holds) in (
+      λ none. (
+        lawful.1 (kept_rule word (each_text (rule_text word) rules_in_order (no_front of_rules _ none))),
+        no_setting (unused_of word) (no_back of_rules _ none),
+      ),
+      λ both. λ i. no_texts (rule_text word) (λ rule. kept rule (lawful.0 both.0 rule)) rules_in_order i
+          ++ flat_map (λ setting. line (unused_text setting)) (both.1 i),
+    )

@@ -31,14 +31,8 @@ argument_text (edits.ExponentRadix radix) = option_text radix
 abbrev pub call_text : Edit → List ℕ
 call_text edit = call (name_of edit) (argument_text edit)
 
--- the calls that some edits stand for
-abbrev pub calls_text : List Edit → List ℕ
-calls_text list = flat_map call_text list
-
--- a new builder, some calls, and the packing
-abbrev pub expression : List Edit → List ℕ
-expression list = codes "NumberFormatBuilder::new()" ++ calls_text list ++ codes ".build_unchecked()"
-
--- the builder expression of a word: one call for each field that differs from a new builder's
+-- the builder expression of a word: a new builder, one call for each field that differs from the builder's, and the
+-- packing
 unfoldable pub source_text : ℕ → List ℕ
-source_text word = expression (changing (raw word))
+source_text word =
+    codes "NumberFormatBuilder::new()" ++ flat_map call_text (changing (raw word)) ++ codes ".build_unchecked()"

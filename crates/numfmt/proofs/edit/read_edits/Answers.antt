@@ -1,13 +1,10 @@
 -- Each text is read into the element of its index.
-use Rattle.std.proofs.Common.{◌≡◌, [], string_bytes, length, refl, sym, ap, ◌∙◌, arith}
+use Rattle.std.proofs.Common.{[], string_bytes, sym, ap, ◌∙◌, arith}
 use Rattle.std.proofs.lemmas.List.{length-map, get_or-map}
 use Rattle.std.specs.Result.{result_ok}
 use Rattle.lexical_util.specs.SettingText.{edit_in}
-use Rattle.numfmt.proofs.EditsLemmas.{HaveRead-next, edits_in-all, edits_in-none}
+use Rattle.numfmt.proofs.EditsLemmas.{HaveRead-next, edits_in-none}
 use Rattle.numfmt.proofs.edit.read_edits.Goals as goal
-
-pub loop-i-init : goal.loop-i-init
-loop-i-init c = record { all = refl; edits = refl }
 
 pub returns-in_err-edits : goal.returns-in_err-edits
 returns-in_err-edits c =
@@ -24,8 +21,3 @@ loop-i-preserved c =
     HaveRead-next _ _ _ _ c.loop-i.invariant (omega (arith, length-map c.args.texts.now string_bytes))
     (omega (arith, c.requires, c.loop-i.auto.edits))
     (ap edit_in (sym text) ∙ ap result_ok (sym c.from_text.ensures) ∙ sym c.ok.ensures.value ∙ c.in_ok-edits.was)
-
-pub returns : goal.returns
-returns c =
-    let end : c.loop-i.i ≡ length c.args.texts.now = omega arith in
-    rw (← end) (edits_in-all _ _ _ c.loop-i.invariant (omega (arith, length-map c.args.texts.now string_bytes)))

@@ -2,14 +2,10 @@
 use Rattle.std.proofs.Common.{get_or}
 use Rattle.std.specs.Io.KnownBytes.{Appends}
 use Rattle.std.proofs.KnownBytes.{Appends-nil}
-use Rattle.std.proofs.lemmas.List.{take_all}
 use Rattle.numfmt.specs.Explanation.{line_of}
 use Rattle.numfmt.proofs.WritingLemmas.{one_more}
 use Rattle.numfmt.proofs.explanation.write_lines.Goals.{in-Some+in_ok-writeln, in_default}
 use Rattle.numfmt.proofs.explanation.write_lines.Goals as goal
-
-pub loop-item-init : goal.loop-item-init
-loop-item-init g c text known = Appends-nil (g.W.Output.contents c.args.out.now)
 
 pub loop-item-preserved : goal.loop-item-preserved
 loop-item-preserved g c text known =
@@ -24,7 +20,3 @@ loop-item-preserved g c text known =
       | in_default w ↦ rw (w.out-is, ← c.item-item.is, w.in_default.is) (Appends-nil (contents c.loop-item.out))
     ] in
     one_more f items i item _ _ _ c.loop-item-test.true (c.loop-item.invariant text known) one
-
-pub returns-clause-text : goal.returns-clause-text
-returns-clause-text g c text known =
-    rw (take_all c.loop-item.item-index c.args.items.now c.loop-item-test.false) at (c.loop-item.invariant text known)

@@ -1,15 +1,12 @@
 -- The start of the expression, one call after the other, and its end.
 use Rattle.std.proofs.Common.{◌≡◌, take, sym, ap, ◌∙◌}
-use Rattle.std.proofs.KnownBytes.{Appends-nil, Appends-trans}
+use Rattle.std.proofs.KnownBytes.{Appends-trans}
 use Rattle.std.proofs.lemmas.List.{take_all, take_at}
 use Rattle.lexical_util.specs.Record.{raw}
 use Rattle.lexical_util.specs.Listing.{changing, unchanging}
 use Rattle.numfmt.specs.Source.{source_text, call_text}
 use Rattle.numfmt.proofs.WritingLemmas.{one_more, then}
 use Rattle.numfmt.proofs.source.write_source.Goals as goal
-
-pub loop-edit-init : goal.loop-edit-init
-loop-edit-init g c = Appends-nil (g.W.Output.contents c.write_all.new.self)
 
 pub loop-edit-preserved : goal.loop-edit-preserved
 loop-edit-preserved g c =
