@@ -70,7 +70,8 @@ no_reason : (rule : Rule) (word : ℕ) (reasons : List Reason) → text_for rule
 no_reason rule word [] none = refl
 no_reason rule word (first ∷ others) none = absurd (omega (arith, simp length-append at (ap length none)))
 
-kept_rule : (word : ℕ) → AllByRecursion (λ rule. rule_text word rule ≡ []) rules_in_order → (rule : Rule) → Holds rule word
+kept_rule : (word : ℕ) → AllByRecursion (λ rule. rule_text word rule ≡ []) rules_in_order → (rule : Rule)
+    → Holds rule word
 kept_rule word all rule = (kept_without_reason rule word).1 (no_reason rule word _ (text rule)) where
   text : (rule : Rule) → rule_text word rule ≡ []
   text rules.MantissaRadixInRange = assumption all

@@ -1,18 +1,6 @@
 -- Lists of a known length, by their items.
-use Rattle.std.proofs.Common.{◌≡◌, ◌≤◌, ◌-◌, List, [], ◌∷◌, length, get_or, map, take, drop, take_all, sym, ap, ◌∙◌}
-use Rattle.std.proofs.Common.{arith}
-
--- one item
-pub map-one : {X Y : Type 0} (f : X → Y) (xs : List X) (a : X) → length xs ≡ 1 → a ≡ get_or xs 0 a → map f xs ≡ f a ∷ []
-map-one f [] a long e = absurd (omega (arith, long))
-map-one f (x ∷ []) a long e = (λ i. f (sym e i) ∷ [])
-map-one f (x ∷ y ∷ xs) a long e = absurd (omega (arith, long))
-
--- two items
-pub map-two : {X Y : Type 0} (f : X → Y) (xs : List X) (a b : X) → length xs ≡ 2 → a ≡ get_or xs 0 a → b ≡ get_or xs 1 b
-    → map f xs ≡ f a ∷ f b ∷ []
-map-two f [] a b long e e' = absurd (omega (arith, long))
-map-two f (x ∷ xs) a b long e e' = (λ i. f (sym e i) ∷ map-one f xs b (omega (arith, long)) e' i)
+use Rattle.std.proofs.Common.{◌≡◌, ◌≤◌, ◌-◌, List, [], ◌∷◌, length, get_or, map, take, drop}
+use Rattle.std.proofs.Common.{take_all, refl, sym, ap, ◌∙◌, arith}
 
 -- one item or more
 pub map-first : {X Y : Type 0} (f : X → Y) (xs : List X) (x : X) → 1 ≤ length xs → x ≡ get_or xs 0 x
@@ -21,3 +9,13 @@ map-first f [] x some is = absurd (omega (arith, some))
 map-first f (y ∷ ys) x some is =
     ap (λ z. f z ∷ map f ys) (sym is) ∙ ap (λ zs. f x ∷ map f zs)
     (sym (take_all (length (y ∷ ys) - 1) ys (omega arith)))
+
+-- one item
+pub map-one : {X Y : Type 0} (f : X → Y) (xs : List X) (a : X) → length xs ≡ 1 → a ≡ get_or xs 0 a → map f xs ≡ f a ∷ []
+map-one f xs a long e = rw (map-first f xs a (omega (arith, long)) e, long) refl
+
+-- two items
+pub map-two : {X Y : Type 0} (f : X → Y) (xs : List X) (a b : X) → length xs ≡ 2 → a ≡ get_or xs 0 a → b ≡ get_or xs 1 b
+    → map f xs ≡ f a ∷ f b ∷ []
+map-two f [] a b long e e' = absurd (omega (arith, long))
+map-two f (x ∷ xs) a b long e e' = (λ i. f (sym e i) ∷ map-one f xs b (omega (arith, long)) e' i)

@@ -18,7 +18,8 @@ loop-rule-preserved g c =
 pub returns-clause-text : goal.returns-clause-text
 unfolding explanation
 returns-clause-text g c =
-    let of_rules = rw (take_all c.loop-rule.rule-index rules_in_order c.loop-rule-test.false) at c.loop-rule.invariant in
+    let all = take_all c.loop-rule.rule-index rules_in_order c.loop-rule-test.false in
+    let of_rules = rw all at c.loop-rule.invariant in
     let unused = rw (c.unused_settings.ensures.each, line_texts [] unused_text said (unused_cases (raw c.args.word))) at
     (c.write_lines.ensures.text unused_text (λ setting. refl)) in
     then c.write_lines.result _ _ _ _ _ of_rules unused

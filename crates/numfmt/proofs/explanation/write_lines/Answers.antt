@@ -16,7 +16,8 @@ loop-item-preserved g c text known =
     let f = line_of c.args.indent.now text in
     let one : Appends (contents c.loop-item.out) (contents c.match-item.out) (f (get_or items i item)) =
     elim c.match-item.branch [
-      | in-Some+in_ok-writeln w ↦ rw (w.out-is, ← c.item-item.is, w.in-Some.is) (rw (known w.in-Some.item) at w.in_ok-writeln.ensures.bytes)
+      | in-Some+in_ok-writeln w ↦
+          rw (w.out-is, ← c.item-item.is, w.in-Some.is) (rw (known w.in-Some.item) at w.in_ok-writeln.ensures.bytes)
       | in_default w ↦ rw (w.out-is, ← c.item-item.is, w.in_default.is) (Appends-nil (contents c.loop-item.out))
     ] in
     one_more f items i item _ _ _ c.loop-item-test.true (c.loop-item.invariant text known) one

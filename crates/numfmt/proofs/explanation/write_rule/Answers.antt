@@ -46,8 +46,9 @@ returns-clause-text g c =
     let some : reasons_of rule c.args.word ≢ [] = λ none.
     false≢true (sym c.if-is_kept.false ∙ c.is_kept.ensures.1 (c.reasons_of.ensures.kept.1 none)) in
     let error = rw c.error.ensures at c.in_ok-writeln.ensures.bytes in
-    let fields = rw (take_all c.loop-edit.edit-index c.field_edits_of.result (omega (arith, ap length c.field_edits_of.ensures)), c.field_edits_of.ensures) at
-    c.loop-edit.invariant in
+    let edits = c.field_edits_of in
+    let all = take_all c.loop-edit.edit-index edits.result (omega (arith, ap length edits.ensures)) in
+    let fields = rw (all, edits.ensures) at c.loop-edit.invariant in
     let reasons = rw c.reasons_of.ensures.each at (c.write_lines.ensures.text reason_text (λ reason. refl)) in
     rw (text_for-some rule c.args.word some)
     (then c.write_lines.result _ _ _ _ _ (Appends-trans _ _ _ _ _ error fields) reasons)
