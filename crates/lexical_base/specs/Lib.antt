@@ -1,4 +1,5 @@
 pub mod Ascii
+pub mod Sentences
 pub mod Digits
 pub mod Outcomes
 pub mod OutcomeOrder

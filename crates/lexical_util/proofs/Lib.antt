@@ -10,5 +10,6 @@ mod Distance
 mod FieldWrites
 mod NumberLemmas
 pub mod ReasonLemmas
+mod ReasonTextLemmas
 mod SettingTextLemmas
 pub mod NumeralLemmas

@@ -1,6 +1,6 @@
 -- The sentences that say what is wrong with a word, and what of it has no effect.
-use Rattle.std.specs.Prelude.{ℕ, ◌==◌, if◌then◌else◌, List, ◌∷◌, ◌++◌, codes, decimal}
-use Rattle.lexical_base.specs.Ascii.{between}
+use Rattle.std.specs.Prelude.{ℕ, ◌==◌, if◌then◌else◌, List, ◌++◌, codes, decimal}
+use Rattle.lexical_base.specs.Sentences.{numbered, shown}
 use Rattle.lexical_util.specs.SetterNames.{setter_name}
 use Rattle.lexical_util.specs.SettingNumbers.{byte_of}
 use Rattle.lexical_util.specs.declared.edits.Edit.{Edit}
@@ -23,13 +23,11 @@ words_of (edits.ExponentRadix radix) = codes "exponent radix"
 
 -- a setting with its byte as a number
 abbrev pub numbered_text : Edit → List ℕ
-numbered_text edit = codes "the " ++ words_of edit ++ codes " " ++ decimal (byte_of edit)
+numbered_text edit = numbered (words_of edit) (byte_of edit)
 
 -- a setting with its byte as a character between quotes, or as a number if the character cannot be seen
 abbrev pub described : Edit → List ℕ
-described edit =
-    if between 33 126 (byte_of edit) then codes "the " ++ words_of edit ++ codes " '" ++ byte_of edit ∷ codes "'"
-    else numbered_text edit
+described edit = shown (words_of edit) (byte_of edit)
 
 -- what is said of two bytes that are the same, or differ only in case
 abbrev pub sameness : Edit → Edit → List ℕ

@@ -1,109 +1,122 @@
 //! The sentences of reasons and of settings without effect.
 
-ghost use Rattle.std.specs.Prelude.{◌≡◌, Some};
-ghost use Rattle.lexical_util.specs.ReasonText.{words_of, described, numbered_text, sameness, reason_text, unused_text};
+ghost use Rattle.std.specs.Prelude.{◌≡◌, ◌<◌, ◌≤◌, ◌+◌, ◌++◌, length, Some};
+ghost use Rattle.lexical_base.specs.Sentences.{piece_text, room};
+ghost use Rattle.lexical_util.specs.SetterNames.{setter_name};
+ghost use Rattle.lexical_util.specs.ReasonText.{words_of, described, sameness, reason_text, unused_text};
 
-use crate::edits::Edit;
+use crate::edits::{Edit, FlagSetter};
 use crate::reasons::{Reason, Unused};
+use lexical_base::error::{NOTHING, Piece, Sentence};
 use std::fmt;
 
-/// One sentence without a stop, such as `the base prefix 'b' is a digit of radix 16`.
+impl Reason {
+    /// Returns one sentence without a stop, such as `the base prefix 'b' is a digit of radix 16`.
+    pub const fn sentence(&self) -> Sentence
+        ensures { result ≡ reason_text self.now }
+    {
+        match self {
+            Reason::OutOfRange(edit) => ends(
+                Piece::Numbered(words(*edit), edit.byte()),
+                " is not 2 to 36",
+            ),
+            Reason::NotText(edit) => ends(described(edit), " is not a character of ASCII text"),
+            Reason::IsSign(edit) => ends(described(edit), " is a sign"),
+            Reason::IsDigit(edit, radix) => Sentence(
+                NOTHING,
+                described(edit),
+                Piece::Words(" is a digit of radix "),
+                Piece::Number(*radix as usize),
+            ),
+            Reason::AreSame(a, b) => Sentence(
+                described(a),
+                Piece::Words(" and "),
+                described(b),
+                Piece::Words(sameness(*a, *b)),
+            ),
+            Reason::Contradict(a, b) => Sentence(
+                named(*a),
+                Piece::Words(" and "),
+                named(*b),
+                Piece::Words(" exclude each other"),
+            ),
+            Reason::HasNoPlace(flag) => ends(
+                named(*flag),
+                " needs the internal, leading or trailing flag of the same part",
+            ),
+            Reason::ReservedBits => ends(NOTHING, "a reserved bit is set"),
+        }
+    }
+}
+
+impl Unused {
+    /// Returns one sentence without a stop, such as `the digit separator '_' has no effect: no flag allows one`.
+    pub const fn sentence(&self) -> Sentence
+        ensures { result ≡ unused_text self.now }
+    {
+        match self {
+            Unused::NotAllowed(edit) => {
+                ends(described(edit), " has no effect: no flag allows one")
+            }
+            Unused::NoSeparator => ends(
+                NOTHING,
+                "the digit separator flags have no effect: there is no digit separator",
+            ),
+            Unused::NoByte(flag, byte) => Sentence(
+                NOTHING,
+                named(*flag),
+                Piece::Words(" has no effect: there is no "),
+                Piece::Words(words(*byte)),
+            ),
+        }
+    }
+}
+
 impl fmt::Display for Reason {
     ghost output = { λ reason. Some (reason_text reason) };
 
     fn fmt<W: fmt::Write>(&self, f: &mut fmt::Formatter<W>) -> fmt::Result {
-        match self {
-            Reason::OutOfRange(edit) => write!(f, "{} is not 2 to 36", Numbered(*edit)),
-            Reason::NotText(edit) => write!(
-                f,
-                "{} is not a character of ASCII text",
-                Described(*edit)
-            ),
-            Reason::IsSign(edit) => write!(f, "{} is a sign", Described(*edit)),
-            Reason::IsDigit(edit, radix) => write!(
-                f,
-                "{} is a digit of radix {radix}",
-                Described(*edit)
-            ),
-            Reason::AreSame(a, b) => write!(
-                f,
-                "{} and {}{}",
-                Described(*a),
-                Described(*b),
-                sameness(*a, *b)
-            ),
-            Reason::Contradict(a, b) => write!(
-                f,
-                "{} and {} exclude each other",
-                a.name(),
-                b.name()
-            ),
-            Reason::HasNoPlace(flag) => write!(
-                f,
-                "{} needs the internal, leading or trailing flag of the same part",
-                flag.name()
-            ),
-            Reason::ReservedBits => f.write_str("a reserved bit is set"),
-        }
+        write!(f, "{}", self.sentence())
     }
 }
 
-/// One sentence without a stop, such as `the digit separator '_' has no effect: no flag allows one`.
 impl fmt::Display for Unused {
     ghost output = { λ setting. Some (unused_text setting) };
 
     fn fmt<W: fmt::Write>(&self, f: &mut fmt::Formatter<W>) -> fmt::Result {
-        match self {
-            Unused::NotAllowed(edit) => {
-                write!(f, "{} has no effect: no flag allows one", Described(*edit))
-            }
-            Unused::NoSeparator => {
-                f.write_str("the digit separator flags have no effect: there is no digit separator")
-            }
-            Unused::NoByte(flag, byte) => {
-                write!(
-                    f,
-                    "{} has no effect: there is no {}",
-                    flag.name(),
-                    words(*byte)
-                )
-            }
-        }
+        write!(f, "{}", self.sentence())
     }
 }
 
-// An edit of a byte as a sentence names it: the setting and the byte.
-#[derive(Clone, Copy)]
-struct Described(Edit);
-
-impl fmt::Display for Described {
-    ghost output = { λ described_edit. Some (described described_edit.0) };
-
-    fn fmt<W: fmt::Write>(&self, f: &mut fmt::Formatter<W>) -> fmt::Result {
-        let byte = self.0.byte();
-        if byte.is_ascii_graphic() {
-            write!(f, "the {} '{}'", words(self.0), char::from(byte))
-        } else {
-            write!(f, "{}", Numbered(self.0))
-        }
-    }
+// What it is about, and the words after it.
+const fn ends(piece: Piece, end: &'static str) -> Sentence
+    requires { room piece + length end.now < 256 }
+    ensures { result ≡ piece_text piece ++ end.now }
+{
+    Sentence(NOTHING, NOTHING, piece, Piece::Words(end))
 }
 
-// The same with the byte as a number.
-#[derive(Clone, Copy)]
-struct Numbered(Edit);
+// An edit of a byte: the setting and the byte.
+const fn described(edit: &Edit) -> Piece
+    ensures text { piece_text result ≡ described edit.now }
+    ensures short { room result ≤ 84 }
+{
+    Piece::Shown(words(*edit), edit.byte())
+}
 
-impl fmt::Display for Numbered {
-    ghost output = { λ numbered. Some (numbered_text numbered.0) };
-
-    fn fmt<W: fmt::Write>(&self, f: &mut fmt::Formatter<W>) -> fmt::Result {
-        write!(f, "the {} {}", words(self.0), self.0.byte())
-    }
+// The name of a flag.
+#[tactic(auto, using(crate::proofs::ReasonTextLemmas::short_setter))]
+const fn named(flag: FlagSetter) -> Piece
+    ensures text { piece_text result ≡ setter_name flag }
+    ensures short { room result < 49 }
+{
+    Piece::Words(flag.name())
 }
 
 // What is said of two bytes that are the same, or differ only in case.
 const fn sameness(a: Edit, b: Edit) -> &'static str
-    ensures { result.now ≡ sameness a b }
+    ensures text { result.now ≡ sameness a b }
+    ensures short { length result.now ≤ 67 }
 {
     if a.byte() == b.byte() {
         " are the same"
@@ -114,7 +127,8 @@ const fn sameness(a: Edit, b: Edit) -> &'static str
 
 // What the setting of an edit is called in a sentence.
 const fn words(edit: Edit) -> &'static str
-    ensures { result.now ≡ words_of edit }
+    ensures text { result.now ≡ words_of edit }
+    ensures short { length result.now ≤ 15 }
 {
     match edit {
         Edit::Flag(_, _) => "flag",

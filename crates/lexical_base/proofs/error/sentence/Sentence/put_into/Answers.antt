@@ -1,0 +1,10 @@
+use Rattle.std.proofs.Output.{writes_in_calls_append}
+use Rattle.lexical_base.proofs.PieceLemmas.{more}
+use Rattle.lexical_base.proofs.error.sentence.Sentence.put_into.Goals as goal
+
+pub returns-clause-text : goal.returns-clause-text
+returns-clause-text g c =
+    let takes = g.S.Sink.takes in
+    let two = writes_in_calls_append takes _ _ _ _ _ c.in_ok-put_into.ensures.text c.in_ok-put_into-2.ensures.text in
+    let three = writes_in_calls_append takes _ _ _ _ _ two c.in_ok-put_into-3.ensures.text in
+    more takes c.put_into-4.result _ _ _ _ _ _ c.self.view_is three c.put_into-4.ensures.text

@@ -1,0 +1,28 @@
+-- Sentences that are put together from pieces.
+use Rattle.std.specs.Prelude.{ℕ, ◌+◌, if◌then◌else◌, List, ◌∷◌, ◌++◌, length, codes, decimal}
+use Rattle.lexical_base.specs.Ascii.{between}
+use Rattle.lexical_base.specs.declared.error.sentence.Piece.{Piece}
+use Rattle.lexical_base.specs.declared.error.sentence.Piece.TheVariants as pieces
+
+-- a name and its byte as a number
+abbrev pub numbered : List ℕ → ℕ → List ℕ
+numbered name byte = codes "the " ++ (name ++ (codes " " ++ decimal byte))
+
+-- a name and its byte as a character between quotes, or as a number if the character cannot be seen
+abbrev pub shown : List ℕ → ℕ → List ℕ
+shown name byte =
+    if between 33 126 byte then codes "the " ++ (name ++ (codes " '" ++ byte ∷ codes "'")) else numbered name byte
+
+-- the text of a piece
+abbrev pub piece_text : Piece → List ℕ
+piece_text (pieces.Words words) = words.now
+piece_text (pieces.Number number) = decimal number
+piece_text (pieces.Numbered name byte) = numbered name.now byte
+piece_text (pieces.Shown name byte) = shown name.now byte
+
+-- room for it, if a number has at most 64 digits
+abbrev pub room : Piece → ℕ
+room (pieces.Words words) = length words.now
+room (pieces.Number number) = 64
+room (pieces.Numbered name byte) = 4 + length name.now + 65
+room (pieces.Shown name byte) = 4 + length name.now + 65
