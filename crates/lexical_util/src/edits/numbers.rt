@@ -1,9 +1,9 @@
 //! The numbers and names of setters, and edits as two numbers.
 
-ghost use Rattle.std.specs.Prelude.{◌≡◌, ◌<◌, Some};
+ghost use Rattle.std.specs.Prelude.{◌≡◌, ◌<◌, ℕ, Some};
 ghost use Rattle.lexical_builder.specs.OptionByte.{byte_of_option};
 ghost use Rattle.lexical_util.specs.SettingNumbers.{number_of, name_of, name_of_setter, byte_of, mask_of_edit};
-ghost use Rattle.lexical_util.specs.SettingNumbers.{setter_count, edit_of_numbers, edit_of_name};
+ghost use Rattle.lexical_util.specs.SettingNumbers.{setter_count, number_of_name, edit_of_numbers, edit_of_name};
 
 use crate::edits::{Edit, SETTERS, edit_word};
 use lexical_builder::format_builder::{NonZeroU8, OptionU8};
@@ -110,12 +110,7 @@ impl Edit {
     pub fn from_name(name: &str, byte: u8) -> Option<Edit>
         ensures { result ≡ edit_of_name name.now byte }
     {
-        for number in 0..SETTER_COUNT {
-            if name_of_number(number) == name {
-                return Edit::from_number(number, byte);
-            }
-        }
-        None
+        Edit::from_number(number_of_name(name.as_bytes()), byte)
     }
 
     /// Returns the bits of a word that the edit writes.
@@ -134,12 +129,30 @@ impl Edit {
     }
 }
 
-// The name of the setter of a number.
-const fn name_of_number(number: u8) -> &'static str
-    requires { number < setter_count }
+/// Returns the name of the setter of this number, or an empty text if there is none.
+pub const fn name_of_number(number: u8) -> &'static str
     ensures { result.now ≡ name_of_setter number }
 {
-    SETTER_NAMES[number as usize]
+    if number < SETTER_COUNT {
+        SETTER_NAMES[number as usize]
+    } else {
+        ""
+    }
+}
+
+/// Returns the number of the setter of this name, or the length of [`SETTER_NAMES`] if there is none.
+pub fn number_of_name(name: &[u8]) -> u8
+    ensures number { result ≡ number_of_name name.now }
+    ensures named { result < setter_count → name_of_setter result ≡ name.now }
+    ensures none { (result < setter_count → ⊥)
+        → (setter : ℕ) → setter < setter_count → name_of_setter setter ≡ name.now → ⊥ }
+{
+    for number in 0..SETTER_COUNT {
+        if name_of_number(number).as_bytes() == name {
+            return number;
+        }
+    }
+    SETTER_COUNT
 }
 
 const fn byte_or_zero(byte: OptionU8) -> u8

@@ -1,13 +1,15 @@
 //! Settings as text: `NAME=VALUE`.
 
-ghost use Rattle.std.specs.Prelude.{◌≡◌, Bool, Some, length};
+ghost use Rattle.std.specs.Prelude.{◌≡◌, ◌≤◌, Bool, Some, length};
+ghost use Rattle.lexical_base.specs.Sentences.{piece_text, room};
 ghost use Rattle.lexical_util.specs.Numeral.{is_numeral};
 ghost use Rattle.lexical_util.specs.SettingText.{byte_in, optional_byte_in, truth_in, with_value, setting_in};
-ghost use Rattle.lexical_util.specs.SettingText.{edit_or_error_in, setting_text, error_text};
+ghost use Rattle.lexical_util.specs.SettingText.{edit_or_error_in, setting_text, value_text, error_text};
 
 use crate::edits::Edit;
 use crate::numeral::read_numeral;
 use lexical_base::digit::char_to_digit;
+use lexical_base::error::{NOTHING, Piece, Sentence};
 use lexical_builder::format_builder::{NonZeroU8, OptionU8};
 use std::fmt;
 
@@ -68,25 +70,47 @@ impl Edit {
     }
 }
 
-/// Prints `NAME=VALUE`, such as `mantissa_radix=16`, `no_special=true` or `digit_separator=none`.
+impl Edit {
+    /// Returns `NAME=VALUE`, such as `mantissa_radix=16`, `no_special=true` or `digit_separator=none`.
+    #[tactic(auto, using(crate::proofs::ReasonTextLemmas::short_name))]
+    pub const fn sentence(&self) -> Sentence
+        ensures { result ≡ setting_text self.now }
+    {
+        Sentence(
+            NOTHING,
+            Piece::Words(self.name()),
+            Piece::Words("="),
+            value(self),
+        )
+    }
+}
+
+/// Prints what [`Edit::sentence`] is.
 impl fmt::Display for Edit {
     ghost output = { λ edit. Some (setting_text edit) };
 
     fn fmt<W: fmt::Write>(&self, f: &mut fmt::Formatter<W>) -> fmt::Result {
-        let name = self.name();
-        match self {
-            Edit::Flag(_, true) => write!(f, "{name}=true"),
-            Edit::Flag(_, false) => write!(f, "{name}=false"),
-            Edit::MantissaRadix(radix) | Edit::Radix(radix) => write!(f, "{name}={radix}"),
-            Edit::DigitSeparator(byte)
-            | Edit::BasePrefix(byte)
-            | Edit::BaseSuffix(byte)
-            | Edit::ExponentBase(byte)
-            | Edit::ExponentRadix(byte) => match byte {
-                Some(byte) => write!(f, "{name}={}", byte.get()),
-                None => write!(f, "{name}=none"),
-            },
-        }
+        write!(f, "{}", self.sentence())
+    }
+}
+
+// The text of an edit's argument.
+const fn value(edit: &Edit) -> Piece
+    ensures text { piece_text result ≡ value_text edit.now }
+    ensures short { room result ≤ 64 }
+{
+    match edit {
+        Edit::Flag(_, true) => Piece::Words("true"),
+        Edit::Flag(_, false) => Piece::Words("false"),
+        Edit::MantissaRadix(radix) | Edit::Radix(radix) => Piece::Number(*radix as usize),
+        Edit::DigitSeparator(byte)
+        | Edit::BasePrefix(byte)
+        | Edit::BaseSuffix(byte)
+        | Edit::ExponentBase(byte)
+        | Edit::ExponentRadix(byte) => match byte {
+            Some(byte) => Piece::Number(byte.get() as usize),
+            None => Piece::Words("none"),
+        },
     }
 }
 

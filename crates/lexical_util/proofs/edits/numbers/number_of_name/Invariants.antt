@@ -1,7 +1,7 @@
 use Rattle.std.proofs.Common.{◌≡◌, ◌<◌, ℕ, false}
 use Rattle.std.specs.Str.{bytes_eq}
 use Rattle.lexical_util.specs.SettingNumbers.{name_of_setter}
-use Rattle.lexical_util.proofs.edits.Edit.from_name.Given as goal
+use Rattle.lexical_util.proofs.edits.numbers.number_of_name.Given as goal
 
 -- No setter so far has the name.
 abbrev pub invariant-loop-number : goal.invariant-loop-number
