@@ -1,5 +1,6 @@
-/* Number formats in words of 128 bits: their fields, edits and rules. Link with libpeltzivar_c.a or .so, which cargo
- * builds of rust/capi, or with liblexical_c.a, which the kit proves and builds of crates/lexical_c.
+/* Number formats in words of 128 bits: their fields, edits and rules. docs/FORMAT.md says what each field asks of a
+ * parser, and has the rules with a word that breaks each; c/settings.c reads a file of settings. Link with
+ * libpeltzivar_c.a or .so, which cargo builds of rust/capi, or with liblexical_c.a, which the kit proves and builds of crates/lexical_c.
  *
  * A format word has flags (bits 0 to 17 and 32 to 44) and six bytes (from bit 64 up: digit separator, bits 64 to 71;
  * base prefix, 88; base suffix, 96; mantissa radix, 104; exponent base, 112; exponent radix, 120). The other bits are
@@ -34,8 +35,8 @@ typedef struct {
     uint64_t low, high;
 } peltzivar_word;
 
-/* The fields of a builder: the flags, the first at bit 0, and six bytes, each 0 if it is absent. The bits above the
- * flags are ignored. */
+/* The fields before they are packed into a word: the flags, the first at bit 0, and six bytes, each 0 if it is absent.
+ * The bits above the flags are ignored. */
 typedef struct {
     uint32_t flags;
     uint8_t digit_separator;
@@ -52,7 +53,7 @@ typedef struct {
     uint8_t setter, value;
 } peltzivar_edit;
 
-/* The standard format, which is what a new builder packs, and the fields of a new builder. */
+/* The fields to start from, and the standard format, which is the word that they are packed into. */
 static const peltzivar_word PELTZIVAR_STANDARD = {UINT64_C(0xC), UINT64_C(0x00000A0000000000)};
 static const peltzivar_fields PELTZIVAR_NEW_FIELDS = {UINT32_C(0xC), 0, 0, 0, 10, 0, 0};
 
@@ -116,8 +117,10 @@ enum {
 /* How many fields a word has: the flags and six bytes. */
 #define PELTZIVAR_FIELDS (PELTZIVAR_SET_REQUIRED_DIGITS + 6)
 
-/* Success, which is 0, or an error. The errors are numbered by their ranks in the table of outcomes, the first with 1:
- * those from 1 to 19 are of parsing, each with the index at which it was found; 20 to 36 of formats, 37 to 48 of options. */
+/* Success, which is 0, or one of 48 errors, 49 outcomes in all: 1 to 19 are of parsing, each with the index in the text at
+ * which it was found; 20 to 36 of formats, which calls below return; 37 to 48 of options. There is no parser here: the
+ * errors of parsing, and most of options, are for one that you write. Two rules have PELTZIVAR_INVALID_SPECIAL, so an error
+ * does not name a rule: peltzivar_keeps_rule does. */
 typedef uint32_t peltzivar_error;
 enum {
     PELTZIVAR_SUCCESS = 0,
@@ -171,28 +174,45 @@ enum {
     PELTZIVAR_INVALID_POSITIVE_EXPONENT_BREAK = 48,
 };
 
-/* The rules of words, in the order in which they are tried, and how many there are. */
+/* The rules of words, in the order in which they are tried, each with what it demands, and how many there are. In
+ * docs/FORMAT.md they are numbered from 1, so the rule n there is n - 1 here. Punctuation is a byte of ASCII text (9 to 13,
+ * 32 to 126) that is no sign and no digit of the mantissa or exponent. An exponent base or exponent radix of 0 is the mantissa
+ * radix. */
 enum {
-    PELTZIVAR_RULE_MANTISSA_RADIX_IN_RANGE = 0,
-    PELTZIVAR_RULE_EXPONENT_BASE_IN_RANGE,
-    PELTZIVAR_RULE_EXPONENT_RADIX_IN_RANGE,
-    PELTZIVAR_RULE_DIGIT_SEPARATOR_IS_FREE,
-    PELTZIVAR_RULE_BASE_PREFIX_IS_FREE,
-    PELTZIVAR_RULE_BASE_SUFFIX_IS_FREE,
+    PELTZIVAR_RULE_MANTISSA_RADIX_IN_RANGE = 0, /* mantissa_radix is 2 to 36 */
+    PELTZIVAR_RULE_EXPONENT_BASE_IN_RANGE, /* exponent_base is 2 to 36 */
+    PELTZIVAR_RULE_EXPONENT_RADIX_IN_RANGE, /* exponent_radix is 2 to 36 */
+    PELTZIVAR_RULE_DIGIT_SEPARATOR_IS_FREE, /* digit_separator is 0 or punctuation */
+    PELTZIVAR_RULE_BASE_PREFIX_IS_FREE, /* base_prefix is 0 or punctuation */
+    PELTZIVAR_RULE_BASE_SUFFIX_IS_FREE, /* base_suffix is 0 or punctuation */
+    /* no two of these three share a byte; a letter counts in both cases unless its case_sensitive_ flag is set */
     PELTZIVAR_RULE_PUNCTUATION_DIFFERS,
-    PELTZIVAR_RULE_EXPONENT_FLAGS_AGREE,
-    PELTZIVAR_RULE_MANTISSA_SIGN_FLAGS_AGREE,
-    PELTZIVAR_RULE_EXPONENT_SIGN_FLAGS_AGREE,
-    PELTZIVAR_RULE_SPECIAL_CASE_FLAGS_AGREE,
-    PELTZIVAR_RULE_SPECIAL_SEPARATOR_FLAGS_AGREE,
+    PELTZIVAR_RULE_EXPONENT_FLAGS_AGREE, /* not both no_exponent_notation and required_exponent_notation */
+    PELTZIVAR_RULE_MANTISSA_SIGN_FLAGS_AGREE, /* not both no_positive_mantissa_sign and required_mantissa_sign */
+    PELTZIVAR_RULE_EXPONENT_SIGN_FLAGS_AGREE, /* not both no_positive_exponent_sign and required_exponent_sign */
+    PELTZIVAR_RULE_SPECIAL_CASE_FLAGS_AGREE, /* not both no_special and case_sensitive_special */
+    PELTZIVAR_RULE_SPECIAL_SEPARATOR_FLAGS_AGREE, /* not both no_special and special_digit_separator */
+    /* integer_consecutive_digit_separator only with an internal, leading or trailing flag of the integer */
     PELTZIVAR_RULE_INTEGER_CONSECUTIVE_IS_ALLOWED,
-    PELTZIVAR_RULE_FRACTION_CONSECUTIVE_IS_ALLOWED,
-    PELTZIVAR_RULE_EXPONENT_CONSECUTIVE_IS_ALLOWED,
-    PELTZIVAR_RULE_RESERVED_BITS_ARE_ZERO,
+    PELTZIVAR_RULE_FRACTION_CONSECUTIVE_IS_ALLOWED, /* the same of the fraction */
+    PELTZIVAR_RULE_EXPONENT_CONSECUTIVE_IS_ALLOWED, /* the same of the exponent */
+    PELTZIVAR_RULE_RESERVED_BITS_ARE_ZERO, /* the bits that hold no field are 0 */
 };
 #define PELTZIVAR_RULES 16
 
-/* BUILDERS */
+/* How many reasons there may be for which a word breaks one rule, and how many settings without effect. */
+#define PELTZIVAR_REASONS 3
+#define PELTZIVAR_UNUSED 4
+
+/* What peltzivar_edit_of_text returns. */
+enum {
+    PELTZIVAR_SETTING_READ = 0,
+    PELTZIVAR_SETTING_UNKNOWN_NAME = 1,
+    PELTZIVAR_SETTING_BAD_VALUE = 2,
+    PELTZIVAR_SETTING_OUT_OF_RANGE = 3,
+};
+
+/* FIELDS */
 
 /* Returns the fields of a word; an exponent base or exponent radix of 0 becomes the mantissa radix. */
 peltzivar_fields peltzivar_fields_of(peltzivar_word format);
@@ -209,8 +229,9 @@ peltzivar_word peltzivar_pack(const peltzivar_fields *fields);
  * of them has no setter, returns false and writes nothing. */
 bool peltzivar_build(const peltzivar_fields *fields, const peltzivar_edit *edits, size_t len, peltzivar_word *out);
 
-/* Packs the fields as peltzivar_pack does, so without a digit separator that no flag allows. If the word is lawful, writes
- * it to *out and returns PELTZIVAR_SUCCESS; else writes nothing and returns the error of the first rule that it breaks. */
+/* Packs the fields as peltzivar_pack does. If the word is lawful, writes it to *out and returns PELTZIVAR_SUCCESS; else
+ * writes nothing and returns the error of the first rule that it breaks. A digit separator that no flag allows is dropped,
+ * and no error says so: peltzivar_unused does. */
 peltzivar_error peltzivar_build_strict(const peltzivar_fields *fields, peltzivar_word *out);
 
 /* WORDS */
@@ -233,7 +254,7 @@ bool peltzivar_same_format(peltzivar_word a, peltzivar_word b);
 bool peltzivar_is_built(peltzivar_word format);
 
 /* Writes one edit for each field, with its value in the word, and returns how many of them make these fields from
- * those of a new builder. These come first. Where peltzivar_pack can return the word, no shorter list of edits of
+ * PELTZIVAR_NEW_FIELDS. These come first. Where peltzivar_pack can return the word, no shorter list of edits of
  * single fields makes it; an edit of a group stands for several of them. */
 size_t peltzivar_edits_of(peltzivar_word format, peltzivar_edit edits[PELTZIVAR_FIELDS]);
 
@@ -271,6 +292,10 @@ bool peltzivar_keeps_rule(peltzivar_word format, uint8_t rule);
 /* Returns the error of a word that breaks this rule and none before it, or PELTZIVAR_SUCCESS if there is no such rule. */
 peltzivar_error peltzivar_rule_error(uint8_t rule);
 
+/* Returns the bits of a word that a rule reads, or 0 if there is no such rule. Which settings may be to blame for a broken
+ * rule say the bits that it has in common with peltzivar_edit_mask. */
+peltzivar_word peltzivar_rule_mask(uint8_t rule);
+
 /* Returns whether a byte is a digit of the mantissa radix or of the exponent radix. */
 bool peltzivar_is_digit(peltzivar_word format, uint8_t byte);
 
@@ -307,13 +332,23 @@ uint8_t peltzivar_digit_to_char_const(uint32_t digit, uint32_t radix);
 
 /* TEXTS: each is ASCII and ends with a 0. As snprintf does, a call writes at most len bytes, the final 0 among them, so the
  * front of a longer text, and nothing if len is 0; it returns the length of the whole text without that 0. If there is no
- * such error or setter, the text is empty. 256 bytes are enough for each. */
+ * such error, setter, rule or index, the text is empty. 256 bytes are enough for each. */
 
 /* Writes what is wrong, as text between single quotes and without an index. */
 size_t peltzivar_description(peltzivar_error error, char *text, size_t len);
 
-/* Writes what the error is about, its description, and for an error of parsing the index. */
+/* Writes what the error is about, its description, and for an error of parsing the index. Else the index is not read: pass
+ * 0. */
 size_t peltzivar_text(peltzivar_error error, size_t index, char *text, size_t len);
+
+/* Writes one of the reasons for which a word breaks a rule, such as "the base prefix 'b' is a digit of radix 16"; the index
+ * is 0 to PELTZIVAR_REASONS - 1. Any of them may be empty, and all are exactly if the word keeps the rule. */
+size_t peltzivar_reason(peltzivar_word format, uint8_t rule, uint8_t index, char *text, size_t len);
+
+/* Writes one of the settings that have no effect if the fields are packed, such as "the digit separator '_' has no effect: no
+ * flag allows one"; the index is 0 to PELTZIVAR_UNUSED - 1, and any of them may be empty. They are no errors. Those of a word
+ * are those of the fields that peltzivar_fields_of returns. */
+size_t peltzivar_unused(const peltzivar_fields *fields, uint8_t index, char *text, size_t len);
 
 /* Writes the name of a setter: that of its constant in lower case without PELTZIVAR_SET_, such as "digit_separator". */
 size_t peltzivar_setter_name(uint8_t setter, char *text, size_t len);
@@ -322,11 +357,18 @@ size_t peltzivar_setter_name(uint8_t setter, char *text, size_t len);
  * a text, as before the `=` of a setting. */
 uint8_t peltzivar_setter_of_name(const char *name, size_t len);
 
-/* Reads a setting, NAME=VALUE, writes its edit to *out and returns 0. Else writes nothing and returns 1 if no setter has the
- * name, 2 if the value is not of the setter's type, and 3 if the number is above 255 or has more than 3 digits. The value of
- * flags is `true` or `false`, that of a byte a decimal number, or `none` where it may be absent. The text is len bytes with
- * no 0 at the end; bytes that are no UTF-8 are an unknown name. */
+/* Reads a setting, NAME=VALUE, writes its edit to *out and returns PELTZIVAR_SETTING_READ, which is 0. Else writes nothing
+ * and returns PELTZIVAR_SETTING_UNKNOWN_NAME if no setter has the name; PELTZIVAR_SETTING_BAD_VALUE if the value is not of the
+ * setter's type; PELTZIVAR_SETTING_OUT_OF_RANGE if the number is above 255 or has more than 3 digits. The value of flags is
+ * `true` or `false`, not 1 or 0; that of a byte a decimal number. For a byte that may be absent, which is all but
+ * mantissa_radix and radix, `none` and 0 mean that it is absent. No blank is skipped, neither at the ends nor around `=`. A
+ * text without `=` is a name with an empty value. The text is len bytes with no 0 at the end; bytes that are no UTF-8 are an
+ * unknown name. */
 uint32_t peltzivar_edit_of_text(const char *text, size_t len, peltzivar_edit *out);
+
+/* Writes an edit as NAME=VALUE, so that peltzivar_edit_of_text reads the same edit back: `true` for any value but 0 of flags,
+ * and `none` for a byte that is absent. */
+size_t peltzivar_text_of_edit(peltzivar_edit edit, char *text, size_t len);
 
 /* Returns the bits of a word that an edit writes, or 0 if it has no setter. */
 peltzivar_word peltzivar_edit_mask(peltzivar_edit edit);

@@ -2,13 +2,12 @@
 use Rattle.std.proofs.Common.{◌≡◌, rules, ℕ, ◌+◌, ◌<◌, ◌≤◌, Some, IsSome, List, [], ◌∷◌, ◌++◌, length}
 use Rattle.std.proofs.Common.{get_or, map, take, set, sym, ap, ap₂, ◌∙◌, subst, length-set, take_all, All}
 use Rattle.std.proofs.Common.{arith}
-use Rattle.std.proofs.lemmas.List.{flat_map_more, take_more, take_more_set, map-append, get_or_default}
+use Rattle.std.proofs.lemmas.List.{flat_map_more, take_more, take_more_set, map-append}
 use Rattle.std.proofs.lemmas.List.Elements.{All-more, All-push, All-same, filter_map-append}
 use Rattle.std.specs.List.{cons_option}
 use Rattle.lexical_util.specs.Record.{Record}
 use Rattle.lexical_util.specs.Writes.{Write, after}
 use Rattle.lexical_util.specs.Edits.{all_writes, writes_of}
-use Rattle.lexical_util.specs.SettingNumbers.{number_of, byte_of, edit_of_numbers}
 use Rattle.lexical_util.specs.declared.edits.Edit.{Edit}
 use Rattle.lexical_c.specs.declared.words.NumberedEdit.{NumberedEdit}
 use Rattle.lexical_c.specs.Edits.{numbered, edit_of, HasSetter, known}
@@ -57,22 +56,17 @@ pub record AreNumbered (numbers : List NumberedEdit) (edits : List Edit) (i : �
   pub each : All HasSetter (take i numbers)
 
 -- one more
-pub more_numbered : {numbers : List NumberedEdit} {edits : List Edit} {i : ℕ} (c : NumberedEdit) (d e : Edit)
-    → AreNumbered numbers edits i → i < length edits → c.setter ≡ number_of (get_or edits i d)
-    → c.value ≡ byte_of (get_or edits i e)
-    → edit_of_numbers c.setter (byte_of (get_or edits i d)) ≡ Some (get_or edits i d)
+pub more_numbered : {numbers : List NumberedEdit} {edits : List Edit} {i : ℕ} (c : NumberedEdit) (e : Edit)
+    → AreNumbered numbers edits i → i < length edits → c ≡ numbered (get_or edits i e) → edit_of c ≡ Some (get_or edits i e)
     → AreNumbered (set numbers i c) edits (i + 1)
-more_numbered {numbers} {edits} {i} c d e h some setter value read =
+more_numbered {numbers} {edits} {i} c e h some is stands =
     let front = take i numbers in
-    let edit = get_or edits i d in
-    let byte : c.value ≡ byte_of edit = value ∙ ap byte_of (get_or_default edits i e d some) in
-    let stands : edit_of c ≡ Some edit = ap (edit_of_numbers c.setter) byte ∙ read in
-    let last : c ≡ numbered edit = ap₂ (λ s v. record { setter = s; value = v }) setter byte in
+    let edit = get_or edits i e in
     let taken : take (i + 1) (set numbers i c) ≡ front ++ c ∷ [] = take_more_set numbers i c (omega (arith, h.count)) in
-    let more : take (i + 1) edits ≡ take i edits ++ edit ∷ [] = take_more edits i d some in
+    let more : take (i + 1) edits ≡ take i edits ++ edit ∷ [] = take_more edits i e some in
     record {
       count = length-set numbers i c ∙ h.count;
-      are = taken ∙ ap₂ (λ xs x. xs ++ x ∷ []) h.are last
+      are = taken ∙ ap₂ (λ xs x. xs ++ x ∷ []) h.are is
           ∙ sym (ap (map numbered) more ∙ map-append numbered (take i edits) (edit ∷ []));
       stand = ap known taken ∙ known_push front c edit stands ∙ ap (λ xs. xs ++ edit ∷ []) h.stand ∙ sym more;
       each = All-same HasSetter _ _ taken (All-push HasSetter front c h.each (has_setter c edit stands));

@@ -23,7 +23,7 @@ all_taken (piece ∷ pieces) text whole puts fits =
 
 -- a short text that was put into an empty one
 pub put_whole : {T E : Type 0} (r : Result T E) (start text whole : List ℕ) → start ≡ [] → (IsErr r → ⊥)
-    → OnOk r (WritesInCalls Takes start text whole) → OnOk r (length text < 256) → whole ≡ text
+    → OnOk r (WritesInCalls Takes start text whole) → length text < 256 → whole ≡ text
 put_whole (Ok v) start text whole none never writes short =
     let parts = all_taken writes.parts start whole writes.calls in
     parts (omega (arith, short, ap length writes.whole, ap length none)) ∙ ap₂ ◌++◌ none writes.whole

@@ -7,7 +7,7 @@ ghost use Rattle.lexical_util.specs.Rules.{Lawful, IsErrorOf};
 ghost use Rattle.lexical_c.specs.Outcomes.{outcome_count, error_number, SUCCESS, IsNumberOfOne, IsWrittenIfLawful};
 ghost use Rattle.lexical_c.specs.Texts.{IsWritten};
 
-use crate::texts::{Text, write_text};
+use crate::texts::{write_sentence, write_text};
 use crate::words::Word;
 use lexical_util::error::Error;
 use lexical_util::laws::flags::rule_facts;
@@ -44,7 +44,7 @@ pub fn write_if_lawful(word: Result<u128, Error>, out: &mut Word) -> ErrorNumber
     }
 }
 
-/// Writes an outcome's description and returns its length. If there is no such outcome, writes an empty text.
+/// Writes an outcome's description.
 #[unsafe(no_mangle)]
 pub extern "C" fn peltzivar_description(error: ErrorNumber, text: &mut [u8]) -> usize
     ensures text { error < outcome_count
@@ -57,19 +57,17 @@ pub extern "C" fn peltzivar_description(error: ErrorNumber, text: &mut [u8]) -> 
     }
 }
 
-/// Writes the text that `Display` prints of an outcome, which is found at `index` if it is an error of parsing,
-/// and returns its length. If there is no such outcome, writes an empty text.
+/// Writes the text that `Display` prints of an outcome, found at `index` if it is an error of parsing.
 #[unsafe(no_mangle)]
 pub extern "C" fn peltzivar_text(error: ErrorNumber, index: usize, text: &mut [u8]) -> usize
     ensures text { error < outcome_count → IsNumberOfOne (λ outcome. IsAt index outcome
         × IsWritten (printed_text outcome) result text.old text.new) error }
     ensures unknown { (error < outcome_count → ⊥) → IsWritten [] result text.old text.new }
 {
-    let mut whole = Text::new();
-    if let Some(error) = outcome(error, index) {
-        let _ = error.put_into(&mut whole);
+    match outcome(error, index) {
+        Some(error) => write_sentence(&error.sentence(), text),
+        None => write_text(b"", text),
     }
-    whole.write_to(text)
 }
 
 // The outcome of a number, at `index` if it is an error of parsing, or `None` if there is no such number.

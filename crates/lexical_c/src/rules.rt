@@ -1,6 +1,6 @@
 //! The rules of words.
 
-ghost use Rattle.std.specs.Prelude.{◌≡◌, ◌↔◌, ℕ, ◌<◌, ◌^◌, ◌-◌, ◌/◌, ◌%◌, IsTrue, IsFalse, IfSome, None};
+ghost use Rattle.std.specs.Prelude.{◌≡◌, ◌↔◌, ℕ, ◌<◌, ◌^◌, ◌-◌, ◌/◌, ◌%◌, IsTrue, IsFalse, IfSome, None, []};
 ghost use Rattle.std.specs.Prelude.{pos, unsigned_abs, ◌≤ℤ◌, ◌<ℤ◌};
 ghost use Rattle.lexical_util.specs.Roles.{digits};
 ghost use Rattle.lexical_util.specs.Rules.{Lawful, IsErrorOf, IsRadix, IsFirstError, Holds, radix_rules, error_of};
@@ -9,13 +9,19 @@ ghost use Rattle.lexical_util.specs.Record.{raw, effective};
 ghost use Rattle.lexical_util.specs.Common.{common};
 ghost use Rattle.lexical_util.specs.Options.{AreAccepted, HaveOneRole, LeavesRoom, IsOptionsError};
 ghost use Rattle.lexical_c.specs.Outcomes.{IsNumberOfOne, SUCCESS, error_number};
-ghost use Rattle.lexical_c.specs.RuleNumbers.{rule_of};
+ghost use Rattle.lexical_c.specs.RuleNumbers.{rule_of, reason_at, unused_at};
+ghost use Rattle.lexical_c.specs.Texts.{IsWritten};
+ghost use Rattle.lexical_c.specs.Words.{fields_of};
+ghost use Rattle.lexical_util.specs.RuleFields.{mask_read};
+ghost use Rattle.lexical_util.specs.ReasonText.{reason_text, unused_text};
 
 use crate::outcomes::{ErrorNumber, error_number};
-use crate::words::Word;
+use crate::texts::{write_sentence, write_text};
+use crate::words::{Fields, Word};
 use lexical_util::format::format_error;
 use lexical_util::format_flags as flags;
 use lexical_util::format_flags::{RULES, Rule};
+use lexical_util::reasons::{Unused, reasons_of, unused_fields};
 
 /// Returns the number of the error of the first rule that a word breaks, or 0 if it is lawful.
 #[unsafe(no_mangle)]
@@ -134,6 +140,47 @@ pub extern "C" fn peltzivar_rule_error(rule: u8) -> ErrorNumber
     }
 }
 
+/// Returns the bits of a word that a rule reads, or 0 if there is no such rule.
+#[unsafe(no_mangle)]
+pub extern "C" fn peltzivar_rule_mask(rule: u8) -> Word
+    ensures mask { IfSome (rule_of rule) (λ known. result ≡ mask_read known) }
+    ensures unknown { rule_of rule ≡ None → result ≡ 0 }
+{
+    match rule_of(rule) {
+        Some(rule) => Word::new(rule.mask()),
+        None => Word::new(0),
+    }
+}
+
+/// Writes the reason at an index, of three, for which a word breaks a rule.
+#[unsafe(no_mangle)]
+pub extern "C" fn peltzivar_reason(format: Word, rule: u8, index: u8, text: &mut [u8]) -> usize
+    ensures text { IfSome (reason_at (rule_of rule) format index)
+        (λ reason. IsWritten (reason_text reason) result text.old text.new) }
+    ensures none { reason_at (rule_of rule) format index ≡ None → IsWritten [] result text.old text.new }
+{
+    let Some(rule) = rule_of(rule) else {
+        return write_text(b"", text);
+    };
+    match reasons_of(rule, format.number()).get(index as usize) {
+        Some(Some(reason)) => write_sentence(&reason.sentence(), text),
+        _ => write_text(b"", text),
+    }
+}
+
+/// Writes the setting without effect at an index, of four, of fields that are packed.
+#[unsafe(no_mangle)]
+pub extern "C" fn peltzivar_unused(fields: &Fields, index: u8, text: &mut [u8]) -> usize
+    ensures text { IfSome (unused_at (fields_of fields.now) index)
+        (λ setting. IsWritten (unused_text setting) result text.old text.new) }
+    ensures none { unused_at (fields_of fields.now) index ≡ None → IsWritten [] result text.old text.new }
+{
+    match unused_at(fields, index as usize) {
+        Some(setting) => write_sentence(&setting.sentence(), text),
+        None => write_text(b"", text),
+    }
+}
+
 /// Returns whether a byte is a digit of the mantissa radix or of the exponent radix.
 #[unsafe(no_mangle)]
 pub extern "C" fn peltzivar_is_digit(format: Word, byte: u8) -> bool
@@ -163,6 +210,18 @@ fn rule_of(number: u8) -> Option<Rule>
 {
     if (number as usize) < RULES.len() {
         Some(RULES[number as usize])
+    } else {
+        None
+    }
+}
+
+// The setting without effect at an index.
+fn unused_at(fields: &Fields, index: usize) -> Option<Unused>
+    ensures { result ≡ unused_at (fields_of fields.now) index }
+{
+    let settings = unused_fields(&fields.builder());
+    if index < settings.len() {
+        settings[index]
     } else {
         None
     }

@@ -3,25 +3,21 @@
 ghost use Rattle.std.specs.Prelude.{◌≡◌, ◌<◌, ℕ, [], None, IfSome, IfOk, IfErr};
 ghost use Rattle.std.specs.Str.{IsUtf8};
 ghost use Rattle.lexical_util.specs.SettingNumbers.{name_of_setter, setter_count, mask_of_edit};
-ghost use Rattle.lexical_util.specs.SettingText.{edit_or_error_in};
+ghost use Rattle.lexical_util.specs.SettingText.{edit_or_error_in, setting_text};
 ghost use Rattle.lexical_c.specs.Edits.{edit_of, numbered, error_code};
 ghost use Rattle.lexical_c.specs.Texts.{IsWritten};
 
-use crate::texts::write_text;
+use crate::texts::{write_sentence, write_text};
 use crate::words::{NumberedEdit, Word};
-use lexical_util::edits::{Edit, SETTER_NAMES, SettingError};
+use lexical_util::edits::{Edit, SETTER_NAMES, SettingError, name_of_number, number_of_name};
 
-/// Writes a setter's name and returns its length. If there is no such setter, writes an empty text.
+/// Writes a setter's name.
 #[unsafe(no_mangle)]
 pub extern "C" fn peltzivar_setter_name(setter: u8, text: &mut [u8]) -> usize
     ensures text { setter < setter_count → IsWritten (name_of_setter setter) result text.old text.new }
     ensures unknown { (setter < setter_count → ⊥) → IsWritten [] result text.old text.new }
 {
-    if (setter as usize) < SETTER_NAMES.len() {
-        write_text(name_of(setter).as_bytes(), text)
-    } else {
-        write_text(b"", text)
-    }
+    write_text(name_of_number(setter).as_bytes(), text)
 }
 
 /// Returns the number of the setter of this name, or 255 if there is none.
@@ -31,12 +27,12 @@ pub extern "C" fn peltzivar_setter_of_name(name: &[u8]) -> u8
     ensures none { (result < setter_count → ⊥) → (result ≡ 255)
         × ((setter : ℕ) → setter < setter_count → name_of_setter setter ≡ name.now → ⊥) }
 {
-    for setter in 0..SETTER_NAMES.len() as u8 {
-        if name_of(setter).as_bytes() == name {
-            return setter;
-        }
+    let setter = number_of_name(name);
+    if (setter as usize) < SETTER_NAMES.len() {
+        setter
+    } else {
+        255
     }
-    255
 }
 
 /// Writes the edit of a text `NAME=VALUE` and returns 0. If there is none, writes nothing and returns 1 for a name
@@ -56,7 +52,7 @@ pub extern "C" fn peltzivar_edit_of_text(text: &[u8], out: &mut NumberedEdit) ->
     };
     match edit {
         Ok(edit) => {
-            *out = numbered(&edit);
+            *out = NumberedEdit::new(&edit);
             0
         }
         Err(SettingError::UnknownName) => 1,
@@ -71,26 +67,20 @@ pub extern "C" fn peltzivar_edit_mask(edit: NumberedEdit) -> Word
     ensures mask { IfSome (edit_of edit) (λ known. result ≡ mask_of_edit known) }
     ensures unknown { edit_of edit ≡ None → result ≡ 0 }
 {
-    match Edit::from_number(edit.setter, edit.value) {
+    match edit.edit() {
         Some(edit) => Word::new(edit.mask()),
         None => Word::new(0),
     }
 }
 
-// The name of the setter of a number.
-fn name_of(setter: u8) -> &'static str
-    requires { setter < setter_count }
-    ensures { result.now ≡ name_of_setter setter }
+/// Writes an edit as `NAME=VALUE`.
+#[unsafe(no_mangle)]
+pub extern "C" fn peltzivar_text_of_edit(edit: NumberedEdit, text: &mut [u8]) -> usize
+    ensures text { IfSome (edit_of edit) (λ known. IsWritten (setting_text known) result text.old text.new) }
+    ensures unknown { edit_of edit ≡ None → IsWritten [] result text.old text.new }
 {
-    SETTER_NAMES[setter as usize]
-}
-
-// An edit as the number of its setter and its argument.
-fn numbered(edit: &Edit) -> NumberedEdit
-    ensures { result ≡ numbered edit.now }
-{
-    NumberedEdit {
-        setter: edit.number(),
-        value: edit.byte(),
+    match edit.edit() {
+        Some(edit) => write_sentence(&edit.sentence(), text),
+        None => write_text(b"", text),
     }
 }

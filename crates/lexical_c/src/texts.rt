@@ -3,7 +3,7 @@
 ghost use Rattle.std.specs.Prelude.{◌≡◌, ◌+◌, ◌≤◌, ◌++◌, List, [], length};
 ghost use Rattle.lexical_c.specs.Texts.{IsWritten};
 
-use lexical_util::error::Sink;
+use lexical_util::error::{Sentence, Sink};
 use std::fmt;
 use std::marker::Model;
 
@@ -20,11 +20,24 @@ pub fn write_text(text: &[u8], out: &mut [u8]) -> usize
     text.len()
 }
 
-// More bytes than any text of an outcome has.
+/// Writes a sentence as [`write_text`] does.
+pub fn write_sentence(sentence: &Sentence, out: &mut [u8]) -> usize
+    ensures { IsWritten sentence.now result out.old out.new }
+{
+    let mut whole = Text {
+        bytes: [0; ROOM],
+        len: 0,
+    };
+    let _ = sentence.put_into(&mut whole);
+    let Text { bytes, len } = whole;
+    write_text(&bytes[..len], out)
+}
+
+// More bytes than any sentence has.
 const ROOM: usize = 256;
 
-/// A text that is put together from pieces. A piece that has no room is left out.
-pub struct Text {
+// A text that is put together from pieces. A piece that has no room is left out.
+struct Text {
     bytes: [u8; ROOM],
     len: usize,
 }
@@ -37,26 +50,6 @@ impl Model for Text {
     ghost view = { λ text. take text.len text.bytes };
 
     ghost invariant = { λ text. text.len ≤ 256 };
-}
-
-impl Text {
-    /// Returns an empty text.
-    pub fn new() -> Text
-        ensures { result ≡ [] }
-    {
-        Text {
-            bytes: [0; ROOM],
-            len: 0,
-        }
-    }
-
-    /// Writes the text as [`write_text`] does.
-    pub fn write_to(self, out: &mut [u8]) -> usize
-        ensures { IsWritten self result out.old out.new }
-    {
-        let Text { bytes, len } = self;
-        write_text(&bytes[..len], out)
-    }
 }
 
 // It never fails.

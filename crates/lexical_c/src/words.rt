@@ -1,9 +1,11 @@
 //! The structs that stand for a word, an edit, and the fields of a builder.
 
-ghost use Rattle.std.specs.Prelude.{◌≡◌, ◌<◌, ◌^◌, length};
+ghost use Rattle.std.specs.Prelude.{◌≡◌, ◌<◌, ◌^◌, Some, length};
 ghost use Rattle.lexical_util.specs.Layout.{flags};
 ghost use Rattle.lexical_c.specs.Words.{fields_of};
+ghost use Rattle.lexical_c.specs.Edits.{numbered, edit_of};
 
+use lexical_util::edits::Edit;
 use lexical_util::format_builder::NumberFormatBuilder;
 use std::marker::Model;
 
@@ -58,6 +60,27 @@ impl Word {
 pub struct NumberedEdit {
     pub setter: u8,
     pub value: u8,
+}
+
+impl NumberedEdit {
+    /// Returns the numbers of an edit.
+    pub fn new(edit: &Edit) -> NumberedEdit
+        ensures numbers { result ≡ numbered edit.now }
+        ensures read_back { edit_of result ≡ Some edit.now }
+    {
+        NumberedEdit {
+            setter: edit.number(),
+            value: edit.byte(),
+        }
+    }
+
+    /// Returns the edit, or `None` if it has no setter.
+    #[inline(always)]
+    pub fn edit(self) -> Option<Edit>
+        ensures { result ≡ edit_of self }
+    {
+        Edit::from_number(self.setter, self.value)
+    }
 }
 
 /// The fields of a builder: the flags, the first at bit 0, and the six bytes in the order of their bits, each 0 if

@@ -77,7 +77,7 @@ mod numbers;
 mod text;
 
 pub use listing::{edits_of, field_edits_of, is_built};
-pub use numbers::SETTER_NAMES;
+pub use numbers::{SETTER_NAMES, name_of_number, number_of_name};
 pub use text::{SettingError, byte_from_text};
 
 /// A builder setter that takes a `bool`: one for each flag, and one for each of the nine groups of

@@ -9,9 +9,8 @@ use Rattle.lexical_c.proofs.edits.peltzivar_edits_of.Goals as goal
 
 pub loop-index-preserved : goal.loop-index-preserved
 loop-index-preserved c =
-    let number = c.number-in-loop-index.ensures in
-    more_numbered _ _ _ c.loop-index.invariant (omega (arith, c.loop-index-test.true)) number.number c.byte.ensures
-    number.read_back
+    let new = c.new.ensures in
+    more_numbered _ _ c.loop-index.invariant (omega (arith, c.loop-index-test.true)) new.numbers new.read_back
 
 pub returns : goal.returns
 returns c =
