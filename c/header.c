@@ -134,6 +134,86 @@ static void test_one_rule_each(void) {
     }
 }
 
+/* For each rule the smallest word that breaks it, and why (docs/FORMAT.md). */
+static void test_reasons(void) {
+    static const char needs[] = " needs the internal, leading or trailing flag of the same part";
+    static const struct {
+        peltzivar_word word;
+        const char *why, *end;
+    } rows[PELTZIVAR_RULES] = {
+        {{0x0000000000000000, 0x0000000000000000}, "the mantissa radix 0 is not 2 to 36", ""},
+        {{0x0000000000000000, 0x0001020000000000}, "the exponent base 1 is not 2 to 36", ""},
+        {{0x0000000000000000, 0x0100020000000000}, "the exponent radix 1 is not 2 to 36", ""},
+        {{0x0000000000000000, 0x0000020000000001}, "the digit separator 1 is not a character of ASCII text", ""},
+        {{0x0000000000000000, 0x0000020001000000}, "the base prefix 1 is not a character of ASCII text", ""},
+        {{0x0000000000000000, 0x0000020100000000}, "the base suffix 1 is not a character of ASCII text", ""},
+        {{0x0000000000000000, 0x0000020009000009}, "the digit separator 9 and the base prefix 9 are the same", ""},
+        {{0x0000000000004040, 0x0000020000000000},
+         "no_exponent_notation and required_exponent_notation exclude each other", ""},
+        {{0x0000000000000030, 0x0000020000000000},
+         "no_positive_mantissa_sign and required_mantissa_sign exclude each other", ""},
+        {{0x0000000000000180, 0x0000020000000000},
+         "no_positive_exponent_sign and required_exponent_sign exclude each other", ""},
+        {{0x0000000000000C00, 0x0000020000000000}, "no_special and case_sensitive_special exclude each other", ""},
+        {{0x0000100000000400, 0x0000020000000000}, "no_special and special_digit_separator exclude each other", ""},
+        {{0x0000020000000000, 0x0000020000000000}, "integer_consecutive_digit_separator", needs},
+        {{0x0000040000000000, 0x0000020000000000}, "fraction_consecutive_digit_separator", needs},
+        {{0x0000080000000000, 0x0000020000000000}, "exponent_consecutive_digit_separator", needs},
+        {{0x0000000080000000, 0x0000020000000000}, "a reserved bit is set", ""},
+    };
+    char text[256], wanted[256];
+    for (uint8_t rule = 0; rule < PELTZIVAR_RULES; rule++) {
+        snprintf(wanted, sizeof wanted, "%s%s", rows[rule].why, rows[rule].end);
+        for (int index = 0; index < 256; index++) {
+            memset(text, '#', sizeof text);
+            const size_t len = peltzivar_reason(rows[rule].word, rule, (uint8_t)index, text, sizeof text);
+            CHECK(is_text(index ? "" : wanted, len, text));
+        }
+        CHECK(peltzivar_reason(PELTZIVAR_STANDARD, rule, 0, text, sizeof text) == 0 && *text == 0);
+    }
+    const peltzivar_word clash = {0, 0x0000100061000061}, sign = {0, 0x000010000000002D};
+    CHECK(peltzivar_reason(clash, PELTZIVAR_RULE_BASE_PREFIX_IS_FREE, 2, text, sizeof text));
+    CHECK(strcmp(text, "the base prefix 'a' is a digit of radix 16") == 0);
+    CHECK(peltzivar_reason(clash, PELTZIVAR_RULE_PUNCTUATION_DIFFERS, 0, text, sizeof text));
+    CHECK(strcmp(text, "the digit separator 'a' and the base prefix 'a' are the same") == 0);
+    CHECK(peltzivar_reason(sign, PELTZIVAR_RULE_DIGIT_SEPARATOR_IS_FREE, 1, text, sizeof text));
+    CHECK(strcmp(text, "the digit separator '-' is a sign") == 0);
+    CHECK(peltzivar_reason(ZERO, PELTZIVAR_RULES, 0, text, sizeof text) == 0 && *text == 0);
+    CHECK(peltzivar_reason(ZERO, UINT8_MAX, 0, text, sizeof text) == 0 && *text == 0);
+
+    CHECK(is_word(peltzivar_rule_mask(PELTZIVAR_RULE_BASE_PREFIX_IS_FREE), 0xFF00FF00FF000000, 0));
+    CHECK(is_word(peltzivar_rule_mask(PELTZIVAR_RULE_EXPONENT_FLAGS_AGREE), 0, 0x4040));
+    CHECK(is_word(peltzivar_rule_mask(PELTZIVAR_RULE_INTEGER_CONSECUTIVE_IS_ALLOWED), 0, 0x0000024900000000));
+    CHECK(is_word(peltzivar_rule_mask(PELTZIVAR_RULE_RESERVED_BITS_ARE_ZERO), 0xFFFF00, 0xFFFFE000FFFC0000));
+    CHECK(is_word(peltzivar_rule_mask(PELTZIVAR_RULES), 0, 0) && is_word(peltzivar_rule_mask(UINT8_MAX), 0, 0));
+}
+
+/* The settings without effect of fields: one alone, each at its index. */
+static void test_unused(void) {
+    static const struct {
+        peltzivar_edit edit;
+        const char *text;
+    } rows[PELTZIVAR_UNUSED] = {
+        {{PELTZIVAR_SET_DIGIT_SEPARATOR, '_'}, "the digit separator '_' has no effect: no flag allows one"},
+        {{PELTZIVAR_SET_SPECIAL_DIGIT_SEPARATOR, 1},
+         "the digit separator flags have no effect: there is no digit separator"},
+        {{PELTZIVAR_SET_CASE_SENSITIVE_BASE_PREFIX, 1},
+         "case_sensitive_base_prefix has no effect: there is no base prefix"},
+        {{PELTZIVAR_SET_CASE_SENSITIVE_BASE_SUFFIX, 1},
+         "case_sensitive_base_suffix has no effect: there is no base suffix"},
+    };
+    char text[256];
+    for (int row = 0; row < PELTZIVAR_UNUSED; row++) {
+        peltzivar_fields fields = PELTZIVAR_NEW_FIELDS;
+        CHECK(peltzivar_edit_fields(&fields, &rows[row].edit, 1));
+        for (int index = 0; index < 256; index++) {
+            memset(text, '#', sizeof text);
+            const size_t len = peltzivar_unused(&fields, (uint8_t)index, text, sizeof text);
+            CHECK(is_text(index == row ? rows[row].text : "", len, text));
+        }
+    }
+}
+
 static void test_bytes(void) {
     const uint8_t text[] = {'A', 'z', ' ', 127};
     CHECK(peltzivar_is_valid_ascii('~') && !peltzivar_is_valid_ascii(127));
@@ -204,19 +284,38 @@ static void test_settings(void) {
         uint32_t wanted;
         peltzivar_edit edit;
     } rows[] = {
-        {"mantissa_radix=16", 0, {PELTZIVAR_SET_MANTISSA_RADIX, 16}},
-        {"no_special=true", 0, {PELTZIVAR_SET_NO_SPECIAL, 1}},
-        {"base_prefix=none", 0, {PELTZIVAR_SET_BASE_PREFIX, 0}},
-        {"", 1, {7, 9}},
-        {"no_special =true", 1, {7, 9}},
-        {"\xFF=1", 1, {7, 9}},
-        {"mantissa_radix=none", 2, {7, 9}},
-        {"mantissa_radix=256", 3, {7, 9}},
+        {"mantissa_radix=16", PELTZIVAR_SETTING_READ, {PELTZIVAR_SET_MANTISSA_RADIX, 16}},
+        {"no_special=true", PELTZIVAR_SETTING_READ, {PELTZIVAR_SET_NO_SPECIAL, 1}},
+        {"base_prefix=none", PELTZIVAR_SETTING_READ, {PELTZIVAR_SET_BASE_PREFIX, 0}},
+        {"", PELTZIVAR_SETTING_UNKNOWN_NAME, {7, 9}},
+        {"no_special =true", PELTZIVAR_SETTING_UNKNOWN_NAME, {7, 9}},
+        {"\xFF=1", PELTZIVAR_SETTING_UNKNOWN_NAME, {7, 9}},
+        {"no_special=1", PELTZIVAR_SETTING_BAD_VALUE, {7, 9}},
+        {"no_special= true", PELTZIVAR_SETTING_BAD_VALUE, {7, 9}},
+        {"radix", PELTZIVAR_SETTING_BAD_VALUE, {7, 9}},
+        {"mantissa_radix=none", PELTZIVAR_SETTING_BAD_VALUE, {7, 9}},
+        {"mantissa_radix=256", PELTZIVAR_SETTING_OUT_OF_RANGE, {7, 9}},
     };
     for (size_t row = 0; row < sizeof rows / sizeof *rows; row++) {
         peltzivar_edit edit = {7, 9};
         CHECK(peltzivar_edit_of_text(rows[row].text, strlen(rows[row].text), &edit) == rows[row].wanted);
         CHECK(edit.setter == rows[row].edit.setter && edit.value == rows[row].edit.value);
+    }
+    char text[256];
+    for (size_t row = 0; row < 3; row++) {
+        memset(text, '#', sizeof text);
+        CHECK(is_text(rows[row].text, peltzivar_text_of_edit(rows[row].edit, text, sizeof text), text));
+    }
+    for (int setter = 0; setter < 256; setter++) {
+        for (int value = 0; value < 256; value++) {
+            const peltzivar_edit edit = {(uint8_t)setter, (uint8_t)value};
+            peltzivar_edit read = {7, 9};
+            const size_t len = peltzivar_text_of_edit(edit, text, sizeof text);
+            CHECK(len == strlen(text) && (len == 0) == (setter > PELTZIVAR_SET_EXPONENT_RADIX));
+            if (len == 0) continue;
+            CHECK(peltzivar_edit_of_text(text, len, &read) == PELTZIVAR_SETTING_READ && read.setter == setter);
+            CHECK(read.value == (setter < PELTZIVAR_SET_DIGIT_SEPARATOR ? value != 0 : value));
+        }
     }
     CHECK(is_word(peltzivar_edit_mask(rows[0].edit), 0x0000FF0000000000, 0));
     CHECK(is_word(peltzivar_edit_mask(rows[1].edit), 0, 0x400));
@@ -237,7 +336,10 @@ static void test_null(void) {
     CHECK(peltzivar_setter_name(PELTZIVAR_SET_RADIX, NULL, 0) == strlen("radix"));
     CHECK(peltzivar_setter_of_name(NULL, 0) == PELTZIVAR_NO_SETTER);
     peltzivar_edit edit;
-    CHECK(peltzivar_edit_of_text(NULL, 0, &edit) == 1);
+    CHECK(peltzivar_edit_of_text(NULL, 0, &edit) == PELTZIVAR_SETTING_UNKNOWN_NAME);
+    CHECK(peltzivar_text_of_edit((peltzivar_edit){PELTZIVAR_SET_RADIX, 16}, NULL, 0) == strlen("radix=16"));
+    CHECK(peltzivar_reason(ZERO, 0, 0, NULL, 0) == strlen("the mantissa radix 0 is not 2 to 36"));
+    CHECK(peltzivar_unused(&PELTZIVAR_NEW_FIELDS, 0, NULL, 0) == 0);
 }
 
 int main(void) {
@@ -246,6 +348,8 @@ int main(void) {
     test_edits_of();
     test_rules();
     test_one_rule_each();
+    test_reasons();
+    test_unused();
     test_bytes();
     test_texts();
     test_settings();

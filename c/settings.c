@@ -1,5 +1,5 @@
-/* Reads a file of settings, one NAME = VALUE a line, and prints the word that they make, and what has no effect. If a line
- * cannot be read, it prints its number and why; else why each broken rule is broken, and the lines that wrote its fields.
+/* Reads a file of settings, one NAME = VALUE a line, and prints the word that they make, and what has no effect; or the
+ * number of each line that cannot be read, and why; or why each broken rule is broken, and the lines that wrote its fields.
  *
  *     cc -Wall -Wextra -Werror settings.c libpeltzivar_c.a -o settings
  *     ./settings hexadecimal.txt */

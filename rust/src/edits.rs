@@ -65,7 +65,7 @@ mod numbers;
 mod text;
 
 pub use listing::{edits_of, field_edits_of, is_built};
-pub use numbers::SETTER_NAMES;
+pub use numbers::{name_of_number, number_of_name, SETTER_NAMES};
 pub use text::{byte_from_text, SettingError};
 
 /// A builder setter that takes a `bool`: one for each flag, and one for each of the nine groups of

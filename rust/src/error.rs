@@ -8,8 +8,10 @@
 use core::cmp::Ordering;
 use core::fmt;
 
+mod sentence;
 mod sink;
 
+pub use sentence::{Piece, Sentence, NOTHING};
 pub use sink::Sink;
 
 /// What a parser or a checker found: one of 48 errors, or [`Error::Success`].
@@ -702,25 +704,36 @@ impl Error {
         self.index().copied().unwrap_or(0)
     }
 
+    /// Returns the text that `Display` prints.
+    #[must_use]
+    pub fn sentence(&self) -> Sentence {
+        let what = Piece::Words(self.description());
+        match self.class() {
+            Class::Parse => Sentence(
+                Piece::Words("lexical parse error: "),
+                what,
+                Piece::Words(" at index "),
+                Piece::Number(self.held_index()),
+            ),
+            Class::Format => Sentence(
+                Piece::Words("lexical number format error: "),
+                NOTHING,
+                NOTHING,
+                what,
+            ),
+            Class::Options => Sentence(
+                Piece::Words("lexical options error: "),
+                NOTHING,
+                NOTHING,
+                what,
+            ),
+            Class::Success => Sentence(NOTHING, NOTHING, NOTHING, what),
+        }
+    }
+
     /// Puts the text that `Display` prints into a sink, whatever options it has. Fails only if the sink does.
     pub fn put_into<S: Sink>(&self, out: &mut S) -> Result<(), fmt::Error> {
-        match self.class() {
-            Class::Parse => {
-                out.put("lexical parse error: ")?;
-                out.put(self.description())?;
-                out.put(" at index ")?;
-                put_decimal(out, self.held_index())
-            }
-            Class::Format => {
-                out.put("lexical number format error: ")?;
-                out.put(self.description())
-            }
-            Class::Options => {
-                out.put("lexical options error: ")?;
-                out.put(self.description())
-            }
-            Class::Success => out.put(self.description()),
-        }
+        self.sentence().put_into(out)
     }
 }
 
@@ -746,31 +759,5 @@ impl PartialOrd for Error {
 impl fmt::Display for Error {
     fn fmt(&self, f: &mut fmt::Formatter<'_>) -> fmt::Result {
         self.put_into(f)
-    }
-}
-
-// Puts `n` in decimal.
-fn put_decimal<S: Sink>(out: &mut S, n: usize) -> fmt::Result {
-    let has_front = n >= 10;
-    if has_front {
-        put_decimal(out, n / 10)?;
-    }
-    out.put(digit_text(n % 10))
-}
-
-// The digit character of `digit`, which is below 10.
-#[inline(always)]
-const fn digit_text(digit: usize) -> &'static str {
-    match digit {
-        0 => "0",
-        1 => "1",
-        2 => "2",
-        3 => "3",
-        4 => "4",
-        5 => "5",
-        6 => "6",
-        7 => "7",
-        8 => "8",
-        _ => "9",
     }
 }

@@ -129,10 +129,7 @@ pub extern "C" fn peltzivar_is_built(format: Word) -> bool {
 pub extern "C" fn peltzivar_edits_of(format: Word, edits: &mut [NumberedEdit; FIELDS]) -> usize {
     let (list, count) = edits_of(format.number());
     for index in 0..list.len() {
-        edits[index] = NumberedEdit {
-            setter: list[index].number(),
-            value: list[index].byte(),
-        };
+        edits[index] = NumberedEdit::new(&list[index]);
     }
     count
 }

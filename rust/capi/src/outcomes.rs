@@ -2,7 +2,7 @@
 
 //! Outcomes, which cross as numbers, and their texts.
 
-use crate::texts::{write_text, Text};
+use crate::texts::{write_sentence, write_text};
 use crate::words::Word;
 use peltzivar::error::Error;
 
@@ -33,7 +33,7 @@ pub fn write_if_lawful(word: Result<u128, Error>, out: &mut Word) -> ErrorNumber
     }
 }
 
-/// Writes an outcome's description and returns its length. If there is no such outcome, writes an empty text.
+/// Writes an outcome's description.
 #[unsafe(no_mangle)]
 pub unsafe extern "C" fn peltzivar_description(
     error: ErrorNumber,
@@ -48,8 +48,7 @@ pub unsafe extern "C" fn peltzivar_description(
     }
 }
 
-/// Writes the text that `Display` prints of an outcome, which is found at `index` if it is an error of parsing,
-/// and returns its length. If there is no such outcome, writes an empty text.
+/// Writes the text that `Display` prints of an outcome, found at `index` if it is an error of parsing.
 #[unsafe(no_mangle)]
 pub unsafe extern "C" fn peltzivar_text(
     error: ErrorNumber,
@@ -59,11 +58,10 @@ pub unsafe extern "C" fn peltzivar_text(
 ) -> usize {
     // SAFETY: c/peltzivar.h asks this of its callers.
     let text = unsafe { crate::slices::of_mut(text, text_len) };
-    let mut whole = Text::new();
-    if let Some(error) = outcome(error, index) {
-        let _ = error.put_into(&mut whole);
+    match outcome(error, index) {
+        Some(error) => write_sentence(&error.sentence(), text),
+        None => write_text(b"", text),
     }
-    whole.write_to(text)
 }
 
 // The outcome of a number, at `index` if it is an error of parsing, or `None` if there is no such number.

@@ -3,9 +3,11 @@
 //! The rules of words.
 
 use crate::outcomes::{error_number, ErrorNumber};
-use crate::words::Word;
+use crate::texts::{write_sentence, write_text};
+use crate::words::{Fields, Word};
 use peltzivar::format_flags as flags;
 use peltzivar::format_flags::{Rule, RULES};
+use peltzivar::reasons::{reasons_of, unused_fields, Unused};
 use peltzivar::word::format_error;
 
 /// Returns the number of the error of the first rule that a word breaks, or 0 if it is lawful.
@@ -99,6 +101,51 @@ pub extern "C" fn peltzivar_rule_error(rule: u8) -> ErrorNumber {
     }
 }
 
+/// Returns the bits of a word that a rule reads, or 0 if there is no such rule.
+#[unsafe(no_mangle)]
+pub extern "C" fn peltzivar_rule_mask(rule: u8) -> Word {
+    match rule_of(rule) {
+        Some(rule) => Word::new(rule.mask()),
+        None => Word::new(0),
+    }
+}
+
+/// Writes the reason at an index, of three, for which a word breaks a rule.
+#[unsafe(no_mangle)]
+pub unsafe extern "C" fn peltzivar_reason(
+    format: Word,
+    rule: u8,
+    index: u8,
+    text: *mut u8,
+    text_len: usize,
+) -> usize {
+    // SAFETY: c/peltzivar.h asks this of its callers.
+    let text = unsafe { crate::slices::of_mut(text, text_len) };
+    let Some(rule) = rule_of(rule) else {
+        return write_text(b"", text);
+    };
+    match reasons_of(rule, format.number()).get(index as usize) {
+        Some(Some(reason)) => write_sentence(&reason.sentence(), text),
+        _ => write_text(b"", text),
+    }
+}
+
+/// Writes the setting without effect at an index, of four, of fields that are packed.
+#[unsafe(no_mangle)]
+pub unsafe extern "C" fn peltzivar_unused(
+    fields: &Fields,
+    index: u8,
+    text: *mut u8,
+    text_len: usize,
+) -> usize {
+    // SAFETY: c/peltzivar.h asks this of its callers.
+    let text = unsafe { crate::slices::of_mut(text, text_len) };
+    match unused_at(fields, index as usize) {
+        Some(setting) => write_sentence(&setting.sentence(), text),
+        None => write_text(b"", text),
+    }
+}
+
 /// Returns whether a byte is a digit of the mantissa radix or of the exponent radix.
 #[unsafe(no_mangle)]
 pub extern "C" fn peltzivar_is_digit(format: Word, byte: u8) -> bool {
@@ -120,6 +167,16 @@ pub extern "C" fn peltzivar_radix_from_flags(format: Word, mask: Word, shift: u3
 fn rule_of(number: u8) -> Option<Rule> {
     if (number as usize) < RULES.len() {
         Some(RULES[number as usize])
+    } else {
+        None
+    }
+}
+
+// The setting without effect at an index.
+fn unused_at(fields: &Fields, index: usize) -> Option<Unused> {
+    let settings = unused_fields(&fields.builder());
+    if index < settings.len() {
+        settings[index]
     } else {
         None
     }

@@ -2,11 +2,11 @@
 
 //! The names of setters, and settings as text. A setter crosses as its number.
 
-use crate::texts::write_text;
+use crate::texts::{write_sentence, write_text};
 use crate::words::{NumberedEdit, Word};
-use peltzivar::edits::{Edit, SettingError, SETTER_NAMES};
+use peltzivar::edits::{name_of_number, number_of_name, Edit, SettingError, SETTER_NAMES};
 
-/// Writes a setter's name and returns its length. If there is no such setter, writes an empty text.
+/// Writes a setter's name.
 #[unsafe(no_mangle)]
 pub unsafe extern "C" fn peltzivar_setter_name(
     setter: u8,
@@ -15,11 +15,7 @@ pub unsafe extern "C" fn peltzivar_setter_name(
 ) -> usize {
     // SAFETY: c/peltzivar.h asks this of its callers.
     let text = unsafe { crate::slices::of_mut(text, text_len) };
-    if (setter as usize) < SETTER_NAMES.len() {
-        write_text(name_of(setter).as_bytes(), text)
-    } else {
-        write_text(b"", text)
-    }
+    write_text(name_of_number(setter).as_bytes(), text)
 }
 
 /// Returns the number of the setter of this name, or 255 if there is none.
@@ -27,12 +23,12 @@ pub unsafe extern "C" fn peltzivar_setter_name(
 pub unsafe extern "C" fn peltzivar_setter_of_name(name: *const u8, name_len: usize) -> u8 {
     // SAFETY: c/peltzivar.h asks this of its callers.
     let name = unsafe { crate::slices::of(name, name_len) };
-    for setter in 0..SETTER_NAMES.len() as u8 {
-        if name_of(setter).as_bytes() == name {
-            return setter;
-        }
+    let setter = number_of_name(name);
+    if (setter as usize) < SETTER_NAMES.len() {
+        setter
+    } else {
+        255
     }
-    255
 }
 
 /// Writes the edit of a text `NAME=VALUE` and returns 0. If there is none, writes nothing and returns 1 for a name
@@ -52,7 +48,7 @@ pub unsafe extern "C" fn peltzivar_edit_of_text(
     };
     match edit {
         Ok(edit) => {
-            *out = numbered(&edit);
+            *out = NumberedEdit::new(&edit);
             0
         }
         Err(SettingError::UnknownName) => 1,
@@ -64,21 +60,23 @@ pub unsafe extern "C" fn peltzivar_edit_of_text(
 /// Returns the bits of a word that an edit writes, or 0 if it has no setter.
 #[unsafe(no_mangle)]
 pub extern "C" fn peltzivar_edit_mask(edit: NumberedEdit) -> Word {
-    match Edit::from_number(edit.setter, edit.value) {
+    match edit.edit() {
         Some(edit) => Word::new(edit.mask()),
         None => Word::new(0),
     }
 }
 
-// The name of the setter of a number.
-fn name_of(setter: u8) -> &'static str {
-    SETTER_NAMES[setter as usize]
-}
-
-// An edit as the number of its setter and its argument.
-fn numbered(edit: &Edit) -> NumberedEdit {
-    NumberedEdit {
-        setter: edit.number(),
-        value: edit.byte(),
+/// Writes an edit as `NAME=VALUE`.
+#[unsafe(no_mangle)]
+pub unsafe extern "C" fn peltzivar_text_of_edit(
+    edit: NumberedEdit,
+    text: *mut u8,
+    text_len: usize,
+) -> usize {
+    // SAFETY: c/peltzivar.h asks this of its callers.
+    let text = unsafe { crate::slices::of_mut(text, text_len) };
+    match edit.edit() {
+        Some(edit) => write_sentence(&edit.sentence(), text),
+        None => write_text(b"", text),
     }
 }

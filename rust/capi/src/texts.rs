@@ -3,7 +3,7 @@
 //! Texts that are written into a buffer with a 0 at their end.
 
 use core::fmt;
-use peltzivar::error::Sink;
+use peltzivar::error::{Sentence, Sink};
 
 /// Writes a text and a final 0 from the start of a buffer on, of the text as much as leaves room for the 0, and
 /// returns the length of the whole text.
@@ -17,31 +17,25 @@ pub fn write_text(text: &[u8], out: &mut [u8]) -> usize {
     text.len()
 }
 
-// More bytes than any text of an outcome has.
-const ROOM: usize = 256;
-
-/// A text that is put together from pieces. A piece that has no room is left out.
-pub struct Text {
-    bytes: [u8; ROOM],
-    len: usize,
+/// Writes a sentence as [`write_text`] does.
+#[must_use]
+pub fn write_sentence(sentence: &Sentence, out: &mut [u8]) -> usize {
+    let mut whole = Text {
+        bytes: [0; ROOM],
+        len: 0,
+    };
+    let _ = sentence.put_into(&mut whole);
+    let Text { bytes, len } = whole;
+    write_text(&bytes[..len], out)
 }
 
-impl Text {
-    /// Returns an empty text.
-    #[must_use]
-    pub fn new() -> Text {
-        Text {
-            bytes: [0; ROOM],
-            len: 0,
-        }
-    }
+// More bytes than any sentence has.
+const ROOM: usize = 256;
 
-    /// Writes the text as [`write_text`] does.
-    #[must_use]
-    pub fn write_to(self, out: &mut [u8]) -> usize {
-        let Text { bytes, len } = self;
-        write_text(&bytes[..len], out)
-    }
+// A text that is put together from pieces. A piece that has no room is left out.
+struct Text {
+    bytes: [u8; ROOM],
+    len: usize,
 }
 
 // It never fails.

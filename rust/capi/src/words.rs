@@ -2,6 +2,7 @@
 
 //! The structs that stand for a word, an edit, and the fields of a builder.
 
+use peltzivar::edits::Edit;
 use peltzivar::format_builder::NumberFormatBuilder;
 
 /// A format word as two halves, since C has no type of 128 bits that every compiler knows.
@@ -37,6 +38,24 @@ impl Word {
 pub struct NumberedEdit {
     pub setter: u8,
     pub value: u8,
+}
+
+impl NumberedEdit {
+    /// Returns the numbers of an edit.
+    #[must_use]
+    pub fn new(edit: &Edit) -> NumberedEdit {
+        NumberedEdit {
+            setter: edit.number(),
+            value: edit.byte(),
+        }
+    }
+
+    /// Returns the edit, or `None` if it has no setter.
+    #[must_use]
+    #[inline(always)]
+    pub fn edit(self) -> Option<Edit> {
+        Edit::from_number(self.setter, self.value)
+    }
 }
 
 /// The fields of a builder: the flags, the first at bit 0, and the six bytes in the order of their bits, each 0 if

@@ -95,12 +95,7 @@ impl Edit {
     /// [`Edit::from_number`] does, or `None` if no setter has the name.
     #[must_use]
     pub fn from_name(name: &str, byte: u8) -> Option<Edit> {
-        for number in 0..SETTER_COUNT {
-            if name_of_number(number) == name {
-                return Edit::from_number(number, byte);
-            }
-        }
-        None
+        Edit::from_number(number_of_name(name.as_bytes()), byte)
     }
 
     /// Returns the bits of a word that the edit writes.
@@ -118,9 +113,25 @@ impl Edit {
     }
 }
 
-// The name of the setter of a number.
-const fn name_of_number(number: u8) -> &'static str {
-    SETTER_NAMES[number as usize]
+/// Returns the name of the setter of this number, or an empty text if there is none.
+#[must_use]
+pub const fn name_of_number(number: u8) -> &'static str {
+    if number < SETTER_COUNT {
+        SETTER_NAMES[number as usize]
+    } else {
+        ""
+    }
+}
+
+/// Returns the number of the setter of this name, or the length of [`SETTER_NAMES`] if there is none.
+#[must_use]
+pub fn number_of_name(name: &[u8]) -> u8 {
+    for number in 0..SETTER_COUNT {
+        if name_of_number(number).as_bytes() == name {
+            return number;
+        }
+    }
+    SETTER_COUNT
 }
 
 const fn byte_or_zero(byte: OptionU8) -> u8 {

@@ -4,6 +4,7 @@
 
 use crate::digit::char_to_digit;
 use crate::edits::Edit;
+use crate::error::{Piece, Sentence, NOTHING};
 use crate::format_builder::{NonZeroU8, OptionU8};
 use crate::numeral::read_numeral;
 use core::fmt;
@@ -59,23 +60,40 @@ impl Edit {
     }
 }
 
-/// Prints `NAME=VALUE`, such as `mantissa_radix=16`, `no_special=true` or `digit_separator=none`.
+impl Edit {
+    /// Returns `NAME=VALUE`, such as `mantissa_radix=16`, `no_special=true` or `digit_separator=none`.
+    #[must_use]
+    pub const fn sentence(&self) -> Sentence {
+        Sentence(
+            NOTHING,
+            Piece::Words(self.name()),
+            Piece::Words("="),
+            value(self),
+        )
+    }
+}
+
+/// Prints what [`Edit::sentence`] is.
 impl fmt::Display for Edit {
     fn fmt(&self, f: &mut fmt::Formatter<'_>) -> fmt::Result {
-        let name = self.name();
-        match self {
-            Edit::Flag(_, true) => write!(f, "{name}=true"),
-            Edit::Flag(_, false) => write!(f, "{name}=false"),
-            Edit::MantissaRadix(radix) | Edit::Radix(radix) => write!(f, "{name}={radix}"),
-            Edit::DigitSeparator(byte)
-            | Edit::BasePrefix(byte)
-            | Edit::BaseSuffix(byte)
-            | Edit::ExponentBase(byte)
-            | Edit::ExponentRadix(byte) => match byte {
-                Some(byte) => write!(f, "{name}={}", byte.get()),
-                None => write!(f, "{name}=none"),
-            },
-        }
+        write!(f, "{}", self.sentence())
+    }
+}
+
+// The text of an edit's argument.
+const fn value(edit: &Edit) -> Piece {
+    match edit {
+        Edit::Flag(_, true) => Piece::Words("true"),
+        Edit::Flag(_, false) => Piece::Words("false"),
+        Edit::MantissaRadix(radix) | Edit::Radix(radix) => Piece::Number(*radix as usize),
+        Edit::DigitSeparator(byte)
+        | Edit::BasePrefix(byte)
+        | Edit::BaseSuffix(byte)
+        | Edit::ExponentBase(byte)
+        | Edit::ExponentRadix(byte) => match byte {
+            Some(byte) => Piece::Number(byte.get() as usize),
+            None => Piece::Words("none"),
+        },
     }
 }
 

@@ -2,87 +2,96 @@
 
 //! The sentences of reasons and of settings without effect.
 
-use crate::edits::Edit;
+use crate::edits::{Edit, FlagSetter};
+use crate::error::{Piece, Sentence, NOTHING};
 use crate::reasons::{Reason, Unused};
 use core::fmt;
 
-/// One sentence without a stop, such as `the base prefix 'b' is a digit of radix 16`.
-impl fmt::Display for Reason {
-    fn fmt(&self, f: &mut fmt::Formatter<'_>) -> fmt::Result {
+impl Reason {
+    /// Returns one sentence without a stop, such as `the base prefix 'b' is a digit of radix 16`.
+    #[must_use]
+    pub const fn sentence(&self) -> Sentence {
         match self {
-            Reason::OutOfRange(edit) => write!(f, "{} is not 2 to 36", Numbered(*edit)),
-            Reason::NotText(edit) => {
-                write!(f, "{} is not a character of ASCII text", Described(*edit))
-            }
-            Reason::IsSign(edit) => write!(f, "{} is a sign", Described(*edit)),
-            Reason::IsDigit(edit, radix) => {
-                write!(f, "{} is a digit of radix {radix}", Described(*edit))
-            }
-            Reason::AreSame(a, b) => write!(
-                f,
-                "{} and {}{}",
-                Described(*a),
-                Described(*b),
-                sameness(*a, *b)
+            Reason::OutOfRange(edit) => followed(
+                Piece::Numbered(words(*edit), edit.byte()),
+                " is not 2 to 36",
             ),
-            Reason::Contradict(a, b) => {
-                write!(f, "{} and {} exclude each other", a.name(), b.name())
-            }
-            Reason::HasNoPlace(flag) => write!(
-                f,
-                "{} needs the internal, leading or trailing flag of the same part",
-                flag.name()
+            Reason::NotText(edit) => followed(described(edit), " is not a character of ASCII text"),
+            Reason::IsSign(edit) => followed(described(edit), " is a sign"),
+            Reason::IsDigit(edit, radix) => Sentence(
+                NOTHING,
+                described(edit),
+                Piece::Words(" is a digit of radix "),
+                Piece::Number(*radix as usize),
             ),
-            Reason::ReservedBits => f.write_str("a reserved bit is set"),
+            Reason::AreSame(a, b) => Sentence(
+                described(a),
+                Piece::Words(" and "),
+                described(b),
+                Piece::Words(sameness(*a, *b)),
+            ),
+            Reason::Contradict(a, b) => Sentence(
+                named(*a),
+                Piece::Words(" and "),
+                named(*b),
+                Piece::Words(" exclude each other"),
+            ),
+            Reason::HasNoPlace(flag) => followed(
+                named(*flag),
+                " needs the internal, leading or trailing flag of the same part",
+            ),
+            Reason::ReservedBits => followed(NOTHING, "a reserved bit is set"),
         }
     }
 }
 
-/// One sentence without a stop, such as `the digit separator '_' has no effect: no flag allows one`.
-impl fmt::Display for Unused {
-    fn fmt(&self, f: &mut fmt::Formatter<'_>) -> fmt::Result {
+impl Unused {
+    /// Returns one sentence without a stop, such as `the digit separator '_' has no effect: no flag allows one`.
+    #[must_use]
+    pub const fn sentence(&self) -> Sentence {
         match self {
             Unused::NotAllowed(edit) => {
-                write!(f, "{} has no effect: no flag allows one", Described(*edit))
+                followed(described(edit), " has no effect: no flag allows one")
             }
-            Unused::NoSeparator => {
-                f.write_str("the digit separator flags have no effect: there is no digit separator")
-            }
-            Unused::NoByte(flag, byte) => {
-                write!(
-                    f,
-                    "{} has no effect: there is no {}",
-                    flag.name(),
-                    words(*byte)
-                )
-            }
+            Unused::NoSeparator => followed(
+                NOTHING,
+                "the digit separator flags have no effect: there is no digit separator",
+            ),
+            Unused::NoByte(flag, byte) => Sentence(
+                NOTHING,
+                named(*flag),
+                Piece::Words(" has no effect: there is no "),
+                Piece::Words(words(*byte)),
+            ),
         }
     }
 }
 
-// An edit of a byte as a sentence names it: the setting and the byte.
-#[derive(Clone, Copy)]
-struct Described(Edit);
-
-impl fmt::Display for Described {
+impl fmt::Display for Reason {
     fn fmt(&self, f: &mut fmt::Formatter<'_>) -> fmt::Result {
-        let byte = self.0.byte();
-        if byte.is_ascii_graphic() {
-            write!(f, "the {} '{}'", words(self.0), char::from(byte))
-        } else {
-            write!(f, "{}", Numbered(self.0))
-        }
+        write!(f, "{}", self.sentence())
     }
 }
 
-// The same with the byte as a number.
-#[derive(Clone, Copy)]
-struct Numbered(Edit);
-
-impl fmt::Display for Numbered {
+impl fmt::Display for Unused {
     fn fmt(&self, f: &mut fmt::Formatter<'_>) -> fmt::Result {
-        write!(f, "the {} {}", words(self.0), self.0.byte())
+        write!(f, "{}", self.sentence())
     }
+}
+
+// What it is about, and the words after it.
+const fn followed(piece: Piece, end: &'static str) -> Sentence {
+    Sentence(NOTHING, NOTHING, piece, Piece::Words(end))
+}
+
+// An edit of a byte: the setting and the byte.
+const fn described(edit: &Edit) -> Piece {
+    Piece::Shown(words(*edit), edit.byte())
+}
+
+// The name of a flag.
+const fn named(flag: FlagSetter) -> Piece {
+    Piece::Words(flag.name())
 }
 
 // What is said of two bytes that are the same, or differ only in case.

@@ -16,12 +16,12 @@ impl Reason {
         ensures { result ≡ reason_text self.now }
     {
         match self {
-            Reason::OutOfRange(edit) => ends(
+            Reason::OutOfRange(edit) => followed(
                 Piece::Numbered(words(*edit), edit.byte()),
                 " is not 2 to 36",
             ),
-            Reason::NotText(edit) => ends(described(edit), " is not a character of ASCII text"),
-            Reason::IsSign(edit) => ends(described(edit), " is a sign"),
+            Reason::NotText(edit) => followed(described(edit), " is not a character of ASCII text"),
+            Reason::IsSign(edit) => followed(described(edit), " is a sign"),
             Reason::IsDigit(edit, radix) => Sentence(
                 NOTHING,
                 described(edit),
@@ -40,11 +40,11 @@ impl Reason {
                 named(*b),
                 Piece::Words(" exclude each other"),
             ),
-            Reason::HasNoPlace(flag) => ends(
+            Reason::HasNoPlace(flag) => followed(
                 named(*flag),
                 " needs the internal, leading or trailing flag of the same part",
             ),
-            Reason::ReservedBits => ends(NOTHING, "a reserved bit is set"),
+            Reason::ReservedBits => followed(NOTHING, "a reserved bit is set"),
         }
     }
 }
@@ -56,9 +56,9 @@ impl Unused {
     {
         match self {
             Unused::NotAllowed(edit) => {
-                ends(described(edit), " has no effect: no flag allows one")
+                followed(described(edit), " has no effect: no flag allows one")
             }
-            Unused::NoSeparator => ends(
+            Unused::NoSeparator => followed(
                 NOTHING,
                 "the digit separator flags have no effect: there is no digit separator",
             ),
@@ -89,7 +89,7 @@ impl fmt::Display for Unused {
 }
 
 // What it is about, and the words after it.
-const fn ends(piece: Piece, end: &'static str) -> Sentence
+const fn followed(piece: Piece, end: &'static str) -> Sentence
     requires { room piece + length end.now < 256 }
     ensures { result ≡ piece_text piece ++ end.now }
 {
