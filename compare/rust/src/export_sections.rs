@@ -188,6 +188,22 @@ fn setter(random: &mut Random) -> u8 {
     }
 }
 
+/// The numbers of a setter and of a value, which is often small.
+fn edit(random: &mut Random) -> (u8, u8) {
+    let bits = random.below(8);
+    (setter(random), random.next() as u8 >> bits)
+}
+
+/// A word, and the numbers of a rule and a reason, sometimes of none.
+fn reason(random: &mut Random) -> (Word, u8, u8) {
+    (random.word().into(), random.below(18) as u8, random.below(5) as u8)
+}
+
+/// Fields, and the number of a setting without effect, sometimes of none.
+fn unused(random: &mut Random) -> (CFields, u8) {
+    (fields(random), random.below(6) as u8)
+}
+
 /// Random inputs beside lists of edits.
 fn with_edits<I>(of: impl Fn(&mut Random) -> I) -> impl Fn(&mut Random) -> (I, Vec<CEdit>) {
     move |random| (of(random), edits(random))
@@ -274,6 +290,7 @@ const COMPARED: &[(&str, Compare)] = compared! {
         (0..18).map(|rule| unsafe { (it.keeps_rule)(word, rule) }).collect::<Vec<u8>>()
     });
     rule_error: on_bytes(|it, rule| unsafe { (it.rule_error)(rule) });
+    rule_mask: on_bytes(|it, rule| unsafe { (it.rule_mask)(rule) });
     is_digit: on_random(options, |it, (word, byte, _)| unsafe { (it.is_digit)(*word, *byte) });
     radix_from_flags: on_random(masks, |it, (word, mask, shift)| {
         unsafe { (it.radix_from_flags)(*word, *mask, *shift) }
@@ -293,11 +310,18 @@ const COMPARED: &[(&str, Compare)] = compared! {
     digit_to_char_const: on_digits(|it, digit, radix| unsafe { (it.digit_to_char_const)(digit.into(), radix) });
     description: on_texts(error, |it, error, text, room| unsafe { (it.description)(*error, text, room) });
     text: on_texts(error_at, |it, (error, index), text, room| unsafe { (it.text)(*error, *index, text, room) });
+    reason: on_texts(reason, |it, (word, rule, index), text, room| unsafe {
+        (it.reason)(*word, *rule, *index, text, room)
+    });
+    unused: on_texts(unused, |it, (fields, index), text, room| unsafe { (it.unused)(fields, *index, text, room) });
     setter_name: on_texts(setter, |it, setter, text, room| unsafe { (it.setter_name)(*setter, text, room) });
     setter_of_name: on_random(name, |it, name| unsafe { (it.setter_of_name)(name.as_ptr(), name.len()) });
     edit_of_text: on_random(setting, |it, text| {
         let mut edit = [UNTOUCHED; 2];
         (unsafe { (it.edit_of_text)(text.as_ptr(), text.len(), &mut edit) }, edit)
+    });
+    text_of_edit: on_texts(edit, |it, (setter, value), text, room| unsafe {
+        (it.text_of_edit)(OneEdit(*setter, *value), text, room)
     });
     edit_mask: on_random(setter, |it, setter| unsafe { (it.edit_mask)(OneEdit(*setter, 1)) });
 };

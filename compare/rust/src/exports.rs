@@ -112,6 +112,7 @@ exports! {
     options_error(Word, u8, u8) -> u32;
     keeps_rule(Word, u8) -> u8;
     rule_error(u8) -> u32;
+    rule_mask(u8) -> Word;
     is_digit(Word, u8) -> u8;
     radix_from_flags(Word, Word, u32) -> u32;
     is_valid_ascii(u8) -> u8;
@@ -127,8 +128,11 @@ exports! {
     digit_to_char_const(u32, u32) -> u8;
     description(u32, *mut u8, usize) -> usize;
     text(u32, usize, *mut u8, usize) -> usize;
+    reason(Word, u8, u8, *mut u8, usize) -> usize;
+    unused(&CFields, u8, *mut u8, usize) -> usize;
     setter_name(u8, *mut u8, usize) -> usize;
     setter_of_name(*const u8, usize) -> u8;
     edit_of_text(*const u8, usize, *mut CEdit) -> u32;
+    text_of_edit(OneEdit, *mut u8, usize) -> usize;
     edit_mask(OneEdit) -> Word;
 }
