@@ -46,8 +46,7 @@ pub extern "C" fn peltzivar_fields_of(format: Word) -> Fields
     Fields::new(&NumberFormatBuilder::rebuild(format.number()))
 }
 
-/// Applies the edits to the fields in order, clears the bits above the flags and returns `true`. If one of
-/// them has no setter, it returns `false` and leaves the fields as they were.
+/// Applies the edits to the fields and clears the bits above the flags, or returns `false`: one has no setter.
 #[unsafe(no_mangle)]
 pub extern "C" fn peltzivar_edit_fields(fields: &mut Fields, edits: &[NumberedEdit]) -> bool
     ensures known { IsTrue result ↔ All HasSetter edits.now }
@@ -73,8 +72,7 @@ pub extern "C" fn peltzivar_pack(fields: &Fields) -> Word
     Word::new(fields.builder().build_unchecked())
 }
 
-/// Applies the edits to the fields in order, writes the word that they are packed into and returns `true`.
-/// If one of them has no setter, it returns `false` and writes nothing.
+/// Writes the word of the edited fields, or returns `false`: an edit has no setter.
 #[unsafe(no_mangle)]
 pub extern "C" fn peltzivar_build(fields: &Fields, edits: &[NumberedEdit], out: &mut Word) -> bool
     ensures known { IsTrue result ↔ All HasSetter edits.now }
@@ -89,8 +87,7 @@ pub extern "C" fn peltzivar_build(fields: &Fields, edits: &[NumberedEdit], out: 
     true
 }
 
-/// Packs the fields into a word. If it is lawful, writes it and returns 0; else writes nothing and returns the
-/// number of its error.
+/// Writes the word of the fields if it is lawful, or returns its error.
 #[unsafe(no_mangle)]
 pub extern "C" fn peltzivar_build_strict(fields: &Fields, out: &mut Word) -> ErrorNumber
     ensures { IsWrittenIfLawful (pack (fields_of fields.now)) result out.old out.new }
@@ -98,8 +95,7 @@ pub extern "C" fn peltzivar_build_strict(fields: &Fields, out: &mut Word) -> Err
     write_if_lawful(fields.builder().build_strict(), out)
 }
 
-/// Applies the edits to a word in order, writes the new word and returns `true`. If one of them has no
-/// setter, it returns `false` and writes nothing.
+/// Writes the edited word, or returns `false`: an edit has no setter.
 #[unsafe(no_mangle)]
 pub extern "C" fn peltzivar_edit_word(format: Word, edits: &[NumberedEdit], out: &mut Word) -> bool
     ensures known { IsTrue result ↔ All HasSetter edits.now }
@@ -127,8 +123,7 @@ pub extern "C" fn peltzivar_normal_form(format: Word) -> Word
     Word::new(edits::normal_form(format.number()))
 }
 
-/// Writes the normal form of a word and returns 0 if the normal form is lawful; else writes nothing and returns
-/// the number of its error.
+/// Writes the normal form of a word if it is lawful, or returns its error.
 #[unsafe(no_mangle)]
 pub extern "C" fn peltzivar_migrate(format: Word, out: &mut Word) -> ErrorNumber
     ensures { IsWrittenIfLawful (normal_form_of format) result out.old out.new }
@@ -154,9 +149,7 @@ pub extern "C" fn peltzivar_is_built(format: Word) -> bool
     edits::is_built(format.number())
 }
 
-/// Writes one edit for each field, with the field's value in the word, and returns how many of them make these
-/// fields from those of a new builder. These come first, and no shorter list of edits of single fields makes a
-/// word that a builder can pack.
+/// Writes one edit for each field, those first that change a new builder, and returns how many these are.
 #[unsafe(no_mangle)]
 pub extern "C" fn peltzivar_edits_of(format: Word, edits: &mut [NumberedEdit; FIELDS]) -> usize
     ensures numbers { edits.new ≡ map numbered (changing (raw format) ++ unchanging (raw format)) }

@@ -35,9 +35,7 @@ pub extern "C" fn peltzivar_setter_of_name(name: &[u8]) -> u8
     }
 }
 
-/// Writes the edit of a text `NAME=VALUE` and returns 0. If there is none, writes nothing and returns 1 for a name
-/// that no setter has, 2 for a value that is none of the setter's, and 3 for a number that is out of range. Bytes
-/// that are no UTF-8 are no name.
+/// Writes the edit of a text `NAME=VALUE` and returns 0, or returns 1 to 3, which says what is wrong.
 #[unsafe(no_mangle)]
 pub extern "C" fn peltzivar_edit_of_text(text: &[u8], out: &mut NumberedEdit) -> u32
     ensures edit { IsUtf8 text.now → IfOk (edit_or_error_in text.now)

@@ -91,8 +91,7 @@ pub extern "C" fn peltzivar_keeps_rule(format: Word, rule: u8) -> bool {
     }
 }
 
-/// Returns the number of the error of a word that breaks this rule, and no rule before it, or 0 if there is no such
-/// rule.
+/// Returns the error of a word that breaks this rule first, or 0 if there is no such rule.
 #[unsafe(no_mangle)]
 pub extern "C" fn peltzivar_rule_error(rule: u8) -> ErrorNumber {
     match rule_of(rule) {
@@ -152,8 +151,7 @@ pub extern "C" fn peltzivar_is_digit(format: Word, byte: u8) -> bool {
     flags::is_digit(format.number(), byte)
 }
 
-/// Returns the bits that a word and a mask have in common, shifted right, low 32 bits; the mantissa radix if
-/// these are 0; and `u32::MAX` for a shift of 128 or more.
+/// Returns the low bits of a word under a mask, shifted right, or the mantissa radix if they are 0.
 #[unsafe(no_mangle)]
 pub extern "C" fn peltzivar_radix_from_flags(format: Word, mask: Word, shift: u32) -> u32 {
     if shift < 128 {

@@ -31,9 +31,7 @@ pub unsafe extern "C" fn peltzivar_setter_of_name(name: *const u8, name_len: usi
     }
 }
 
-/// Writes the edit of a text `NAME=VALUE` and returns 0. If there is none, writes nothing and returns 1 for a name
-/// that no setter has, 2 for a value that is none of the setter's, and 3 for a number that is out of range. Bytes
-/// that are no UTF-8 are no name.
+/// Writes the edit of a text `NAME=VALUE` and returns 0, or returns 1 to 3, which says what is wrong.
 #[unsafe(no_mangle)]
 pub unsafe extern "C" fn peltzivar_edit_of_text(
     text: *const u8,
