@@ -27,8 +27,7 @@ pub struct Sentence(pub Piece, pub Piece, pub Piece, pub Piece);
 
 impl Sentence {
     /// Puts the sentence into a sink. Fails only if the sink does.
-    #[must_use]
-    pub fn put_into<S: Sink>(&self, out: &mut S) -> fmt::Result {
+    pub fn put_into<S: Sink>(&self, out: &mut S) -> Result<(), fmt::Error> {
         self.0.put_into(out)?;
         self.1.put_into(out)?;
         self.2.put_into(out)?;
