@@ -19,7 +19,7 @@ few_digits (suc k) n acc =
     chosen (n / 10 == 0) (last ∷ acc) (digits_onto k 10 false (n / 10) (last ∷ acc)) (suc k + length acc) (omega arith)
     (omega (arith, few_digits k (n / 10) (last ∷ acc)))
 
-few : (n : ℕ) → length (decimal n) ≤ 64
+pub few : (n : ℕ) → length (decimal n) ≤ 64
 unfolding digits
 few n = omega (arith, few_digits 64 n [])
 

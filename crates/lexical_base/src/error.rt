@@ -20,6 +20,7 @@ use std::fmt;
 mod sentence;
 mod sink;
 
+use sentence::put_decimal;
 pub use sentence::{NOTHING, Piece, Sentence};
 pub use sink::Sink;
 
@@ -776,41 +777,29 @@ impl Error {
         self.index().copied().unwrap_or(0)
     }
 
-    /// Returns the text that `Display` prints.
-    pub fn sentence(&self) -> Sentence
-        ensures { result ≡ printed_text self.now }
-    {
-        let what = Piece::Words(self.description());
-        match self.class() {
-            Class::Parse => Sentence(
-                Piece::Words("lexical parse error: "),
-                what,
-                Piece::Words(" at index "),
-                Piece::Number(self.held_index()),
-            ),
-            Class::Format => Sentence(
-                Piece::Words("lexical number format error: "),
-                NOTHING,
-                NOTHING,
-                what,
-            ),
-            Class::Options => Sentence(
-                Piece::Words("lexical options error: "),
-                NOTHING,
-                NOTHING,
-                what,
-            ),
-            Class::Success => Sentence(NOTHING, NOTHING, NOTHING, what),
-        }
-    }
-
     /// Puts the text that `Display` prints into a sink, whatever options it has. Fails only if the sink does.
     pub fn put_into<S: Sink>(&self, out: &mut S) -> Result<(), fmt::Error>
         ensures text { OnOk result (WritesInCalls S.takes out.old (printed_text self.now) out.new) }
         ensures failed { IsErr result → S.has_failed out.new }
         ensures short { OnOk result (length (printed_text self.now) < 256) }
     {
-        self.sentence().put_into(out)
+        match self.class() {
+            Class::Parse => {
+                out.put("lexical parse error: ")?;
+                out.put(self.description())?;
+                out.put(" at index ")?;
+                put_decimal(out, self.held_index())
+            }
+            Class::Format => {
+                out.put("lexical number format error: ")?;
+                out.put(self.description())
+            }
+            Class::Options => {
+                out.put("lexical options error: ")?;
+                out.put(self.description())
+            }
+            Class::Success => out.put(self.description()),
+        }
     }
 }
 

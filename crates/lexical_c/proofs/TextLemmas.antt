@@ -23,8 +23,13 @@ all_taken (piece ∷ pieces) text whole puts fits =
 
 -- a short text that was put into an empty one
 pub put_whole : {T E : Type 0} (r : Result T E) (start text whole : List ℕ) → start ≡ [] → (IsErr r → ⊥)
-    → OnOk r (WritesInCalls Takes start text whole) → length text < 256 → whole ≡ text
+    → OnOk r (WritesInCalls Takes start text whole) → OnOk r (length text < 256) → whole ≡ text
 put_whole (Ok v) start text whole none never writes short =
     let parts = all_taken writes.parts start whole writes.calls in
     parts (omega (arith, short, ap length writes.whole, ap length none)) ∙ ap₂ ◌++◌ none writes.whole
 put_whole (Err e) start text whole none never writes short = absurd (never refl)
+
+-- what holds whatever was returned
+pub always : {P : Type 0} {T E : Type 0} (r : Result T E) → P → OnOk r P
+always (Ok v) p = p
+always (Err e) p = tt

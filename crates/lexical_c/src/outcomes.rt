@@ -7,7 +7,7 @@ ghost use Rattle.lexical_util.specs.Rules.{Lawful, IsErrorOf};
 ghost use Rattle.lexical_c.specs.Outcomes.{outcome_count, error_number, SUCCESS, IsNumberOfOne, IsWrittenIfLawful};
 ghost use Rattle.lexical_c.specs.Texts.{IsWritten};
 
-use crate::texts::{write_sentence, write_text};
+use crate::texts::{write_error, write_text};
 use crate::words::Word;
 use lexical_util::error::Error;
 use lexical_util::laws::flags::rule_facts;
@@ -65,7 +65,7 @@ pub extern "C" fn peltzivar_text(error: ErrorNumber, index: usize, text: &mut [u
     ensures unknown { (error < outcome_count → ⊥) → IsWritten [] result text.old text.new }
 {
     match outcome(error, index) {
-        Some(error) => write_sentence(&error.sentence(), text),
+        Some(error) => write_error(error, text),
         None => write_text(b"", text),
     }
 }

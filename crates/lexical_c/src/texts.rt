@@ -1,9 +1,10 @@
 //! Texts that are written into a buffer with a 0 at their end.
 
 ghost use Rattle.std.specs.Prelude.{◌≡◌, ◌+◌, ◌≤◌, ◌++◌, List, [], length};
+ghost use Rattle.lexical_util.specs.Outcomes.{printed_text};
 ghost use Rattle.lexical_c.specs.Texts.{IsWritten};
 
-use lexical_util::error::{Sentence, Sink};
+use lexical_util::error::{Error, Sentence, Sink};
 use std::fmt;
 use std::marker::Model;
 
@@ -24,13 +25,18 @@ pub fn write_text(text: &[u8], out: &mut [u8]) -> usize
 pub fn write_sentence(sentence: &Sentence, out: &mut [u8]) -> usize
     ensures { IsWritten sentence.now result out.old out.new }
 {
-    let mut whole = Text {
-        bytes: [0; ROOM],
-        len: 0,
-    };
+    let mut whole = Text::new();
     let _ = sentence.put_into(&mut whole);
-    let Text { bytes, len } = whole;
-    write_text(&bytes[..len], out)
+    whole.write_to(out)
+}
+
+/// Writes what `Display` prints of an error as [`write_text`] does.
+pub fn write_error(error: Error, out: &mut [u8]) -> usize
+    ensures { IsWritten (printed_text error) result out.old out.new }
+{
+    let mut whole = Text::new();
+    let _ = error.put_into(&mut whole);
+    whole.write_to(out)
 }
 
 // More bytes than any sentence has.
@@ -50,6 +56,26 @@ impl Model for Text {
     ghost view = { λ text. take text.len text.bytes };
 
     ghost invariant = { λ text. text.len ≤ 256 };
+}
+
+impl Text {
+    // Returns an empty text.
+    fn new() -> Text
+        ensures { result ≡ [] }
+    {
+        Text {
+            bytes: [0; ROOM],
+            len: 0,
+        }
+    }
+
+    // Writes the text as `write_text` does.
+    fn write_to(self, out: &mut [u8]) -> usize
+        ensures { IsWritten self result out.old out.new }
+    {
+        let Text { bytes, len } = self;
+        write_text(&bytes[..len], out)
+    }
 }
 
 // It never fails.

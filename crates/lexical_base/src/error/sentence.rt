@@ -101,7 +101,7 @@ fn put_numbered<S: Sink>(out: &mut S, name: &str, byte: u8) -> fmt::Result
 }
 
 // Puts `n` in decimal.
-fn put_decimal<S: Sink>(out: &mut S, n: usize) -> fmt::Result
+pub(crate) fn put_decimal<S: Sink>(out: &mut S, n: usize) -> fmt::Result
     ensures text { OnOk result (WritesInCalls S.takes out.old (decimal n) out.new) }
     ensures failed { IsErr result → S.has_failed out.new }
 {
