@@ -11,6 +11,7 @@ use core::fmt;
 mod sentence;
 mod sink;
 
+use sentence::put_decimal;
 pub use sentence::{Piece, Sentence, NOTHING};
 pub use sink::Sink;
 
@@ -704,36 +705,25 @@ impl Error {
         self.index().copied().unwrap_or(0)
     }
 
-    /// Returns the text that `Display` prints.
-    #[must_use]
-    pub fn sentence(&self) -> Sentence {
-        let what = Piece::Words(self.description());
-        match self.class() {
-            Class::Parse => Sentence(
-                Piece::Words("lexical parse error: "),
-                what,
-                Piece::Words(" at index "),
-                Piece::Number(self.held_index()),
-            ),
-            Class::Format => Sentence(
-                Piece::Words("lexical number format error: "),
-                NOTHING,
-                NOTHING,
-                what,
-            ),
-            Class::Options => Sentence(
-                Piece::Words("lexical options error: "),
-                NOTHING,
-                NOTHING,
-                what,
-            ),
-            Class::Success => Sentence(NOTHING, NOTHING, NOTHING, what),
-        }
-    }
-
     /// Puts the text that `Display` prints into a sink, whatever options it has. Fails only if the sink does.
     pub fn put_into<S: Sink>(&self, out: &mut S) -> Result<(), fmt::Error> {
-        self.sentence().put_into(out)
+        match self.class() {
+            Class::Parse => {
+                out.put("lexical parse error: ")?;
+                out.put(self.description())?;
+                out.put(" at index ")?;
+                put_decimal(out, self.held_index())
+            }
+            Class::Format => {
+                out.put("lexical number format error: ")?;
+                out.put(self.description())
+            }
+            Class::Options => {
+                out.put("lexical options error: ")?;
+                out.put(self.description())
+            }
+            Class::Success => out.put(self.description()),
+        }
     }
 }
 

@@ -2,7 +2,7 @@
 
 //! Outcomes, which cross as numbers, and their texts.
 
-use crate::texts::{write_sentence, write_text};
+use crate::texts::{write_error, write_text};
 use crate::words::Word;
 use peltzivar::error::Error;
 
@@ -59,7 +59,7 @@ pub unsafe extern "C" fn peltzivar_text(
     // SAFETY: c/peltzivar.h asks this of its callers.
     let text = unsafe { crate::slices::of_mut(text, text_len) };
     match outcome(error, index) {
-        Some(error) => write_sentence(&error.sentence(), text),
+        Some(error) => write_error(error, text),
         None => write_text(b"", text),
     }
 }

@@ -3,7 +3,7 @@
 //! Texts that are written into a buffer with a 0 at their end.
 
 use core::fmt;
-use peltzivar::error::{Sentence, Sink};
+use peltzivar::error::{Error, Sentence, Sink};
 
 /// Writes a text and a final 0 from the start of a buffer on, of the text as much as leaves room for the 0, and
 /// returns the length of the whole text.
@@ -20,13 +20,17 @@ pub fn write_text(text: &[u8], out: &mut [u8]) -> usize {
 /// Writes a sentence as [`write_text`] does.
 #[must_use]
 pub fn write_sentence(sentence: &Sentence, out: &mut [u8]) -> usize {
-    let mut whole = Text {
-        bytes: [0; ROOM],
-        len: 0,
-    };
+    let mut whole = Text::new();
     let _ = sentence.put_into(&mut whole);
-    let Text { bytes, len } = whole;
-    write_text(&bytes[..len], out)
+    whole.write_to(out)
+}
+
+/// Writes what `Display` prints of an error as [`write_text`] does.
+#[must_use]
+pub fn write_error(error: Error, out: &mut [u8]) -> usize {
+    let mut whole = Text::new();
+    let _ = error.put_into(&mut whole);
+    whole.write_to(out)
 }
 
 // More bytes than any sentence has.
@@ -36,6 +40,22 @@ const ROOM: usize = 256;
 struct Text {
     bytes: [u8; ROOM],
     len: usize,
+}
+
+impl Text {
+    // Returns an empty text.
+    fn new() -> Text {
+        Text {
+            bytes: [0; ROOM],
+            len: 0,
+        }
+    }
+
+    // Writes the text as `write_text` does.
+    fn write_to(self, out: &mut [u8]) -> usize {
+        let Text { bytes, len } = self;
+        write_text(&bytes[..len], out)
+    }
 }
 
 // It never fails.

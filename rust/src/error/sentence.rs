@@ -72,7 +72,7 @@ fn put_numbered<S: Sink>(out: &mut S, name: &str, byte: u8) -> fmt::Result {
 }
 
 // Puts `n` in decimal.
-fn put_decimal<S: Sink>(out: &mut S, n: usize) -> fmt::Result {
+pub(crate) fn put_decimal<S: Sink>(out: &mut S, n: usize) -> fmt::Result {
     let has_front = n >= 10;
     if has_front {
         put_decimal(out, n / 10)?;
