@@ -146,6 +146,29 @@ fn each_setter_of_bytes_writes_its_byte() {
 }
 
 #[test]
+fn each_edit_of_a_byte_packs_every_byte_at_its_bits() {
+    // Without flag 44 no digit separator is packed.
+    let new = NumberFormatBuilder::new().special_digit_separator(true);
+    let edits: [(u32, fn(u8) -> Edit); 7] = [
+        (64, |byte| Edit::DigitSeparator(NonZeroU8::new(byte))),
+        (88, |byte| Edit::BasePrefix(NonZeroU8::new(byte))),
+        (96, |byte| Edit::BaseSuffix(NonZeroU8::new(byte))),
+        (104, Edit::MantissaRadix),
+        (104, Edit::Radix),
+        (112, |byte| Edit::ExponentBase(NonZeroU8::new(byte))),
+        (120, |byte| Edit::ExponentRadix(NonZeroU8::new(byte))),
+    ];
+    for (shift, edit) in edits {
+        for byte in 0..=0xFF {
+            let others = 0x00000A00_00000000_00001000_0000000C & !(0xFF << shift);
+            let wanted = others | u128::from(byte) << shift;
+            let edit = edit(byte);
+            assert_eq!(apply(new, edit).build_unchecked(), wanted, "{edit:?}");
+        }
+    }
+}
+
+#[test]
 fn each_setter_of_a_byte_that_may_be_absent_clears_it() {
     let full = NumberFormatBuilder::rebuild(0x221C1068_7800005F_00000001_00000000);
     for (index, edit, builder) in [
