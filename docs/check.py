@@ -7,7 +7,7 @@
 - check_format.py compares FORMAT.md, check_header.py the header of C, and check_clauses.py the clauses in PROVED.md.
 - PROVED.md names each file of definitions, and DIFFERENCES.md each public name that the Rust crate does not have.
 - A format word outside of a block of code can be pasted: it has no `_`.
-- Flags, fields, rules, reserved bits and outcomes are as many as a page says.
+- Flags, fields, rules, reserved bits and outcomes are as many as a page says, and so are the rows of rust/erase's tables.
 - Each file of a folder must-fail/ is an edit. There are no fewer edits and tests than before.
 - No line of code or proof has over 160 columns, and at most 150 have over 120. No line of a page has, but those of
   tables and code.
@@ -17,6 +17,8 @@
 The last line counts the lines of the pages, the words of README, and transcripts (which the tests of numfmt, of rust/ and of c/
 run) and blocks of code (which are compared here).
 """
+import importlib.machinery
+import importlib.util
 import pathlib
 import re
 import sys
@@ -158,6 +160,18 @@ def layout():
         yield f"crates: {wide} lines of over 120 columns"
 
 
+def substituted(text):
+    """Returns whether the rows of rust/erase's tables are not as many as the page says."""
+    loader = importlib.machinery.SourceFileLoader("erase", str(TOP / "rust/erase"))
+    erase = importlib.util.module_from_spec(importlib.util.spec_from_loader("erase", loader))
+    loader.exec_module(erase)
+    counts = {"texts": len(erase.SUBSTITUTIONS + erase.EVERYWHERE), "items in place": len(erase.ITEMS)}
+    for name, count in counts.items():
+        number = re.search(rf"(\w+) {name}", text)[1]
+        if {"two": "2", **WORDS}.get(number, number) != str(count):
+            yield f"rust/erase has {count} {name}, not {number}"
+
+
 def readme(text):
     """Returns whether README is too long, and its rows of ratios that bench/README.md does not begin so."""
     if len(text.split()) > MOST_WORDS:
@@ -197,7 +211,7 @@ def main():
         if page.name == "PROVED.md":
             specs = {path.stem for path in (TOP / "crates").glob("*/specs/*.antt")} - {"Lib"}
             found += [f"has no `{name}` of specs/" for name in sorted(specs) if f"`{name}`" not in text]
-            found += check_clauses.clauses()
+            found += [*check_clauses.clauses(), *substituted(text)]
         if page == TOP / "README.md":
             found += readme(text)
         if page.name == "DIFFERENCES.md":

@@ -2,7 +2,8 @@
 
 A row stands on the functions that its first cell names in backquotes, as `name`, `Type::name` or `name` of `Type`, or by words
 of TOLD. Each clause that it names is one of theirs. A row of a crate also names each of theirs, and each named clause of a
-public function of the libraries is named by some row.
+public function of the libraries is named by some row. The public functions of the libraries that have premises, by
+`requires`, are those that the page names.
 """
 import pathlib
 import re
@@ -52,6 +53,22 @@ def functions():
                 clauses += re.findall(r"^ *ensures (\w+) \{", line)
 
 
+def premised():
+    """Returns the names of the public functions of the libraries with a `requires`, also those of a public trait."""
+    for library in LIBRARIES:
+        for path in sorted((TOP / "crates" / library / "src").rglob("*.rt")):
+            in_trait = False
+            for line in path.read_text().splitlines():
+                head = HEADER.match(line)
+                if head and head[1] != "fn":
+                    in_trait = "pub trait" in line
+                elif head:
+                    name = re.match(r" (\w+)", head[2])[1]
+                    is_public = in_trait or re.match(r" *pub (const )?fn", line)
+                elif re.match(r" *requires\b", line) and is_public:
+                    yield name
+
+
 def rows(page):
     """Returns (section, cells) of each row of the page's tables with a column of clauses."""
     for section in re.split(r"^## ", (TOP / "docs" / page).read_text(), flags=re.M)[1:]:
@@ -73,8 +90,17 @@ def named(cell, section, known):
     return [it for it in found if it[1] in types or it[2] not in owned]
 
 
+def premises():
+    """Returns the public functions with premises that the page does not name, and those without that it does."""
+    told = re.search(r"have premises, and no other:(.*?)\.", (TOP / "docs/PROVED.md").read_text(), re.S)[1]
+    told, known = set(re.findall(r"`(\w+)`", told)), set(premised())
+    yield from (f"public, and has premises: {name}" for name in sorted(known - told))
+    yield from (f"no public function that has premises: {name}" for name in sorted(told - known))
+
+
 def clauses():
     """Returns what differs."""
+    yield from premises()
     known, told, seen = list(functions()), set(), set()
     for section, cells in rows("PROVED.md"):
         calls, _, where = cells
