@@ -46,7 +46,7 @@ def functions():
                 names = re.findall(r"\w+", re.sub("<.*?>", "", head[2]).split(" for ")[-1])
                 owner, clauses = names[-1] if " for " in head[2] else names[0], None
             elif head:
-                clauses = [*output] if owner or "pub" in line else None
+                clauses = [*output] if owner or "pub " in line else None
                 if clauses is not None:
                     yield crate, owner or path.stem, re.match(r" (\w+)", head[2])[1], clauses
             elif clauses is not None:
