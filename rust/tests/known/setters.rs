@@ -145,11 +145,14 @@ fn each_setter_of_bytes_writes_its_byte() {
     }
 }
 
+/// The edit that writes a byte.
+type OfByte = fn(u8) -> Edit;
+
 #[test]
 fn each_edit_of_a_byte_packs_every_byte_at_its_bits() {
     // Without flag 44 no digit separator is packed.
     let new = NumberFormatBuilder::new().special_digit_separator(true);
-    let edits: [(u32, fn(u8) -> Edit); 7] = [
+    let edits: [(u32, OfByte); 7] = [
         (64, |byte| Edit::DigitSeparator(NonZeroU8::new(byte))),
         (88, |byte| Edit::BasePrefix(NonZeroU8::new(byte))),
         (96, |byte| Edit::BaseSuffix(NonZeroU8::new(byte))),
