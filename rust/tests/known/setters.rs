@@ -145,27 +145,23 @@ fn each_setter_of_bytes_writes_its_byte() {
     }
 }
 
-/// The edit that writes a byte.
-type OfByte = fn(u8) -> Edit;
-
 #[test]
 fn each_edit_of_a_byte_packs_every_byte_at_its_bits() {
     // Without flag 44 no digit separator is packed.
     let new = NumberFormatBuilder::new().special_digit_separator(true);
-    let edits: [(u32, OfByte); 7] = [
-        (64, |byte| Edit::DigitSeparator(NonZeroU8::new(byte))),
-        (88, |byte| Edit::BasePrefix(NonZeroU8::new(byte))),
-        (96, |byte| Edit::BaseSuffix(NonZeroU8::new(byte))),
-        (104, Edit::MantissaRadix),
-        (104, Edit::Radix),
-        (112, |byte| Edit::ExponentBase(NonZeroU8::new(byte))),
-        (120, |byte| Edit::ExponentRadix(NonZeroU8::new(byte))),
-    ];
-    for (shift, edit) in edits {
-        for byte in 0..=0xFF {
+    for byte in 0..=0xFF {
+        let option = NonZeroU8::new(byte);
+        for (shift, edit) in [
+            (64, Edit::DigitSeparator(option)),
+            (88, Edit::BasePrefix(option)),
+            (96, Edit::BaseSuffix(option)),
+            (104, Edit::MantissaRadix(byte)),
+            (104, Edit::Radix(byte)),
+            (112, Edit::ExponentBase(option)),
+            (120, Edit::ExponentRadix(option)),
+        ] {
             let others = 0x00000A00_00000000_00001000_0000000C & !(0xFF << shift);
             let wanted = others | u128::from(byte) << shift;
-            let edit = edit(byte);
             assert_eq!(apply(new, edit).build_unchecked(), wanted, "{edit:?}");
         }
     }
