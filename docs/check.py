@@ -34,7 +34,7 @@ SOURCES = [("crates", "*.rt"), ("crates", "*.antt"), ("rust", "*.rs"), ("rust", 
 LANGUAGES = ["rust", "antt", "c", "python", "toml"]
 LIBRARIES = ["lexical_base", "lexical_flags", "lexical_builder", "lexical_util"]
 # How many must-fail edits and tests there are at least.
-LEAST_EDITS, LEAST_TESTS = 92, 39
+LEAST_EDITS, LEAST_TESTS = 92, 77
 # How many words README has at most.
 MOST_WORDS = 800
 # What only the Rust crate has.
@@ -141,9 +141,10 @@ def not_run():
     edits = sorted((TOP / "crates").glob("*/must-fail/*"))
     others = (path for path in edits if path.suffix != ".edit")
     yield from (f"{path.relative_to(TOP)}: not tried, it does not end in .edit" for path in others)
-    tests = sum(path.read_text().count("#[test]\n") for path in files_of("crates", "*.rt"))
+    paths = [*files_of("crates", "*.rt"), *files_of("rust", "*.rs")]
+    tests = sum(path.read_text().count("#[test]\n") for path in paths)
     if len(edits) < LEAST_EDITS or tests < LEAST_TESTS:
-        yield f"crates: {len(edits)} must-fail edits and {tests} tests, fewer than before"
+        yield f"{len(edits)} must-fail edits and {tests} tests, fewer than before"
 
 
 def layout():

@@ -1,11 +1,11 @@
-"""What of docs/FORMAT.md differs from the tests in format_page.rt, from the setters, and from itself."""
+"""What of docs/FORMAT.md differs from the tests in rust/tests/known, from the setters, and from itself."""
 import pathlib
 import re
 
 CRATES = pathlib.Path(__file__).resolve().parent.parent / "crates"
 PAGE = (CRATES.parent / "docs/FORMAT.md").read_text()
-TESTS = " ".join((CRATES / "lexical_tests/src/format_page.rt").read_text().split())
-TESTS = TESTS.replace("( ", "(").replace(", )", ")")
+NAMES = ("main", "constants", "setters", "rules")
+TESTS = {name: (CRATES.parent / f"rust/tests/known/{name}.rs").read_text() for name in NAMES}
 SETTERS = (CRATES / "lexical_builder/src/format_builder/setters.rt").read_text()
 
 # The rows of the tables, with all columns: flags, groups, bytes, rules.
@@ -36,14 +36,17 @@ def bits_of(mask):
 
 def rows():
     """Returns the rows that the tables of the tests stand for, without their last columns."""
-    for bit, name, default in re.findall(r"(\d+) (\w+) (true|false) get_", TESTS):
-        yield f"| {bit} | `{name}` | {default} |"
-    for name, mask in re.findall(r'\(b"(\w+)", \w+, (0x\w+)\)', TESTS):
-        yield f"| `{name}` | {' '.join(map(str, bits_of(int(mask, 16))))} |"
-    for shift, name, default in re.findall(r'\((\d+), b"(\w+)", \d, (\d+)\)', TESTS):
-        yield f"| {shift} to {int(shift) + 7} | `{name}` | {default} |"
-    for rule, error, word in re.findall(r"\((\d+), Error::(\w+), (\w+)\)", TESTS):
-        yield f"| {rule} | .. | `{error}` | `{word.replace('_', '')}` |"
+    standard = int(re.search(r"\bSTANDARD\],\s+\[(0x\w+); 2\]", TESTS["constants"])[1], 16)
+    for bit, name in re.findall(r"(\d+) (\w+) [A-Z_]+ get_", TESTS["main"]):
+        yield f"| {bit} | `{name}` | {str(bool(standard >> int(bit) & 1)).lower()} |"
+    for name, bits in re.findall(r"^ +(\w+) (\d[\d ]*);$", TESTS["setters"], re.M):
+        yield f"| `{name}` | {bits} |"
+    for shift, name in re.findall(r"\(\d, (\d+), Edit::\w+\(\w+\), new\.(\w+)\(", TESTS["setters"]):
+        if name != "radix":
+            yield f"| {shift} to {int(shift) + 7} | `{name}` | {standard >> int(shift) & 255} |"
+    smallest = re.findall(r"(0x\w+) (Invalid\w+) \w+;", TESTS["rules"])[: len(RULES)]
+    for rule, (word, error) in enumerate(smallest, 1):
+        yield f"| {rule} | .. | `{error}` | `{word}` |"
 
 
 def counts():

@@ -1,26 +1,11 @@
-//! The tests of the four libraries and of `callers`, by public calls alone: values that come from
-//! outside, printed texts, and each public call once.
-//!
-//! They are a crate of their own so that no library is proved a second time with its tests.
+//! Tests of what no clause says, by public calls alone: the callers with values from outside, and the
+//! values that only Rattle has. Those of the libraries stand in `rust/tests`, which run in a second
+//! and need no proof.
 #![tactic(auto)]
 
 #[cfg(test)]
-mod ascii;
-#[cfg(test)]
-mod digit;
-#[cfg(test)]
-mod edits;
-#[cfg(test)]
-mod error;
-#[cfg(test)]
 mod example;
 #[cfg(test)]
-mod feature_format;
-#[cfg(test)]
-mod format_builder;
-#[cfg(test)]
-mod format_flags;
-#[cfg(test)]
-mod format_page;
-#[cfg(test)]
 mod proved_callers;
+#[cfg(test)]
+mod values;

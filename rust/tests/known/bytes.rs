@@ -62,6 +62,16 @@ fn every_other_byte_is_no_digit() {
     }
 }
 
+#[test]
+fn characters_and_values_need_not_be_digits_of_the_radix() {
+    for (c, radix, value) in [(b'/', 10, 255), (b'A', 10, 17), (b'A', 11, 10)] {
+        assert_eq!(char_to_valid_digit_const(c, radix), value, "{c} in {radix}");
+    }
+    for (value, radix, c) in [(11, 36, b'B'), (11, 10, b';'), (9, 36, b'9')] {
+        assert_eq!(digit_to_char_const(value, radix), c, "{value} in {radix}");
+    }
+}
+
 fn is_text(byte: u8) -> bool {
     matches!(byte, 9..=13 | b' '..=b'~')
 }

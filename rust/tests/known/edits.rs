@@ -6,7 +6,7 @@ use peltzivar::edits::{
 };
 use peltzivar::error::Error;
 use peltzivar::format_builder::{NonZeroU8, NumberFormatBuilder};
-use peltzivar::word::STANDARD;
+use peltzivar::word::{format_error, FLAG_MASK, STANDARD};
 
 const NORMAL: u128 = 0x0A0A0A00_00000000_00000000_0000000C;
 const UNUSED_SEPARATOR: u128 = 0x0A0A0A00_00000035_00000000_0000000C;
@@ -36,33 +36,91 @@ fn edits_are_applied_in_order() {
     }
 }
 
+const UNDERSCORE: Edit = Edit::DigitSeparator(NonZeroU8::new(b'_'));
+const INTERNAL: Edit = Edit::Flag(FlagSetter::IntegerInternalDigitSeparator, true);
+
 #[test]
-fn words_have_a_normal_form() {
-    for (word, normal, migrated) in [
-        (STANDARD, NORMAL, Ok(NORMAL)),
-        (UNUSED_SEPARATOR, NORMAL, Ok(NORMAL)),
-        (RESERVED_BIT, NORMAL, Ok(NORMAL)),
-        (NORMAL, NORMAL, Ok(NORMAL)),
-        (0x30, 0x30, Err(Error::InvalidMantissaRadix)),
-        (
-            0x02000200 << 96 | 0x8000_0030,
-            0x02020200 << 96 | 0x30,
-            Err(Error::InvalidMantissaSign),
-        ),
+#[rustfmt::skip]
+fn a_word_is_filled_then_edited_and_then_loses_an_unused_separator() {
+    let zero = 0x00000000_00000000_00000000_0000000C;
+    let underscore = 0x0A0A0A00_0000005F_00000000_0000000C;
+    let rows: [(u128, &[Edit], u128); 9] = [
+        (STANDARD, &[Edit::Radix(16)], 0x0A0A1000_00000000_00000000_0000000C),
+        (NORMAL, &[Edit::ExponentBase(None)], 0x0A000A00_00000000_00000000_0000000C),
+        (zero, &[Edit::MantissaRadix(8)], 0x00000800_00000000_00000000_0000000C),
+        (zero, &[Edit::Radix(16), UNDERSCORE, Edit::Flag(FlagSetter::IntegerDigitSeparatorFlags, true)],
+            0x00001000_0000005F_00000249_0000000C),
+        (STANDARD, &[Edit::MantissaRadix(16), UNDERSCORE, Edit::Flag(FlagSetter::InternalDigitSeparator, true)],
+            0x0A0A1000_0000005F_00000007_0000000C),
+        (underscore, &[INTERNAL], 0x0A0A0A00_0000005F_00000001_0000000C),
+        (normal_form(underscore), &[INTERNAL], 0x0A0A0A00_00000000_00000001_0000000C),
+        (NORMAL, &[UNDERSCORE, Edit::Flag(FlagSetter::DigitSeparatorFlags, true),
+            Edit::Flag(FlagSetter::DigitSeparatorFlags, false)], NORMAL),
+        (NORMAL, &[Edit::Flag(FlagSetter::RequiredDigits, false), Edit::Flag(FlagSetter::RequiredExponentDigits, true)],
+            0x0A0A0A00_00000000_00000000_00000004),
+    ];
+    for (word, edits, wanted) in rows {
+        assert_eq!(edit_word(word, edits), wanted, "{word:034X} {edits:?}");
+    }
+}
+
+#[test]
+fn of_ten_thousand_edits_the_last_counts() {
+    let radixes: Vec<Edit> = (0..10_000)
+        .map(|index| Edit::MantissaRadix((index % 256) as u8))
+        .collect();
+    let groups: Vec<Edit> = (0..10_000)
+        .map(|index| Edit::Flag(FlagSetter::DigitSeparatorFlags, index % 2 == 1))
+        .collect();
+    for (edits, wanted) in [
+        (&radixes[..], 0x0A0A0F00_00000000_00000000_0000000C),
+        (&groups[..], 0x0A0A0A00_00000000_00001FFF_0000000C),
+        (&groups[..9_999], NORMAL),
     ] {
-        assert_eq!(
-            (normal_form(word), migrate(word)),
-            (normal, migrated),
-            "{word:034X}"
-        );
-        assert!(
-            same_format(word, normal) && same_format(normal, word),
-            "{word:034X}"
-        );
-        assert!(
-            !same_format(word, HEXADECIMAL) && !same_format(word ^ 1, word),
-            "{word:034X}"
-        );
+        assert_eq!(edit_word(STANDARD, edits), wanted);
+    }
+}
+
+#[test]
+fn each_reserved_bit_is_dropped_by_the_normal_form() {
+    const ROOMS: u128 = FLAG_MASK | 0xFF << 64;
+    for mask in (0..88).map(|bit| 1 << bit).filter(|bit| ROOMS & bit == 0) {
+        let word = NORMAL | mask;
+        assert_eq!(format_error(word), Error::InvalidFlags, "{word:034X}");
+        assert_eq!(normal_form(word), NORMAL, "{word:034X}");
+    }
+}
+
+#[test]
+#[rustfmt::skip]
+fn words_have_a_normal_form() {
+    use Error::*;
+    for (word, normal, error) in [
+        (STANDARD, NORMAL, Success),
+        (UNUSED_SEPARATOR, NORMAL, Success),
+        (RESERVED_BIT, NORMAL, Success),
+        (NORMAL, NORMAL, Success),
+        (0x00000A00_00000000_00001FFF_0000000C, 0x0A0A0A00_00000000_00001FFF_0000000C, Success),
+        (0x00000A00_78000078_00000000_0000000C, 0x0A0A0A00_78000000_00000000_0000000C, Success),
+        (0x00000A00_78000058_00000000_0000000C, 0x0A0A0A00_78000000_00000000_0000000C, Success),
+        (0, 0, InvalidMantissaRadix),
+        (0x30, 0x30, InvalidMantissaRadix),
+        (u128::MAX, 0xFFFFFFFF_FF0000FF << 64 | FLAG_MASK, InvalidMantissaRadix),
+        (0x0A0A0000_00000000_00000000_0000000C, 0x0A0A0000_00000000_00000000_0000000C, InvalidMantissaRadix),
+        (0x0A0A0100_00000000_00000000_0000000C, 0x0A0A0100_00000000_00000000_0000000C, InvalidMantissaRadix),
+        (0x0AFF0A00_00000000_00000000_0000000C, 0x0AFF0A00_00000000_00000000_0000000C, InvalidExponentBase),
+        (0x00000A48_68000000_00000000_0000000C, 0x0A0A0A48_68000000_00000000_0000000C, InvalidPunctuation),
+        (0x24242424_24000024_00000000_0000000C, 0x24242424_24000000_00000000_0000000C, InvalidPunctuation),
+        (0x00000A00_00000035_00000000_0000404C, 0x0A0A0A00_00000000_00000000_0000404C, InvalidExponentFlags),
+        (0x02000200_00000000_00000000_80000030, 0x02020200_00000000_00000000_00000030, InvalidMantissaSign),
+        (0x00000A00_00000000_00000200_8000000C, 0x0A0A0A00_00000000_00000200_0000000C,
+            InvalidConsecutiveIntegerDigitSeparator),
+    ] {
+        let migrated = if error == Success { Ok(normal) } else { Err(error) };
+        assert_eq!((normal_form(word), migrate(word)), (normal, migrated), "{word:034X}");
+        assert_eq!(format_error(normal), error, "{word:034X}");
+        assert!(same_format(word, normal) && same_format(normal, word), "{word:034X}");
+        assert!(!same_format(word, HEXADECIMAL) && !same_format(word ^ 1, word), "{word:034X}");
     }
 }
 
@@ -109,7 +167,24 @@ fn a_word_is_listed_as_edits() {
             HEXADECIMAL
         );
     }
-    assert_eq!(edits_of(STANDARD).1, 0);
+    // Edits of a new builder, the first ones and all, make the word without its reserved bits and an unused separator.
+    for (word, wanted, count) in [
+        (STANDARD, STANDARD, 0),
+        (RESERVED_BIT, STANDARD, 0),
+        (NORMAL, NORMAL, 2),
+        (UNUSED_SEPARATOR, NORMAL, 3),
+        (0, 0, 3),
+        // All fields but the two flags of a new builder.
+        (u128::MAX, 0xFFFFFFFF_FF0000FF << 64 | FLAG_MASK, FIELDS - 2),
+    ] {
+        let (edits, needed) = edits_of(word);
+        assert_eq!(needed, count, "{word:034X}");
+        for list in [&edits[..], &edits[..needed]] {
+            let made = apply_all(NumberFormatBuilder::new(), list).build_unchecked();
+            assert_eq!(made, wanted, "{word:034X}");
+        }
+        assert_eq!(is_built(word), word == wanted, "{word:034X}");
+    }
     let filled = [
         Edit::ExponentBase(NonZeroU8::new(10)),
         Edit::ExponentRadix(NonZeroU8::new(10)),

@@ -63,8 +63,27 @@ fn each_index_is_printed_in_decimal() {
     let powers = (0..20).map(|exponent| 10_usize.pow(exponent));
     let near_powers = powers.flat_map(|power| [power - 1, power, power + 1]);
     for index in (0..10_000).chain(near_powers).chain([usize::MAX]) {
-        let text = format!("lexical parse error: 'invalid digit found' at index {index}");
-        assert_eq!(Error::InvalidDigit(index).to_string(), text);
+        for outcome in OUTCOMES.iter().filter(|outcome| outcome.holds_index) {
+            let text = format!(
+                "lexical parse error: {} at index {index}",
+                outcome.description
+            );
+            assert_eq!((outcome.at)(index).to_string(), text);
+        }
+    }
+}
+
+#[test]
+fn width_fill_and_precision_change_nothing() {
+    for outcome in &OUTCOMES {
+        let error = (outcome.at)(7);
+        let styled = [
+            format!("{error:80}"),
+            format!("{error:->080}"),
+            format!("{error:#^80}"),
+            format!("{error:+.3}"),
+        ];
+        assert_eq!(styled, [(); 4].map(|()| error.to_string()));
     }
 }
 

@@ -32,8 +32,8 @@ macro_rules! rows {
     };
 }
 
-/// A smallest word that breaks each of the 16 rules, and five more.
-fn rows() -> [Row; 21] {
+/// A smallest word that breaks each of the 16 rules, in their order, and more words.
+fn rows() -> [Row; 62] {
     rows! {
         0x00000000000000000000000000000000 InvalidMantissaRadix none;
         0x00010200000000000000000000000000 InvalidExponentBase none;
@@ -56,6 +56,51 @@ fn rows() -> [Row; 21] {
         0x0A0A1068780000FF0000000000000000 InvalidDigitSeparator is_valid_digit_separator;
         0x25240200000000000000000000000000 InvalidExponentRadix none;
         0x80000A0000000000000000000000000C InvalidExponentRadix none;
+        0x0A0A000000000000000000000000000C InvalidMantissaRadix none;
+        0x0A0A010000000000000000000000000C InvalidMantissaRadix none;
+        0x2525250000000000000000000000000C InvalidMantissaRadix none;
+        0xFFFFFF000000007E000000010000000C InvalidMantissaRadix none;
+        0x0A010A0000000000000000000000000C InvalidExponentBase none;
+        0x0AFF0A0000000000000000000000000C InvalidExponentBase none;
+        0x250A0A0000000000000000000000000C InvalidExponentRadix none;
+        // The separator `+`, and ones that are digits: of the exponent radix 16, and where no flag allows one.
+        0x00000A000000002B000000000000000C InvalidDigitSeparator is_valid_digit_separator;
+        0x10000A0000000061000000000000000C InvalidDigitSeparator is_valid_digit_separator;
+        0x0A0A0A0000000035000000000000000C InvalidDigitSeparator is_valid_digit_separator;
+        0x000002000000003500001FFF0000000C Success none;
+        0x000A02000000003500001FFF0000000C Success none;
+        0x00000A000000002000001FFF0000000C Success none;
+        0x00000A000000000000001FFF0000000C Success none;
+        0x00000A002D000000000000000000000C InvalidBasePrefix is_valid_base_prefix;
+        0x0A00100062000000000000000000000C InvalidBasePrefix is_valid_base_prefix;
+        0x00000A7F00000000000000000000000C InvalidBaseSuffix is_valid_base_suffix;
+        // The prefix `h` and the suffix `H`, the prefix `x` and the separator `X`, unless both are case-sensitive.
+        0x00000A4868000000000000000000000C InvalidPunctuation is_valid_punctuation;
+        0x00000A4868000000000000000001000C InvalidPunctuation is_valid_punctuation;
+        0x00000A4868000000000000000002000C InvalidPunctuation is_valid_punctuation;
+        0x00000A4868000000000000000003000C Success none;
+        0x00000A0078000058000000000000000C InvalidPunctuation is_valid_punctuation;
+        0x00000A0078000058000000000001000C Success none;
+        0x00000A0078000078000000000000000C InvalidPunctuation is_valid_punctuation;
+        0x2424242424000024000000000000000C InvalidPunctuation is_valid_punctuation;
+        // The prefix `@` and a backquote, which are no letters, but differ by the same bit as `h` and `H`.
+        0x00000A6040000000000000000000000C Success none;
+        0x00000A0000000000000000000000404C InvalidExponentFlags is_valid_exponent_flags;
+        0x00000A0000000000000000000000003C InvalidMantissaSign none;
+        0x00000A0000000000000000000000018C InvalidExponentSign none;
+        0x00000A00000000000000000000000C0C InvalidSpecial none;
+        0x00000A0000000000000010000000040C InvalidSpecial none;
+        0x00000A0000000000000002000000000C InvalidConsecutiveIntegerDigitSeparator none;
+        0x00000A0000000000000004000000000C InvalidConsecutiveFractionDigitSeparator none;
+        0x00000A0000000000000008000000000C InvalidConsecutiveExponentDigitSeparator none;
+        0x00000A0000000000000000008000000C InvalidFlags is_clean;
+        // The first of two rules.
+        0x00000A00000000000000000000004C4C InvalidExponentFlags is_valid_exponent_flags;
+        0x00000A00000000000000020000000C0C InvalidSpecial none;
+        0x2020200000000000000000000000000C Success none;
+        0x0A0A0A000000005F000000000000000C Success none;
+        0x0A0A0A0000000000000000000000000C Success none;
+        0x1010100000000000000000000000000C Success none;
     }
 }
 
@@ -228,6 +273,16 @@ fn exponent_character_and_decimal_point_have_bytes_of_their_own() {
         (WORD | 1 << 16, b'X', b'.', false),
         (WORD | 1 << 16, b'.', b'X', true),
         (0x0D000A00 << 96, b'c', b'.', false),
+        // Of radix 16 `e` is a digit; a separator that no flag allows has its byte all the same.
+        (0x10101000_00000000_00000000_0000000C, b'e', b'.', false),
+        (0x10101000_00000000_00000000_0000000C, b'^', b'.', true),
+        (0x0A0A0A00_0000005F_00000000_0000000C, b'_', b'.', false),
+        (0x0A0A0A00_0000005F_00000000_0000000C, b'e', b'.', true),
+        // The prefix `E`: not case-sensitive, case-sensitive, and the exponent too.
+        (0x00000A00_45000000_00000000_0000000C, b'e', b'.', false),
+        (0x00000A00_45000000_00000000_0001000C, b'e', b'.', false),
+        (0x00000A00_45000000_00000000_0001000C, b'.', b'e', true),
+        (0x00000A00_45000000_00000000_0001800C, b'e', b'.', true),
     ] {
         let accepted = [
             format::is_valid_options_punctuation(word, exponent, point),

@@ -214,6 +214,7 @@ fn the_words_of_common_radixes() {
             NumberFormatBuilder::from_radix(255),
             0xFFFFFF00_00000000_00000000_0000000C,
         ),
+        (NumberFormatBuilder::from_radix(0), 0xC),
         (NumberFormatBuilder::new().build_unchecked(), STANDARD),
     ] {
         assert_eq!(word, wanted);
@@ -253,6 +254,48 @@ fn a_builder_packs_with_and_without_a_check() {
         NumberFormatBuilder::new().radix(16).build_or_panic(),
         0x1000 << 96 | 0xC
     );
+}
+
+/// A new builder with the prefix `h` and a suffix.
+fn affixed(suffix: u8) -> NumberFormatBuilder {
+    NumberFormatBuilder::new()
+        .base_prefix(NonZeroU8::new(b'h'))
+        .base_suffix(NonZeroU8::new(suffix))
+}
+
+#[test]
+#[rustfmt::skip]
+fn the_last_setter_counts_and_only_lawful_words_pass() {
+    use Error::*;
+    let new = NumberFormatBuilder::new();
+    let separated = new.digit_separator(NonZeroU8::new(b'_'));
+    let fives = new.radix(2).digit_separator(NonZeroU8::new(b'5')).digit_separator_flags(true);
+    for (builder, word, error) in [
+        (new.radix(16), 0x00001000_00000000_00000000_0000000C, Success),
+        (separated.special_digit_separator(true), 0x00000A00_0000005F_00001000_0000000C, Success),
+        (separated.exponent_digit_separator_flags(true), 0x00000A00_0000005F_00000924_0000000C, Success),
+        (new.required_digits(true).required_exponent_digits(false), 0x00000A00_00000000_00000000_0000000B, Success),
+        (new.required_exponent_digits(false).required_digits(true), 0x00000A00_00000000_00000000_0000000F, Success),
+        (fives, 0x00000200_00000035_00001FFF_0000000C, Success),
+        (fives.exponent_base(NonZeroU8::new(10)), 0x000A0200_00000035_00001FFF_0000000C, Success),
+        // `h` and `H` are one letter, unless both count in their own case.
+        (affixed(b'h'), 0x00000A68_68000000_00000000_0000000C, InvalidPunctuation),
+        (affixed(b'H'), 0x00000A48_68000000_00000000_0000000C, InvalidPunctuation),
+        (affixed(b'H').case_sensitive_base_prefix(true).case_sensitive_base_suffix(true),
+            0x00000A48_68000000_00000000_0003000C, Success),
+        (new.integer_consecutive_digit_separator(true),
+            0x00000A00_00000000_00000200_0000000C, InvalidConsecutiveIntegerDigitSeparator),
+        (new.integer_consecutive_digit_separator(true).no_special(true).case_sensitive_special(true),
+            0x00000A00_00000000_00000200_00000C0C, InvalidSpecial),
+        (new.no_exponent_notation(true).no_special(true), 0x00000A00_00000000_00000000_0000044C, Success),
+        // A rebuilt builder keeps its exponent bytes under another radix, of which `e` is a digit.
+        (NumberFormatBuilder::rebuild(0x00000A00_00000065_00001FFF_0000000C).radix(16),
+            0x0A0A1000_00000065_00001FFF_0000000C, InvalidDigitSeparator),
+    ] {
+        let strict = if error == Success { Ok(word) } else { Err(error) };
+        assert_eq!([builder.build_unchecked(), builder.build()], [word; 2], "{word:034X}");
+        assert_eq!(builder.build_strict(), strict, "{word:034X}");
+    }
 }
 
 #[test]

@@ -124,6 +124,12 @@ fn bytes_and_radixes() {
         exponent_radix [226, 10, 17];
     }
     both_views! {
+        (0x0F00 << 96, 0x1000 << 96, 0x2400 << 96, 0xFF00 << 96)
+        radix2 [225, 256, 1296, 65_025];
+        radix4 [50_625, 65_536, 1_679_616, 4_228_250_625];
+        radix8 [2_562_890_625, 0, 3_611_361_280, 3_357_276_161];
+    }
+    both_views! {
         (0x01 << 64, 0x80 << 88, 0x10 << 96, !(0xFF << 64 | 0xFF << 88 | 0xFF << 96))
         has_digit_separator [true, false, false, false];
         has_base_prefix [false, true, false, false];
@@ -164,6 +170,8 @@ fn digits_are_of_the_larger_radix() {
     assert_eq!(digits!(0x02001000 << 96), "0123456789ABCDEFabcdef");
     assert_eq!(digits!(0x0C000200 << 96), "0123456789ABab");
     assert_eq!(digits!(0x02020200 << 96), "01");
+    let alphanumeric = "0123456789ABCDEFGHIJKLMNOPQRSTUVWXYZabcdefghijklmnopqrstuvwxyz";
+    assert_eq!(digits!(0x0A0AFF00 << 96), alphanumeric);
 }
 
 #[test]
