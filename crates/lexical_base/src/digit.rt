@@ -31,7 +31,6 @@ const VALUES: [u8; 256] = [
 
 // The value of `c`: 0 to 35 for a digit character, and 255 for any other byte.
 #[inline(always)]
-#[tactic(auto, using(crate::proofs::TableLemmas::table_entry))]
 const fn byte_value(c: u8) -> u32
     ensures { result ≡ value c }
 {
@@ -61,7 +60,6 @@ pub const fn char_to_valid_digit_const(c: u8, radix: u32) -> u32
 /// Any `radix` is allowed. From 36 to 255 all digit characters are digits; above 255 every other
 /// byte gives `Some(255)`.
 #[inline(always)]
-#[tactic(auto, using(crate::proofs::ValueLemmas::small_digit))]
 pub const fn char_to_digit_const(c: u8, radix: u32) -> Option<u32>
     ensures digit { result ≡ digit_of c radix }
     // a digit of a radix is the same digit of each larger one

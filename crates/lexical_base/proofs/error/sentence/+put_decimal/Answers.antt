@@ -22,3 +22,8 @@ returns-clause-text g t c =
           let only : (48 + n % 10) ∷ [] ≡ decimal n = rw small (sym (decimal_digit n w.if-has_front.false)) in
           rw only at (rw w.out-is at end)
     ]
+
+-- search proves this goal as well; given here so that the must-fail edit
+-- display_has_an_error_of_its_own.edit fails soon
+pub returns-clause-failed : goal.returns-clause-failed
+returns-clause-failed g t c = c.put.ensures.failed

@@ -1,0 +1,14 @@
+use Rattle.std.proofs.Common.{rules}
+use Rattle.lexical_base.proofs.OutcomeLemmas.{tied, turned}
+use Rattle.lexical_base.proofs.error.ErrorOrd.cmp.Goals as goal
+
+-- search proves this goal as well; given here so that the must-fail edit
+-- outcome_order_ignores_the_index.edit fails soon
+pub returns-in-Equal-clause-value : goal.returns-in-Equal-clause-value
+returns-in-Equal-clause-value c = search rules
+
+pub returns-in-Equal-clause-equal : goal.returns-in-Equal-clause-equal
+returns-in-Equal-clause-equal c = tied c.args.self.now c.args.other.now (returns-in-Equal-clause-value c)
+
+pub returns-in-Equal-clause-turned : goal.returns-in-Equal-clause-turned
+returns-in-Equal-clause-turned c = turned c.args.self.now c.args.other.now (returns-in-Equal-clause-value c)
