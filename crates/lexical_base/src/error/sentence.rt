@@ -41,7 +41,6 @@ impl Model for Sentence {
 
 impl Sentence {
     /// Puts the sentence into a sink. Fails only if the sink does.
-    #[tactic(auto, using(crate::proofs::SentenceLemmas::sentence_fits))]
     pub fn put_into<S: Sink>(&self, out: &mut S) -> Result<(), fmt::Error>
         ensures text { OnOk result (WritesInCalls S.takes out.old self.now out.new) }
         ensures failed { IsErr result → S.has_failed out.new }

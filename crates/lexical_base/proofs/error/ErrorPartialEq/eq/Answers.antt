@@ -1,12 +1,20 @@
-use Rattle.std.proofs.Common.{rules, tests}
+use Rattle.std.proofs.Common.{rules, tests, arith}
+use Rattle.std.proofs.lemmas.Grind.{common_steps}
 use Rattle.lexical_base.proofs.OutcomeLemmas.{same}
 use Rattle.lexical_base.proofs.error.ErrorPartialEq.eq.Goals as goal
 
-pub returns-then-rank-clause-equal : goal.returns-then-rank-clause-equal
-returns-then-rank-clause-equal c = (
-  λ equal. same c.args.self.now c.args.other.now (search rules) (search (tests, rules)),
-  λ is. search (tests, rules),
-)
+-- the check proves these goals as well, after a search through all pairs of outcomes
+pub returns-then-rank : goal.returns-then-rank
+returns-then-rank c = record {
+  value = grind (arith, common_steps);
+  equal = (
+    λ equal. same c.args.self.now c.args.other.now (search rules) (search (tests, rules)),
+    λ is. search (tests, rules),
+  );
+}
 
-pub returns-else-rank-clause-equal : goal.returns-else-rank-clause-equal
-returns-else-rank-clause-equal c = (λ equal. search rules, λ is. search rules)
+pub returns-else-rank : goal.returns-else-rank
+returns-else-rank c = record {
+  value = grind (arith, common_steps);
+  equal = (λ equal. search rules, λ is. search rules);
+}
