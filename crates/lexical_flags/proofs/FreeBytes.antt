@@ -1,12 +1,14 @@
 -- The radixes in which a byte is free, by a table of all bytes.
 use Rattle.std.proofs.Common.{◌≡◌, ℕ, ◌+◌, ◌<◌, ◌⊎◌, ◌↔◌, ◌==◌, ◌||◌, not, true, max, nat_lt, if◌then◌else◌, IsTrue}
 use Rattle.std.proofs.Common.{slice_index_or, eqb-true, refl, arith}
+use Rattle.std.proofs.Math.Nat.{mod-lt}
+use Rattle.std.proofs.lemmas.Nat.{pow_pos}
 use Rattle.std.proofs.lemmas.Bool.{agree_below_at}
 use Rattle.std.proofs.lemmas.Bool.Decides.{nat_tests}
 use Rattle.lexical_base.specs.Ascii.{allowed_ascii}
 use Rattle.lexical_base.specs.Digits.{value}
 use Rattle.lexical_base.proofs.ValueLemmas.{value-cases}
-use Rattle.lexical_flags.specs.Record.{Record, effective_exponent_radix}
+use Rattle.lexical_flags.specs.Record.{Record, raw, effective_exponent_radix}
 use Rattle.lexical_flags.specs.Roles.{signs}
 use Rattle.lexical_flags.specs.Rules.{IsFree, IsPunctuation}
 use Rattle.lexical_flags.specs.declared.format_flags.rules.TheConstants.{LIMITS}
@@ -25,11 +27,12 @@ limit_entry byte below = eqb-true _ _ (agree_below_at (λ b. slice_index_or LIMI
     (λ _. true) 256 byte refl below)
 
 -- a byte is free exactly if the larger radix is below its limit
-pub free_below_limit : (r : Record) (byte : ℕ) → byte < 256 → r.mantissa_radix < 256
-    → effective_exponent_radix r < 256 →
+pub free_below_limit : (word byte : ℕ) → byte < 256 → let r : Record = raw word in
     IsTrue (nat_lt (max r.mantissa_radix (effective_exponent_radix r)) (slice_index_or LIMITS byte 0)) ↔ IsFree r byte
 unfolding IsPunctuation limit
-free_below_limit r byte fits mantissa_fits exponent_fits =
+free_below_limit word byte fits =
     let entry : slice_index_or LIMITS byte 0 ≡ limit byte = limit_entry byte fits in
     let cases : (value byte < 36) ⊎ (value byte ≡ 255) = value-cases byte fits in
+    let mantissa_fits : (raw word).mantissa_radix < 256 = mod-lt _ (pow_pos 8) in
+    let exponent_fits : (raw word).exponent_radix < 256 = mod-lt _ (pow_pos 8) in
     rw entry (grind (arith, nat_tests))

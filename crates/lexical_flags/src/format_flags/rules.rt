@@ -61,7 +61,7 @@ pub const fn is_digit(format: u128, byte: u8) -> bool
 
 // Whether a byte is absent, or text that is no digit and no sign.
 #[inline(always)]
-#[tactic(auto, using(crate::proofs::FreeBytes::free_below_limit))]
+#[tactic(auto)]
 const fn is_free(format: u128, byte: u8) -> bool
     ensures { IsTrue result ↔ IsFree (raw format) byte }
 {
@@ -79,7 +79,7 @@ const fn is_punctuation(format: u128, byte: u8) -> bool
 
 // Whether two bytes are the two cases of one letter.
 #[inline(always)]
-#[tactic(auto, using(crate::proofs::CaseLemmas::flipped))]
+#[tactic(auto)]
 const fn are_cases(a: u8, b: u8) -> bool
     ensures { IsTrue result ↔ (IsTrue (letters a) × (b ≡ other_case a)) }
 {
@@ -281,7 +281,7 @@ const fn is_apart_from_own(format: u128, byte: u8, case_counts: bool) -> bool
 /// assert!(!is_valid_options_punctuation(STANDARD, b'.', b'.')); // one byte for both
 /// ```
 #[inline(always)]
-#[tactic(auto, using(crate::proofs::OptionLemmas::accepted_roles, crate::proofs::OptionLemmas::room_from_lawful))]
+#[tactic(auto)]
 pub const fn is_valid_options_punctuation(format: u128, exponent: u8, decimal_point: u8) -> bool
     ensures accepted { IsTrue result ↔ AreAccepted format exponent decimal_point }
     // In a lawful format this is all that it takes for each byte to play at most one role.

@@ -1,7 +1,13 @@
-use Rattle.lexical_flags.proofs.CaseLemmas.{cases_apart}
+use Rattle.std.proofs.Common.{rules}
+use Rattle.lexical_flags.proofs.CaseLemmas.{same_clash, cases_apart}
 use Rattle.lexical_flags.proofs.format_flags.rules.are_disjoint.Goals as goal
 
 pub returns-else-not-are_cases : goal.returns-else-not-are_cases
 returns-else-not-are_cases c =
     let same_letter = c.are_cases.ensures.0 c.if-not-are_cases.false in
     cases_apart c.args.a c.args.a_case_counts c.args.b c.args.b_case_counts c.if-a-b.true same_letter.0 same_letter.1
+
+-- search proves this goal as well; given here so that the must-fail edit
+-- two_absent_bytes_clash.edit fails soon
+pub returns-else-a-b : goal.returns-else-a-b
+returns-else-a-b c = search (rules, same_clash)

@@ -1,7 +1,8 @@
-use Rattle.std.proofs.Common.{not, ap}
+use Rattle.std.proofs.Common.{◌↔◌, IsTrue, true, not, ap, rules}
 use Rattle.std.proofs.Math.Nat.{mod-lt}
 use Rattle.std.proofs.lemmas.Nat.{pow_pos}
 use Rattle.lexical_flags.specs.Record.{raw}
+use Rattle.lexical_flags.specs.Roles.{Disjoint, cased}
 use Rattle.lexical_flags.specs.Rules.{Holds}
 use Rattle.lexical_flags.proofs.CaseLemmas.{own_roles_apart}
 use Rattle.lexical_flags.proofs.format_flags.rules.is_valid_punctuation.Goals as goal
@@ -14,3 +15,19 @@ returns-then-not-is_near c =
     (mod-lt _ (pow_pos 8)) (mod-lt _ (pow_pos 8))
     c.are_near.ensures c.are_near-2.ensures c.are_near-3.ensures c.if-not-is_near.true in
     (λ _. apart, λ _. ap not c.if-not-is_near.true)
+
+-- search proves these goals as well; given here so that the must-fail edit
+-- punctuation_ignores_the_case_flags.edit fails soon
+pub returns-then-are_disjoint-2 : goal.returns-then-are_disjoint-2
+unfolding Holds
+returns-then-are_disjoint-2 c =
+    let first : IsTrue c.are_disjoint.result ↔ Disjoint (cased true c.digit_separator-separator.result)
+    (cased c.prefix_case_counts-prefix_case.result c.base_prefix-prefix.result) = c.are_disjoint.ensures in
+    search rules
+
+pub returns-else-are_disjoint-2 : goal.returns-else-are_disjoint-2
+unfolding Holds
+returns-else-are_disjoint-2 c =
+    let first : IsTrue c.are_disjoint.result ↔ Disjoint (cased true c.digit_separator-separator.result)
+    (cased c.prefix_case_counts-prefix_case.result c.base_prefix-prefix.result) = c.are_disjoint.ensures in
+    search rules
