@@ -367,7 +367,6 @@ const fn bits_if(condition: bool, bits: u32) -> u32
 
 // The digit separator, or 0 if none of these flags of a format word allows one.
 #[inline(always)]
-#[tactic(auto, using(lexical_flags::proofs::FlagBits::separator_flag_set, lexical_flags::proofs::FlagBits::no_separator_flag_set))]
 const fn used_separator(flags: u128, separator: u8) -> u8
     ensures { result ≡ (if separator_on (raw flags) then separator else 0) }
 {
