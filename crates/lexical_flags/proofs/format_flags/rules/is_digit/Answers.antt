@@ -1,0 +1,6 @@
+-- without this a search takes a second
+use Rattle.std.proofs.Common.{rules}
+use Rattle.lexical_flags.proofs.format_flags.rules.is_digit.Goals as goal
+
+pub returns : goal.returns
+returns c = search rules
