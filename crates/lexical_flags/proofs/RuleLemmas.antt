@@ -1,5 +1,5 @@
 -- A word is lawful exactly if it keeps every rule, and has one error.
-use Rattle.std.proofs.Common.{◌≡◌, ℕ, ◌≢◌, ◌↔◌, inl, inr, Bool, true, IsTrue, List, [], ◌∷◌, Option, sym, ap, ◌∙◌}
+use Rattle.std.proofs.Common.{◌≡◌, ℕ, ◌≢◌, ◌↔◌, inl, inr, Bool, true, IsTrue, List, [], ◌∷◌, ◌++◌, Option, sym, ap, ◌∙◌}
 use Rattle.std.proofs.Common.{subst, arith}
 use Rattle.std.specs.List.{AllByRecursion}
 use Rattle.std.proofs.lemmas.Bool.{cases_eq}
@@ -159,6 +159,14 @@ IsFirstError-unique word (rule ∷ rules) a b h k = OrElse-unique (IsFirstError-
 pub IsErrorOf-unique : (word : ℕ) (a b : Error) → IsErrorOf word a → IsErrorOf word b → a ≡ b
 unfolding IsErrorOf
 IsErrorOf-unique word = IsFirstError-unique word rules_in_order
+
+-- the error of the rules in front is that of all
+pub first_in_front : (word : ℕ) (error : Error) → error ≢ Success → (front rest : List Rule)
+    → IsFirstError front word error → IsFirstError (front ++ rest) word error
+first_in_front word error some [] rest h = absurd (some h)
+first_in_front word error some (rule ∷ front) rest (inl broken) = inl broken
+first_in_front word error some (rule ∷ front) rest (inr kept) =
+    inr (kept.0, first_in_front word error some front rest kept.1)
 
 -- words that keep the same rules have the same error
 IsFirstError-same : (v w : ℕ) → ((rule : Rule) → Holds rule v ↔ Holds rule w) → (rules : List Rule) (error : Error)

@@ -1,9 +1,11 @@
-use Rattle.std.proofs.Common.{rules}
-use Rattle.lexical_flags.specs.Rules.{IsErrorOf}
+use Rattle.std.proofs.Common.{◌++◌, rules}
+use Rattle.lexical_flags.specs.Rules.{IsErrorOf, radix_rules, punctuation_rules, flag_rules, reserved_rules}
+use Rattle.lexical_flags.proofs.RuleLemmas.{first_in_front}
 use Rattle.lexical_flags.proofs.format_flags.rules.first_broken.Goals as goal
 
 -- search proves this goal as well; given here so that the must-fail edit
 -- reserved_bits_are_looked_at_first.edit fails soon
 pub returns-in_default : goal.returns-in_default
 unfolding IsErrorOf
-returns-in_default c = search rules
+returns-in_default c = first_in_front c.args.format _ (search rules) radix_rules
+    (punctuation_rules ++ flag_rules ++ reserved_rules) (search rules)
