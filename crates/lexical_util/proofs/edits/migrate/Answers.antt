@@ -8,11 +8,18 @@ if_ok : (P : ℕ → Type 0) (r : Result ℕ Error) (Q : Type 0) (word : ℕ) �
 if_ok P (Ok kept) Q word (_, is) h = subst P (sym is) h
 if_ok P (Err error) Q word _ h = tt
 
-pub returns-clause-fields : goal.returns-clause-fields
-returns-clause-fields c = if_ok _ _ _ _ c.check.ensures.lawful c.normal_form.ensures.fields
-
-pub returns-clause-normal : goal.returns-clause-normal
-returns-clause-normal c = if_ok _ _ _ _ c.check.ensures.lawful c.normal_form.ensures.normal
-
-pub returns-clause-same : goal.returns-clause-same
-returns-clause-same c = if_ok _ _ _ _ c.check.ensures.lawful c.normal_form.ensures.same
+-- search proves four of these clauses as well; given here so that the must-fail edits
+-- migrate_*.edit fail soon
+pub returns : goal.returns
+returns c =
+    let form = c.normal_form.ensures in
+    let checked = c.check.ensures in
+    rw (sym form.word) (record {
+      lawful = checked.lawful;
+      fields = if_ok _ _ _ _ checked.lawful form.fields;
+      normal = if_ok _ _ _ _ checked.lawful form.normal;
+      same = if_ok _ _ _ _ checked.lawful form.same;
+      error = checked.error;
+      not_success = checked.not_success;
+      not_flags = checked.clean form.clean;
+    })
