@@ -14,7 +14,6 @@ use lexical_flags::format_flags as flags;
 
 /// Returns whether `build_unchecked` can return this word: its reserved bits are 0, and it has a digit
 /// separator only if a flag allows one somewhere.
-#[tactic(auto, using(crate::proofs::ImageLemmas::built_by_writes))]
 pub const fn is_built(format: u128) -> bool
     ensures rule { IsTrue result ↔ IsBuilt format }
 

@@ -1,4 +1,4 @@
-use Rattle.std.proofs.Common.{ap, ◌%◌, ◌^◌, ◌*◌, ◌∙◌}
+use Rattle.std.proofs.Common.{ap, ◌%◌, ◌^◌}
 use Rattle.lexical_util.proofs.ViewLemmas.{eighth_power}
 use Rattle.lexical_util.proofs.feature_format.NumberFormat.radix8.Goals as goal
 
