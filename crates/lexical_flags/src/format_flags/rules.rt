@@ -325,7 +325,8 @@ pub const fn options_error(format: u128, exponent: u8, decimal_point: u8) -> Err
 pub const fn is_valid_exponent_flags(format: u128) -> bool
     ensures { IsTrue result ↔ Holds rules.ExponentFlagsAgree format }
 {
-    format & NO_EXPONENT_NOTATION == 0 || format & REQUIRED_EXPONENT_NOTATION == 0
+    let both = NO_EXPONENT_NOTATION | REQUIRED_EXPONENT_NOTATION;
+    format & both != both
 }
 
 // Not both NO_POSITIVE_MANTISSA_SIGN and REQUIRED_MANTISSA_SIGN.
@@ -333,7 +334,8 @@ pub const fn is_valid_exponent_flags(format: u128) -> bool
 pub(crate) const fn is_valid_mantissa_sign_flags(format: u128) -> bool
     ensures { IsTrue result ↔ Holds rules.MantissaSignFlagsAgree format }
 {
-    format & NO_POSITIVE_MANTISSA_SIGN == 0 || format & REQUIRED_MANTISSA_SIGN == 0
+    let both = NO_POSITIVE_MANTISSA_SIGN | REQUIRED_MANTISSA_SIGN;
+    format & both != both
 }
 
 // Not both NO_POSITIVE_EXPONENT_SIGN and REQUIRED_EXPONENT_SIGN.
@@ -341,7 +343,8 @@ pub(crate) const fn is_valid_mantissa_sign_flags(format: u128) -> bool
 pub(crate) const fn is_valid_exponent_sign_flags(format: u128) -> bool
     ensures { IsTrue result ↔ Holds rules.ExponentSignFlagsAgree format }
 {
-    format & NO_POSITIVE_EXPONENT_SIGN == 0 || format & REQUIRED_EXPONENT_SIGN == 0
+    let both = NO_POSITIVE_EXPONENT_SIGN | REQUIRED_EXPONENT_SIGN;
+    format & both != both
 }
 
 // Not both NO_SPECIAL and CASE_SENSITIVE_SPECIAL.
@@ -349,7 +352,8 @@ pub(crate) const fn is_valid_exponent_sign_flags(format: u128) -> bool
 pub(crate) const fn is_valid_special_case_flags(format: u128) -> bool
     ensures { IsTrue result ↔ Holds rules.SpecialCaseFlagsAgree format }
 {
-    format & NO_SPECIAL == 0 || format & CASE_SENSITIVE_SPECIAL == 0
+    let both = NO_SPECIAL | CASE_SENSITIVE_SPECIAL;
+    format & both != both
 }
 
 // Not both NO_SPECIAL and SPECIAL_DIGIT_SEPARATOR.
@@ -357,7 +361,8 @@ pub(crate) const fn is_valid_special_case_flags(format: u128) -> bool
 pub(crate) const fn is_valid_special_separator_flags(format: u128) -> bool
     ensures { IsTrue result ↔ Holds rules.SpecialSeparatorFlagsAgree format }
 {
-    format & NO_SPECIAL == 0 || format & SPECIAL_DIGIT_SEPARATOR == 0
+    let both = NO_SPECIAL | SPECIAL_DIGIT_SEPARATOR;
+    format & both != both
 }
 
 // Not INTEGER_CONSECUTIVE_DIGIT_SEPARATOR alone among the four separator flags of the integer.
