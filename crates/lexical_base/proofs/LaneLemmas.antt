@@ -93,22 +93,22 @@ module _ (first second : ℕ × ℕ) (ranges : AreRanges first second) where
 
   -- all lanes
   abbrev distances : ℕ → ℕ → List ℕ → List ℕ
-  distances n kept bytes =
-      let cleared = zip2 bit_and bytes (replicate n kept) in
+  distances n mask bytes =
+      let cleared = zip2 bit_and bytes (replicate n mask) in
       minima (sums (zip2 minus cleared (replicate n first.0)) (replicate n longer))
       (zip2 minus cleared (replicate n second.0))
 
-  pub joined_lanes : (kept : ℕ) (largest bytes : List ℕ) → length largest ≡ length bytes → Each1 (Fits w8) bytes
-      → list_all (λ lane. nat_le lane last) (maxima largest (distances (length bytes) kept bytes))
-      ≡ (list_all (λ lane. nat_le lane last) largest && list_all (in_either kept first second) bytes)
-  joined_lanes kept [] [] same fits = refl
-  joined_lanes kept [] (byte ∷ bytes) same fits = absurd (omega (arith, same))
-  joined_lanes kept (lane ∷ largest) [] same fits = absurd (omega (arith, same))
-  joined_lanes kept (lane ∷ largest) (byte ∷ bytes) same fits =
-      ap₂ (λ p q. p && q) (joined_lane lane (bit_and byte kept) (omega (arith, and_le_l byte kept, fits.0.fits)))
-      (joined_lanes kept largest bytes (omega (arith, same)) fits.1)
-      ∙ and_swap (nat_le lane last) (in_either kept first second byte) (list_all (λ lane. nat_le lane last) largest)
-      (list_all (in_either kept first second) bytes)
+  pub joined_lanes : (mask : ℕ) (largest bytes : List ℕ) → length largest ≡ length bytes → Each1 (Fits w8) bytes
+      → list_all (λ lane. nat_le lane last) (maxima largest (distances (length bytes) mask bytes))
+      ≡ (list_all (λ lane. nat_le lane last) largest && list_all (in_either mask first second) bytes)
+  joined_lanes mask [] [] same fits = refl
+  joined_lanes mask [] (byte ∷ bytes) same fits = absurd (omega (arith, same))
+  joined_lanes mask (lane ∷ largest) [] same fits = absurd (omega (arith, same))
+  joined_lanes mask (lane ∷ largest) (byte ∷ bytes) same fits =
+      ap₂ (λ p q. p && q) (joined_lane lane (bit_and byte mask) (omega (arith, and_le_l byte mask, fits.0.fits)))
+      (joined_lanes mask largest bytes (omega (arith, same)) fits.1)
+      ∙ and_swap (nat_le lane last) (in_either mask first second byte) (list_all (λ lane. nat_le lane last) largest)
+      (list_all (in_either mask first second) bytes)
 
 -- before the first chunk no lane is above a number
 pub none_joined : (last n : ℕ) → list_all (λ lane. nat_le lane last) (replicate n 0) ≡ true

@@ -9,11 +9,11 @@ ByteSet = ℕ → Bool
 abbrev pub between : ℕ → ℕ → ByteSet
 between low high byte = nat_le low byte && nat_le byte high
 
--- the bytes that are in one of two ranges, each given by its lowest and its highest byte, once the bits that `kept` lacks
+-- the bytes that are in one of two ranges, each given by its lowest and its highest byte, once the bits that `mask` lacks
 -- are cleared
 abbrev pub in_either : ℕ → ℕ × ℕ → ℕ × ℕ → ByteSet
-in_either kept first second byte =
-    between first.0 first.1 (bit_and byte kept) || between second.0 second.1 (bit_and byte kept)
+in_either mask first second byte =
+    between first.0 first.1 (bit_and byte mask) || between second.0 second.1 (bit_and byte mask)
 
 -- two ranges of bytes, of which the second is at least as long as the first, and is not all bytes
 pub record AreRanges (first second : ℕ × ℕ) : Type 0 where

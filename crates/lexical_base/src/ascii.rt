@@ -40,16 +40,16 @@ pub fn is_valid_letter_slice(slc: &[u8]) -> bool
 }
 
 // Whether every byte of `bytes` is in one of two ranges, each given by its lowest and highest byte,
-// once the bits that `kept` lacks are cleared.
+// once the bits that `mask` lacks are cleared.
 //
 // It looks at 32 bytes at a time, and then at the rest, fewer than 32.
 #[inline(always)]
-fn all_in_either(bytes: &[u8], kept: u8, first: (u8, u8), second: (u8, u8)) -> bool
+fn all_in_either(bytes: &[u8], mask: u8, first: (u8, u8), second: (u8, u8)) -> bool
     requires { AreRanges first second }
-    ensures { IsTrue result ↔ AllPass (in_either kept first second) bytes.now }
+    ensures { IsTrue result ↔ AllPass (in_either mask first second) bytes.now }
 {
     let (chunks, rest) = bytes.as_chunks::<32>();
-    chunks_in_either(chunks, kept, first, second) & few_in_either(rest, kept, first, second)
+    chunks_in_either(chunks, mask, first, second) & few_in_either(rest, mask, first, second)
 }
 
 // Whether every byte of chunks, few or many, is in one of the ranges.
@@ -57,35 +57,35 @@ fn all_in_either(bytes: &[u8], kept: u8, first: (u8, u8), second: (u8, u8)) -> b
 // It takes blocks of 16, one after another, and stops at the first that fails. A test after each chunk
 // would take as long as all else.
 #[inline(always)]
-fn chunks_in_either(chunks: &[[u8; 32]], kept: u8, first: (u8, u8), second: (u8, u8)) -> bool
+fn chunks_in_either(chunks: &[[u8; 32]], mask: u8, first: (u8, u8), second: (u8, u8)) -> bool
     requires { AreRanges first second }
-    ensures { result ≡ list_all (list_all (in_either kept first second)) chunks.now }
+    ensures { result ≡ list_all (list_all (in_either mask first second)) chunks.now }
 {
     let (blocks, rest) = chunks.as_chunks::<16>();
     for block in blocks {
-        if !block_in_either(block, kept, first, second) {
+        if !block_in_either(block, mask, first, second) {
             return false;
         }
     }
-    block_in_either(rest, kept, first, second)
+    block_in_either(rest, mask, first, second)
 }
 
 // Whether every byte of a few chunks of `N` bytes is in one of the ranges, with one test after the last.
 #[inline(always)]
 fn block_in_either<const N: usize>(
     block: &[[u8; N]],
-    kept: u8,
+    mask: u8,
     first: (u8, u8),
     second: (u8, u8),
 ) -> bool
     requires narrow { N ≤ 64 }
     requires ranges { AreRanges first second }
-    ensures { result ≡ list_all (list_all (in_either kept first second)) block.now }
+    ensures { result ≡ list_all (list_all (in_either mask first second)) block.now }
 {
     let last = second.1 - second.0;
     let mut largest = Simd::<u8, N>::splat(0);
     for chunk in block {
-        largest = joined(largest, Simd::from_array(*chunk), kept, first, second);
+        largest = joined(largest, Simd::from_array(*chunk), mask, first, second);
     }
     !largest.simd_gt(Simd::splat(last)).any()
 }
@@ -100,17 +100,17 @@ fn block_in_either<const N: usize>(
 fn joined<const N: usize>(
     largest: Simd<u8, N>,
     lanes: Simd<u8, N>,
-    kept: u8,
+    mask: u8,
     first: (u8, u8),
     second: (u8, u8),
 ) -> Simd<u8, N>
     requires { AreRanges first second }
     ensures { list_all (λ lane. nat_le lane (second.1 - second.0)) result
         ≡ (list_all (λ lane. nat_le lane (second.1 - second.0)) largest.entry
-        && list_all (in_either kept first second) lanes.entry) }
+        && list_all (in_either mask first second) lanes.entry) }
 {
     let longer = (second.1 - second.0) - (first.1 - first.0);
-    let bytes = lanes & Simd::splat(kept);
+    let bytes = lanes & Simd::splat(mask);
     let from_first = (bytes - Simd::splat(first.0)).saturating_add(Simd::splat(longer));
     let from_second = bytes - Simd::splat(second.0);
     largest.simd_max(from_first.simd_min(from_second))
@@ -119,23 +119,23 @@ fn joined<const N: usize>(
 // Whether every one of fewer than 32 bytes is in one of the ranges: 16 are tested at once, if there are
 // as many, and the others one by one.
 #[inline(always)]
-fn few_in_either(bytes: &[u8], kept: u8, first: (u8, u8), second: (u8, u8)) -> bool
+fn few_in_either(bytes: &[u8], mask: u8, first: (u8, u8), second: (u8, u8)) -> bool
     requires { AreRanges first second }
-    ensures { result ≡ list_all (in_either kept first second) bytes.now }
+    ensures { result ≡ list_all (in_either mask first second) bytes.now }
 {
     let (halves, rest) = bytes.as_chunks::<16>();
-    block_in_either(halves, kept, first, second) & bytes_in_either(rest, kept, first, second)
+    block_in_either(halves, mask, first, second) & bytes_in_either(rest, mask, first, second)
 }
 
 // Whether every one of a few bytes is in one of the ranges. It looks at all of them, with one test
 // after the last.
 #[inline(always)]
-fn bytes_in_either(bytes: &[u8], kept: u8, first: (u8, u8), second: (u8, u8)) -> bool
-    ensures { result ≡ list_all (in_either kept first second) bytes.now }
+fn bytes_in_either(bytes: &[u8], mask: u8, first: (u8, u8), second: (u8, u8)) -> bool
+    ensures { result ≡ list_all (in_either mask first second) bytes.now }
 {
     let mut all = true;
     for byte in bytes {
-        let c = *byte & kept;
+        let c = *byte & mask;
         all &= (c >= first.0 && c <= first.1) || (c >= second.0 && c <= second.1);
     }
     all

@@ -5,6 +5,6 @@ use Rattle.lexical_base.proofs.ascii.all_in_either.Goals as goal
 
 pub returns : goal.returns
 returns c =
-    let passes = in_either c.args.kept c.args.first c.args.second in
+    let passes = in_either c.args.mask c.args.first c.args.second in
     tells_all passes c.args.bytes.now (chunks_and_rest passes 32 (length c.args.bytes.now / 32) c.args.bytes.now
     c.as_chunks.ensures.front c.as_chunks.ensures.back c.chunks_in_either.ensures c.few_in_either.ensures)

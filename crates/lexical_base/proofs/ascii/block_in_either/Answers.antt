@@ -11,7 +11,7 @@ loop-chunk-init g c = none_joined (c.args.second.1 - c.args.second.0) g.row.N
 
 pub loop-chunk-preserved : goal.loop-chunk-preserved
 loop-chunk-preserved g c =
-    let passes = list_all (in_either c.args.kept c.args.first c.args.second) in
+    let passes = list_all (in_either c.args.mask c.args.first c.args.second) in
     c.joined-largest.ensures ∙ ap₂ (λ p q. p && q) c.loop-chunk.invariant (ap passes c.chunk-item.is)
     ∙ sym (list_all_more passes c.args.block.now c.loop-chunk.chunk-index c.chunk-item.result c.loop-chunk-test.true)
 
@@ -19,4 +19,4 @@ pub returns : goal.returns
 returns g c =
     none_above (c.args.second.1 - c.args.second.0) g.row.N c.loop-chunk.largest c.loop-chunk.auto.largest.0
     c.requires.narrow ∙ c.loop-chunk.invariant
-    ∙ ap (list_all (list_all (in_either c.args.kept c.args.first c.args.second))) (take_all _ _ c.loop-chunk-test.false)
+    ∙ ap (list_all (list_all (in_either c.args.mask c.args.first c.args.second))) (take_all _ _ c.loop-chunk-test.false)

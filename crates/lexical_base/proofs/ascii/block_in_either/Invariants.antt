@@ -6,4 +6,4 @@ use Rattle.lexical_base.proofs.ascii.block_in_either.Given as goal
 
 abbrev pub invariant-loop-chunk : goal.invariant-loop-chunk
 invariant-loop-chunk g l = list_all (λ lane. nat_le lane l.last) l.largest
-    ≡ list_all (list_all (in_either l.kept l.first l.second)) (take l.chunk-index l.block)
+    ≡ list_all (list_all (in_either l.mask l.first l.second)) (take l.chunk-index l.block)

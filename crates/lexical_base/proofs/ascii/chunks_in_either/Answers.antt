@@ -8,7 +8,7 @@ use Rattle.lexical_base.proofs.ascii.chunks_in_either.Goals as goal
 
 pub returns-then-not-block_in_either : goal.returns-then-not-block_in_either
 returns-then-not-block_in_either c =
-    let passes = list_all (in_either c.args.kept c.args.first c.args.second) in
+    let passes = list_all (in_either c.args.mask c.args.first c.args.second) in
     chunks_and_rest passes 16 (length c.args.chunks.now / 16) c.args.chunks.now
     c.as_chunks.ensures.front c.as_chunks.ensures.back
     (sym (list_all_at (list_all passes) c.as_chunks.result.0.now c.loop-block.block-index [] c.loop-block-test.true
@@ -16,7 +16,7 @@ returns-then-not-block_in_either c =
 
 pub returns : goal.returns
 returns c =
-    let passes = list_all (in_either c.args.kept c.args.first c.args.second) in
+    let passes = list_all (in_either c.args.mask c.args.first c.args.second) in
     chunks_and_rest passes 16 (length c.args.chunks.now / 16) c.args.chunks.now
     c.as_chunks.ensures.front c.as_chunks.ensures.back
     (sym c.loop-block.invariant ∙ ap (list_all (list_all passes)) (take_all _ _ c.loop-block-test.false))

@@ -5,4 +5,4 @@ use Rattle.lexical_base.proofs.ascii.chunks_in_either.Given as goal
 
 abbrev pub invariant-loop-block : goal.invariant-loop-block
 invariant-loop-block l =
-    list_all (list_all (list_all (in_either l.kept l.first l.second))) (take l.block-index l.blocks) ≡ true
+    list_all (list_all (list_all (in_either l.mask l.first l.second))) (take l.block-index l.blocks) ≡ true
