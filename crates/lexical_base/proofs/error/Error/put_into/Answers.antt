@@ -30,7 +30,9 @@ returns-in_ok-put-in-Parse-3 g c =
           (first takes r _ _ _ _ _ _ refl c.in_ok-put-in-Parse-2.ensures.taken
           (first takes r _ _ _ _ _ _ refl c.in_ok-put-in-Parse-3.ensures.taken c.put_decimal.ensures.text));
       failed = c.put_decimal.ensures.failed;
-      short = on_ok_weaker r (λ _. omega (arith, whole, length-append D (at ++ digits), few c.held_index.result, c.description.ensures.short)) c.put_decimal.ensures.text;
+      short = on_ok_weaker r
+          (λ _. omega (arith, whole, length-append D (at ++ digits), few c.held_index.result, c.description.ensures.short))
+          c.put_decimal.ensures.text;
     }
 
 pub returns-in_ok-put-in-Format-clause-text : goal.returns-in_ok-put-in-Format-clause-text
