@@ -107,9 +107,8 @@ fn may_stand(format: u128, text: &[u8], index: usize) -> bool
 fn is_neighbour(format: u128, byte: u8) -> bool
     ensures { result ≡ is_neighbour (raw format) byte }
 {
-    digit_value(format, byte).is_some()
-        || NumberFormat::new(format).integer_consecutive_digit_separator()
-            && is_separator(format, byte)
+    let in_a_row = NumberFormat::new(format).integer_consecutive_digit_separator();
+    digit_value(format, byte).is_some() || in_a_row && is_separator(format, byte)
 }
 
 // The byte at `index`, 0 if there is none.
