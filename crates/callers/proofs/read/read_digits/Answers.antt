@@ -15,6 +15,10 @@ returns-then-not-is_skipped-clause-refusal c =
     (false_from_ne_true _ c.in_default.ensures) (sym c.is_skipped.ensures ∙ c.if-not-is_skipped.true)
     c.loop-index.invariant
 
+pub returns-then-not-is_skipped-clause-number : goal.returns-then-not-is_skipped-clause-number
+returns-then-not-is_skipped-clause-number c = no_numeral c.args.format c.args.text.now
+    (errors.InvalidDigit c.loop-index.index) c.requires (returns-then-not-is_skipped-clause-refusal c)
+
 pub returns-then-not-is_skipped-clause-only : goal.returns-then-not-is_skipped-clause-only
 returns-then-not-is_skipped-clause-only c error refused =
     ap Err (IsRefusal-unique c.args.format c.args.text.now c.requires _ error
