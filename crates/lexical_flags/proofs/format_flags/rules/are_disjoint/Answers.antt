@@ -1,4 +1,4 @@
-use Rattle.std.proofs.Common.{rules}
+use Rattle.std.proofs.Common.{◌≢◌, rules}
 use Rattle.lexical_flags.proofs.CaseLemmas.{same_clash, cases_apart}
 use Rattle.lexical_flags.proofs.format_flags.rules.are_disjoint.Goals as goal
 
@@ -10,4 +10,4 @@ returns-else-not-are_cases c =
 -- search proves this goal as well; given here so that the must-fail edit
 -- two_absent_bytes_clash.edit fails soon
 pub returns-else-a-b : goal.returns-else-a-b
-returns-else-a-b c = search (rules, same_clash)
+returns-else-a-b c = let some : c.args.a ≢ 0 = search rules in search (rules, same_clash)
