@@ -19,7 +19,7 @@ pub const REASONS: usize = 3;
 pub const UNUSED: usize = 4;
 
 /// Why a word breaks a rule. A byte is given as the edit that writes it.
-#[derive(Debug, Clone, Copy, PartialEq, Eq, Hash)]
+#[derive(Debug, Clone, Copy, PartialEq, Eq)]
 pub enum Reason {
     /// A radix or a base is not 2 to 36. An exponent base or exponent radix of 0 has the value of the
     /// mantissa radix.
@@ -42,7 +42,7 @@ pub enum Reason {
 }
 
 /// A setting that has no effect.
-#[derive(Debug, Clone, Copy, PartialEq, Eq, Hash)]
+#[derive(Debug, Clone, Copy, PartialEq, Eq)]
 pub enum Unused {
     /// A digit separator that no flag allows anywhere. The normal form does not have it.
     NotAllowed(Edit),
@@ -218,7 +218,7 @@ const fn unused_beside(format: u128, separator: u8) -> [Option<Unused>; UNUSED] 
 }
 
 // Whether a flag allows a digit separator somewhere.
-const fn is_separator_allowed(format: u128) -> bool {
+pub(crate) const fn is_separator_allowed(format: u128) -> bool {
     format & flags::DIGIT_SEPARATOR_FLAG_MASK != 0
 }
 

@@ -119,8 +119,6 @@ normal_without_separator v w off fields =
     ∙ ap (λ n. word_of (record (fill (raw v)) { digit_separator = n }))
     (cond-false (separator_on (raw v)) 0 0 off ∙ sym (cond-false (separator_on (raw v)) _ 0 off))
 
-pub ruleset clearing = (without_prefix, without_suffix, normal_without_separator)
-
 -- nothing is said exactly if no case holds
 none_said : (cases : List (Case Reason)) → (filter_map said cases ≡ []) ↔ AllByRecursion (λ c. IsFalse c.0) cases
 none_said [] = (λ h. tt, λ h. refl)

@@ -207,15 +207,7 @@ impl FlagSetter {
     pub const fn name(self) -> &'static str
         ensures { result.now ≡ setter_name self }
     {
-        macro_rules! name_of {
-            (($setter:ident) { $($Flag:ident $flag:ident;)* } { $($Group:ident $group:ident;)* }) => {
-                match $setter {
-                    $(FlagSetter::$Flag => stringify!($flag),)*
-                    $(FlagSetter::$Group => stringify!($group),)*
-                }
-            };
-        }
-        with_setters!(name_of(self))
+        SETTER_NAMES[self as usize]
     }
 
     /// Returns the setter of this name, or `None` if no setter of flags has it.

@@ -28,7 +28,7 @@ pub const REASONS: usize = 3;
 pub const UNUSED: usize = 4;
 
 /// Why a word breaks a rule. A byte is given as the edit that writes it.
-#[derive(Debug, Clone, Copy, PartialEq, Eq, Hash)]
+#[derive(Debug, Clone, Copy, PartialEq, Eq)]
 pub enum Reason {
     /// A radix or a base is not 2 to 36. An exponent base or exponent radix of 0 has the value of the
     /// mantissa radix.
@@ -51,7 +51,7 @@ pub enum Reason {
 }
 
 /// A setting that has no effect.
-#[derive(Debug, Clone, Copy, PartialEq, Eq, Hash)]
+#[derive(Debug, Clone, Copy, PartialEq, Eq)]
 pub enum Unused {
     /// A digit separator that no flag allows anywhere. The normal form does not have it.
     NotAllowed(Edit),
@@ -197,7 +197,6 @@ const fn said<T: Copy>(holds: bool, what: T) -> Option<T>
 
 /// Returns the settings of a word that have no effect, and else `None`. They are no errors: a lawful word
 /// may have them.
-#[tactic(auto, using(crate::proofs::ReasonLemmas::clearing))]
 pub const fn unused_settings(format: u128) -> [Option<Unused>; UNUSED]
     ensures each { result ≡ map said (unused_cases (raw format)) }
 
@@ -255,7 +254,7 @@ const fn unused_beside(format: u128, separator: u8) -> [Option<Unused>; UNUSED]
 
 // Whether a flag allows a digit separator somewhere.
 #[tactic(auto, using(lexical_flags::proofs::FlagBits::separator_flag_set, lexical_flags::proofs::FlagBits::no_separator_flag_set))]
-const fn is_separator_allowed(format: u128) -> bool
+pub(crate) const fn is_separator_allowed(format: u128) -> bool
     ensures { result ≡ separator_on (raw format) }
 {
     format & flags::DIGIT_SEPARATOR_FLAG_MASK != 0

@@ -5,6 +5,7 @@
 use crate::edits::{Edit, FlagSetter, FIELDS};
 use crate::format_builder::NonZeroU8;
 use crate::format_flags as flags;
+use crate::reasons::is_separator_allowed;
 use crate::view::FormatView;
 
 /// Returns whether `build_unchecked` can return this word: its reserved bits are 0, and it has a digit
@@ -27,7 +28,7 @@ pub const fn is_built(format: u128) -> bool {
 
 // Whether there is no digit separator, or a flag that allows one.
 const fn is_separator_used(format: u128) -> bool {
-    flags::digit_separator(format) == 0 || format & flags::DIGIT_SEPARATOR_FLAG_MASK != 0
+    flags::digit_separator(format) == 0 || is_separator_allowed(format)
 }
 
 /// Returns the setter calls that make `format` from a new builder, and how many of them are needed.

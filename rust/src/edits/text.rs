@@ -10,7 +10,7 @@ use crate::numeral::read_numeral;
 use core::fmt;
 
 /// Why a name and a value are no setting.
-#[derive(Debug, Clone, Copy, PartialEq, Eq, Hash)]
+#[derive(Debug, Clone, Copy, PartialEq, Eq)]
 pub enum SettingError {
     /// No setter has the name.
     UnknownName,
@@ -22,17 +22,13 @@ pub enum SettingError {
 
 impl fmt::Display for SettingError {
     fn fmt(&self, f: &mut fmt::Formatter<'_>) -> fmt::Result {
-        match self {
-            SettingError::UnknownName => write!(f, "no setting has this name"),
-            SettingError::BadValue => write!(
-                f,
+        f.write_str(match self {
+            SettingError::UnknownName => "no setting has this name",
+            SettingError::BadValue => {
                 "a flag takes `true` or `false`, and a byte a decimal number, or `none` where it may be absent"
-            ),
-            SettingError::OutOfRange => write!(
-                f,
-                "the number must be 0 to 255, in at most 3 digits"
-            ),
-        }
+            }
+            SettingError::OutOfRange => "the number must be 0 to 255, in at most 3 digits",
+        })
     }
 }
 

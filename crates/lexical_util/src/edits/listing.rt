@@ -9,6 +9,7 @@ ghost use Rattle.lexical_util.specs.Listing.{field_edits, changes_new, changing,
 
 use crate::edits::{Edit, FIELDS, FlagSetter};
 use crate::feature_format::NumberFormat;
+use crate::reasons::is_separator_allowed;
 use lexical_builder::format_builder::NonZeroU8;
 use lexical_flags::format_flags as flags;
 
@@ -24,11 +25,10 @@ pub const fn is_built(format: u128) -> bool
 }
 
 // Whether there is no digit separator, or a flag that allows one.
-#[tactic(auto, using(lexical_flags::proofs::FlagBits::separator_flag_set, lexical_flags::proofs::FlagBits::no_separator_flag_set))]
 const fn is_separator_used(format: u128) -> bool
     ensures { IsTrue result ↔ SeparatorIsUsed (raw format) }
 {
-    flags::digit_separator(format) == 0 || format & flags::DIGIT_SEPARATOR_FLAG_MASK != 0
+    flags::digit_separator(format) == 0 || is_separator_allowed(format)
 }
 
 /// Returns the setter calls that make `format` from a new builder, and how many of them are needed.
