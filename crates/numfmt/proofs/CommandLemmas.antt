@@ -1,12 +1,14 @@
 -- A request has one response.
-use Rattle.std.proofs.Common.{◌≡◌, ◌↔◌, ℕ, Bool, true, false, IsTrue, Ok, Err, refl, sym, ap, ◌∙◌}
+use Rattle.std.proofs.Common.{◌≡◌, ◌↔◌, ◌≤◌, ◌-◌, ℕ, List, ◌∷◌, length, get_or, map, take, drop}
+use Rattle.std.proofs.Common.{Bool, true, false, IsTrue, Ok, Err, refl, sym, ap, ◌∙◌}
 use Rattle.lexical_util.specs.declared.error.Error.{Error}
 use Rattle.lexical_util.specs.Rules.{IsErrorOf}
 use Rattle.numfmt.specs.declared.response.Answer.{Answer}
 use Rattle.numfmt.specs.declared.response.Answer.TheVariants as answers
 use Rattle.numfmt.specs.Response.{Response}
-use Rattle.numfmt.specs.Command.{Command, Answers, Request, Responds}
+use Rattle.numfmt.specs.Command.{Command, Answers, Request, Responds, request_of}
 use Rattle.numfmt.specs.Command as commands
+use Rattle.numfmt.proofs.ItemLemmas.{map-first}
 
 -- a word has one error
 abbrev pub HasOneError : Type 0
@@ -50,3 +52,9 @@ one_response one (Err refusal) a b h h' = h ∙ sym h'
 one_response one (Ok command) (Ok a) (Ok b) h h' = ap Ok (one_answer one command a b h h')
 one_response one (Ok command) (Err a) b h h' = absurd h
 one_response one (Ok command) (Ok a) (Err b) h h' = absurd h'
+
+-- the first item is the name of a command, and the others are its arguments
+pub by_name : {X : Type 0} (f : X → List ℕ) (xs : List X) (x : X) (name : List ℕ) (r : Response) → 1 ≤ length xs
+    → x ≡ get_or xs 0 x → f x ≡ name → Responds (request_of (name ∷ map f (take (length xs - 1) (drop 1 xs)))) r
+    → Responds (request_of (map f xs)) r
+by_name f xs x name r some is named h = rw (map-first f xs x some is, named) h

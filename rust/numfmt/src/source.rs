@@ -14,19 +14,18 @@ use std::io;
 /// After an error nothing is known of what was written.
 pub fn write_source<W: Output>(word: u128, out: &mut W) -> io::Result<()> {
     let (edits, count) = edits_of(word);
-    out.write_all(b"NumberFormatBuilder::new()")?;
+    out.write_all("NumberFormatBuilder::new()".as_bytes())?;
     for edit in &edits[..count] {
         write_call(*edit, out)?;
     }
-    out.write_all(b".build_unchecked()")
+    out.write_all(".build_unchecked()".as_bytes())
 }
 
 // Writes the setter call that an edit stands for.
 fn write_call<W: Output>(edit: Edit, out: &mut W) -> io::Result<()> {
     let name = edit.name();
     match &edit {
-        Edit::Flag(_, true) => write!(out, ".{name}(true)"),
-        Edit::Flag(_, false) => write!(out, ".{name}(false)"),
+        Edit::Flag(_, value) => write!(out, ".{name}({value})"),
         Edit::MantissaRadix(radix) | Edit::Radix(radix) => write!(out, ".{name}({radix})"),
         Edit::DigitSeparator(byte)
         | Edit::BasePrefix(byte)
