@@ -104,10 +104,13 @@ fn migrate_word(args: &[String]) -> Result<Answer, Refusal>
     ensures { Responds (one_word commands.migrate (map string_bytes args.now)) result }
 {
     match args {
-        [word] => match migrate(parse_word(word)?) {
-            Ok(normal_form) => Ok(Answer::Word(normal_form)),
-            Err(error) => Ok(Answer::Outcome(error)),
-        },
+        [word] => {
+            let word = parse_word(word)?;
+            match migrate(word) {
+                Ok(normal_form) => Ok(Answer::Word(normal_form)),
+                Err(error) => Ok(Answer::Outcome(error)),
+            }
+        }
         _ => Err(Refusal::WrongNumberOfArguments),
     }
 }

@@ -90,10 +90,13 @@ fn options(args: &[String]) -> Result<Answer, Refusal> {
 // `migrate WORD`
 fn migrate_word(args: &[String]) -> Result<Answer, Refusal> {
     match args {
-        [word] => match migrate(parse_word(word)?) {
-            Ok(normal_form) => Ok(Answer::Word(normal_form)),
-            Err(error) => Ok(Answer::Outcome(error)),
-        },
+        [word] => {
+            let word = parse_word(word)?;
+            match migrate(word) {
+                Ok(normal_form) => Ok(Answer::Word(normal_form)),
+                Err(error) => Ok(Answer::Outcome(error)),
+            }
+        }
         _ => Err(Refusal::WrongNumberOfArguments),
     }
 }
