@@ -1,7 +1,8 @@
 -- The word comes first, and then the texts of the edits.
-use Rattle.std.proofs.Common.{◌≡◌, ◌-◌, true, string_bytes, drop, length, map, nat_le, take, ap, arith}
+use Rattle.std.proofs.Common.{◌≡◌, ◌-◌, ℕ, Some, true, rules, string_bytes, drop, length, map, nat_le, take, ap, arith}
 use Rattle.std.proofs.lemmas.Bool.{le-leb}
 use Rattle.std.proofs.lemmas.List.{length-map}
+use Rattle.numfmt.specs.WordText.{word_in}
 use Rattle.numfmt.specs.declared.response.Answer.TheVariants.{Word}
 use Rattle.numfmt.proofs.ItemLemmas.{map-first}
 use Rattle.numfmt.proofs.command.edit.Goals as goal
@@ -19,3 +20,14 @@ returns c =
       ← c.in_ok-format.ensures.word,
       edits,
     ) (ap Word c.edit_word.ensures.word)
+
+-- search proves this goal as well; given here so that the must-fail edit
+-- edits_are_read_before_the_word.edit fails soon
+pub returns-in_err-ok_or : goal.returns-in_err-ok_or
+returns-in_err-ok_or c =
+    let (word, read) : (word : ℕ) × (Some word ≡ word_in (string_bytes c.word-item.result)) = search rules in
+    let args = c.args.args.now in
+    let texts = take (length args - 1) (drop 1 args) in
+    let few : nat_le (length (map string_bytes texts)) 64 ≡ true =
+    le-leb _ _ (omega (arith, length-map texts string_bytes)) in
+    rw (map-first string_bytes args _ (omega arith) c.word-item.is, few, ← read) (search rules)
