@@ -1,6 +1,6 @@
 -- A piece fits into its room, so a sentence is short.
-use Rattle.std.proofs.Common.{◌≡◌, ℕ, zero, suc, ◌+◌, ◌/◌, ◌%◌, ◌≤◌, ◌<◌, ◌==◌, Bool, true, false, if◌then◌else◌, List, ◌∷◌, [], ◌++◌}
-use Rattle.std.proofs.Common.{length, codes, length-append, arith}
+use Rattle.std.proofs.Common.{◌≡◌, ℕ, zero, suc, ◌+◌, ◌/◌, ◌%◌, ◌≤◌, ◌<◌, ◌==◌, Bool, true, false, if◌then◌else◌, List}
+use Rattle.std.proofs.Common.{◌∷◌, [], ◌++◌, length, codes, length-append, arith}
 use Rattle.std.specs.Fmt.{decimal, digits, digits_onto, digit_glyph}
 use Rattle.lexical_base.specs.Ascii.{between}
 use Rattle.lexical_base.specs.Sentences.{piece_text, room, numbered}
@@ -34,7 +34,8 @@ piece_fits (pieces.Numbered name byte) = numbered_fits name.now byte
 piece_fits (pieces.Shown name byte) = chosen (between 33 126 byte) _ _ _
     (omega (arith, length-append name.now (codes " '" ++ byte ∷ codes "'"))) (numbered_fits name.now byte)
 
-pub sentence_fits : (a b c d : Piece) {text : List ℕ} → piece_text a ++ piece_text b ++ piece_text c ++ piece_text d ≡ text
+pub sentence_fits : (a b c d : Piece) {text : List ℕ}
+    → piece_text a ++ piece_text b ++ piece_text c ++ piece_text d ≡ text
     → room a + room b + room c + room d < 256 → length text < 256
 sentence_fits a b c d is fits =
     rw (← is) (omega (

@@ -1,4 +1,4 @@
-use Rattle.std.proofs.Common.{◌≡◌, ◌++◌, codes, length, refl, sym, ap, ◌∙◌, arith, length-append, append_assoc}
+use Rattle.std.proofs.Common.{◌≡◌, ◌<◌, ◌++◌, codes, length, refl, sym, ap, ◌∙◌, arith, length-append, append_assoc}
 use Rattle.std.specs.Fmt.{decimal}
 use Rattle.std.proofs.lemmas.Result.{on_ok_weaker}
 use Rattle.lexical_base.specs.declared.error.Error.{Error}
@@ -23,6 +23,8 @@ returns-in_ok-put-in-Parse-3 g c =
     sym (append_assoc start D (at ++ digits)) ∙ sym (append_assoc (start ++ D) at digits)
     ∙ rw (c.description.ensures.text, c.held_index.ensures) (in_class c.args.self.now c.class.ensures c.in-Parse.is) in
     let whole : length (start ++ (D ++ (at ++ digits))) ≡ length (printed_text c.args.self.now) = ap length text in
+    let fits : length (printed_text c.args.self.now) < 256 =
+    omega (arith, whole, length-append D (at ++ digits), few c.held_index.result, c.description.ensures.short) in
     let takes = g.S.Sink.takes in
     let r = c.put_decimal.result in
     record {
@@ -30,14 +32,13 @@ returns-in_ok-put-in-Parse-3 g c =
           (first takes r _ _ _ _ _ _ refl c.in_ok-put-in-Parse-2.ensures.taken
           (first takes r _ _ _ _ _ _ refl c.in_ok-put-in-Parse-3.ensures.taken c.put_decimal.ensures.text));
       failed = c.put_decimal.ensures.failed;
-      short = on_ok_weaker r
-          (λ _. omega (arith, whole, length-append D (at ++ digits), few c.held_index.result, c.description.ensures.short))
-          c.put_decimal.ensures.text;
+      short = on_ok_weaker r (λ _. fits) c.put_decimal.ensures.text;
     }
 
 pub returns-in_ok-put-in-Format-clause-text : goal.returns-in_ok-put-in-Format-clause-text
 returns-in_ok-put-in-Format-clause-text g c =
-    let text : codes "lexical number format error: " ++ c.description-in-Format.result.now ≡ printed_text c.args.self.now =
+    let text : codes "lexical number format error: " ++ c.description-in-Format.result.now
+    ≡ printed_text c.args.self.now =
     rw c.description-in-Format.ensures.text (in_class c.args.self.now c.class.ensures c.in-Format.is) in
     let end = c.put-in-Format-2 in
     first g.S.Sink.takes end.result _ _ _ _ _ _ text c.in_ok-put-in-Format.ensures.taken
