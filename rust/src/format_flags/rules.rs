@@ -277,36 +277,31 @@ pub const fn options_error(format: u128, exponent: u8, decimal_point: u8) -> Err
 #[must_use]
 #[inline(always)]
 pub const fn is_valid_exponent_flags(format: u128) -> bool {
-    let both = NO_EXPONENT_NOTATION | REQUIRED_EXPONENT_NOTATION;
-    format & both != both
+    format & NO_EXPONENT_NOTATION == 0 || format & REQUIRED_EXPONENT_NOTATION == 0
 }
 
 // Not both NO_POSITIVE_MANTISSA_SIGN and REQUIRED_MANTISSA_SIGN.
 #[inline(always)]
 pub(crate) const fn is_valid_mantissa_sign_flags(format: u128) -> bool {
-    let both = NO_POSITIVE_MANTISSA_SIGN | REQUIRED_MANTISSA_SIGN;
-    format & both != both
+    format & NO_POSITIVE_MANTISSA_SIGN == 0 || format & REQUIRED_MANTISSA_SIGN == 0
 }
 
 // Not both NO_POSITIVE_EXPONENT_SIGN and REQUIRED_EXPONENT_SIGN.
 #[inline(always)]
 pub(crate) const fn is_valid_exponent_sign_flags(format: u128) -> bool {
-    let both = NO_POSITIVE_EXPONENT_SIGN | REQUIRED_EXPONENT_SIGN;
-    format & both != both
+    format & NO_POSITIVE_EXPONENT_SIGN == 0 || format & REQUIRED_EXPONENT_SIGN == 0
 }
 
 // Not both NO_SPECIAL and CASE_SENSITIVE_SPECIAL.
 #[inline(always)]
 pub(crate) const fn is_valid_special_case_flags(format: u128) -> bool {
-    let both = NO_SPECIAL | CASE_SENSITIVE_SPECIAL;
-    format & both != both
+    format & NO_SPECIAL == 0 || format & CASE_SENSITIVE_SPECIAL == 0
 }
 
 // Not both NO_SPECIAL and SPECIAL_DIGIT_SEPARATOR.
 #[inline(always)]
 pub(crate) const fn is_valid_special_separator_flags(format: u128) -> bool {
-    let both = NO_SPECIAL | SPECIAL_DIGIT_SEPARATOR;
-    format & both != both
+    format & NO_SPECIAL == 0 || format & SPECIAL_DIGIT_SEPARATOR == 0
 }
 
 // Not INTEGER_CONSECUTIVE_DIGIT_SEPARATOR alone among the four separator flags of the integer.
