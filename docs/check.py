@@ -14,8 +14,8 @@
 - No proof reaches a fact by two positions.
 - README has at most 800 words, and its ratios of time are those of bench/README.md.
 
-The last line counts the lines of the pages, the words of README, and transcripts (which the tests of numfmt, of rust/ and of c/
-run) and blocks of code (which are compared here).
+The last line counts the lines of the pages, the words of README, and transcripts (which the tests of numfmt, of rust/ and
+of c/ run, but for lines `$ cc ..`) and blocks of code (which are compared here).
 """
 import importlib.machinery
 import importlib.util

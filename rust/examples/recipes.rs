@@ -16,7 +16,7 @@ const RUST_HEX_INTEGER: u128 = NumberFormatBuilder::new()
     .no_positive_mantissa_sign(true) // refuses `+0x1F`
     .build_or_panic();
 
-/// JSON's numbers (RFC 8259).
+/// JSON's numbers.
 const JSON: u128 = NumberFormatBuilder::new()
     .required_digits(true) // refuses `.5`, `1.`, `1e` and `.`
     .no_positive_mantissa_sign(true) // refuses `+1`

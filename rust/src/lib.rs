@@ -2,7 +2,8 @@
 //! and edited.
 //!
 //! A format is for parsers and writers of numbers. It is a [`u128`], the *format word*, so it can be a const argument. A
-//! word that breaks no rule is *lawful*: each radix is 2 to 36, no two flags contradict, and no byte has two meanings.
+//! word that breaks no rule is *lawful*: each radix is 2 to 36, no two flags contradict, each byte is text with one
+//! meaning, and no reserved bit is set.
 //!
 //! ```
 //! use core::num::NonZeroU8;
@@ -55,8 +56,8 @@
 //! # What is proved
 //!
 //! The library is written in Rattle, Rust with contracts, and a prover has accepted every function. `rust/erase` in the
-//! repository leaves out what only the prover reads; the rest are these files, word for word, which begin with `Made by`.
-//! Written by hand are `format`, `feature_format`, `{:?}` of builders and views, and lanes of bytes in place of
+//! repository leaves out what only the prover reads; the rest, but for a few imports and derives, are the files that
+//! begin with `Made by`. Written by hand are `format`, `feature_format`, `{:?}` of builders and views, and lanes of bytes in place of
 //! `std::simd`. Nothing is proved when you build this crate: you trust the eraser and `rustc`.
 #![no_std]
 #![forbid(unsafe_code)]

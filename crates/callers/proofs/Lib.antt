@@ -1,2 +1,2 @@
-pub mod ReadLemmas
-pub mod RoleLemmas
+mod ReadLemmas
+mod RoleLemmas

@@ -1,5 +1,5 @@
-//! `numfmt` shows, edits, compares, checks and migrates number formats, and writes them as Rust code: the program of
-//! `crates/numfmt`, whose other files `rust/erase` makes. `crates/numfmt/src/main.rt` has its commands.
+//! `numfmt` shows, edits, compares, checks, explains and migrates number formats, and writes them as Rust code: the
+//! program of `crates/numfmt`, whose other files `rust/erase` makes. `crates/numfmt/src/main.rt` has its commands.
 //!
 //! Two statuses differ from those of the proved program, since std decides them: without memory this one aborts, and a
 //! closed output is `/dev/null`.

@@ -260,6 +260,12 @@ pub const fn is_valid_options_punctuation(format: u128, exponent: u8, decimal_po
 /// function.
 #[must_use]
 pub const fn options_error(format: u128, exponent: u8, decimal_point: u8) -> Error {
+    first_unfit(format, exponent, decimal_point)
+}
+
+// The error of the first demand that is not met.
+#[inline(always)]
+const fn first_unfit(format: u128, exponent: u8, decimal_point: u8) -> Error {
     if !is_punctuation(format, exponent) {
         Error::InvalidExponentSymbol
     } else if !is_punctuation(format, decimal_point) {

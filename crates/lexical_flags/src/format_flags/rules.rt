@@ -307,6 +307,14 @@ pub const fn options_error(format: u128, exponent: u8, decimal_point: u8) -> Err
     ensures accepted { (result ≡ Error.Success) ↔ AreAccepted format exponent decimal_point }
     ensures only { (other : Error) → IsOptionsError format exponent decimal_point other → other ≡ result }
 {
+    first_unfit(format, exponent, decimal_point)
+}
+
+// The error of the first demand that is not met.
+#[inline(always)]
+const fn first_unfit(format: u128, exponent: u8, decimal_point: u8) -> Error
+    ensures { IsOptionsError format exponent decimal_point result }
+{
     if !is_punctuation(format, exponent) {
         Error::InvalidExponentSymbol
     } else if !is_punctuation(format, decimal_point) {
