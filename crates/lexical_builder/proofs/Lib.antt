@@ -2,4 +2,3 @@ pub mod OptionByteLemmas
 pub mod WriteLemmas
 mod BuilderFlags
 mod RadixLemmas
-mod UpperHalf

@@ -2,17 +2,12 @@
 use Rattle.std.specs.Prelude.{ℕ, true, false}
 use Rattle.lexical_flags.specs.Record.{Record, tabulate}
 
--- the record with no flag set and each byte 0
-abbrev pub empty_record : Record
-empty_record = tabulate (λ f. false) (λ b. 0)
-
 -- the record of a new builder: radix 10, and digits required in the mantissa and the exponent
 abbrev pub new_record : Record
-new_record = record empty_record {
+new_record = record (tabulate (λ f. false) (λ b. 0)) {
   required_exponent_digits = true;
   required_mantissa_digits = true;
-  mantissa_radix =
-      10;
+  mantissa_radix = 10;
 }
 
 -- that record with one radix as mantissa radix, exponent base and exponent radix

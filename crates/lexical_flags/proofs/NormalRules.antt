@@ -1,6 +1,5 @@
 -- What filling and trimming do to the rules: filled fields meet the same ones, trimmed fields still meet those that
--- they met,
--- and so does a clean word with such fields.
+-- they met, and so does a clean word with such fields.
 use Rattle.std.proofs.Common.{◌≡◌, ℕ, ◌⊎◌, ◌↔◌, inl, inr, ◌||◌, IsTrue, refl, sym, ap, subst, arith}
 use Rattle.std.proofs.lemmas.Bool.{cases_Bool, cond-false, false≢true}
 use Rattle.std.proofs.lemmas.Bool.Decides.{nat_tests}
