@@ -149,6 +149,59 @@ pub enum Class {
     Success,
 }
 
+// The description of each variant, at the index of its rank.
+const DESCRIPTIONS: [&str; 49] = [
+    "'numeric overflow occurred'",
+    "'numeric underflow occurred'",
+    "'invalid digit found'",
+    "'the string to parse was empty'",
+    "'no significant digits found'",
+    "'exponent notation found without an exponent'",
+    "'invalid float with no integer digits'",
+    "'invalid float with no fraction digits'",
+    "'invalid `+` sign before significant digits'",
+    "'missing required `+/-` sign for significant digits'",
+    "'exponent found but not allowed'",
+    "'invalid `+` sign in exponent'",
+    "'missing required `+/-` sign for exponent'",
+    "'invalid float containing exponent without fraction'",
+    "'invalid number with leading zeros before digits'",
+    "'missing required exponent'",
+    "'missing required `+/-` sign for integer'",
+    "'invalid `+` sign for an integer was found'",
+    "'invalid `-` sign for an unsigned type was found'",
+    "'invalid radix for mantissa digits'",
+    "'invalid exponent base'",
+    "'invalid radix for exponent digits'",
+    "'invalid digit separator: must be ASCII and not a digit or a `+/-` sign'",
+    "'invalid decimal point: must be ASCII and not a digit or a `+/-` sign'",
+    "'invalid exponent symbol: must be ASCII and not a digit or a `+/-` sign'",
+    "'invalid base prefix character'",
+    "'invalid base suffix character'",
+    "'invalid punctuation: multiple characters overlap'",
+    "'exponent flags set while disabling exponent notation'",
+    "'disabled the `+` sign while requiring a sign for significant digits'",
+    "'disabled the `+` sign while requiring a sign for exponent digits'",
+    "'special flags set while disabling special floats'",
+    "'enabled consecutive digit separators in the integer without setting a valid location'",
+    "'enabled consecutive digit separators in the fraction without setting a valid location'",
+    "'enabled consecutive digit separators in the exponent without setting a valid location'",
+    "'invalid flags enabled without the format feature'",
+    "'NaN string must started with `n`'",
+    "'NaN string is too long'",
+    "'short infinity string must started with `i`'",
+    "'short infinity string is too long'",
+    "'long infinity string must started with `i`'",
+    "'long infinity string is too long'",
+    "'long infinity string is too short'",
+    "'invalid combination of float parse algorithms'",
+    "'invalid radix for significant digits'",
+    "'invalid float precision: min digits is larger than max digits'",
+    "'invalid negative exponent break: value is above 0'",
+    "'invalid positive exponent break: value is below 0'",
+    "'not actually an error'",
+];
+
 impl Error {
     /// Returns what went wrong, as text between single quotes and without the index.
     ///
@@ -156,69 +209,7 @@ impl Error {
     #[must_use]
     #[inline(always)]
     pub const fn description(&self) -> &'static str {
-        match self {
-            Error::Overflow(_) => "'numeric overflow occurred'",
-            Error::Underflow(_) => "'numeric underflow occurred'",
-            Error::InvalidDigit(_) => "'invalid digit found'",
-            Error::Empty(_) => "'the string to parse was empty'",
-            Error::EmptyMantissa(_) => "'no significant digits found'",
-            Error::EmptyExponent(_) => "'exponent notation found without an exponent'",
-            Error::EmptyInteger(_) => "'invalid float with no integer digits'",
-            Error::EmptyFraction(_) => "'invalid float with no fraction digits'",
-            Error::InvalidPositiveMantissaSign(_) => "'invalid `+` sign before significant digits'",
-            Error::MissingMantissaSign(_) => "'missing required `+/-` sign for significant digits'",
-            Error::InvalidExponent(_) => "'exponent found but not allowed'",
-            Error::InvalidPositiveExponentSign(_) => "'invalid `+` sign in exponent'",
-            Error::MissingExponentSign(_) => "'missing required `+/-` sign for exponent'",
-            Error::ExponentWithoutFraction(_) =>
-                "'invalid float containing exponent without fraction'",
-            Error::InvalidLeadingZeros(_) => "'invalid number with leading zeros before digits'",
-            Error::MissingExponent(_) => "'missing required exponent'",
-            Error::MissingSign(_) => "'missing required `+/-` sign for integer'",
-            Error::InvalidPositiveSign(_) => "'invalid `+` sign for an integer was found'",
-            Error::InvalidNegativeSign(_) => "'invalid `-` sign for an unsigned type was found'",
-            Error::InvalidMantissaRadix => "'invalid radix for mantissa digits'",
-            Error::InvalidExponentBase => "'invalid exponent base'",
-            Error::InvalidExponentRadix => "'invalid radix for exponent digits'",
-            Error::InvalidDigitSeparator =>
-                "'invalid digit separator: must be ASCII and not a digit or a `+/-` sign'",
-            Error::InvalidDecimalPoint =>
-                "'invalid decimal point: must be ASCII and not a digit or a `+/-` sign'",
-            Error::InvalidExponentSymbol =>
-                "'invalid exponent symbol: must be ASCII and not a digit or a `+/-` sign'",
-            Error::InvalidBasePrefix => "'invalid base prefix character'",
-            Error::InvalidBaseSuffix => "'invalid base suffix character'",
-            Error::InvalidPunctuation => "'invalid punctuation: multiple characters overlap'",
-            Error::InvalidExponentFlags => "'exponent flags set while disabling exponent notation'",
-            Error::InvalidMantissaSign =>
-                "'disabled the `+` sign while requiring a sign for significant digits'",
-            Error::InvalidExponentSign =>
-                "'disabled the `+` sign while requiring a sign for exponent digits'",
-            Error::InvalidSpecial => "'special flags set while disabling special floats'",
-            Error::InvalidConsecutiveIntegerDigitSeparator =>
-                "'enabled consecutive digit separators in the integer without setting a valid location'",
-            Error::InvalidConsecutiveFractionDigitSeparator =>
-                "'enabled consecutive digit separators in the fraction without setting a valid location'",
-            Error::InvalidConsecutiveExponentDigitSeparator =>
-                "'enabled consecutive digit separators in the exponent without setting a valid location'",
-            Error::InvalidFlags => "'invalid flags enabled without the format feature'",
-            Error::InvalidNanString => "'NaN string must started with `n`'",
-            Error::NanStringTooLong => "'NaN string is too long'",
-            Error::InvalidInfString => "'short infinity string must started with `i`'",
-            Error::InfStringTooLong => "'short infinity string is too long'",
-            Error::InvalidInfinityString => "'long infinity string must started with `i`'",
-            Error::InfinityStringTooLong => "'long infinity string is too long'",
-            Error::InfinityStringTooShort => "'long infinity string is too short'",
-            Error::InvalidFloatParseAlgorithm => "'invalid combination of float parse algorithms'",
-            Error::InvalidRadix => "'invalid radix for significant digits'",
-            Error::InvalidFloatPrecision =>
-                "'invalid float precision: min digits is larger than max digits'",
-            Error::InvalidNegativeExponentBreak =>
-                "'invalid negative exponent break: value is above 0'",
-            Error::InvalidPositiveExponentBreak =>
-                "'invalid positive exponent break: value is below 0'",
-            Error::Success => "'not actually an error'",
-        }
+        DESCRIPTIONS[self.rank() as usize]
     }
 
     /// Returns the index of the byte at which a parser found the error: `Some` of it for a parse
@@ -227,25 +218,25 @@ impl Error {
     #[inline(always)]
     pub const fn index(&self) -> Option<&usize> {
         match self {
-            Error::Overflow(index) => Some(index),
-            Error::Underflow(index) => Some(index),
-            Error::InvalidDigit(index) => Some(index),
-            Error::Empty(index) => Some(index),
-            Error::EmptyMantissa(index) => Some(index),
-            Error::EmptyExponent(index) => Some(index),
-            Error::EmptyInteger(index) => Some(index),
-            Error::EmptyFraction(index) => Some(index),
-            Error::InvalidPositiveMantissaSign(index) => Some(index),
-            Error::MissingMantissaSign(index) => Some(index),
-            Error::InvalidExponent(index) => Some(index),
-            Error::InvalidPositiveExponentSign(index) => Some(index),
-            Error::MissingExponentSign(index) => Some(index),
-            Error::ExponentWithoutFraction(index) => Some(index),
-            Error::InvalidLeadingZeros(index) => Some(index),
-            Error::MissingExponent(index) => Some(index),
-            Error::MissingSign(index) => Some(index),
-            Error::InvalidPositiveSign(index) => Some(index),
-            Error::InvalidNegativeSign(index) => Some(index),
+            Error::Overflow(index)
+            | Error::Underflow(index)
+            | Error::InvalidDigit(index)
+            | Error::Empty(index)
+            | Error::EmptyMantissa(index)
+            | Error::EmptyExponent(index)
+            | Error::EmptyInteger(index)
+            | Error::EmptyFraction(index)
+            | Error::InvalidPositiveMantissaSign(index)
+            | Error::MissingMantissaSign(index)
+            | Error::InvalidExponent(index)
+            | Error::InvalidPositiveExponentSign(index)
+            | Error::MissingExponentSign(index)
+            | Error::ExponentWithoutFraction(index)
+            | Error::InvalidLeadingZeros(index)
+            | Error::MissingExponent(index)
+            | Error::MissingSign(index)
+            | Error::InvalidPositiveSign(index)
+            | Error::InvalidNegativeSign(index) => Some(index),
             _ => None,
         }
     }
@@ -664,38 +655,11 @@ impl Error {
     /// Returns what this is about.
     #[must_use]
     pub const fn class(&self) -> Class {
-        match self {
-            Error::InvalidMantissaRadix
-            | Error::InvalidExponentBase
-            | Error::InvalidExponentRadix
-            | Error::InvalidDigitSeparator
-            | Error::InvalidDecimalPoint
-            | Error::InvalidExponentSymbol
-            | Error::InvalidBasePrefix
-            | Error::InvalidBaseSuffix
-            | Error::InvalidPunctuation
-            | Error::InvalidExponentFlags
-            | Error::InvalidMantissaSign
-            | Error::InvalidExponentSign
-            | Error::InvalidSpecial
-            | Error::InvalidConsecutiveIntegerDigitSeparator
-            | Error::InvalidConsecutiveFractionDigitSeparator
-            | Error::InvalidConsecutiveExponentDigitSeparator
-            | Error::InvalidFlags => Class::Format,
-            Error::InvalidNanString
-            | Error::NanStringTooLong
-            | Error::InvalidInfString
-            | Error::InfStringTooLong
-            | Error::InvalidInfinityString
-            | Error::InfinityStringTooLong
-            | Error::InfinityStringTooShort
-            | Error::InvalidFloatParseAlgorithm
-            | Error::InvalidRadix
-            | Error::InvalidFloatPrecision
-            | Error::InvalidNegativeExponentBreak
-            | Error::InvalidPositiveExponentBreak => Class::Options,
-            Error::Success => Class::Success,
-            _ => Class::Parse,
+        match self.rank() {
+            0..=18 => Class::Parse,
+            19..=35 => Class::Format,
+            36..=47 => Class::Options,
+            _ => Class::Success,
         }
     }
 
@@ -707,22 +671,27 @@ impl Error {
 
     /// Puts the text that `Display` prints into a sink, whatever options it has. Fails only if the sink does.
     pub fn put_into<S: Sink>(&self, out: &mut S) -> Result<(), fmt::Error> {
-        match self.class() {
-            Class::Parse => {
-                out.put("lexical parse error: ")?;
-                out.put(self.description())?;
+        out.put(self.class().start())?;
+        out.put(self.description())?;
+        match self.index() {
+            Some(index) => {
                 out.put(" at index ")?;
-                put_decimal(out, self.held_index())
+                put_decimal(out, *index)
             }
-            Class::Format => {
-                out.put("lexical number format error: ")?;
-                out.put(self.description())
-            }
-            Class::Options => {
-                out.put("lexical options error: ")?;
-                out.put(self.description())
-            }
-            Class::Success => out.put(self.description()),
+            None => Ok(()),
+        }
+    }
+}
+
+impl Class {
+    // How `Display` begins.
+    #[inline(always)]
+    const fn start(self) -> &'static str {
+        match self {
+            Class::Parse => "lexical parse error: ",
+            Class::Format => "lexical number format error: ",
+            Class::Options => "lexical options error: ",
+            Class::Success => "",
         }
     }
 }

@@ -1,5 +1,6 @@
 -- The table of the 49 outcomes: rank, index, description and printed text of each.
-use Rattle.std.specs.Prelude.{ℕ, ◌≡◌, ◌+◌, ◌++◌, List, Option, Some, None, IsSome, codes, nat_lt, if◌then◌else◌, unwrap_or}
+use Rattle.std.specs.Prelude.{ℕ, ◌≡◌, ◌+◌, ◌++◌, List, [], Option, Some, None, IsSome, codes, nat_lt}
+use Rattle.std.specs.Prelude.{if◌then◌else◌, unwrap_or}
 use Rattle.std.specs.Fmt.{decimal}
 use Rattle.lexical_base.specs.declared.error.Error.{Error}
 use Rattle.lexical_base.specs.declared.error.Error.TheVariants as outcomes
@@ -156,14 +157,18 @@ class_of error =
     else if nat_lt (rank_of error) (19 + 17 + 12) then classes.Options
     else classes.Success
 
--- an outcome of a class, with its description and index, as text
-abbrev pub text_in_class : Class → List ℕ → ℕ → List ℕ
-text_in_class classes.Parse description index = codes "lexical parse error: " ++ description ++ codes " at index "
-    ++ decimal index
-text_in_class classes.Format description index = codes "lexical number format error: " ++ description
-text_in_class classes.Options description index = codes "lexical options error: " ++ description
-text_in_class classes.Success description index = description
+-- how the text of a class begins
+abbrev pub start_of_class : Class → List ℕ
+start_of_class classes.Parse = codes "lexical parse error: "
+start_of_class classes.Format = codes "lexical number format error: "
+start_of_class classes.Options = codes "lexical options error: "
+start_of_class classes.Success = []
+
+-- how the text of an outcome that may hold an index ends
+abbrev pub end_of_text : Option ℕ → List ℕ
+end_of_text (Some index) = codes " at index " ++ decimal index
+end_of_text None = []
 
 -- what `Display` prints of an outcome
 abbrev pub printed_text : Error → List ℕ
-printed_text error = text_in_class (class_of error) (description_of error) (held_index error)
+printed_text error = start_of_class (class_of error) ++ (description_of error ++ end_of_text (index_of error))

@@ -1,7 +1,8 @@
-use Rattle.std.proofs.Common.{refl}
+use Rattle.lexical_base.proofs.DescriptionLemmas.{text_in_table, at_rank, short}
 use Rattle.lexical_base.proofs.error.Error.description.Goals as goal
 
--- search proves this goal as well; given here so that the must-fail edit
--- description_changes_one_byte.edit fails soon
-pub returns-in-Overflow-clause-text : goal.returns-in-Overflow-clause-text
-returns-in-Overflow-clause-text c = rw c.in-Overflow.is refl
+pub returns-clause-text : goal.returns-clause-text
+returns-clause-text c = rw (text_in_table, c.rank.ensures.value) (at_rank c.args.self.now _)
+
+pub returns-clause-short : goal.returns-clause-short
+returns-clause-short c = short c.args.self.now (returns-clause-text c)

@@ -1,0 +1,27 @@
+-- The table of descriptions holds that of each outcome at the index of its rank.
+use Rattle.std.proofs.Common.{◌≡◌, ◌<◌, ℕ, zero, suc, nat_lt, true, List, length, [], ◌∷◌, Bor, map, get_or, refl}
+use Rattle.std.proofs.lemmas.Bool.Decides.{Decides-ltb}
+use Rattle.lexical_base.specs.declared.error.Error.{Error}
+use Rattle.lexical_base.specs.declared.error.Error.TheVariants as outcomes
+use Rattle.lexical_base.specs.declared.error.TheConstants.{DESCRIPTIONS}
+use Rattle.lexical_base.specs.Outcomes.{rank_of, description_of}
+
+-- the text at an index of a table
+pub text_in_table : (table : List (Bor (List ℕ))) (index : ℕ) (default : Bor (List ℕ))
+    → (get_or table index default).now ≡ get_or (map (λ text. text.now) table) index default.now
+text_in_table [] index default = refl
+text_in_table (text ∷ table) zero default = refl
+text_in_table (text ∷ table) (suc index) default = text_in_table table index default
+
+-- the text at the rank of an outcome, and that it is short: each case is computed
+pub at_rank : (error : Error) (default : List ℕ)
+    → get_or (map (λ text. text.now) DESCRIPTIONS) (rank_of error) default ≡ description_of error
+at_rank (outcomes.Overflow _) default = refl
+at_rank _ default = refl
+
+short-test : (error : Error) → nat_lt (length (description_of error)) 128 ≡ true
+short-test (outcomes.Overflow _) = refl
+short-test _ = refl
+
+pub short : (error : Error) {text : List ℕ} → text ≡ description_of error → length text < 128
+short error is = rw is ((Decides-ltb _ _).0 (short-test error))
