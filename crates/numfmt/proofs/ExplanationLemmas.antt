@@ -70,12 +70,14 @@ no_reason : (rule : Rule) (word : ℕ) (reasons : List Reason) → text_for rule
 no_reason rule word [] none = refl
 no_reason rule word (first ∷ others) none = absurd (omega (arith, simp length-append at (ap length none)))
 
+each_rule : (P : Rule → Type 0) → AllByRecursion P rules_in_order → (rule : Rule) → P rule
+each_rule P all rules.MantissaRadixInRange = assumption all
+each_rule P all _ = assumption all
+
 kept_rule : (word : ℕ) → AllByRecursion (λ rule. rule_text word rule ≡ []) rules_in_order → (rule : Rule)
     → Holds rule word
-kept_rule word all rule = (kept_without_reason rule word).1 (no_reason rule word _ (text rule)) where
-  text : (rule : Rule) → rule_text word rule ≡ []
-  text rules.MantissaRadixInRange = assumption all
-  text _ = assumption all
+kept_rule word all rule =
+    (kept_without_reason rule word).1 (no_reason rule word _ (each_rule (λ rule. rule_text word rule ≡ []) all rule))
 
 -- a setting of which nothing is said is none
 no_setting : (list : List Unused) → flat_map (λ setting. line (unused_text setting)) list ≡ [] → list ≡ []

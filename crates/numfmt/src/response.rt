@@ -1,11 +1,10 @@
 //! The responses of the program: answers and refusals, their texts and their exit statuses.
 
-ghost use Rattle.std.specs.Prelude.{◌≡◌, ◌++◌, IsErr, OnOk, codes, decimal};
+ghost use Rattle.std.specs.Prelude.{◌≡◌, IsErr, OnOk};
 ghost use Rattle.std.specs.Io.KnownBytes.{Appends};
 ghost use Rattle.numfmt.specs.WordText.{printed};
-ghost use Rattle.numfmt.specs.Source.{source_text};
 ghost use Rattle.numfmt.specs.Explanation.{line};
-ghost use Rattle.numfmt.specs.Response.{answer_text, field, fields, reason_text, status_of, text_of};
+ghost use Rattle.numfmt.specs.Response.{answer_text, fields, reason_text, status_of, text_of};
 
 use crate::explanation::write_explanation;
 use crate::output::Output;
@@ -106,7 +105,10 @@ impl Answer {
             Answer::Outcome(error) => writeln!(out, "{error}"),
             Answer::Acceptance(true) => out.write_all(b"accepted\n"),
             Answer::Acceptance(false) => out.write_all(b"refused\n"),
-            Answer::Source(format, _) => print_source(format, out),
+            Answer::Source(format, _) => {
+                write_source(format, out)?;
+                out.write_all(b"\n")
+            }
             Answer::Explanation(format, _) => write_explanation(format, out),
         }
     }
@@ -118,24 +120,16 @@ fn print_fields<W: Output>(format: u128, out: &mut W) -> io::Result<()>
 {
     out.write_all(b"flags ")?;
     print_word(format & flags::FLAG_MASK, out)?;
-    print_field(
-        "digit_separator",
-        u32::from(flags::digit_separator(format)),
+    writeln!(
         out,
-    )?;
-    print_field("base_prefix", u32::from(flags::base_prefix(format)), out)?;
-    print_field("base_suffix", u32::from(flags::base_suffix(format)), out)?;
-    print_field("mantissa_radix", flags::mantissa_radix(format), out)?;
-    print_field("exponent_base", flags::exponent_base(format), out)?;
-    print_field("exponent_radix", flags::exponent_radix(format), out)
-}
-
-fn print_field<W: Output>(name: &str, value: u32, out: &mut W) -> io::Result<()>
-    ensures text { OnOk result
-        (Appends (W.contents out.old) (W.contents out.new) (line (field name.now (decimal value)))) }
-    ensures failed { IsErr result → W.has_failed out.new }
-{
-    writeln!(out, "{name} {value}")
+        "digit_separator {}\nbase_prefix {}\nbase_suffix {}\nmantissa_radix {}\nexponent_base {}\nexponent_radix {}",
+        flags::digit_separator(format),
+        flags::base_prefix(format),
+        flags::base_suffix(format),
+        flags::mantissa_radix(format),
+        flags::exponent_base(format),
+        flags::exponent_radix(format),
+    )
 }
 
 fn print_word<W: Output>(format: u128, out: &mut W) -> io::Result<()>
@@ -143,13 +137,5 @@ fn print_word<W: Output>(format: u128, out: &mut W) -> io::Result<()>
     ensures failed { IsErr result → W.has_failed out.new }
 {
     out.write_all(&word_text(format))?;
-    out.write_all(b"\n")
-}
-
-fn print_source<W: Output>(format: u128, out: &mut W) -> io::Result<()>
-    ensures text { OnOk result (Appends (W.contents out.old) (W.contents out.new) (line (source_text format))) }
-    ensures failed { IsErr result → W.has_failed out.new }
-{
-    write_source(format, out)?;
     out.write_all(b"\n")
 }

@@ -1,12 +1,12 @@
 //! The builder expression of a format word: the setter calls of single fields that make it, as Rust code.
 
-ghost use Rattle.std.specs.Prelude.{◌≡◌, IsErr, OnOk, decimal};
+ghost use Rattle.std.specs.Prelude.{◌≡◌, IsErr, OnOk};
 ghost use Rattle.std.specs.Io.KnownBytes.{Appends};
-ghost use Rattle.numfmt.specs.Source.{call, call_text, option_text, source_text};
+ghost use Rattle.numfmt.specs.Source.{argument_text, source_text};
 
 use crate::output::Output;
 use lexical_util::edits::{Edit, edits_of};
-use lexical_util::format_builder::OptionU8;
+use lexical_util::error::{NOTHING, Piece, Sentence};
 use std::io;
 
 /// Writes `word` as Rust code: a new builder, a setter call for each field in which the word differs from
@@ -21,35 +21,33 @@ pub fn write_source<W: Output>(word: u128, out: &mut W) -> io::Result<()>
     let (edits, count) = edits_of(word);
     out.write_all("NumberFormatBuilder::new()".as_bytes())?;
     for edit in &edits[..count] {
-        write_call(*edit, out)?;
+        write!(out, ".{}({})", edit.name(), argument(*edit))?;
     }
     out.write_all(".build_unchecked()".as_bytes())
 }
 
-// Writes the setter call that an edit stands for.
-fn write_call<W: Output>(edit: Edit, out: &mut W) -> io::Result<()>
-    ensures text { OnOk result (Appends (W.contents out.old) (W.contents out.new) (call_text edit)) }
-    ensures failed { IsErr result → W.has_failed out.new }
+// The argument of the setter call that an edit stands for.
+const fn argument(edit: Edit) -> Sentence
+    ensures { result ≡ argument_text edit }
 {
-    let name = edit.name();
-    match &edit {
-        Edit::Flag(_, value) => write!(out, ".{name}({value})"),
-        Edit::MantissaRadix(radix) | Edit::Radix(radix) => write!(out, ".{name}({radix})"),
+    match edit {
+        Edit::Flag(_, true) => Sentence(NOTHING, NOTHING, NOTHING, Piece::Words("true")),
+        Edit::Flag(_, false) => Sentence(NOTHING, NOTHING, NOTHING, Piece::Words("false")),
+        Edit::MantissaRadix(radix) | Edit::Radix(radix) => {
+            Sentence(NOTHING, NOTHING, NOTHING, Piece::Number(radix as usize))
+        }
         Edit::DigitSeparator(byte)
         | Edit::BasePrefix(byte)
         | Edit::BaseSuffix(byte)
         | Edit::ExponentBase(byte)
-        | Edit::ExponentRadix(byte) => write_option(name, *byte, out),
-    }
-}
-
-// Writes the call of a setter whose byte may be absent.
-fn write_option<W: Output>(name: &str, byte: OptionU8, out: &mut W) -> io::Result<()>
-    ensures text { OnOk result (Appends (W.contents out.old) (W.contents out.new) (call name.now (option_text byte))) }
-    ensures failed { IsErr result → W.has_failed out.new }
-{
-    match byte {
-        Some(byte) => write!(out, ".{name}(NonZeroU8::new({}))", byte.get()),
-        None => write!(out, ".{name}(None)"),
+        | Edit::ExponentRadix(byte) => match byte {
+            Some(byte) => Sentence(
+                NOTHING,
+                Piece::Words("NonZeroU8::new("),
+                Piece::Number(byte.get() as usize),
+                Piece::Words(")"),
+            ),
+            None => Sentence(NOTHING, NOTHING, NOTHING, Piece::Words("None")),
+        },
     }
 }

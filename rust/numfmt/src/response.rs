@@ -91,7 +91,10 @@ impl Answer {
             Answer::Outcome(error) => writeln!(out, "{error}"),
             Answer::Acceptance(true) => out.write_all(b"accepted\n"),
             Answer::Acceptance(false) => out.write_all(b"refused\n"),
-            Answer::Source(format, _) => print_source(format, out),
+            Answer::Source(format, _) => {
+                write_source(format, out)?;
+                out.write_all(b"\n")
+            }
             Answer::Explanation(format, _) => write_explanation(format, out),
         }
     }
@@ -100,28 +103,19 @@ impl Answer {
 fn print_fields<W: Output>(format: u128, out: &mut W) -> io::Result<()> {
     out.write_all(b"flags ")?;
     print_word(format & flags::FLAG_MASK, out)?;
-    print_field(
-        "digit_separator",
-        u32::from(flags::digit_separator(format)),
+    writeln!(
         out,
-    )?;
-    print_field("base_prefix", u32::from(flags::base_prefix(format)), out)?;
-    print_field("base_suffix", u32::from(flags::base_suffix(format)), out)?;
-    print_field("mantissa_radix", flags::mantissa_radix(format), out)?;
-    print_field("exponent_base", flags::exponent_base(format), out)?;
-    print_field("exponent_radix", flags::exponent_radix(format), out)
-}
-
-fn print_field<W: Output>(name: &str, value: u32, out: &mut W) -> io::Result<()> {
-    writeln!(out, "{name} {value}")
+        "digit_separator {}\nbase_prefix {}\nbase_suffix {}\nmantissa_radix {}\nexponent_base {}\nexponent_radix {}",
+        flags::digit_separator(format),
+        flags::base_prefix(format),
+        flags::base_suffix(format),
+        flags::mantissa_radix(format),
+        flags::exponent_base(format),
+        flags::exponent_radix(format),
+    )
 }
 
 fn print_word<W: Output>(format: u128, out: &mut W) -> io::Result<()> {
     out.write_all(&word_text(format))?;
-    out.write_all(b"\n")
-}
-
-fn print_source<W: Output>(format: u128, out: &mut W) -> io::Result<()> {
-    write_source(format, out)?;
     out.write_all(b"\n")
 }

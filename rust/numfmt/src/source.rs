@@ -4,7 +4,7 @@
 
 use crate::output::Output;
 use peltzivar::edits::{edits_of, Edit};
-use peltzivar::format_builder::OptionU8;
+use peltzivar::error::{Piece, Sentence, NOTHING};
 use std::io;
 
 /// Writes `word` as Rust code: a new builder, a setter call for each field in which the word differs from
@@ -16,29 +16,31 @@ pub fn write_source<W: Output>(word: u128, out: &mut W) -> io::Result<()> {
     let (edits, count) = edits_of(word);
     out.write_all("NumberFormatBuilder::new()".as_bytes())?;
     for edit in &edits[..count] {
-        write_call(*edit, out)?;
+        write!(out, ".{}({})", edit.name(), argument(*edit))?;
     }
     out.write_all(".build_unchecked()".as_bytes())
 }
 
-// Writes the setter call that an edit stands for.
-fn write_call<W: Output>(edit: Edit, out: &mut W) -> io::Result<()> {
-    let name = edit.name();
-    match &edit {
-        Edit::Flag(_, value) => write!(out, ".{name}({value})"),
-        Edit::MantissaRadix(radix) | Edit::Radix(radix) => write!(out, ".{name}({radix})"),
+// The argument of the setter call that an edit stands for.
+const fn argument(edit: Edit) -> Sentence {
+    match edit {
+        Edit::Flag(_, true) => Sentence(NOTHING, NOTHING, NOTHING, Piece::Words("true")),
+        Edit::Flag(_, false) => Sentence(NOTHING, NOTHING, NOTHING, Piece::Words("false")),
+        Edit::MantissaRadix(radix) | Edit::Radix(radix) => {
+            Sentence(NOTHING, NOTHING, NOTHING, Piece::Number(radix as usize))
+        }
         Edit::DigitSeparator(byte)
         | Edit::BasePrefix(byte)
         | Edit::BaseSuffix(byte)
         | Edit::ExponentBase(byte)
-        | Edit::ExponentRadix(byte) => write_option(name, *byte, out),
-    }
-}
-
-// Writes the call of a setter whose byte may be absent.
-fn write_option<W: Output>(name: &str, byte: OptionU8, out: &mut W) -> io::Result<()> {
-    match byte {
-        Some(byte) => write!(out, ".{name}(NonZeroU8::new({}))", byte.get()),
-        None => write!(out, ".{name}(None)"),
+        | Edit::ExponentRadix(byte) => match byte {
+            Some(byte) => Sentence(
+                NOTHING,
+                Piece::Words("NonZeroU8::new("),
+                Piece::Number(byte.get() as usize),
+                Piece::Words(")"),
+            ),
+            None => Sentence(NOTHING, NOTHING, NOTHING, Piece::Words("None")),
+        },
     }
 }

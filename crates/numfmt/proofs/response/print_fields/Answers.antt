@@ -1,24 +1,49 @@
--- Seven lines, one after the other.
-use Rattle.std.proofs.Common.{ℕ, List, [], ◌++◌, append-nil, Option, Result, OnOk, codes, ◌∙◌}
+-- The flags, and then six lines at once.
+use Rattle.std.proofs.Common.{◌≡◌, ℕ, List, [], ◌∷◌, ◌++◌, append_assoc, append-nil, codes, flat_map, OnOk, subst, sym, ap}
+use Rattle.std.proofs.Common.{◌∙◌}
+use Rattle.std.specs.Fmt.{decimal}
 use Rattle.std.specs.Io.KnownBytes.{Appends}
 use Rattle.std.proofs.KnownBytes.{Appends-trans}
+use Rattle.lexical_util.specs.Record.{raw, effective_exponent_base, effective_exponent_radix}
+use Rattle.numfmt.specs.Explanation.{line}
+use Rattle.numfmt.specs.Response.{field}
 use Rattle.numfmt.proofs.WritingLemmas.{then}
 use Rattle.numfmt.proofs.response.print_fields.Goals as goal
 
--- nothing is written after the last line
-end : {T E : Type 0} (r : Result T E) (a b : Option (List ℕ)) (text : List ℕ) → OnOk r (Appends a b text)
-    → OnOk r (Appends a b (text ++ []))
-end r a b text written = rw (append-nil text) written
+-- texts with newlines between them
+abbrev joined : List ℕ → List (List ℕ) → List ℕ
+joined first [] = first
+joined first (second ∷ others) = first ++ 10 ∷ joined second others
+
+-- with one at the end too they are lines
+joined_lines : (first : List ℕ) (others : List (List ℕ)) → line (joined first others) ≡ flat_map line (first ∷ others)
+joined_lines first [] = sym (append-nil (line first))
+joined_lines first (second ∷ others) =
+    append_assoc first (10 ∷ joined second others) (10 ∷ [])
+    ∙ sym (append_assoc first (10 ∷ []) (line (joined second others)))
+    ∙ ap (λ text. line first ++ text) (joined_lines second others)
 
 pub returns-clause-text : goal.returns-clause-text
 returns-clause-text g c =
-    let last = c.print_field-6.result in
+    let contents = g.W.Output.contents in
     let flags =
     Appends-trans _ _ _ (codes "flags ") _ c.in_ok-write_all.ensures.bytes c.in_ok-print_word.ensures.text in
-    then last _ _ _ _ _ flags (
-    then last _ _ _ _ _ (rw (c.from.ensures ∙ c.digit_separator.ensures) at c.in_ok-print_field.ensures.text) (
-    then last _ _ _ _ _ (rw (c.from-2.ensures ∙ c.base_prefix.ensures) at c.in_ok-print_field-2.ensures.text) (
-    then last _ _ _ _ _ (rw (c.from-3.ensures ∙ c.base_suffix.ensures) at c.in_ok-print_field-3.ensures.text) (
-    then last _ _ _ _ _ (rw c.mantissa_radix.ensures.value at c.in_ok-print_field-4.ensures.text) (
-    then last _ _ _ _ _ (rw c.exponent_base.ensures.value at c.in_ok-print_field-5.ensures.text) (
-    end last _ _ _ (rw c.exponent_radix.ensures.value at c.print_field-6.ensures.text)))))))
+    let fields = raw c.args.format in
+    let values = joined_lines (field (codes "digit_separator") (decimal fields.digit_separator)) (
+    field (codes "base_prefix") (decimal fields.base_prefix)
+    ∷ field (codes "base_suffix") (decimal fields.base_suffix)
+    ∷ field (codes "mantissa_radix") (decimal fields.mantissa_radix)
+    ∷ field (codes "exponent_base") (decimal (effective_exponent_base fields))
+    ∷ field (codes "exponent_radix") (decimal (effective_exponent_radix fields))
+    ∷ []) in
+    let written = rw (
+      c.digit_separator.ensures,
+      c.base_prefix.ensures,
+      c.base_suffix.ensures,
+      c.mantissa_radix.ensures.value,
+      c.exponent_base.ensures.value,
+      c.exponent_radix.ensures.value,
+    ) at c.writeln.ensures.bytes in
+    then c.writeln.result _ _ _ _ _ flags (subst
+    (λ (text : List ℕ). OnOk c.writeln.result (Appends (contents c.print_word.new.out) (contents c.writeln.new.self) text))
+    values written)

@@ -1,21 +1,37 @@
 -- The start of the expression, one call after the other, and its end.
-use Rattle.std.proofs.Common.{◌≡◌, flat_map, take, subst, sym, ap, ◌∙◌}
+use Rattle.std.proofs.Common.{◌≡◌, ℕ, List, ◌∷◌, ◌++◌, append_assoc, codes, flat_map, take, length, length-append, subst, sym, ap, ◌∙◌, arith}
 use Rattle.std.specs.Io.KnownBytes.{Appends}
 use Rattle.std.proofs.KnownBytes.{Appends-nil, Appends-trans}
 use Rattle.std.proofs.lemmas.List.{take_all, take_at}
 use Rattle.lexical_util.specs.Record.{raw}
 use Rattle.lexical_util.specs.Listing.{changing, unchanging}
-use Rattle.numfmt.specs.Source.{source_text, call_text}
+use Rattle.numfmt.specs.Source.{source_text, call, call_text}
 use Rattle.numfmt.proofs.WritingLemmas.{one_more, then}
 use Rattle.numfmt.proofs.source.write_source.Goals as goal
 
 pub loop-edit-init : goal.loop-edit-init
 loop-edit-init g c = Appends-nil (g.W.Output.contents c.write_all.new.self)
 
+pub shared_whole_as_front-edit-items : goal.shared_whole_as_front-edit-items
+shared_whole_as_front-edit-items g c =
+    let edits = c.edits_of-edits.ensures in
+    omega (arith, edits.number, simp length-append at (ap length edits.list))
+
+-- a call in the pieces in which it is written
+pieces : (name value : List ℕ) → codes "." ++ (name ++ (codes "(" ++ (value ++ codes ")"))) ≡ call name value
+pieces name value =
+    ap (λ rest. 46 ∷ rest)
+    (sym (append_assoc (name ++ codes "(") value (codes ")") ∙ append_assoc name (codes "(") (value ++ codes ")")))
+
 pub loop-edit-preserved : goal.loop-edit-preserved
 loop-edit-preserved g c =
+    let contents = g.W.Output.contents in
+    let text = pieces c.name.result.now c.argument.result
+    ∙ (λ i. call (c.name.ensures.name i) (c.argument.ensures i)) in
+    let one = subst (λ (t : List ℕ). Appends (contents c.loop-edit.out) (contents c.write.new.self) t) text
+    c.in_ok-write.ensures.bytes in
     one_more call_text _ c.loop-edit.edit-index c.edit-item.result _ _ _ c.loop-edit-test.true c.loop-edit.invariant
-    (rw (← c.edit-item.is) c.in_ok-write_call.ensures.text)
+    (rw (← c.edit-item.is) one)
 
 pub returns-clause-text : goal.returns-clause-text
 unfolding source_text
