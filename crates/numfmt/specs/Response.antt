@@ -22,17 +22,20 @@ Response = Result Answer Refusal
 abbrev pub field : List ℕ → List ℕ → List ℕ
 field name value = name ++ 32 ∷ value
 
--- the fields of a format word, one a line
-abbrev pub fields : ℕ → List ℕ
-fields word = flat_map line (
-    field (codes "flags") (printed (bit_and word (mask_of flags)))
-    ∷ field (codes "digit_separator") (decimal (raw word).digit_separator)
+-- the bytes of a format word, with their names
+abbrev pub bytes : ℕ → List (List ℕ)
+bytes word =
+    field (codes "digit_separator") (decimal (raw word).digit_separator)
     ∷ field (codes "base_prefix") (decimal (raw word).base_prefix)
     ∷ field (codes "base_suffix") (decimal (raw word).base_suffix)
     ∷ field (codes "mantissa_radix") (decimal (raw word).mantissa_radix)
     ∷ field (codes "exponent_base") (decimal (effective_exponent_base (raw word)))
     ∷ field (codes "exponent_radix") (decimal (effective_exponent_radix (raw word)))
-    ∷ [])
+    ∷ []
+
+-- the fields of a format word, one a line
+abbrev pub fields : ℕ → List ℕ
+fields word = flat_map line (field (codes "flags") (printed (bit_and word (mask_of flags))) ∷ bytes word)
 
 -- the text of an answer
 abbrev pub answer_text : Answer → List ℕ

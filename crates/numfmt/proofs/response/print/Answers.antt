@@ -1,5 +1,5 @@
 -- search proves these goals as well; given here so that the must-fail edits
--- failed_flush_is_ignored.edit and refusal_ends_with_no_newline.edit fail soon
+-- print_ignores_a_failed_flush.edit and print_ends_a_refusal_with_no_newline.edit fail soon
 use Rattle.std.proofs.Common.{rules}
 use Rattle.numfmt.proofs.response.print.Goals as goal
 

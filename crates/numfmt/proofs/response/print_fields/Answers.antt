@@ -1,26 +1,25 @@
 -- The flags, and then six lines at once.
 use Rattle.std.proofs.Common.{◌≡◌, ℕ, List, [], ◌∷◌, ◌++◌, append_assoc, append-nil, codes, flat_map, OnOk, subst, sym, ap}
-use Rattle.std.proofs.Common.{◌∙◌}
-use Rattle.std.specs.Fmt.{decimal}
+use Rattle.std.proofs.Common.{get_or, drop, ◌∙◌}
 use Rattle.std.specs.Io.KnownBytes.{Appends}
 use Rattle.std.proofs.KnownBytes.{Appends-trans}
-use Rattle.lexical_util.specs.Record.{raw, effective_exponent_base, effective_exponent_radix}
 use Rattle.numfmt.specs.Explanation.{line}
-use Rattle.numfmt.specs.Response.{field}
+use Rattle.numfmt.specs.Response.{bytes}
 use Rattle.numfmt.proofs.WritingLemmas.{then}
 use Rattle.numfmt.proofs.response.print_fields.Goals as goal
 
 -- texts with newlines between them
-abbrev joined : List ℕ → List (List ℕ) → List ℕ
-joined first [] = first
-joined first (second ∷ others) = first ++ 10 ∷ joined second others
+abbrev joined : List (List ℕ) → List ℕ
+joined [] = []
+joined (first ∷ []) = first
+joined (first ∷ second ∷ others) = first ++ 10 ∷ joined (second ∷ others)
 
 -- with one at the end too they are lines
-joined_lines : (first : List ℕ) (others : List (List ℕ)) → line (joined first others) ≡ flat_map line (first ∷ others)
+joined_lines : (first : List ℕ) (others : List (List ℕ)) → line (joined (first ∷ others)) ≡ flat_map line (first ∷ others)
 joined_lines first [] = sym (append-nil (line first))
 joined_lines first (second ∷ others) =
-    append_assoc first (10 ∷ joined second others) (10 ∷ [])
-    ∙ sym (append_assoc first (10 ∷ []) (line (joined second others)))
+    append_assoc first (10 ∷ joined (second ∷ others)) (10 ∷ [])
+    ∙ sym (append_assoc first (10 ∷ []) (line (joined (second ∷ others))))
     ∙ ap (λ text. line first ++ text) (joined_lines second others)
 
 pub returns-clause-text : goal.returns-clause-text
@@ -28,14 +27,7 @@ returns-clause-text g c =
     let contents = g.W.Output.contents in
     let flags =
     Appends-trans _ _ _ (codes "flags ") _ c.in_ok-write_all.ensures.bytes c.in_ok-print_word.ensures.text in
-    let fields = raw c.args.format in
-    let values = joined_lines (field (codes "digit_separator") (decimal fields.digit_separator)) (
-    field (codes "base_prefix") (decimal fields.base_prefix)
-    ∷ field (codes "base_suffix") (decimal fields.base_suffix)
-    ∷ field (codes "mantissa_radix") (decimal fields.mantissa_radix)
-    ∷ field (codes "exponent_base") (decimal (effective_exponent_base fields))
-    ∷ field (codes "exponent_radix") (decimal (effective_exponent_radix fields))
-    ∷ []) in
+    let lines = joined_lines (get_or (bytes c.args.format) 0 []) (drop 1 (bytes c.args.format)) in
     let written = rw (
       c.digit_separator.ensures,
       c.base_prefix.ensures,
@@ -44,6 +36,5 @@ returns-clause-text g c =
       c.exponent_base.ensures.value,
       c.exponent_radix.ensures.value,
     ) at c.writeln.ensures.bytes in
-    then c.writeln.result _ _ _ _ _ flags (subst
-    (λ (text : List ℕ). OnOk c.writeln.result (Appends (contents c.print_word.new.out) (contents c.writeln.new.self) text))
-    values written)
+    then c.writeln.result _ _ _ _ _ flags (subst (λ (text : List ℕ).
+    OnOk c.writeln.result (Appends (contents c.print_word.new.out) (contents c.writeln.new.self) text)) lines written)
