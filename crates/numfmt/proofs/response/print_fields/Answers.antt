@@ -1,6 +1,6 @@
 -- The flags, and then six lines at once.
-use Rattle.std.proofs.Common.{◌≡◌, ℕ, List, [], ◌∷◌, ◌++◌, append_assoc, append-nil, codes, flat_map, OnOk, subst, sym, ap}
-use Rattle.std.proofs.Common.{get_or, drop, ◌∙◌}
+use Rattle.std.proofs.Common.{◌≡◌, ℕ, List, [], ◌∷◌, ◌++◌, append_assoc, append-nil, codes, flat_map, OnOk}
+use Rattle.std.proofs.Common.{subst, sym, ap, get_or, drop, ◌∙◌}
 use Rattle.std.specs.Io.KnownBytes.{Appends}
 use Rattle.std.proofs.KnownBytes.{Appends-trans}
 use Rattle.numfmt.specs.Explanation.{line}
@@ -15,7 +15,8 @@ joined (first ∷ []) = first
 joined (first ∷ second ∷ others) = first ++ 10 ∷ joined (second ∷ others)
 
 -- with one at the end too they are lines
-joined_lines : (first : List ℕ) (others : List (List ℕ)) → line (joined (first ∷ others)) ≡ flat_map line (first ∷ others)
+joined_lines : (first : List ℕ) (others : List (List ℕ))
+    → line (joined (first ∷ others)) ≡ flat_map line (first ∷ others)
 joined_lines first [] = sym (append-nil (line first))
 joined_lines first (second ∷ others) =
     append_assoc first (10 ∷ joined (second ∷ others)) (10 ∷ [])
