@@ -2,7 +2,7 @@
 use Rattle.recorded.specs.declared.fact.Fact.{Fact}
 use Rattle.recorded.specs.declared.fact.Fact.TheVariants as facts
 use Rattle.recorded.specs.declared.fact.Fields.{Fields}
-use Rattle.std.specs.Prelude.{ℕ, ◌≡◌, ◌↔◌, IsTrue, List, string_bytes}
+use Rattle.std.specs.Prelude.{ℕ, ◌≡◌, ◌↔◌, IsTrue, List}
 use Rattle.lexical_util.specs.Ascii.{allowed_ascii, letters}
 use Rattle.lexical_util.specs.Digits.{digit_of}
 use Rattle.lexical_util.specs.Outcomes.{printed_text}
@@ -35,7 +35,7 @@ pub record IsBuiltBy (edits : List Edit) (word : ℕ) (error : Error) : Type 0 w
 abbrev pub IsKept : Fact → Type 0
 IsKept (facts.Byte byte allowed letter) = (allowed_ascii byte ≡ allowed) × (letters byte ≡ letter)
 IsKept (facts.Digit byte radix digit) = digit_of byte radix ≡ digit
-IsKept (facts.Printed error text) = printed_text error ≡ string_bytes text
+IsKept (facts.Printed error text) = printed_text error ≡ text.now
 IsKept (facts.Fields word fields) = HasFields word fields
 IsKept (facts.Checked word error) = IsErrorOf word error
 IsKept (facts.Options word exponent point accepted) = IsTrue accepted ↔ AreAccepted word exponent point

@@ -20,13 +20,13 @@ use std::alloc::{AllocError, Global};
 
 /// What is recorded of one call, or of calls that belong together.
 #[derive(Drop)]
-pub enum Fact {
+pub enum Fact<'a> {
     /// A byte, whether a format may use it, and whether it is a letter.
     Byte(u8, bool, bool),
     /// A byte, a radix, and the digit that the byte is.
     Digit(u8, u32, Option<u32>),
     /// An outcome and its text.
-    Printed(Error, String),
+    Printed(Error, &'a str),
     /// A word and its fields.
     Fields(u128, Fields),
     /// A word and its error.
@@ -52,7 +52,7 @@ pub struct Fields {
     pub exponent_radix: u32,
 }
 
-impl Fact {
+impl Fact<'_> {
     /// Whether the library returns what is recorded.
     pub fn is_kept(&self, alloc: Global) -> Result<bool, AllocError>
         ensures { IfOk result (λ kept. IsTrue kept ↔ IsKept self.now) }
@@ -60,7 +60,7 @@ impl Fact {
         Ok(match self {
             Fact::Byte(byte, allowed, letter) => is_byte(*byte, *allowed, *letter),
             Fact::Digit(byte, radix, digit) => is_digit(*byte, *radix, *digit),
-            Fact::Printed(error, text) => is_printed(*error, text.as_str(), alloc)?,
+            Fact::Printed(error, text) => return is_printed(*error, text, alloc),
             Fact::Fields(word, fields) => has_fields(*word, *fields),
             Fact::Checked(word, error) => is_error(*word, *error),
             Fact::Options(word, exponent, decimal_point, accepted) => {

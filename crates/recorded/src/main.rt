@@ -9,8 +9,7 @@
 mod fact;
 mod reading;
 
-use fact::Fact;
-use reading::{read_fact, without_original};
+use reading::Parts;
 use std::alloc::{AllocError, Global};
 use std::process::ExitCode;
 use std::{fs, io};
@@ -22,17 +21,21 @@ fn main(rt: HostRuntime) -> ExitCode {
     }
 }
 
-// Replays the file line by line, prints how it went, and returns whether all lines are kept.
 fn replay_file(rt: &HostRuntime) -> io::Result<bool> {
     let text = fs::read_to_string(rt, "results.txt")?;
+    replay(text.as_str(), rt)
+}
+
+// Replays results line by line, prints how it went, and returns whether all lines are kept.
+fn replay(results: &str, rt: &HostRuntime) -> io::Result<bool> {
     let (mut lines, mut on_purpose) = (0u64, 0u64);
-    for line in text.as_str().lines() {
-        if !replay(line, rt.alloc())? {
+    for line in results.lines() {
+        if !is_kept(line, rt.alloc())? {
             println!(rt; "differs: {line}")?;
             return Ok(false);
         }
         lines = lines.saturating_add(1);
-        on_purpose = on_purpose.saturating_add(without_original(line).is_some() as u64);
+        on_purpose = on_purpose.saturating_add(line.contains(" crate: ") as u64);
     }
     println!(rt;
         "{lines} recorded results kept, {on_purpose} of them different from the Rust crate's on purpose"
@@ -41,9 +44,12 @@ fn replay_file(rt: &HostRuntime) -> io::Result<bool> {
 }
 
 // Whether a line can be read and the library returns what it records.
-fn replay(line: &str, alloc: Global) -> Result<bool, AllocError> {
-    match read_fact(line, alloc)? {
-        Some(fact) => fact.is_kept(alloc),
-        None => Ok(false),
+fn is_kept(line: &str, alloc: Global) -> Result<bool, AllocError> {
+    let mut parts = Parts::of(line);
+    let fact = parts.fact(alloc)?;
+    if parts.are_read() {
+        fact.is_kept(alloc)
+    } else {
+        Ok(false)
     }
 }

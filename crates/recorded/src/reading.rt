@@ -21,205 +21,155 @@ use crate::fact::{Fact, Fields};
 use lexical_util::edits::Edit;
 use lexical_util::error::Error;
 use std::alloc::{AllocError, Global};
+use std::str::FromStr;
 
-/// The line before the crate's own result, if that is another one.
-pub fn without_original(line: &str) -> Option<&str> {
-    let (fact, _) = line.split_once(" crate: ")?;
-    Some(fact)
+/// The parts of a line that are not read yet, and whether all others could be read. A part that is missing, or cannot be
+/// read, is read as some value: whether there was one is asked once, at the end.
+#[derive(Drop)]
+pub struct Parts<'a> {
+    rest: Option<&'a str>,
+    is_read: bool,
 }
 
-/// The fact that a line records, `None` if it cannot be read.
-pub fn read_fact(line: &str, alloc: Global) -> Result<Option<Fact>, AllocError> {
-    let line = without_original(line).unwrap_or(line);
-    match line.split_once(' ') {
-        Some(("printed", rest)) => printed(rest, alloc),
-        Some((kind, rest)) => {
-            let parts: Vec<&str> = rest.split(' ').collect(alloc)?;
-            read_parts(kind, parts.as_slice(), alloc)
-        }
-        None => Ok(None),
-    }
-}
-
-fn read_parts(kind: &str, parts: &[&str], alloc: Global) -> Result<Option<Fact>, AllocError> {
-    match kind {
-        "byte" => Ok(byte(parts)),
-        "digit" => Ok(digit(parts)),
-        "fields" => Ok(fields(parts)),
-        "check" => Ok(check(parts)),
-        "options" => Ok(options(parts)),
-        "edit" => edit(parts, alloc),
-        "build" => build(parts, alloc),
-        _ => Ok(None),
-    }
-}
-
-fn byte(parts: &[&str]) -> Option<Fact> {
-    let [byte, allowed, letter] = parts else {
-        return None
-    };
-    Some(Fact::Byte(byte.parse().ok()?, truth(allowed)?, truth(letter)?))
-}
-
-fn digit(parts: &[&str]) -> Option<Fact> {
-    let [byte, radix, digit] = parts else {
-        return None
-    };
-    let digit = match *digit {
-        "none" => None,
-        digit => Some(digit.parse().ok()?),
-    };
-    Some(Fact::Digit(byte.parse().ok()?, radix.parse().ok()?, digit))
-}
-
-fn printed(parts: &str, alloc: Global) -> Result<Option<Fact>, AllocError> {
-    let Some((error, text)) = outcome_and_text(parts) else {
-        return Ok(None)
-    };
-    Ok(Some(Fact::Printed(error, text.to_string(alloc)?)))
-}
-
-fn outcome_and_text(parts: &str) -> Option<(Error, &str)> {
-    let (index, rest) = parts.split_once(' ')?;
-    let (name, text) = rest.split_once(' ')?;
-    Some((outcome(name, index.parse().ok()?)?, text))
-}
-
-fn fields(parts: &[&str]) -> Option<Fact> {
-    let [
-        word,
-        flags,
-        separator,
-        prefix,
-        suffix,
-        radix,
-        base,
-        exponent_radix,
-    ] = parts
-    else {
-        return None
-    };
-    let fields = Fields {
-        flags: hexadecimal(flags)?,
-        digit_separator: separator.parse().ok()?,
-        base_prefix: prefix.parse().ok()?,
-        base_suffix: suffix.parse().ok()?,
-        mantissa_radix: radix.parse().ok()?,
-        exponent_base: base.parse().ok()?,
-        exponent_radix: exponent_radix.parse().ok()?,
-    };
-    Some(Fact::Fields(hexadecimal(word)?, fields))
-}
-
-fn check(parts: &[&str]) -> Option<Fact> {
-    let [word, name] = parts else { return None };
-    Some(Fact::Checked(hexadecimal(word)?, outcome(name, 0)?))
-}
-
-fn options(parts: &[&str]) -> Option<Fact> {
-    let [word, exponent, point, accepted] = parts else {
-        return None
-    };
-    Some(Fact::Options(
-        hexadecimal(word)?,
-        exponent.parse().ok()?,
-        point.parse().ok()?,
-        truth(accepted)?,
-    ))
-}
-
-fn edit(parts: &[&str], alloc: Global) -> Result<Option<Fact>, AllocError> {
-    let [word, made, calls @ ..] = parts else {
-        return Ok(None)
-    };
-    Ok(
-        match (hexadecimal(word), hexadecimal(made), edits(calls, alloc)?) {
-            (Some(word), Some(made), Some(edits)) => Some(Fact::Edited(word, edits, made)),
-            _ => None,
-        },
-    )
-}
-
-fn build(parts: &[&str], alloc: Global) -> Result<Option<Fact>, AllocError> {
-    let [packed, name, calls @ ..] = parts else {
-        return Ok(None)
-    };
-    Ok(
-        match (hexadecimal(packed), outcome(name, 0), edits(calls, alloc)?) {
-            (Some(packed), Some(error), Some(edits)) => Some(Fact::Built(edits, packed, error)),
-            _ => None,
-        },
-    )
-}
-
-fn hexadecimal(text: &str) -> Option<u128> {
-    u128::from_str_radix(text, 16).ok()
-}
-
-fn truth(text: &str) -> Option<bool> {
-    match text {
-        "true" => Some(true),
-        "false" => Some(false),
-        _ => None,
-    }
-}
-
-// The edits that setter calls are, `None` if one cannot be read.
-fn edits(calls: &[&str], alloc: Global) -> Result<Option<Vec<Edit>>, AllocError> {
-    let mut edits = Vec::from_elem(alloc, Edit::Radix(0), calls.len())?;
-    Ok(match read_edits(calls, edits.as_mut_slice()) {
-        Some(()) => Some(edits),
-        None => None,
-    })
-}
-
-// Reads setter calls into the first places of `edits`, each into its own.
-fn read_edits(calls: &[&str], edits: &mut [Edit]) -> Option<()> {
-    for (place, call) in edits.iter_mut().zip(calls) {
-        *place = Edit::from_text(call).ok()?;
-    }
-    Some(())
-}
-
-// The outcome of this name, with an index if it holds one.
-fn outcome(name: &str, index: usize) -> Option<Error> {
-    find(name, &parse_errors(index)).or(find(name, &OTHERS))
-}
-
-// The outcome that has this name in a table.
-fn find(name: &str, table: &[(&str, Error)]) -> Option<Error> {
-    for (known, error) in table {
-        if *known == name {
-            return Some(*error);
+impl<'a> Parts<'a> {
+    /// The parts of a line, without the crate's own result.
+    pub fn of(line: &'a str) -> Parts<'a> {
+        let fact = match line.split_once(" crate: ") {
+            Some((fact, _)) => fact,
+            None => line,
+        };
+        Parts {
+            rest: Some(fact),
+            is_read: true,
         }
     }
-    None
-}
 
-// The outcomes with their names.
-macro_rules! named {
-    ($($Name:ident $(($index:ident))?)*) => {
-        [$((stringify!($Name), Error::$Name $(($index))?),)*]
-    };
-}
+    /// Whether the line ends here, and all its parts could be read.
+    pub fn are_read(&self) -> bool {
+        self.is_read && self.rest.is_none()
+    }
 
-fn parse_errors(index: usize) -> [(&'static str, Error); 19] {
-    named! {
-        Overflow(index) Underflow(index) InvalidDigit(index) Empty(index) EmptyMantissa(index)
-        EmptyExponent(index) EmptyInteger(index) EmptyFraction(index) InvalidPositiveMantissaSign(index)
-        MissingMantissaSign(index) InvalidExponent(index) InvalidPositiveExponentSign(index)
-        MissingExponentSign(index) ExponentWithoutFraction(index) InvalidLeadingZeros(index)
-        MissingExponent(index) MissingSign(index) InvalidPositiveSign(index) InvalidNegativeSign(index)
+    /// The fact that the line records; some fact if it cannot be read.
+    pub fn fact(&mut self, alloc: Global) -> Result<Fact<'a>, AllocError> {
+        Ok(match self.next() {
+            "byte" => Fact::Byte(self.value(), self.value(), self.value()),
+            "digit" => Fact::Digit(self.value(), self.value(), self.digit()),
+            "printed" => {
+                let index = self.value();
+                Fact::Printed(self.outcome(index), self.rest.take().unwrap_or(""))
+            }
+            "fields" => Fact::Fields(self.word(), self.fields()),
+            "check" => Fact::Checked(self.word(), self.outcome(0)),
+            "options" => Fact::Options(self.word(), self.value(), self.value(), self.value()),
+            "edit" => {
+                let (word, made) = (self.word(), self.word());
+                Fact::Edited(word, self.edits(alloc)?, made)
+            }
+            "build" => {
+                let (packed, error) = (self.word(), self.outcome(0));
+                Fact::Built(self.edits(alloc)?, packed, error)
+            }
+            _ => {
+                self.is_read = false;
+                Fact::Byte(0, false, false)
+            }
+        })
+    }
+
+    // The next part as it stands there.
+    fn next(&mut self) -> &'a str {
+        let rest = self.rest.take().unwrap_or("");
+        match rest.split_once(' ') {
+            Some((part, rest)) => {
+                self.rest = Some(rest);
+                part
+            }
+            None => rest,
+        }
+    }
+
+    // What is read, or else another value.
+    fn checked<T: Drop>(&mut self, read: Option<T>, otherwise: T) -> T {
+        self.is_read = self.is_read && read.is_some();
+        read.unwrap_or(otherwise)
+    }
+
+    // The next part as a decimal number, or as `true` or `false`.
+    fn value<T: FromStr + Default + Drop>(&mut self) -> T
+    where
+        T::Err: Drop,
+    {
+        let read = self.next().parse().ok();
+        self.checked(read, T::default())
+    }
+
+    fn word(&mut self) -> u128 {
+        let read = u128::from_str_radix(self.next(), 16).ok();
+        self.checked(read, 0)
+    }
+
+    fn digit(&mut self) -> Option<u32> {
+        match self.next() {
+            "none" => None,
+            part => {
+                let read = part.parse().ok();
+                Some(self.checked(read, 0))
+            }
+        }
+    }
+
+    fn fields(&mut self) -> Fields {
+        Fields {
+            flags: self.word(),
+            digit_separator: self.value(),
+            base_prefix: self.value(),
+            base_suffix: self.value(),
+            mantissa_radix: self.value(),
+            exponent_base: self.value(),
+            exponent_radix: self.value(),
+        }
+    }
+
+    // The outcome that the next part names, with the index if it holds one.
+    fn outcome(&mut self, index: usize) -> Error {
+        let name = self.next();
+        for rank in 0..49u8 {
+            if NAMES[rank as usize] == name {
+                return self.checked(Error::from_rank(rank, index), Error::Success);
+            }
+        }
+        self.checked(None, Error::Success)
+    }
+
+    // The edits that the other parts write.
+    fn edits(&mut self, alloc: Global) -> Result<Vec<Edit>, AllocError> {
+        let count = match self.rest {
+            Some(calls) => calls.split(' ').count(),
+            None => 0,
+        };
+        let mut edits = Vec::from_elem(alloc, Edit::Radix(0), count)?;
+        for edit in edits.as_mut_slice() {
+            let read = Edit::from_text(self.next()).ok();
+            *edit = self.checked(read, Edit::Radix(0));
+        }
+        Ok(edits)
     }
 }
 
-const OTHERS: [(&str, Error); 30] = named! {
-    InvalidMantissaRadix InvalidExponentBase InvalidExponentRadix InvalidDigitSeparator
-    InvalidDecimalPoint InvalidExponentSymbol InvalidBasePrefix InvalidBaseSuffix InvalidPunctuation
-    InvalidExponentFlags InvalidMantissaSign InvalidExponentSign InvalidSpecial
-    InvalidConsecutiveIntegerDigitSeparator InvalidConsecutiveFractionDigitSeparator
-    InvalidConsecutiveExponentDigitSeparator InvalidFlags InvalidNanString NanStringTooLong
-    InvalidInfString InfStringTooLong InvalidInfinityString InfinityStringTooLong InfinityStringTooShort
-    InvalidFloatParseAlgorithm InvalidRadix InvalidFloatPrecision InvalidNegativeExponentBreak
+macro_rules! texts {
+    ($($Name:ident)*) => { [$(stringify!($Name)),*] };
+}
+
+// The names of the outcomes, by rank.
+const NAMES: [&str; 49] = texts! {
+    Overflow Underflow InvalidDigit Empty EmptyMantissa EmptyExponent EmptyInteger EmptyFraction
+    InvalidPositiveMantissaSign MissingMantissaSign InvalidExponent InvalidPositiveExponentSign MissingExponentSign
+    ExponentWithoutFraction InvalidLeadingZeros MissingExponent MissingSign InvalidPositiveSign InvalidNegativeSign
+    InvalidMantissaRadix InvalidExponentBase InvalidExponentRadix InvalidDigitSeparator InvalidDecimalPoint
+    InvalidExponentSymbol InvalidBasePrefix InvalidBaseSuffix InvalidPunctuation InvalidExponentFlags
+    InvalidMantissaSign InvalidExponentSign InvalidSpecial InvalidConsecutiveIntegerDigitSeparator
+    InvalidConsecutiveFractionDigitSeparator InvalidConsecutiveExponentDigitSeparator InvalidFlags InvalidNanString
+    NanStringTooLong InvalidInfString InfStringTooLong InvalidInfinityString InfinityStringTooLong
+    InfinityStringTooShort InvalidFloatParseAlgorithm InvalidRadix InvalidFloatPrecision InvalidNegativeExponentBreak
     InvalidPositiveExponentBreak Success
 };
