@@ -7,7 +7,7 @@ ghost use Rattle.lexical_util.specs.Rules.{Lawful, IsErrorOf};
 ghost use Rattle.lexical_c.specs.Outcomes.{outcome_count, error_number, SUCCESS, IsNumberOfOne, IsWrittenIfLawful};
 ghost use Rattle.lexical_c.specs.Texts.{IsWritten};
 
-use crate::texts::{write_error, write_text};
+use crate::texts::{write_error, write_nothing, write_text};
 use crate::words::Word;
 use lexical_util::error::Error;
 use lexical_util::laws::flags::rule_facts;
@@ -53,7 +53,7 @@ pub extern "C" fn peltzivar_description(error: ErrorNumber, text: &mut [u8]) -> 
 {
     match outcome(error, 0) {
         Some(error) => write_text(error.description().as_bytes(), text),
-        None => write_text(b"", text),
+        None => write_nothing(text),
     }
 }
 
@@ -66,7 +66,7 @@ pub extern "C" fn peltzivar_text(error: ErrorNumber, index: usize, text: &mut [u
 {
     match outcome(error, index) {
         Some(error) => write_error(error, text),
-        None => write_text(b"", text),
+        None => write_nothing(text),
     }
 }
 

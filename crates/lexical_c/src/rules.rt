@@ -16,7 +16,7 @@ ghost use Rattle.lexical_util.specs.RuleFields.{mask_read};
 ghost use Rattle.lexical_util.specs.ReasonText.{reason_text, unused_text};
 
 use crate::outcomes::{ErrorNumber, error_number};
-use crate::texts::{write_sentence, write_text};
+use crate::texts::{write_nothing, write_sentence};
 use crate::words::{Fields, Word};
 use lexical_util::format::format_error;
 use lexical_util::format_flags as flags;
@@ -159,11 +159,11 @@ pub extern "C" fn peltzivar_reason(format: Word, rule: u8, index: u8, text: &mut
     ensures none { reason_at (rule_of rule) format index ≡ None → IsWritten [] result text.old text.new }
 {
     let Some(rule) = rule_of(rule) else {
-        return write_text(b"", text);
+        return write_nothing(text);
     };
     match reasons_of(rule, format.number()).get(index as usize) {
         Some(Some(reason)) => write_sentence(&reason.sentence(), text),
-        _ => write_text(b"", text),
+        _ => write_nothing(text),
     }
 }
 
@@ -176,7 +176,7 @@ pub extern "C" fn peltzivar_unused(fields: &Fields, index: u8, text: &mut [u8]) 
 {
     match unused_at(fields, index as usize) {
         Some(setting) => write_sentence(&setting.sentence(), text),
-        None => write_text(b"", text),
+        None => write_nothing(text),
     }
 }
 

@@ -7,9 +7,9 @@ ghost use Rattle.lexical_util.specs.SettingText.{edit_or_error_in, setting_text}
 ghost use Rattle.lexical_c.specs.Edits.{edit_of, numbered, error_code};
 ghost use Rattle.lexical_c.specs.Texts.{IsWritten};
 
-use crate::texts::{write_sentence, write_text};
+use crate::texts::{write_nothing, write_sentence, write_text};
 use crate::words::{NumberedEdit, Word};
-use lexical_util::edits::{Edit, SETTER_NAMES, SettingError, name_of_number, number_of_name};
+use lexical_util::edits::{Edit, SETTER_NAMES, name_of_number, number_of_name};
 
 /// Writes a setter's name.
 #[unsafe(no_mangle)]
@@ -44,18 +44,15 @@ pub extern "C" fn peltzivar_edit_of_text(text: &[u8], out: &mut NumberedEdit) ->
         (λ error. (result ≡ error_code error) × (out.new ≡ out.old)) }
     ensures no_text { (IsUtf8 text.now → ⊥) → (result ≡ 1) × (out.new ≡ out.old) }
 {
-    let edit = match std::str::from_utf8(text) {
-        Ok(text) => Edit::from_text(text),
-        Err(_) => Err(SettingError::UnknownName),
+    let Ok(text) = std::str::from_utf8(text) else {
+        return 1;
     };
-    match edit {
+    match Edit::from_text(text) {
         Ok(edit) => {
             *out = NumberedEdit::new(&edit);
             0
         }
-        Err(SettingError::UnknownName) => 1,
-        Err(SettingError::BadValue) => 2,
-        Err(SettingError::OutOfRange) => 3,
+        Err(error) => error as u32 + 1,
     }
 }
 
@@ -79,6 +76,6 @@ pub extern "C" fn peltzivar_text_of_edit(edit: NumberedEdit, text: &mut [u8]) ->
 {
     match edit.edit() {
         Some(edit) => write_sentence(&edit.sentence(), text),
-        None => write_text(b"", text),
+        None => write_nothing(text),
     }
 }

@@ -21,6 +21,13 @@ pub fn write_text(text: &[u8], out: &mut [u8]) -> usize
     text.len()
 }
 
+/// Writes an empty text as [`write_text`] does.
+pub fn write_nothing(out: &mut [u8]) -> usize
+    ensures { IsWritten [] result out.old out.new }
+{
+    write_text(b"", out)
+}
+
 /// Writes a sentence as [`write_text`] does.
 pub fn write_sentence(sentence: &Sentence, out: &mut [u8]) -> usize
     ensures { IsWritten sentence.now result out.old out.new }

@@ -2,7 +2,7 @@
 
 //! Outcomes, which cross as numbers, and their texts.
 
-use crate::texts::{write_error, write_text};
+use crate::texts::{write_error, write_nothing, write_text};
 use crate::words::Word;
 use peltzivar::error::Error;
 
@@ -44,7 +44,7 @@ pub unsafe extern "C" fn peltzivar_description(
     let text = unsafe { crate::slices::of_mut(text, text_len) };
     match outcome(error, 0) {
         Some(error) => write_text(error.description().as_bytes(), text),
-        None => write_text(b"", text),
+        None => write_nothing(text),
     }
 }
 
@@ -60,7 +60,7 @@ pub unsafe extern "C" fn peltzivar_text(
     let text = unsafe { crate::slices::of_mut(text, text_len) };
     match outcome(error, index) {
         Some(error) => write_error(error, text),
-        None => write_text(b"", text),
+        None => write_nothing(text),
     }
 }
 

@@ -3,7 +3,7 @@
 //! The rules of words.
 
 use crate::outcomes::{error_number, ErrorNumber};
-use crate::texts::{write_sentence, write_text};
+use crate::texts::{write_nothing, write_sentence};
 use crate::words::{Fields, Word};
 use peltzivar::format_flags as flags;
 use peltzivar::format_flags::{Rule, RULES};
@@ -121,11 +121,11 @@ pub unsafe extern "C" fn peltzivar_reason(
     // SAFETY: c/peltzivar.h asks this of its callers.
     let text = unsafe { crate::slices::of_mut(text, text_len) };
     let Some(rule) = rule_of(rule) else {
-        return write_text(b"", text);
+        return write_nothing(text);
     };
     match reasons_of(rule, format.number()).get(index as usize) {
         Some(Some(reason)) => write_sentence(&reason.sentence(), text),
-        _ => write_text(b"", text),
+        _ => write_nothing(text),
     }
 }
 
@@ -141,7 +141,7 @@ pub unsafe extern "C" fn peltzivar_unused(
     let text = unsafe { crate::slices::of_mut(text, text_len) };
     match unused_at(fields, index as usize) {
         Some(setting) => write_sentence(&setting.sentence(), text),
-        None => write_text(b"", text),
+        None => write_nothing(text),
     }
 }
 

@@ -2,9 +2,9 @@
 
 //! The names of setters, and settings as text. A setter crosses as its number.
 
-use crate::texts::{write_sentence, write_text};
+use crate::texts::{write_nothing, write_sentence, write_text};
 use crate::words::{NumberedEdit, Word};
-use peltzivar::edits::{name_of_number, number_of_name, Edit, SettingError, SETTER_NAMES};
+use peltzivar::edits::{name_of_number, number_of_name, Edit, SETTER_NAMES};
 
 /// Writes a setter's name.
 #[unsafe(no_mangle)]
@@ -40,18 +40,15 @@ pub unsafe extern "C" fn peltzivar_edit_of_text(
 ) -> u32 {
     // SAFETY: c/peltzivar.h asks this of its callers.
     let text = unsafe { crate::slices::of(text, text_len) };
-    let edit = match core::str::from_utf8(text) {
-        Ok(text) => Edit::from_text(text),
-        Err(_) => Err(SettingError::UnknownName),
+    let Ok(text) = core::str::from_utf8(text) else {
+        return 1;
     };
-    match edit {
+    match Edit::from_text(text) {
         Ok(edit) => {
             *out = NumberedEdit::new(&edit);
             0
         }
-        Err(SettingError::UnknownName) => 1,
-        Err(SettingError::BadValue) => 2,
-        Err(SettingError::OutOfRange) => 3,
+        Err(error) => error as u32 + 1,
     }
 }
 
@@ -75,6 +72,6 @@ pub unsafe extern "C" fn peltzivar_text_of_edit(
     let text = unsafe { crate::slices::of_mut(text, text_len) };
     match edit.edit() {
         Some(edit) => write_sentence(&edit.sentence(), text),
-        None => write_text(b"", text),
+        None => write_nothing(text),
     }
 }

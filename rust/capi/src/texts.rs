@@ -17,6 +17,12 @@ pub fn write_text(text: &[u8], out: &mut [u8]) -> usize {
     text.len()
 }
 
+/// Writes an empty text as [`write_text`] does.
+#[must_use]
+pub fn write_nothing(out: &mut [u8]) -> usize {
+    write_text(b"", out)
+}
+
 /// Writes a sentence as [`write_text`] does.
 #[must_use]
 pub fn write_sentence(sentence: &Sentence, out: &mut [u8]) -> usize {

@@ -1,4 +1,4 @@
-use Rattle.std.proofs.Common.{◌++◌, length, map, take, sym, ap, subst, ◌∙◌, arith, All}
+use Rattle.std.proofs.Common.{rules, refl, ◌++◌, length, map, take, sym, ap, subst, ◌∙◌, arith, All}
 use Rattle.lexical_util.specs.Record.{raw}
 use Rattle.lexical_util.specs.Listing.{changing, unchanging}
 use Rattle.lexical_util.specs.Writes.{IsLegal, new_record, after}
@@ -6,6 +6,9 @@ use Rattle.lexical_util.specs.Edits.{all_writes}
 use Rattle.lexical_c.specs.Edits.{numbered}
 use Rattle.lexical_c.proofs.EditLemmas.{more_numbered, all_numbered}
 use Rattle.lexical_c.proofs.edits.peltzivar_edits_of.Goals as goal
+
+pub loop-index-init : goal.loop-index-init
+loop-index-init c = record { count = search rules; are = refl; stand = refl; each = λ k d h. absurd (omega arith) }
 
 pub loop-index-preserved : goal.loop-index-preserved
 loop-index-preserved c =
