@@ -20,63 +20,67 @@ const AFFIXED: u128 = 0x10101068_7800005F_00000007_0002000C;
 fn digits_of_a_text_are_those_of_the_mantissa_and_of_the_exponent(rt: HostRuntime) {
     // Radix 2 with exponents in radix 10.
     let format = 0x0A020200_00000000_00000000_0000000C;
-    for (text, alone) in [("109", true), ("", true), ("10a", false)] {
+    for (text, alone) in &[("109", true), ("", true), ("10a", false)] {
         assert!(rt;
-            has_digits_alone(format, text.as_bytes()) == alone,
+            has_digits_alone(format, text.as_bytes()) == *alone,
             "{text}"
         );
     }
 }
 
-#[test]
 #[rattlefmt::skip]
+const NUMBERS: [(u128, &str, Result<u64, Error>); 13] = [
+    (DECIMAL, "0042", Ok(42)),
+    (DECIMAL, "18446744073709551615", Ok(u64::MAX)),
+    (GROUPED, "FF_ff", Ok(65535)),
+    (LOOSE, "1__0", Ok(16)),
+    (0x24242400_00000000_00000000_0000000C, "zZ", Ok(35 * 36 + 35)),
+    (DECIMAL, "", Err(Error::Empty(0))),
+    (DECIMAL, "12a4-", Err(Error::InvalidDigit(2))),
+    (DECIMAL, "99999999999999999999-", Err(Error::Overflow(19))),
+    (GROUPED, "_1", Err(Error::InvalidDigit(0))),
+    (GROUPED, "1_", Err(Error::InvalidDigit(1))),
+    (GROUPED, "1__0", Err(Error::InvalidDigit(1))),
+    (GROUPED, "1_0000_0000_0000_0000", Err(Error::Overflow(20))),
+    (0, "1", Err(Error::InvalidMantissaRadix)),
+];
+
+#[test]
 fn a_number_is_the_sum_of_its_digits_or_the_first_byte_that_is_wrong(rt: HostRuntime) {
-    for (format, text, want) in [
-        (DECIMAL, "0042", Ok(42)),
-        (DECIMAL, "18446744073709551615", Ok(u64::MAX)),
-        (GROUPED, "FF_ff", Ok(65535)),
-        (LOOSE, "1__0", Ok(16)),
-        (0x24242400_00000000_00000000_0000000C, "zZ", Ok(35 * 36 + 35)),
-        (DECIMAL, "", Err(Error::Empty(0))),
-        (DECIMAL, "12a4-", Err(Error::InvalidDigit(2))),
-        (DECIMAL, "99999999999999999999-", Err(Error::Overflow(19))),
-        (GROUPED, "_1", Err(Error::InvalidDigit(0))),
-        (GROUPED, "1_", Err(Error::InvalidDigit(1))),
-        (GROUPED, "1__0", Err(Error::InvalidDigit(1))),
-        (GROUPED, "1_0000_0000_0000_0000", Err(Error::Overflow(20))),
-        (0, "1", Err(Error::InvalidMantissaRadix)),
-    ] {
-        assert!(rt; read_checked(format, text.as_bytes()) == want, "{text}");
+    for (format, text, want) in &NUMBERS {
+        assert!(rt; read_checked(*format, text.as_bytes()) == *want, "{text}");
     }
     assert!(rt; read_decimal(b"1_000_000") == Ok(1_000_000));
     assert!(rt; read_decimal(b"1_000_") == Err(Error::InvalidDigit(5)));
 }
 
+const ROLES: [(u8, Option<Role>); 10] = [
+    (b'f', Some(Role::Digit)),
+    (b'-', Some(Role::Sign)),
+    (b'_', Some(Role::Separator)),
+    (b'X', Some(Role::Prefix)),
+    (b'h', Some(Role::Suffix)),
+    (b'H', None),
+    (b'P', Some(Role::Exponent)),
+    (b'.', Some(Role::Point)),
+    (b'g', None),
+    (0, None),
+];
+
 #[test]
 fn each_byte_has_one_role_or_none_in_a_checked_format(rt: HostRuntime) {
-    for (byte, role) in [
-        (b'f', Some(Role::Digit)),
-        (b'-', Some(Role::Sign)),
-        (b'_', Some(Role::Separator)),
-        (b'X', Some(Role::Prefix)),
-        (b'h', Some(Role::Suffix)),
-        (b'H', None),
-        (b'P', Some(Role::Exponent)),
-        (b'.', Some(Role::Point)),
-        (b'g', None),
-        (0, None),
-    ] {
+    for (byte, role) in &ROLES {
         assert!(rt;
-            checked_role_of(AFFIXED, b'p', b'.', byte) == Ok(role),
+            checked_role_of(AFFIXED, b'p', b'.', *byte) == Ok(*role),
             "{byte}"
         );
     }
-    for (format, exponent, error) in [
+    for (format, exponent, error) in &[
         (AFFIXED, b'e', Error::InvalidPunctuation),
         (AFFIXED, b'X', Error::InvalidPunctuation),
         (0xC, b'e', Error::InvalidMantissaRadix),
     ] {
-        assert!(rt; checked_role_of(format, exponent, b'.', b'7') == Err(error));
+        assert!(rt; checked_role_of(*format, *exponent, b'.', b'7') == Err(*error));
     }
 }
 
