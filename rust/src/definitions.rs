@@ -178,11 +178,10 @@
 //!
 //! ```text
 //! abbrev pub new_record : Record
-//! new_record = record empty_record {
+//! new_record = record (tabulate (λ f. false) (λ b. 0)) {
 //!   required_exponent_digits = true;
 //!   required_mantissa_digits = true;
-//!   mantissa_radix =
-//!       10;
+//!   mantissa_radix = 10;
 //! }
 //! ```
 //!

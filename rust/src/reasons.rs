@@ -73,10 +73,14 @@ pub const fn reasons_of(rule: Rule, format: u128) -> [Option<Reason>; REASONS] {
         }
         Rule::DigitSeparatorIsFree => {
             let byte = flags::digit_separator(format);
-            not_free(format, byte, separator_edit(format))
+            not_free(format, byte, &separator_edit(format))
         }
-        Rule::BasePrefixIsFree => not_free(format, flags::base_prefix(format), prefix_edit(format)),
-        Rule::BaseSuffixIsFree => not_free(format, flags::base_suffix(format), suffix_edit(format)),
+        Rule::BasePrefixIsFree => {
+            not_free(format, flags::base_prefix(format), &prefix_edit(format))
+        }
+        Rule::BaseSuffixIsFree => {
+            not_free(format, flags::base_suffix(format), &suffix_edit(format))
+        }
         Rule::PunctuationDiffers => clash_reasons(format),
         _ => [said(!rule.is_kept(format), flag_reason(rule)), None, None],
     }
@@ -92,13 +96,13 @@ const fn out_of_range(radix: u32, edit: Edit) -> [Option<Reason>; REASONS] {
 }
 
 // The reason of a byte that is not free.
-const fn not_free(format: u128, byte: u8, edit: Edit) -> [Option<Reason>; REASONS] {
+const fn not_free(format: u128, byte: u8, edit: &Edit) -> [Option<Reason>; REASONS] {
     [
-        said(byte != 0 && !is_valid_ascii(byte), Reason::NotText(edit)),
-        said(byte == b'+' || byte == b'-', Reason::IsSign(edit)),
+        said((byte != 0) & !is_valid_ascii(byte), Reason::NotText(*edit)),
+        said((byte == b'+') | (byte == b'-'), Reason::IsSign(*edit)),
         said(
             flags::is_digit(format, byte),
-            Reason::IsDigit(edit, radix_of_digit(format, byte)),
+            Reason::IsDigit(*edit, radix_of_digit(format, byte)),
         ),
     ]
 }

@@ -1,17 +1,10 @@
 -- The table of descriptions holds that of each outcome at the index of its rank.
-use Rattle.std.proofs.Common.{◌≡◌, ◌<◌, ℕ, zero, suc, nat_lt, true, List, length, [], ◌∷◌, Bor, map, get_or, refl}
+use Rattle.std.proofs.Common.{◌≡◌, ◌<◌, ℕ, nat_lt, true, List, length, map, get_or, refl}
 use Rattle.std.proofs.lemmas.Bool.Decides.{Decides-ltb}
 use Rattle.lexical_base.specs.declared.error.Error.{Error}
 use Rattle.lexical_base.specs.declared.error.Error.TheVariants as outcomes
 use Rattle.lexical_base.specs.declared.error.TheConstants.{DESCRIPTIONS}
 use Rattle.lexical_base.specs.Outcomes.{rank_of, description_of}
-
--- the text at an index of a table
-pub text_in_table : (table : List (Bor (List ℕ))) (index : ℕ) (default : Bor (List ℕ))
-    → (get_or table index default).now ≡ get_or (map (λ text. text.now) table) index default.now
-text_in_table [] index default = refl
-text_in_table (text ∷ table) zero default = refl
-text_in_table (text ∷ table) (suc index) default = text_in_table table index default
 
 -- the text at the rank of an outcome, and that it is short: each case is computed
 pub at_rank : (error : Error) (default : List ℕ)

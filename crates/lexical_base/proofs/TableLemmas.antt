@@ -1,8 +1,15 @@
--- Each entry of the table is the value of its index.
-use Rattle.std.proofs.Common.{◌≡◌, ℕ, ◌<◌, slice_index_or, refl}
+-- What tables hold at an index: texts, and the values of bytes.
+use Rattle.std.proofs.Common.{◌≡◌, ℕ, zero, suc, ◌<◌, List, [], ◌∷◌, Bor, map, get_or, slice_index_or, refl}
 use Rattle.lexical_base.specs.Digits.{value}
 use Rattle.lexical_base.specs.declared.digit.TheConstants.{VALUES}
 use Rattle.lexical_base.proofs.Finite.{same_at}
+
+-- the text at an index of a table
+pub text_in_table : (table : List (Bor (List ℕ))) (index : ℕ) (default : Bor (List ℕ))
+    → (get_or table index default).now ≡ get_or (map (λ text. text.now) table) index default.now
+text_in_table [] index default = refl
+text_in_table (text ∷ table) zero default = refl
+text_in_table (text ∷ table) (suc index) default = text_in_table table index default
 
 -- the table holds the value of each byte at its index
 pub table_entry : (byte : ℕ) → byte < 256 → slice_index_or VALUES byte 0 ≡ value byte

@@ -13,4 +13,4 @@ mod CaseLemmas
 mod FreeBytes
 pub mod RoleLemmas
 mod OptionLemmas
-mod ReservedBits
+pub mod ReservedBits

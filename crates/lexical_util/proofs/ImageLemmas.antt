@@ -30,18 +30,14 @@ IsBuilt-pack R bytes = record {
       (used_or_none (separator_on R) R.digit_separator);
 }
 
--- a word that packing gives back is built by some legal writes
-pub IsBuiltByWrites-built : (w : ℕ) → w < 2 ^ 128 → IsBuilt w → IsBuiltByWrites w
-IsBuiltByWrites-built w fits built = record {
-  writes = field_writes (raw w);
-  legal = legal-field_writes (raw w) (HasBytes-raw w);
-  makes = ap pack (after-field_writes new_record (raw w)) ∙ (pack-raw w fits).1 built;
-}
-
--- a word that is built by legal writes is given back by packing
-pub IsBuilt-by_writes : (w : ℕ) → IsBuiltByWrites w → IsBuilt w
-IsBuilt-by_writes w made = subst IsBuilt made.makes (IsBuilt-pack (after new_record made.writes)
-    (HasBytes-after new_record made.writes HasBytes-new made.legal))
-
+-- packing gives back the words that some legal writes build: those that write each field, for one
 pub built_by_writes : (w : ℕ) → w < 2 ^ 128 → IsBuilt w ↔ IsBuiltByWrites w
-built_by_writes w fits = (IsBuiltByWrites-built w fits, IsBuilt-by_writes w)
+built_by_writes w fits = (
+  λ built. record {
+    writes = field_writes (raw w);
+    legal = legal-field_writes (raw w) (HasBytes-raw w);
+    makes = ap pack (after-field_writes new_record (raw w)) ∙ (pack-raw w fits).1 built;
+  },
+  λ made. subst IsBuilt made.makes (IsBuilt-pack (after new_record made.writes)
+      (HasBytes-after new_record made.writes HasBytes-new made.legal)),
+)

@@ -1,5 +1,5 @@
 -- The names of setters are pairwise different, and the flags that an edit of 0 sets.
-use Rattle.std.proofs.Common.{◌≡◌, ◌<◌, Some, false, ℕ, zero, suc, Bool, true, Bor, List, [], ◌∷◌, map, get_or, refl}
+use Rattle.std.proofs.Common.{◌≡◌, ◌<◌, Some, false, ℕ, Bool, true, List, [], ◌∷◌, get_or, refl}
 use Rattle.std.specs.Bool.{nat_lt}
 use Rattle.std.proofs.lemmas.Bool.Decides.{Decides-ltb}
 use Rattle.lexical_flags.specs.Record as record_of
@@ -14,13 +14,6 @@ use Rattle.lexical_util.specs.declared.edits.FlagSetter.TheVariants as setters
 use Rattle.lexical_util.specs.declared.edits.Edit.{Edit}
 use denote.Enum.Declared.{tag_of}
 use Rattle.lexical_util.specs.declared.edits.Edit.TheVariants as edits
-
--- the text at an index of a table
-pub text_in_table : (table : List (Bor (List ℕ))) (index : ℕ) (default : Bor (List ℕ))
-    → (get_or table index default).now ≡ get_or (map (λ text. text.now) table) index default.now
-text_in_table [] index default = refl
-text_in_table (text ∷ table) zero default = refl
-text_in_table (text ∷ table) (suc index) default = text_in_table table index default
 
 -- the number of an edit's name is its number: each case is computed
 number_of_flag : (setter : FlagSetter) → number_of_name (name_of (edits.Flag setter true)) ≡ number_of (edits.Flag setter true)

@@ -1,10 +1,10 @@
 -- What may be cleared without effect.
-use Rattle.std.proofs.Common.{ℕ, ◌≡◌, ◌≢◌, ◌↔◌, None, inl, inr, Bool, true, false, IsTrue, not, List, [], ◌∷◌, refl, sym, subst, ap, ◌∙◌, arith}
+use Rattle.std.proofs.Common.{ℕ, ◌≡◌, ◌≢◌, ◌↔◌, ◌==◌, bit_and, None, inl, inr, Bool, true, false, IsTrue, not, List, [], ◌∷◌, refl, sym, subst, ap, ◌∙◌, arith}
 use Rattle.lexical_base.specs.Ascii.{ByteSet, between}
 use Rattle.lexical_flags.specs.Layout.{IsClean}
 use Rattle.std.specs.List.{AllByRecursion, filter_map}
 use Rattle.std.specs.Bool.{⊤, IsFalse, then_some}
-use Rattle.std.proofs.lemmas.Bool.{false≢true, true≢false, cond-false, cases_eq}
+use Rattle.std.proofs.lemmas.Bool.{false≢true, true≢false, cond-false, cases_eq, not-false, not_from_true}
 use Rattle.std.proofs.lemmas.Bool.Decides.{nat_tests}
 use Rattle.lexical_flags.specs.Record.{Record, raw, fill, pack, word_of, separator_on}
 use Rattle.lexical_flags.specs.Roles.{digits, are_disjoint, Disjoint, AreDisjoint, cased, separator, prefix, suffix, exponent, point, own_roles}
@@ -14,10 +14,12 @@ use Rattle.lexical_flags.specs.declared.format_flags.all_rules.Rule.TheVariants 
 use Rattle.lexical_flags.specs.Options.{AreAccepted}
 use Rattle.lexical_builder.specs.Writes.{after}
 use Rattle.lexical_util.specs.Normal.{normal_form_of}
+use Rattle.lexical_flags.specs.RuleFields.{mask_read}
+use Rattle.lexical_flags.proofs.ReservedBits.{reserved_bits}
 use Rattle.lexical_flags.proofs.RoleLemmas.{no_digit}
 use Rattle.lexical_util.specs.declared.edits.Edit.{Edit}
 use Rattle.lexical_util.specs.declared.reasons.Reason.{Reason}
-use Rattle.lexical_util.specs.Reasons.{Case, said, padded, cases_of, reasons_of, not_free, flag_reason, is_clean}
+use Rattle.lexical_util.specs.Reasons.{Case, said, padded, cases_of, reasons_of, not_free, flag_reason}
 use Rattle.lexical_util.specs.Reasons.{separator_edit, prefix_edit, suffix_edit}
 use Rattle.lexical_util.specs.Reasons.{without_separator, without_prefix_case, without_suffix_case, IsWith, SameRules}
 
@@ -153,16 +155,9 @@ unfolding Disjoint
 disjoint_pair A B = grind arith
 
 -- the reserved bits are 0 exactly if it is false that they are not
-clean_word : (word : ℕ) → IsClean word ↔ IsFalse (not (is_clean word))
-clean_word word = (
-  λ clean. let a = clean.below_separator_flags in let b = clean.below_separator in let d = clean.below_prefix in
-      grind (arith, nat_tests),
-  λ test. record {
-    below_separator_flags = grind (arith, nat_tests);
-    below_separator = grind (arith, nat_tests);
-    below_prefix = grind (arith, nat_tests);
-  },
-)
+clean_word : (word : ℕ) → IsClean word ↔ IsFalse (not (bit_and word (mask_read rules.ReservedBitsAreZero) == 0))
+clean_word word =
+    let bits = reserved_bits word in (λ clean. not_from_true _ (bits.1 clean), λ test. bits.0 (not-false _ test))
 
 -- the same with nothing beside it
 with_nothing : {P Q : Type 0} → P ↔ Q → P ↔ (Q × ⊤)

@@ -1,14 +1,16 @@
 -- Why a word breaks a rule, and which of its settings have no effect.
 use Rattle.std.specs.Prelude.{ℕ, ◌≡◌, ◌↔◌, false, ◌==◌, ◌&&◌, not, if◌then◌else◌, Bool, Option, None, List, [], ◌∷◌, ◌++◌, map, take}
 use Rattle.std.specs.Bool.{then_some}
+use Rattle.std.specs.Int.Bits.{bit_and}
 use Rattle.std.specs.List.{filter_map}
 use Rattle.lexical_base.specs.Ascii.{ByteSet, between, allowed_ascii}
 use Rattle.lexical_base.specs.Digits.{digits_of}
-use Rattle.lexical_flags.specs.Layout.{part, IsClean}
+use Rattle.lexical_flags.specs.Layout.{IsClean}
 use Rattle.lexical_flags.specs.Record.{Record, raw, separator_on, effective_exponent_base, effective_exponent_radix}
 use Rattle.lexical_flags.specs.Roles.{are_disjoint, digits, signs, separator, prefix, suffix}
 use Rattle.lexical_flags.specs.Rules.{contradict, Holds}
 use Rattle.lexical_flags.specs.Options.{AreAccepted}
+use Rattle.lexical_flags.specs.RuleFields.{mask_read}
 use Rattle.lexical_flags.specs.declared.format_flags.all_rules.Rule.{Rule}
 use Rattle.lexical_flags.specs.declared.format_flags.all_rules.Rule.TheVariants as rules
 use Rattle.lexical_builder.specs.OptionByte.{option_of_byte}
@@ -77,10 +79,6 @@ flag_reason rules.FractionConsecutiveIsAllowed = reasons.HasNoPlace setters.Frac
 flag_reason rules.ExponentConsecutiveIsAllowed = reasons.HasNoPlace setters.ExponentConsecutiveDigitSeparator
 flag_reason _ = reasons.ReservedBits
 
--- whether the reserved bits are 0
-abbrev pub is_clean : ℕ → Bool
-is_clean word = (part word 18 14 == 0) && (part word 45 19 == 0) && (part word 72 16 == 0)
-
 -- what may be wrong where a rule is broken
 abbrev pub cases_of : Rule → ℕ → List (Case Reason)
 cases_of rules.MantissaRadixInRange word =
@@ -99,7 +97,8 @@ cases_of rules.PunctuationDiffers word =
     ∷ share (separator r) (suffix r) (separator_edit r) (suffix_edit r)
     ∷ share (prefix r) (suffix r) (prefix_edit r) (suffix_edit r)
     ∷ []
-cases_of rules.ReservedBitsAreZero word = (not (is_clean word), reasons.ReservedBits) ∷ []
+cases_of rules.ReservedBitsAreZero word =
+    (not (bit_and word (mask_read rules.ReservedBitsAreZero) == 0), reasons.ReservedBits) ∷ []
 cases_of rule word = (contradict rule (raw word), flag_reason rule) ∷ []
 
 -- why a word breaks a rule; nothing if it keeps it

@@ -1,6 +1,6 @@
 -- Texts of edits that are read one after the other.
-use Rattle.std.proofs.Common.{◌≡◌, ℕ, ◌+◌, ◌<◌, ◌≤◌, Bool, true, None, Some, is_some, List, [], ◌++◌, ◌∷◌, length}
-use Rattle.std.proofs.Common.{get_or, set, take, sym, ap, ◌∙◌, take_all}
+use Rattle.std.proofs.Common.{◌≡◌, ℕ, ◌+◌, ◌<◌, Bool, true, None, Some, is_some, List, [], ◌++◌, ◌∷◌, length}
+use Rattle.std.proofs.Common.{get_or, set, take, sym, ap, ◌∙◌}
 use Rattle.std.specs.Bool.{then_some}
 use Rattle.std.specs.List.{cons_option, filter_map, list_all}
 use Rattle.std.proofs.lemmas.Bool.{and_from}
@@ -33,14 +33,6 @@ HaveRead-next texts i read edit before inside room is =
           ∙ filter_map-append edit_in (take i texts) (text ∷ []) ∙ (λ j. before.edits j ++ one j)
           ∙ sym (take_more_set read i edit room);
     }
-
--- all texts are read
-pub edits_in-all : (texts : List (List ℕ)) (i : ℕ) (read : List Edit) → HaveRead texts i read → length texts ≤ i
-    → edits_in texts ≡ Some (take i read)
-edits_in-all texts i read done whole =
-    let all : take i texts ≡ texts = take_all i texts whole in
-    ap (λ truth. then_some truth (filter_map edit_in texts)) (ap (list_all writes_edit) (sym all) ∙ done.all)
-    ∙ ap Some (ap (filter_map edit_in) (sym all) ∙ done.edits)
 
 -- a text writes no edit
 pub edits_in-none : (texts : List (List ℕ)) (i : ℕ) → i < length texts → edit_in (get_or texts i []) ≡ None

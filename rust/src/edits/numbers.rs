@@ -3,7 +3,7 @@
 //! The numbers and names of setters, and edits as two numbers.
 
 use crate::edits::{edit_word, Edit, SETTERS};
-use crate::format_builder::{NonZeroU8, OptionU8};
+use crate::format_builder::NonZeroU8;
 use crate::format_flags as flags;
 
 // The number of the first setter of a byte: the setters of flags and groups come before it.
@@ -64,7 +64,10 @@ impl Edit {
             | Edit::BasePrefix(byte)
             | Edit::BaseSuffix(byte)
             | Edit::ExponentBase(byte)
-            | Edit::ExponentRadix(byte) => byte_or_zero(byte),
+            | Edit::ExponentRadix(byte) => match byte {
+                Some(byte) => byte.get(),
+                None => 0,
+            },
             Edit::MantissaRadix(radix) | Edit::Radix(radix) => radix,
         }
     }
@@ -132,11 +135,4 @@ pub fn number_of_name(name: &[u8]) -> u8 {
         }
     }
     SETTER_COUNT
-}
-
-const fn byte_or_zero(byte: OptionU8) -> u8 {
-    match byte {
-        Some(byte) => byte.get(),
-        None => 0,
-    }
 }

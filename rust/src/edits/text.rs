@@ -72,7 +72,7 @@ impl Edit {
 /// Prints what [`Edit::sentence`] is.
 impl fmt::Display for Edit {
     fn fmt(&self, f: &mut fmt::Formatter<'_>) -> fmt::Result {
-        write!(f, "{}", self.sentence())
+        fmt::Display::fmt(&self.sentence(), f)
     }
 }
 

@@ -69,13 +69,13 @@ impl Unused {
 
 impl fmt::Display for Reason {
     fn fmt(&self, f: &mut fmt::Formatter<'_>) -> fmt::Result {
-        write!(f, "{}", self.sentence())
+        fmt::Display::fmt(&self.sentence(), f)
     }
 }
 
 impl fmt::Display for Unused {
     fn fmt(&self, f: &mut fmt::Formatter<'_>) -> fmt::Result {
-        write!(f, "{}", self.sentence())
+        fmt::Display::fmt(&self.sentence(), f)
     }
 }
 

@@ -1,12 +1,11 @@
 //! The numbers and names of setters, and edits as two numbers.
 
 ghost use Rattle.std.specs.Prelude.{◌≡◌, ◌<◌, ℕ, Some};
-ghost use Rattle.lexical_builder.specs.OptionByte.{byte_of_option};
 ghost use Rattle.lexical_util.specs.SettingNumbers.{number_of, name_of, name_of_setter, byte_of, mask_of_edit};
 ghost use Rattle.lexical_util.specs.SettingNumbers.{setter_count, number_of_name, edit_of_numbers, edit_of_name};
 
 use crate::edits::{Edit, SETTERS, edit_word};
-use lexical_builder::format_builder::{NonZeroU8, OptionU8};
+use lexical_builder::format_builder::NonZeroU8;
 use lexical_flags::format_flags as flags;
 
 // The number of the first setter of a byte: the setters of flags and groups come before it.
@@ -77,7 +76,10 @@ impl Edit {
             | Edit::BasePrefix(byte)
             | Edit::BaseSuffix(byte)
             | Edit::ExponentBase(byte)
-            | Edit::ExponentRadix(byte) => byte_or_zero(byte),
+            | Edit::ExponentRadix(byte) => match byte {
+                Some(byte) => byte.get(),
+                None => 0,
+            },
             Edit::MantissaRadix(radix) | Edit::Radix(radix) => radix,
         }
     }
@@ -153,13 +155,4 @@ pub fn number_of_name(name: &[u8]) -> u8
         }
     }
     SETTER_COUNT
-}
-
-const fn byte_or_zero(byte: OptionU8) -> u8
-    ensures { result ≡ byte_of_option byte }
-{
-    match byte {
-        Some(byte) => byte.get(),
-        None => 0,
-    }
 }

@@ -86,7 +86,7 @@ impl fmt::Display for Edit {
     ghost output = { λ edit. Some (setting_text edit) };
 
     fn fmt<W: fmt::Write>(&self, f: &mut fmt::Formatter<W>) -> fmt::Result {
-        write!(f, "{}", self.sentence())
+        fmt::Display::fmt(&self.sentence(), f)
     }
 }
 

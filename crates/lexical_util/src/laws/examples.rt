@@ -13,10 +13,9 @@ ghost use Rattle.lexical_flags.specs.Rules.{Demands, Holds, Lawful};
 ghost use Rattle.lexical_flags.specs.declared.format_flags.all_rules.Rule.{Rule};
 ghost use Rattle.lexical_flags.specs.declared.format_flags.all_rules.Rule.TheVariants as rules;
 ghost use Rattle.lexical_flags.specs.declared.format_flags.TheConstants.{FLAG_MASK};
-ghost use Rattle.lexical_builder.specs.Writes.{write_flag, write_byte, IsLegal, SameWrites};
-ghost use Rattle.lexical_util.specs.Compose.{Composes, AlwaysCompose};
+ghost use Rattle.lexical_builder.specs.Writes.{write_flag, write_byte, SameWrites};
+ghost use Rattle.lexical_util.specs.Compose.{AlwaysCompose};
 ghost use Rattle.lexical_util.specs.Edits.{all_writes, edited};
-ghost use Rattle.lexical_util.specs.Listing.{IsBuiltByWrites};
 ghost use Rattle.lexical_util.specs.Normal.{normal_form_of};
 ghost use Rattle.lexical_util.specs.SettingText.{HasByte, edit_or_error_in, setting_text};
 ghost use Rattle.lexical_util.specs.Reasons.{without_prefix_case, IsWith, SameRules};
@@ -24,11 +23,8 @@ ghost use Rattle.lexical_util.specs.declared.edits.Edit.TheVariants as edits;
 
 use crate::laws::{base, edit_facts, flags, normal_form_facts, setting_facts, write_facts};
 
-/// Writes: legal values, and lists that write the same.
+/// Lists that write the same, and lists that do not.
 pub fn write_examples()
-    ensures byte { IsLegal (write_byte layout.exponent_base 255) }
-    ensures too_large { IsLegal (write_byte layout.exponent_base 256) → ⊥ }
-
     // Two fields in another order, and a field that is written twice.
     ensures order { SameWrites
         (write_flag layout.no_special true ∷ write_byte layout.mantissa_radix 16 ∷ [])
@@ -41,23 +37,6 @@ pub fn write_examples()
     ensures other_last { SameWrites
         (write_byte layout.mantissa_radix 8 ∷ write_byte layout.mantissa_radix 16 ∷ [])
         (write_byte layout.mantissa_radix 16 ∷ write_byte layout.mantissa_radix 8 ∷ []) → ⊥ }
-{}
-
-/// Words that writes to a new builder make, and words that none make.
-pub fn image_examples()
-    ensures decimal { IsBuiltByWrites 0x0A0A0A00_00000000_00000000_0000000C }
-    ensures unused_separator { IsBuiltByWrites 0x0A0A0A00_0000005F_00000000_0000000C → ⊥ }
-{}
-
-/// Two lists of writes that are one, and lists between which a separator is dropped.
-pub fn compose_examples()
-    // A separator that is dropped, and then written again together with its flag.
-    ensures written_again { Composes 0x0A0A0A00_0000005F_00000000_0000000C []
-        (write_flag layout.special_digit_separator true ∷ write_byte layout.digit_separator 0x2C ∷ []) }
-
-    // One that is dropped, and that a flag allows afterwards.
-    ensures dropped { Composes 0x0A0A0A00_0000005F_00000000_0000000C []
-        (write_flag layout.special_digit_separator true ∷ []) → ⊥ }
 {}
 
 /// Lists of writes that are one on every word with a mantissa radix, and lists that are not.

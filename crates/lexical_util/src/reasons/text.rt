@@ -76,7 +76,7 @@ impl fmt::Display for Reason {
     ghost output = { λ reason. Some (reason_text reason) };
 
     fn fmt<W: fmt::Write>(&self, f: &mut fmt::Formatter<W>) -> fmt::Result {
-        write!(f, "{}", self.sentence())
+        fmt::Display::fmt(&self.sentence(), f)
     }
 }
 
@@ -84,7 +84,7 @@ impl fmt::Display for Unused {
     ghost output = { λ setting. Some (unused_text setting) };
 
     fn fmt<W: fmt::Write>(&self, f: &mut fmt::Formatter<W>) -> fmt::Result {
-        write!(f, "{}", self.sentence())
+        fmt::Display::fmt(&self.sentence(), f)
     }
 }
 

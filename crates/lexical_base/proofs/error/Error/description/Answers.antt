@@ -1,4 +1,5 @@
-use Rattle.lexical_base.proofs.DescriptionLemmas.{text_in_table, at_rank, short}
+use Rattle.lexical_base.proofs.DescriptionLemmas.{at_rank, short}
+use Rattle.lexical_base.proofs.TableLemmas.{text_in_table}
 use Rattle.lexical_base.proofs.error.Error.description.Goals as goal
 
 pub returns-clause-text : goal.returns-clause-text

@@ -1,4 +1,5 @@
-use Rattle.lexical_util.proofs.NumberLemmas.{text_in_table, variant_name}
+use Rattle.lexical_base.proofs.TableLemmas.{text_in_table}
+use Rattle.lexical_util.proofs.NumberLemmas.{variant_name}
 use Rattle.lexical_util.proofs.edits.FlagSetter.name.Goals as goal
 
 pub returns : goal.returns

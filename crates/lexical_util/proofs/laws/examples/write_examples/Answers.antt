@@ -19,8 +19,6 @@ written_twice = record { same_flags = λ f. refl; same_bytes = on_byte } where
 
 pub returns : goal.returns
 returns c = record {
-  byte = omega arith;
-  too_large = λ legal. omega (arith, legal);
   order = record { same_flags = λ f. refl; same_bytes = λ b. refl };
   twice = written_twice;
   other_last = λ same.
