@@ -3,11 +3,13 @@
 
 ghost use Rattle.std.specs.Prelude.{[], ◌∷◌, Some, None};
 ghost use Rattle.lexical_flags.specs.Constants.{ShareNoBit};
-ghost use Rattle.lexical_flags.specs.Options.{HaveOneRole, LeavesRoom};
+ghost use Rattle.lexical_flags.specs.Options.{HaveOneRole, IsOptionsError, LeavesRoom};
 ghost use Rattle.lexical_flags.specs.Rules.{AreIfBroken};
 ghost use Rattle.lexical_flags.specs.declared.format_flags.all_rules.Rule.TheVariants as rules;
 ghost use Rattle.lexical_flags.specs.Pairs.{ArePairwise};
 ghost use Rattle.lexical_flags.specs.Record.{raw, SeparatorIsUsed};
+
+use lexical_base::error::Error;
 
 /// Masks that have a bit in common, and masks that have none.
 pub fn mask_examples()
@@ -35,10 +37,13 @@ pub fn room_examples()
     ensures no_room { LeavesRoom 0x00000A68_68000000_00000000_0000000C → ⊥ }
 {}
 
-/// Broken rules: flags 4 and 5, which exclude each other.
+/// Broken rules and unfit options: flags 4 and 5, which exclude each other, and a digit as exponent character.
 pub fn broken_examples()
     ensures broken { AreIfBroken 0x0A0A0A00_00000000_00000000_0000003C
         (rules.ExponentFlagsAgree ∷ rules.MantissaSignFlagsAgree ∷ []) (None ∷ Some rules.MantissaSignFlagsAgree ∷ []) }
     ensures left_out { AreIfBroken 0x0A0A0A00_00000000_00000000_0000003C
         (rules.ExponentFlagsAgree ∷ rules.MantissaSignFlagsAgree ∷ []) (None ∷ None ∷ []) → ⊥ }
+
+    ensures exponent { IsOptionsError 0x0A0A0A00_00000000_00000000_0000000C 0x35 0x35 Error.InvalidExponentSymbol }
+    ensures not_the_point { IsOptionsError 0x0A0A0A00_00000000_00000000_0000000C 0x35 0x35 Error.InvalidDecimalPoint → ⊥ }
 {}

@@ -1,3 +1,4 @@
+-- search finds these as well, but later
 use Rattle.std.proofs.Common.{rules}
 use Rattle.callers.proofs.roles.checked_role_of.Goals as goal
 
