@@ -8,6 +8,7 @@ use Rattle.std.proofs.lemmas.List.{map-append, map_push, take_all, take-append-d
 use Rattle.std.proofs.lemmas.List.Elements.{filter_more, filter-append}
 use Rattle.std.specs.Int.Digits.{number_from_digits}
 use borrow.Author.Count.{below_more}
+use Rattle.lexical_util.specs.Layout as layout
 use Rattle.lexical_util.specs.Digits.{value, numeral}
 use Rattle.lexical_util.specs.Outcomes.{held_index}
 use Rattle.lexical_util.specs.Record.{Record, raw}
@@ -20,22 +21,22 @@ use Rattle.callers.specs.Reading.{IsNumeral, IsReadTo, IsRefusal}
 -- the number of one byte more, as a test says whether it is a digit
 number-more : (r : Record) (text : List ℕ) (i : ℕ) (test : Bool) → i < length text → is_digit r (byte_at text i) ≡ test
     → number_of r (take (i + 1) text)
-    ≡ cond test (number_of r (take i text) * r.mantissa_radix + value (byte_at text i)) (number_of r (take i text))
-number-more r text i test inside is = ap (numeral r.mantissa_radix) longer ∙ pushed test where
+    ≡ cond test (number_of r (take i text) * r.byte layout.mantissa_radix + value (byte_at text i)) (number_of r (take i text))
+number-more r text i test inside is = ap (numeral (r.byte layout.mantissa_radix)) longer ∙ pushed test where
   front : List ℕ
   front = filter (is_digit r) (take i text)
 
   longer : filter (is_digit r) (take (i + 1) text) ≡ front ++ cond test (byte_at text i ∷ []) []
   longer = filter_more (is_digit r) text i 0 inside ∙ ap (λ t. front ++ cond t (byte_at text i ∷ []) []) is
 
-  pushed : (t : Bool) → numeral r.mantissa_radix (front ++ cond t (byte_at text i ∷ []) [])
-      ≡ cond t (number_of r (take i text) * r.mantissa_radix + value (byte_at text i)) (number_of r (take i text))
-  pushed true = ap (number_from_digits r.mantissa_radix) (map_push value front (byte_at text i))
-      ∙ number_push r.mantissa_radix (map value front) (value (byte_at text i))
-  pushed false = ap (numeral r.mantissa_radix) (append-nil front)
+  pushed : (t : Bool) → numeral (r.byte layout.mantissa_radix) (front ++ cond t (byte_at text i ∷ []) [])
+      ≡ cond t (number_of r (take i text) * r.byte layout.mantissa_radix + value (byte_at text i)) (number_of r (take i text))
+  pushed true = ap (number_from_digits (r.byte layout.mantissa_radix)) (map_push value front (byte_at text i))
+      ∙ number_push (r.byte layout.mantissa_radix) (map value front) (value (byte_at text i))
+  pushed false = ap (numeral (r.byte layout.mantissa_radix)) (append-nil front)
 
 -- more bytes write no smaller number
-number-grows : (r : Record) (text : List ℕ) (i : ℕ) → 1 ≤ r.mantissa_radix
+number-grows : (r : Record) (text : List ℕ) (i : ℕ) → 1 ≤ r.byte layout.mantissa_radix
     → number_of r (take i text) ≤ number_of r text
 number-grows r text i some =
     let kept = filter (is_digit r) in
@@ -43,9 +44,9 @@ number-grows r text i some =
     ap (λ t. map value (kept t)) (sym (take-append-drop i text))
     ∙ ap (map value) (filter-append (is_digit r) (take i text) (drop i text))
     ∙ map-append value (kept (take i text)) (kept (drop i text)) in
-    rw (apart, number_after_append) (number_after_ge r.mantissa_radix (number_of r (take i text)) (map value (kept (drop i text))) some)
+    rw (apart, number_after_append) (number_after_ge (r.byte layout.mantissa_radix) (number_of r (take i text)) (map value (kept (drop i text))) some)
 
-number-within : (r : Record) (text : List ℕ) (i j : ℕ) → 1 ≤ r.mantissa_radix → i ≤ j
+number-within : (r : Record) (text : List ℕ) (i j : ℕ) → 1 ≤ r.byte layout.mantissa_radix → i ≤ j
     → number_of r (take i text) ≤ number_of r (take j text)
 number-within r text i j some less =
     subst (λ t. number_of r t ≤ number_of r (take j text)) (take-take i j text less)
@@ -74,13 +75,13 @@ skipped r text i number inside other here before =
 -- the number with the digit at an index
 next : (r : Record) (text : List ℕ) (i number digit : ℕ) → i < length text → IsTrue (is_digit r (byte_at text i))
     → digit ≡ value (byte_at text i) → HasRead r text i number
-    → number * r.mantissa_radix + digit ≡ number_of r (take (i + 1) text)
+    → number * r.byte layout.mantissa_radix + digit ≡ number_of r (take (i + 1) text)
 next r text i number digit inside here is before = rw (is, before.sum) (sym (number-more r text i true inside here))
 
 -- a digit is read
 pub pushed : (r : Record) (text : List ℕ) (i number digit : ℕ) → i < length text → IsTrue (is_digit r (byte_at text i))
-    → digit ≡ value (byte_at text i) → HasRead r text i number → number * r.mantissa_radix + digit < 2 ^ 64
-    → HasRead r text (i + 1) (number * r.mantissa_radix + digit)
+    → digit ≡ value (byte_at text i) → HasRead r text i number → number * r.byte layout.mantissa_radix + digit < 2 ^ 64
+    → HasRead r text (i + 1) (number * r.byte layout.mantissa_radix + digit)
 pushed r text i number digit inside here is before fits =
     let sum = next r text i number digit inside here is before in
     record {
@@ -92,7 +93,7 @@ pushed r text i number digit inside here is before fits =
 -- the number is too large with the digit at an index
 pub too_large : (r : Record) (text : List ℕ) (i number digit : ℕ) → i < length text
     → IsTrue (is_digit r (byte_at text i)) → digit ≡ value (byte_at text i) → HasRead r text i number
-    → (number * r.mantissa_radix + digit < 2 ^ 64 → ⊥) → IsRefusal r text (errors.Overflow i)
+    → (number * r.byte layout.mantissa_radix + digit < 2 ^ 64 → ⊥) → IsRefusal r text (errors.Overflow i)
 too_large r text i number digit inside here is before large = (
   read_to r text i number inside before,
   or_right (is_skipped r text i) _ here,
@@ -119,7 +120,7 @@ whole r text i number end some before =
     )
 
 -- a lawful radix is 2 or more
-radix_some : (word : ℕ) → Lawful word → 2 ≤ (raw word).mantissa_radix
+radix_some : (word : ℕ) → Lawful word → 2 ≤ (raw word).byte layout.mantissa_radix
 unfolding Lawful
 radix_some word lawful = lawful.mantissa_radix.0
 
@@ -145,7 +146,7 @@ module _ (word : ℕ) (text : List ℕ) (lawful : Lawful word) where
   ]
   ends (errors.Overflow i) j refused reads = elim (cases_lt i j) [
     | inl before ↦
-        let some : 1 ≤ (raw word).mantissa_radix = omega (arith, radix_some word lawful) in
+        let some : 1 ≤ (raw word).byte layout.mantissa_radix = omega (arith, radix_some word lawful) in
         let more = number-within (raw word) text (i + 1) j some (omega (arith, before)) in
         absurd (omega (arith, more, refused.2, reads.fits))
     | inr after ↦ after

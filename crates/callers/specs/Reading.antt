@@ -1,6 +1,7 @@
 -- The number that a text writes in the mantissa radix of a format, and which byte is refused if it writes none.
 use Rattle.std.specs.Prelude.{ℕ, zero, suc, ◌≡◌, ◌+◌, ◌^◌, ◌<◌, ◌≤◌, ◌&&◌, ◌||◌, nat_lt}
 use Rattle.std.specs.Prelude.{IsTrue, IsFalse, Bool, List, length, take, filter, get_or}
+use Rattle.lexical_util.specs.Layout as layout
 use Rattle.lexical_util.specs.Ascii.{ByteSet}
 use Rattle.lexical_util.specs.Digits.{value, numeral}
 use Rattle.lexical_util.specs.Record.{Record}
@@ -10,11 +11,11 @@ use Rattle.lexical_util.specs.declared.error.Error.TheVariants as errors
 
 -- the digits of the mantissa
 abbrev pub is_digit : Record → ByteSet
-is_digit r byte = nat_lt (value byte) r.mantissa_radix
+is_digit r byte = nat_lt (value byte) (r.byte layout.mantissa_radix)
 
 -- what may stand beside a digit separator: a digit, and another separator if several may stand in a row
 abbrev pub is_neighbour : Record → ByteSet
-is_neighbour r byte = is_digit r byte || (r.integer_consecutive_digit_separator && separator r byte)
+is_neighbour r byte = is_digit r byte || (r.flag layout.integer_consecutive_digit_separator && separator r byte)
 
 -- the byte at an index, and the one before it; 0 if there is none, which is no digit and no separator
 abbrev pub byte_at : List ℕ → ℕ → ℕ
@@ -27,7 +28,7 @@ byte_before text (suc i) = byte_at text i
 -- whether a digit separator may stand at an index: between digits, if the flag says so
 abbrev pub may_stand : Record → List ℕ → ℕ → Bool
 may_stand r text i =
-    r.integer_internal_digit_separator &&
+    r.flag layout.integer_internal_digit_separator &&
     is_neighbour r (byte_before text i) && is_neighbour r (byte_at text (i + 1))
 
 -- whether a digit separator stands at an index, and may stand there
@@ -40,7 +41,7 @@ is_read r text i = is_skipped r text i || is_digit r (byte_at text i)
 
 -- the number that the digits of a text write
 abbrev pub number_of : Record → List ℕ → ℕ
-number_of r text = numeral r.mantissa_radix (filter (is_digit r) text)
+number_of r text = numeral (r.byte layout.mantissa_radix) (filter (is_digit r) text)
 
 -- a text that writes a number of 64 bits
 pub record IsNumeral (r : Record) (text : List ℕ) : Type 0 where

@@ -45,10 +45,10 @@ pub fn decimal_facts()
     // The format of decimal numbers with two setter calls.
     ensures word { edited 0x0A0A0A00_00000000_00000000_0000000C
         (write_byte layout.digit_separator 0x5F ∷ write_flags layout.internal_digit_separator true) ≡ DECIMAL }
-    ensures separator { (raw DECIMAL).digit_separator ≡ 0x5F }
-    ensures radix { (raw DECIMAL).mantissa_radix ≡ 10 }
-    ensures between_digits { (raw DECIMAL).integer_internal_digit_separator ≡ true }
-    ensures after_digits { (raw DECIMAL).integer_trailing_digit_separator ≡ false }
+    ensures separator { (raw DECIMAL).byte layout.digit_separator ≡ 0x5F }
+    ensures radix { (raw DECIMAL).byte layout.mantissa_radix ≡ 10 }
+    ensures between_digits { (raw DECIMAL).flag layout.integer_internal_digit_separator ≡ true }
+    ensures after_digits { (raw DECIMAL).flag layout.integer_trailing_digit_separator ≡ false }
     ensures lawful { Lawful DECIMAL }
     ensures options { AreAccepted DECIMAL EXPONENT POINT }
 {}
@@ -61,11 +61,11 @@ pub fn rust_integer_facts()
         ∷ write_flags (layout.required_integer_digits ∷ layout.no_positive_mantissa_sign ∷ layout.no_exponent_notation
         ∷ layout.no_special ∷ layout.integer_internal_digit_separator ∷ layout.integer_trailing_digit_separator
         ∷ layout.integer_consecutive_digit_separator ∷ []) true) ≡ RUST_INTEGER }
-    ensures separator { (raw RUST_INTEGER).digit_separator ≡ 0x5F }
-    ensures radix { (raw RUST_INTEGER).mantissa_radix ≡ 10 }
-    ensures after_digits { (raw RUST_INTEGER).integer_trailing_digit_separator ≡ true }
-    ensures in_a_row { (raw RUST_INTEGER).integer_consecutive_digit_separator ≡ true }
-    ensures no_exponent { (raw RUST_INTEGER).no_exponent_notation ≡ true }
+    ensures separator { (raw RUST_INTEGER).byte layout.digit_separator ≡ 0x5F }
+    ensures radix { (raw RUST_INTEGER).byte layout.mantissa_radix ≡ 10 }
+    ensures after_digits { (raw RUST_INTEGER).flag layout.integer_trailing_digit_separator ≡ true }
+    ensures in_a_row { (raw RUST_INTEGER).flag layout.integer_consecutive_digit_separator ≡ true }
+    ensures no_exponent { (raw RUST_INTEGER).flag layout.no_exponent_notation ≡ true }
     ensures lawful { Lawful RUST_INTEGER }
     ensures options { AreAccepted RUST_INTEGER EXPONENT POINT }
 {}
@@ -76,12 +76,12 @@ pub fn hexadecimal_float_facts()
     ensures word { edited 0x10101000_00000000_00000000_0000000C
         (write_byte layout.base_prefix 0x78 ∷ write_byte layout.exponent_base 2 ∷ write_byte layout.exponent_radix 10
         ∷ write_flag layout.required_exponent_notation true ∷ []) ≡ HEXADECIMAL_FLOAT }
-    ensures prefix { (raw HEXADECIMAL_FLOAT).base_prefix ≡ 0x78 }
-    ensures radix { (raw HEXADECIMAL_FLOAT).mantissa_radix ≡ 16 }
-    ensures base { (raw HEXADECIMAL_FLOAT).exponent_base ≡ 2 }
-    ensures exponent_radix { (raw HEXADECIMAL_FLOAT).exponent_radix ≡ 10 }
-    ensures exponent { (raw HEXADECIMAL_FLOAT).required_exponent_notation ≡ true }
-    ensures no_separator { (raw HEXADECIMAL_FLOAT).digit_separator ≡ 0 }
+    ensures prefix { (raw HEXADECIMAL_FLOAT).byte layout.base_prefix ≡ 0x78 }
+    ensures radix { (raw HEXADECIMAL_FLOAT).byte layout.mantissa_radix ≡ 16 }
+    ensures base { (raw HEXADECIMAL_FLOAT).byte layout.exponent_base ≡ 2 }
+    ensures exponent_radix { (raw HEXADECIMAL_FLOAT).byte layout.exponent_radix ≡ 10 }
+    ensures exponent { (raw HEXADECIMAL_FLOAT).flag layout.required_exponent_notation ≡ true }
+    ensures no_separator { (raw HEXADECIMAL_FLOAT).byte layout.digit_separator ≡ 0 }
     ensures lawful { Lawful HEXADECIMAL_FLOAT }
     ensures options { AreAccepted HEXADECIMAL_FLOAT HEXADECIMAL_EXPONENT POINT }
 {}
@@ -90,10 +90,10 @@ pub fn hexadecimal_float_facts()
 #[tactic(auto, unfolding(lexical_util::specs::Unfoldable::on_literals))]
 pub fn octal_facts()
     ensures word { edited 0x08080800_00000000_00000000_0000000C (write_byte layout.base_suffix 0x6F ∷ []) ≡ OCTAL }
-    ensures suffix { (raw OCTAL).base_suffix ≡ 0x6F }
-    ensures radix { (raw OCTAL).mantissa_radix ≡ 8 }
-    ensures both_cases { (raw OCTAL).case_sensitive_base_suffix ≡ false }
-    ensures no_separator { (raw OCTAL).digit_separator ≡ 0 }
+    ensures suffix { (raw OCTAL).byte layout.base_suffix ≡ 0x6F }
+    ensures radix { (raw OCTAL).byte layout.mantissa_radix ≡ 8 }
+    ensures both_cases { (raw OCTAL).flag layout.case_sensitive_base_suffix ≡ false }
+    ensures no_separator { (raw OCTAL).byte layout.digit_separator ≡ 0 }
     ensures lawful { Lawful OCTAL }
     ensures options { AreAccepted OCTAL EXPONENT POINT }
 {}

@@ -3,6 +3,7 @@
 ghost use Rattle.std.specs.Prelude.{◌≡◌, ◌+◌, ◌*◌, ◌<◌, ◌^◌, ◌⊎◌, Err, IfErr, IsTrue, length};
 ghost use Rattle.std.specs.Option.{SomeIff};
 ghost use Rattle.std.specs.Result.{OkIff};
+ghost use Rattle.lexical_util.specs.Layout as layout;
 ghost use Rattle.lexical_util.specs.Digits.{value};
 ghost use Rattle.lexical_util.specs.Record.{raw};
 ghost use Rattle.lexical_util.specs.Roles.{separator};
@@ -69,8 +70,8 @@ pub fn digit_value(format: u128, byte: u8) -> Option<u32>
 
 // The number with one digit more, if that fits.
 fn push(format: u128, number: u64, digit: u32) -> Option<u64>
-    ensures { SomeIff result (number * (raw format).mantissa_radix + digit < 2 ^ 64)
-        (number * (raw format).mantissa_radix + digit) }
+    ensures { SomeIff result (number * (raw format).byte layout.mantissa_radix + digit < 2 ^ 64)
+        (number * (raw format).byte layout.mantissa_radix + digit) }
 {
     number
         .checked_mul(u64::from(mantissa_radix(format)))?

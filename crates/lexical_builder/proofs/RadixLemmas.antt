@@ -1,24 +1,25 @@
 -- The format of one radix is lawful exactly if numbers can be written in that radix.
-use Rattle.std.proofs.Common.{ℕ, ◌≡◌, ◌↔◌, ◌<◌, inl, refl, sym, subst, arith}
+use Rattle.std.proofs.Common.{ℕ, ◌≡◌, ◌↔◌, ◌<◌, inl, inr, ◌∙◌, refl, sym, subst, arith}
 use Rattle.std.proofs.lemmas.Bool.Decides.{nat_tests}
 use Rattle.lexical_flags.specs.Layout as layout
 use Rattle.lexical_flags.specs.Literals.{on_literals}
-use Rattle.lexical_flags.specs.Record.{Record, HasBytes, raw, pack, byte_of}
+use Rattle.lexical_flags.specs.Record.{Record, HasBytes, raw, pack}
 use Rattle.lexical_flags.specs.declared.format_flags.all_rules.Rule.{Rule}
 use Rattle.lexical_flags.specs.declared.format_flags.all_rules.Rule.TheVariants as rules
 use Rattle.lexical_flags.specs.Rules.{IsRadix, Demands, Holds, Lawful}
-use Rattle.lexical_flags.proofs.Packing.{raw-pack, pack-clean}
+use Rattle.lexical_flags.proofs.Packing.{raw-pack, pack-clean, trim-same}
 use Rattle.lexical_builder.specs.Writes.{radix_record}
 
 -- each byte of its record is 0 to 255
 radix-bytes : (radix : ℕ) → radix < 256 → HasBytes (radix_record radix)
 radix-bytes radix fits = record { each = each } where
-  each : (b : layout.Byte) → byte_of (radix_record radix) b < 256
+  each : (b : layout.Byte) → (radix_record radix).byte b < 256
   each layout.digit_separator = omega arith
   each _ = omega arith
 
 raw-radix : (radix : ℕ) → radix < 256 → raw (pack (radix_record radix)) ≡ radix_record radix
 raw-radix radix fits = raw-pack (radix_record radix) (radix-bytes radix fits)
+    ∙ trim-same (radix_record radix) (inr refl)
 
 -- its fields meet what each rule demands
 radix-demands : (radix : ℕ) → IsRadix radix → (rule : Rule) → Demands rule (radix_record radix)
@@ -40,7 +41,7 @@ pub radix-lawful : (radix : ℕ) → radix < 256 → ((word : ℕ) → Lawful wo
     → Lawful (pack (radix_record radix)) ↔ IsRadix radix
 unfolding Holds
 radix-lawful radix fits law = (
-  λ lawful. subst (λ (r : Record). IsRadix r.mantissa_radix) (raw-radix radix fits)
+  λ lawful. subst (λ (r : Record). IsRadix (r.byte layout.mantissa_radix)) (raw-radix radix fits)
       ((law (pack (radix_record radix))).0 lawful rules.MantissaRadixInRange),
   λ h. (law (pack (radix_record radix))).1 (radix-kept radix fits h),
 )

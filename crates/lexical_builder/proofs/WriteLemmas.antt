@@ -3,33 +3,20 @@ use Rattle.std.proofs.Common.{◌≡◌, ℕ, ◌<◌, ◌==◌, List, [], ◌�
 use Rattle.std.proofs.Common.{sym, ap, subst, ◌∙◌, arith, All}
 use Rattle.std.proofs.lemmas.Bool.{cond_both}
 use Rattle.std.proofs.lemmas.List.Elements.{All-head, All-tail}
-use Rattle.std.specs.List.{last_or, cons_option}
-use Rattle.lexical_flags.specs.Layout.{Flag, Byte, shift}
+use Rattle.std.proofs.Common.{Bool, true, false, ◌&&◌, ◌||◌, if◌then◌else◌, filter}
+use Rattle.std.proofs.Math.Bool.{or-false}
+use Rattle.std.specs.List.{last_or, cons_option, list_any}
+use Rattle.lexical_flags.specs.Layout.{Flag, Byte, part, bit, shift, flags}
 use Rattle.lexical_flags.specs.Layout as layout
-use Rattle.lexical_flags.specs.Record.{Record, flag_of, byte_of, HasBytes}
-use Rattle.lexical_flags.proofs.RecordLemmas.{flag_of-tabulate, byte_of-tabulate, record_same}
+use Rattle.lexical_flags.specs.Record.{Record, HasBytes}
+use Rattle.lexical_flags.proofs.RecordLemmas.{record_same}
 use Rattle.lexical_builder.specs.Writes.{Write, write_flag, write_byte, IsLegal, new_record, flag_in, byte_in, after}
-use Rattle.lexical_builder.specs.Writes.{SameWrites}
+use Rattle.lexical_builder.specs.Writes.{SameWrites, write_flags, last_byte}
+use Rattle.lexical_builder.specs.BuilderBits.{flags_with, index_of, record_of_parts}
 
 -- the value that writes leave in a field that began with d, if h says what one write gives it
 abbrev pub left_by : {T : Type 0} → (Write → Option T) → List Write → T → T
 left_by h writes d = unwrap_or (last_or None (filter_map h writes)) d
-
--- after the writes a flag is what the last of them to it left
-pub flag_of-after : (r : Record) (writes : List Write) (f : Flag)
-    → flag_of (after r writes) f ≡ left_by (λ x. flag_in x f) writes (flag_of r f)
-unfolding after
-flag_of-after r writes f =
-    flag_of-tabulate (λ f. left_by (λ x. flag_in x f) writes (flag_of r f))
-    (λ b. left_by (λ x. byte_in x b) writes (byte_of r b)) f
-
--- after the writes a byte is what the last of them to it left
-pub byte_of-after : (r : Record) (writes : List Write) (b : Byte)
-    → byte_of (after r writes) b ≡ left_by (λ x. byte_in x b) writes (byte_of r b)
-unfolding after
-byte_of-after r writes b =
-    byte_of-tabulate (λ f. left_by (λ x. flag_in x f) writes (flag_of r f))
-    (λ b. left_by (λ x. byte_in x b) writes (byte_of r b)) b
 
 last_or-some : {T : Type 0} (v d : T) (xs : List T) → unwrap_or (last_or (Some v) xs) d ≡ unwrap_or (last_or None xs) v
 last_or-some v d [] = refl
@@ -53,6 +40,81 @@ left_by-append h (x ∷ first) second d =
     left_by-cons h x (first ++ second) d ∙ left_by-append h first second (unwrap_or (h x) d)
     ∙ ap (left_by h second) (sym (left_by-cons h x first d))
 
+-- what the flags that a test picks are given, as a flag sees it
+written : (p : Flag → Bool) (value : Bool) (f : Flag) (d : Bool) (fs : List Flag)
+    → left_by (λ x. flag_in x f) (write_flags (filter p fs) value) d
+    ≡ (if list_any (λ g. (bit g == bit f) && p g) fs then value else d)
+written p value f d [] = refl
+written p value f d (g ∷ fs) =
+    on_first (p g) (filter p fs) ∙ written p value f (if p g then unwrap_or (flag_in (write_flag g value) f) d else d) fs
+    ∙ picked (bit g == bit f) (p g) (list_any (λ g. (bit g == bit f) && p g) fs) where
+      on_first : (c : Bool) (gs : List Flag)
+          → left_by (λ x. flag_in x f) (write_flags (if c then g ∷ gs else gs) value) d
+          ≡ left_by (λ x. flag_in x f) (write_flags gs value)
+          (if c then unwrap_or (flag_in (write_flag g value) f) d else d)
+      on_first true gs = left_by-cons (λ x. flag_in x f) (write_flag g value) (write_flags gs value) d
+      on_first false gs = refl
+
+      picked : (e c rest : Bool)
+          → (if rest then value else if c then unwrap_or (if e then Some value else None) d else d)
+          ≡ (if (e && c) || rest then value else d)
+      picked true true true = refl
+      picked true true false = refl
+      picked true false rest = refl
+      picked false true rest = refl
+      picked false false rest = refl
+
+-- the flags of a mask are written, and no other
+pub after-mask : (r : Record) (mask : ℕ) (value : Bool) (f : Flag) → (after r (write_flags (flags_with mask) value)).flag f
+    ≡ (if part mask (bit f) 1 == 1 then value else r.flag f)
+unfolding after
+after-mask r mask value f =
+    written (λ g. part mask (bit g) 1 == 1) value f (r.flag f) flags ∙ ap (λ b. if b then value else r.flag f) (in_mask f) where
+      in_mask : (f : Flag) → list_any (λ g. (bit g == bit f) && (part mask (bit g) 1 == 1)) flags
+          ≡ (part mask (bit f) 1 == 1)
+      in_mask layout.required_integer_digits = or-false _
+      in_mask _ = or-false _
+
+-- and no byte
+pub after-mask_byte : (r : Record) (fs : List Flag) (value : Bool) (b : Byte)
+    → (after r (write_flags fs value)).byte b ≡ r.byte b
+unfolding after
+after-mask_byte r fs value b = ap (λ o. unwrap_or o (r.byte b)) (none fs) where
+  none : (fs : List Flag) → last_byte (write_flags fs value) b ≡ None
+  none [] = refl
+  none (f ∷ fs) = none fs
+
+-- one byte is written, found by its index
+pub after-byte : (r : Record) (c : Byte) (value : ℕ) (b : Byte)
+    → (after r (write_byte c value ∷ [])).byte b ≡ (if index_of b == index_of c then value else r.byte b)
+unfolding after
+after-byte r c value b =
+    left_by-cons (λ x. byte_in x b) (write_byte c value) [] (r.byte b) ∙ ap (λ e. unwrap_or (if e then Some value else None) (r.byte b)) (same b c)
+    ∙ chosen (index_of b == index_of c) where
+      same : (b c : Byte) → (shift c == shift b) ≡ (index_of b == index_of c)
+      same layout.digit_separator layout.digit_separator = refl
+      same layout.base_prefix layout.digit_separator = refl
+      same layout.base_suffix layout.digit_separator = refl
+      same layout.mantissa_radix layout.digit_separator = refl
+      same layout.exponent_base layout.digit_separator = refl
+      same layout.exponent_radix layout.digit_separator = refl
+      same _ _ = refl
+
+      chosen : (e : Bool) → unwrap_or (if e then Some value else None) (r.byte b) ≡ (if e then value else r.byte b)
+      chosen true = refl
+      chosen false = refl
+
+-- the parts of a new builder
+pub new_parts : record_of_parts 0xC (0 ∷ 0 ∷ 0 ∷ 10 ∷ 0 ∷ 0 ∷ []) ≡ new_record
+new_parts = record_same _ _ on_flag on_byte where
+  on_flag : (f : Flag) → (record_of_parts 0xC (0 ∷ 0 ∷ 0 ∷ 10 ∷ 0 ∷ 0 ∷ [])).flag f ≡ new_record.flag f
+  on_flag layout.required_integer_digits = refl
+  on_flag _ = refl
+
+  on_byte : (b : Byte) → (record_of_parts 0xC (0 ∷ 0 ∷ 0 ∷ 10 ∷ 0 ∷ 0 ∷ [])).byte b ≡ new_record.byte b
+  on_byte layout.digit_separator = refl
+  on_byte _ = refl
+
 -- no write changes nothing
 pub after_none : (r : Record) → after r [] ≡ r
 unfolding after
@@ -60,19 +122,16 @@ after_none r = refl
 
 -- two lists one after the other are one list
 pub after-append : (r : Record) (first second : List Write) → after (after r first) second ≡ after r (first ++ second)
+unfolding after
 after-append r first second = record_same _ _
-    (λ f. flag_of-after (after r first) second f ∙ ap (left_by (λ x. flag_in x f) second) (flag_of-after r first f)
-    ∙ sym (left_by-append (λ x. flag_in x f) first second (flag_of r f)) ∙ sym (flag_of-after r (first ++ second) f))
-    (λ b. byte_of-after (after r first) second b ∙ ap (left_by (λ x. byte_in x b) second) (byte_of-after r first b)
-    ∙ sym (left_by-append (λ x. byte_in x b) first second (byte_of r b)) ∙ sym (byte_of-after r (first ++ second) b))
+    (λ f. sym (left_by-append (λ x. flag_in x f) first second (r.flag f)))
+    (λ b. sym (left_by-append (λ x. byte_in x b) first second (r.byte b)))
 
 -- only the last write of each field counts
 pub after-same : (r : Record) (writes others : List Write) → SameWrites writes others → after r writes ≡ after r others
-after-same r writes others same = record_same _ _
-    (λ f. flag_of-after r writes f ∙ ap (λ o. unwrap_or o (flag_of r f)) (same.same_flags f)
-    ∙ sym (flag_of-after r others f))
-    (λ b. byte_of-after r writes b ∙ ap (λ o. unwrap_or o (byte_of r b)) (same.same_bytes b)
-    ∙ sym (byte_of-after r others b))
+unfolding after
+after-same r writes others same = record_same _ _ (λ f. ap (λ o. unwrap_or o (r.flag f)) (same.same_flags f))
+    (λ b. ap (λ o. unwrap_or o (r.byte b)) (same.same_bytes b))
 
 byte_in-fits : (x : Write) (b : Byte) (d : ℕ) → IsLegal x → d < 256 → unwrap_or (byte_in x b) d < 256
 byte_in-fits (write_flag f v) b d legal fits = fits
@@ -88,14 +147,12 @@ left_by-fits (x ∷ writes) b d legal fits = subst (λ n. n < 256) (sym (left_by
 
 -- legal writes leave bytes
 pub HasBytes-after : (r : Record) (writes : List Write) → HasBytes r → All IsLegal writes → HasBytes (after r writes)
-HasBytes-after r writes bytes legal = record {
-  each = λ b. subst (λ n. n < 256) (sym (byte_of-after r writes b))
-      (left_by-fits writes b (byte_of r b) legal (bytes.each b));
-}
+unfolding after
+HasBytes-after r writes bytes legal = record { each = λ b. left_by-fits writes b (r.byte b) legal (bytes.each b) }
 
 -- the record of a new builder has bytes
 pub HasBytes-new : HasBytes new_record
 HasBytes-new = record { each = on_byte } where
-  on_byte : (b : Byte) → byte_of new_record b < 256
+  on_byte : (b : Byte) → new_record.byte b < 256
   on_byte layout.digit_separator = omega arith
   on_byte _ = omega arith

@@ -1,18 +1,14 @@
 -- Where a builder keeps each field, and the record that it stands for.
-use Rattle.std.specs.Prelude.{ℕ, ◌+◌, ◌-◌, ◌*◌, ◌^◌, ◌<◌, ◌==◌, nat_lt, if◌then◌else◌, List, find, unwrap_or}
+use Rattle.std.specs.Prelude.{ℕ, ◌+◌, ◌-◌, ◌*◌, ◌^◌, ◌<◌, ◌==◌, nat_lt, if◌then◌else◌, List, filter, find, unwrap_or}
 use Rattle.std.specs.Prelude.{length, slice_index}
-use Rattle.lexical_flags.specs.Layout.{part, Flag, Byte, bit, flags, base_flags, digit_separator_flags}
+use Rattle.lexical_flags.specs.Layout.{part, Flag, Byte, bit, flags, bytes, base_flags, digit_separator_flags}
 use Rattle.lexical_flags.specs.Layout as layout
-use Rattle.lexical_flags.specs.Record.{Record, tabulate}
+use Rattle.lexical_flags.specs.Record.{Record}
 use Rattle.lexical_builder.specs.declared.format_builder.NumberFormatBuilder.TheInside.{Inside}
 
 -- the bit of a flag in a builder: that in a word, but the digit separator flags follow the others at once
 abbrev pub builder_bit : Flag → ℕ
 builder_bit f = if nat_lt (bit f) 32 then bit f else bit f - 32 + length base_flags
-
--- the flags of a word, at the bits of a builder
-abbrev pub flags_in : ℕ → ℕ
-flags_in word = part word 0 (length base_flags) + part word 32 (length digit_separator_flags) * 2 ^ length base_flags
 
 -- the index of a byte in a builder
 abbrev pub index_of : Byte → ℕ
@@ -23,13 +19,26 @@ index_of layout.mantissa_radix = 3
 index_of layout.exponent_base = 4
 index_of layout.exponent_radix = 5
 
+-- the flags of a word, at the bits of a builder
+abbrev pub flags_in : ℕ → ℕ
+flags_in word = part word 0 (length base_flags) + part word 32 (length digit_separator_flags) * 2 ^ length base_flags
+
 -- the flag that has this mask
 abbrev pub flag_with : ℕ → Flag
 flag_with mask = unwrap_or (find (λ f. 2 ^ bit f == mask) flags) layout.no_special
 
+-- the flags that a mask has
+abbrev pub flags_with : ℕ → List Flag
+flags_with mask = filter (λ f. part mask (bit f) 1 == 1) flags
+
+-- the byte at this index
+abbrev pub byte_at : ℕ → Byte
+byte_at index = unwrap_or (find (λ b. index_of b == index) bytes) layout.digit_separator
+
 -- the record with the flags at these bits, and these six bytes
 abbrev pub record_of_parts : ℕ → List ℕ → Record
-record_of_parts flags bytes = tabulate (λ f. part flags (builder_bit f) 1 == 1) (λ b. slice_index bytes (index_of b))
+record_of_parts flags bytes =
+    record { flag = λ f. part flags (builder_bit f) 1 == 1; byte = λ b. slice_index bytes (index_of b) }
 
 -- the record that a builder stands for
 abbrev pub record_of : Inside → Record

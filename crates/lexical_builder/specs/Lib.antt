@@ -5,3 +5,4 @@ pub mod Writes
 pub use Rattle.lexical_flags.specs.Layout
 pub use Rattle.lexical_flags.specs.Record
 pub use Rattle.lexical_flags.specs.Rules
+pub mod RecordCode

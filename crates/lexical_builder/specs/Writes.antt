@@ -4,7 +4,7 @@ use Rattle.std.specs.Prelude.{filter_map, ⊤}
 use Rattle.std.specs.List.{last_or}
 use Rattle.std.specs.Bool.{beq}
 use Rattle.lexical_flags.specs.Layout.{Flag, Byte, bit, shift}
-use Rattle.lexical_flags.specs.Record.{Record, flag_of, byte_of, tabulate}
+use Rattle.lexical_flags.specs.Record.{Record}
 pub use Rattle.lexical_builder.specs.NewRecord.{new_record, radix_record}
 
 -- a field and the value that it gets
@@ -42,12 +42,12 @@ last_byte writes b = last_or None (filter_map (λ x. byte_in x b) writes)
 -- each field has the value of the last write to it, or the record's own
 unfoldable pub after : Record → List Write → Record
 after r writes =
-    tabulate (λ f. unwrap_or (last_flag writes f) (flag_of r f)) (λ b. unwrap_or (last_byte writes b) (byte_of r b))
+    record { flag = λ f. unwrap_or (last_flag writes f) (r.flag f); byte = λ b. unwrap_or (last_byte writes b) (r.byte b) }
 
 -- whether the write changes the record
 abbrev pub changes : Record → Write → Bool
-changes r (write_flag f value) = not (beq (flag_of r f) value)
-changes r (write_byte b value) = not (byte_of r b == value)
+changes r (write_flag f value) = not (beq (r.flag f) value)
+changes r (write_byte b value) = not (r.byte b == value)
 
 -- the lists write the same fields, each with the same last value
 pub record SameWrites (writes others : List Write) : Type 0 where

@@ -1,14 +1,14 @@
 //! Builds number formats field by field.
 
-ghost use Rattle.std.specs.Prelude.{◌≡◌, ◌≢◌, ◌↔◌, ◌<◌, ◌%◌, ◌^◌, ◌==◌, ℕ, IfErr, IfOk, length, sum_by, if◌then◌else◌};
+ghost use Rattle.std.specs.Prelude.{◌≡◌, ◌≢◌, ◌↔◌, ◌<◌, ◌%◌, ◌^◌, ◌==◌, ℕ, [], ◌∷◌, IfErr, IfOk, length, sum_by, if◌then◌else◌};
 ghost use Rattle.std.specs.Result.{OkIff};
 ghost use Rattle.lexical_flags.specs.Layout as layout;
 ghost use Rattle.lexical_flags.specs.Layout.{IsClean, bit, part};
-ghost use Rattle.lexical_flags.specs.Record.{Record, HasBytes, raw, fill, trim, pack, flag_of, byte_of, tabulate, effective, separator_on};
+ghost use Rattle.lexical_flags.specs.Record.{Record, HasBytes, raw, fill, trim, pack, effective, separator_on};
 ghost use Rattle.lexical_flags.specs.Rules.{IsErrorOf, IsRadix, Lawful};
 ghost use Rattle.lexical_builder.specs.OptionByte.{byte_of_option};
-ghost use Rattle.lexical_builder.specs.BuilderBits.{builder_bit, flags_in, index_of, flag_with, record_of_parts};
-ghost use Rattle.lexical_builder.specs.Writes.{new_record, radix_record};
+ghost use Rattle.lexical_builder.specs.BuilderBits.{builder_bit, flags_in, index_of, byte_at, flag_with, flags_with, record_of_parts};
+ghost use Rattle.lexical_builder.specs.Writes.{new_record, radix_record, after, write_flags, write_byte};
 
 use lexical_base::error::Error;
 use lexical_flags::format_flags as flags;
@@ -88,8 +88,11 @@ pub struct NumberFormatBuilder {
 
 impl Model for NumberFormatBuilder {
     ghost use Rattle.lexical_flags.specs.Record.{Record};
+    ghost use Rattle.lexical_builder.specs.RecordCode.{record_code};
 
     ghost Value = { Record };
+
+    ghost coded = { record_code };
 
     ghost use Rattle.lexical_builder.specs.BuilderBits.{record_of, HasClearTop};
 
@@ -118,6 +121,7 @@ impl NumberFormatBuilder {
     /// suffix, exponent base or exponent radix, `required_exponent_digits` and
     /// `required_mantissa_digits` true, and every other flag false.
     #[inline(always)]
+    #[tactic(auto, using(crate::proofs::WriteLemmas::new_parts), unfolding(lexical_flags::specs::Literals::on_literals))]
     pub const fn new() -> Self
         ensures fields { result ≡ new_record }
         ensures packed { pack result ≡ 0x00000A00_00000000_00000000_0000000C }
@@ -294,7 +298,7 @@ impl NumberFormatBuilder {
     #[inline(always)]
     const fn has_flag(&self, mask: u128) -> bool
         requires { 2 ^ bit (flag_with mask) ≡ mask }
-        ensures { result ≡ flag_of self.now (flag_with mask) }
+        ensures { result ≡ self.now.flag (flag_with mask) }
     {
         self.flags & builder_flags(mask) != 0
     }
@@ -302,7 +306,7 @@ impl NumberFormatBuilder {
     // Sets all flags of a mask to one value.
     #[inline(always)]
     const fn with_flags(mut self, mask: u128, value: bool) -> Self
-        ensures { result ≡ tabulate (λ f. if part mask (bit f) 1 == 1 then value else flag_of self f) (byte_of self) }
+        ensures { result ≡ after self (write_flags (flags_with mask) value) }
     {
         self.flags = replace_bits(self.flags, builder_flags(mask), value);
         self
@@ -311,8 +315,9 @@ impl NumberFormatBuilder {
     // Sets the byte at an index.
     #[inline(always)]
     const fn with_byte(mut self, index: usize, value: u8) -> Self
-        requires { index < 6 }
-        ensures { result ≡ tabulate (flag_of self) (λ b. if index_of b == index then value else byte_of self b) }
+        requires below { index < 6 }
+        requires byte { index_of (byte_at index) ≡ index }
+        ensures { result ≡ after self (write_byte (byte_at index) value ∷ []) }
     {
         self.bytes[index] = value;
         self

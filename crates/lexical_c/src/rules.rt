@@ -2,6 +2,7 @@
 
 ghost use Rattle.std.specs.Prelude.{◌≡◌, ◌↔◌, ℕ, ◌<◌, ◌^◌, ◌-◌, ◌/◌, ◌%◌, IsTrue, IsFalse, IfSome, None, []};
 ghost use Rattle.std.specs.Prelude.{pos, unsigned_abs, ◌≤ℤ◌, ◌<ℤ◌};
+ghost use Rattle.lexical_util.specs.Layout as layout;
 ghost use Rattle.lexical_util.specs.Roles.{digits};
 ghost use Rattle.lexical_util.specs.Rules.{Lawful, IsErrorOf, IsRadix, IsFirstError, Holds, radix_rules, error_of};
 ghost use Rattle.lexical_util.specs.declared.format_flags.Rule.TheVariants as rules;
@@ -192,7 +193,7 @@ pub extern "C" fn peltzivar_is_digit(format: Word, byte: u8) -> bool
 #[unsafe(no_mangle)]
 pub extern "C" fn peltzivar_radix_from_flags(format: Word, mask: Word, shift: u32) -> u32
     ensures radix { shift < 128 → result
-        ≡ effective (common format mask / 2 ^ shift % 2 ^ 32) (raw format).mantissa_radix }
+        ≡ effective (common format mask / 2 ^ shift % 2 ^ 32) ((raw format).byte layout.mantissa_radix) }
     ensures none { (shift < 128 → ⊥) → result ≡ 2 ^ 32 - 1 }
 {
     if shift < 128 {

@@ -6,6 +6,7 @@ use Rattle.std.proofs.lemmas.Bool.{false≢true, or_parts, agree_below_at}
 use Rattle.std.proofs.lemmas.Bool.Decides.{nat_tests}
 use Rattle.lexical_base.specs.Ascii.{letters}
 use Rattle.lexical_base.specs.Digits.{value, digit_characters, uppercase}
+use Rattle.lexical_flags.specs.Layout as layout
 use Rattle.lexical_flags.specs.Record.{Record, effective_exponent_radix}
 use Rattle.lexical_flags.specs.Roles.{Disjoint, AreDisjoint, cased, other_case, digits, signs, own_roles}
 use Rattle.lexical_flags.proofs.DisjointLemmas.{Disjoint-at, Disjoint-from}
@@ -78,14 +79,14 @@ far_apart a_counts a b_counts b below told far =
 
 -- if no two of the bytes that a format names are near, their roles are disjoint
 pub own_roles_apart : (r : Record) {a b c : ℕ} {ab ac bc : Bool}
-    → a ≡ r.digit_separator → b ≡ r.base_prefix → c ≡ r.base_suffix → r.digit_separator < 256 → r.base_prefix < 256
+    → a ≡ r.byte layout.digit_separator → b ≡ r.byte layout.base_prefix → c ≡ r.byte layout.base_suffix → r.byte layout.digit_separator < 256 → r.byte layout.base_prefix < 256
     → (IsTrue ab ↔ ((a ≢ 0) × (bit_or a 32 ≡ bit_or b 32)))
     → (IsTrue ac ↔ ((a ≢ 0) × (bit_or a 32 ≡ bit_or c 32)))
     → (IsTrue bc ↔ ((b ≢ 0) × (bit_or b 32 ≡ bit_or c 32)))
     → ((ab || ac) || bc) ≡ false → AreDisjoint (own_roles r)
 own_roles_apart r {a} {b} {c} {ab} {ac} {bc} a_is b_is c_is a_fits b_fits ab_told ac_told bc_told none =
-    let prefix = r.case_sensitive_base_prefix in
-    let suffix = r.case_sensitive_base_suffix in
+    let prefix = r.flag layout.case_sensitive_base_prefix in
+    let suffix = r.flag layout.case_sensitive_base_suffix in
     let front = or_parts (ab || ac) bc none in
     let first = or_parts ab ac front.0 in
     let a_below : a < 256 = subst (λ n. n < 256) (sym a_is) a_fits in
@@ -93,8 +94,8 @@ own_roles_apart r {a} {b} {c} {ab} {ac} {bc} a_is b_is c_is a_fits b_fits ab_tol
     let a_b : Disjoint (cased true a) (cased prefix b) = far_apart true a prefix b a_below ab_told first.0 in
     let a_c : Disjoint (cased true a) (cased suffix c) = far_apart true a suffix c a_below ac_told first.1 in
     let b_c : Disjoint (cased prefix b) (cased suffix c) = far_apart prefix b suffix c b_below bc_told front.1 in
-    subst (λ n. AreDisjoint (cased true n ∷ cased prefix r.base_prefix ∷ cased suffix r.base_suffix ∷ [])) a_is
-    (subst (λ n. AreDisjoint (cased true a ∷ cased prefix n ∷ cased suffix r.base_suffix ∷ [])) b_is
+    subst (λ n. AreDisjoint (cased true n ∷ cased prefix (r.byte layout.base_prefix) ∷ cased suffix (r.byte layout.base_suffix) ∷ [])) a_is
+    (subst (λ n. AreDisjoint (cased true a ∷ cased prefix n ∷ cased suffix (r.byte layout.base_suffix) ∷ [])) b_is
     (subst (λ n. AreDisjoint (cased true a ∷ cased prefix b ∷ cased suffix n ∷ [])) c_is
     ((a_b, (a_c, tt)), ((b_c, tt), (tt, tt)))))
 
@@ -138,7 +139,7 @@ value-other_case byte = ap (λ k. unwrap_or (position (λ character. character =
 -- a letter is a digit in both cases or in none
 pub digits-other_case : (r : Record) (byte : ℕ) → IsTrue (digits r (other_case byte)) → IsTrue (digits r byte)
 digits-other_case r byte inside =
-    subst (λ v. IsTrue (nat_lt v (min r.mantissa_radix 36) || nat_lt v (min (effective_exponent_radix r) 36)))
+    subst (λ v. IsTrue (nat_lt v (min (r.byte layout.mantissa_radix) 36) || nat_lt v (min (effective_exponent_radix r) 36)))
     (value-other_case byte) inside
 
 -- no sign is a letter

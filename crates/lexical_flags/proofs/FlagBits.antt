@@ -9,11 +9,10 @@ use Rattle.std.proofs.lemmas.Nat.Bits.{and_pow}
 use Rattle.std.proofs.lemmas.Bool.{cases_lt, ne_eqb, eq-eqb}
 use Rattle.std.proofs.lemmas.Bool.Decides.{nat_tests}
 use Rattle.lexical_flags.specs.Layout.{part, Flag, bit, shift, flags, bytes, digit_separator_flags}
-use Rattle.lexical_flags.specs.Record.{Record, tabulate, flag_of, byte_of, raw, word_of, flag_bits, byte_bits}
+use Rattle.lexical_flags.specs.Record.{Record, raw, word_of, flag_bits, byte_bits}
 use Rattle.lexical_flags.specs.Record.{separator_on, HasBytes}
 use Rattle.lexical_flags.specs.Constants.{mask_of}
 use Rattle.lexical_flags.specs.declared.format_flags.TheConstants.{DIGIT_SEPARATOR_FLAG_MASK}
-use Rattle.lexical_flags.proofs.RecordLemmas.{flag_of-raw}
 use Rattle.lexical_flags.proofs.Packing.{high, bit_value, bit_value-lt, flag_bits-value, raw-word_of, HasBytes-by_name}
 use Rattle.lexical_flags.proofs.Masks.{ascends, and_all, or_all, sum-below}
 
@@ -53,19 +52,18 @@ sum-set m n = grind (arith, nat_tests)
 
 -- the bits of some flags do not add up to 0 exactly if one of the flags is set
 sum_by-set : (fs : List Flag) (word : ℕ) → not (sum_by (λ f. part word (bit f) 1 * 2 ^ bit f) fs == 0)
-    ≡ list_any (flag_of (raw word)) fs
+    ≡ list_any (raw word).flag fs
 sum_by-set [] word = refl
 sum_by-set (f ∷ fs) word =
-    let here : not (part word (bit f) 1 * 2 ^ bit f == 0) ≡ flag_of (raw word) f =
-    moved_bit-set (part word (bit f) 1) (2 ^ bit f) (mod-lt _ (omega arith)) (pow_pos (bit f))
-    ∙ sym (flag_of-raw word f) in
+    let here : not (part word (bit f) 1 * 2 ^ bit f == 0) ≡ (raw word).flag f =
+    moved_bit-set (part word (bit f) 1) (2 ^ bit f) (mod-lt _ (omega arith)) (pow_pos (bit f)) in
     ap (λ n. not (n == 0)) (sum_by-cons (λ f. part word (bit f) 1 * 2 ^ bit f) f fs)
     ∙ sum-set (part word (bit f) 1 * 2 ^ bit f) (sum_by (λ f. part word (bit f) 1 * 2 ^ bit f) fs)
     ∙ (λ i. here i || sum_by-set fs word i)
 
 -- a word has a bit in common with the mask of some flags exactly if one of them is set
 pub mask_test : (fs : List Flag) (word : ℕ) → ascends bit 1 0 fs ≡ true
-    → not (bit_and word (mask_of fs) == 0) ≡ list_any (flag_of (raw word)) fs
+    → not (bit_and word (mask_of fs) == 0) ≡ list_any (raw word).flag fs
 mask_test fs word up = ap (λ n. not (n == 0)) (and_all bit fs word up) ∙ sum_by-set fs word
 
 -- whether some flag allows a digit separator, as the code tests it
@@ -78,16 +76,16 @@ no_separator_flag_set word none = sym (mask_test digit_separator_flags word refl
 -- the flags of a record joined by `|`
 pub flags_joined : (r : Record) → fold (λ bits f. bit_or bits (flag_bits r f)) 0 flags ≡ sum_by (flag_bits r) flags
 flags_joined r =
-    (λ i. fold (λ bits f. bit_or bits (flag_bits-value (flag_of r f) (bit f) i)) 0 flags)
-    ∙ or_all bit (λ f. bit_value (flag_of r f)) 1 (λ f. bit_value-lt (flag_of r f)) flags 0 0 (omega arith) refl
-    ∙ sym (λ i. fold (λ bits f. bits + flag_bits-value (flag_of r f) (bit f) i) 0 flags)
+    (λ i. fold (λ bits f. bit_or bits (flag_bits-value (r.flag f) (bit f) i)) 0 flags)
+    ∙ or_all bit (λ f. bit_value (r.flag f)) 1 (λ f. bit_value-lt (r.flag f)) flags 0 0 (omega arith) refl
+    ∙ sym (λ i. fold (λ bits f. bits + flag_bits-value (r.flag f) (bit f) i) 0 flags)
 
 flags-lt : (r : Record) → sum_by (flag_bits r) flags < 2 ^ 64
 flags-lt r =
-    let below : fold (λ bits f. bits + bit_value (flag_of r f) * 2 ^ bit f) 0 flags < 2 ^ (32 + high) =
-    sum-below bit (λ f. bit_value (flag_of r f)) 1 (λ f. bit_value-lt (flag_of r f)) flags 0 0 (omega arith) refl in
-    let same : fold (λ bits f. bits + bit_value (flag_of r f) * 2 ^ bit f) 0 flags ≡ sum_by (flag_bits r) flags =
-    sym (λ i. fold (λ bits f. bits + flag_bits-value (flag_of r f) (bit f) i) 0 flags) in
+    let below : fold (λ bits f. bits + bit_value (r.flag f) * 2 ^ bit f) 0 flags < 2 ^ (32 + high) =
+    sum-below bit (λ f. bit_value (r.flag f)) 1 (λ f. bit_value-lt (r.flag f)) flags 0 0 (omega arith) refl in
+    let same : fold (λ bits f. bits + bit_value (r.flag f) * 2 ^ bit f) 0 flags ≡ sum_by (flag_bits r) flags =
+    sym (λ i. fold (λ bits f. bits + flag_bits-value (r.flag f) (bit f) i) 0 flags) in
     omega arith
 
 -- and the bytes joined with them
@@ -95,12 +93,12 @@ pub fields_joined : (r : Record) → HasBytes r → fold (λ bits b. bit_or bits
     (sum_by (flag_bits r) flags) bytes ≡ word_of r
 unfolding word_of
 fields_joined r h =
-    or_all shift (byte_of r) 8 h.each bytes 64 (sum_by (flag_bits r) flags) (flags-lt r) refl
+    or_all shift r.byte 8 h.each bytes 64 (sum_by (flag_bits r) flags) (flags-lt r) refl
     ∙ sum_by_from (byte_bits r) (sum_by (flag_bits r) flags) bytes
 
 -- the record with no bytes
 abbrev flags_only : Record → Record
-flags_only r = tabulate (flag_of r) (λ b. 0)
+flags_only r = record r { byte = λ b. 0 }
 
 word_of-flags_only : (r : Record) → sum_by (flag_bits r) flags ≡ word_of (flags_only r)
 unfolding word_of

@@ -8,6 +8,7 @@ use Rattle.std.proofs.lemmas.Bool.Decides.{nat_tests}
 use Rattle.lexical_base.specs.Ascii.{allowed_ascii}
 use Rattle.lexical_base.specs.Digits.{value}
 use Rattle.lexical_base.proofs.ValueLemmas.{value-cases}
+use Rattle.lexical_flags.specs.Layout as layout
 use Rattle.lexical_flags.specs.Record.{Record, raw, effective_exponent_radix}
 use Rattle.lexical_flags.specs.Roles.{signs}
 use Rattle.lexical_flags.specs.Rules.{IsFree, IsPunctuation}
@@ -28,11 +29,11 @@ limit_entry byte below = eqb-true _ _ (agree_below_at (λ b. slice_index_or LIMI
 
 -- a byte is free exactly if the larger radix is below its limit
 pub free_below_limit : (word byte : ℕ) → byte < 256 → let r : Record = raw word in
-    IsTrue (nat_lt (max r.mantissa_radix (effective_exponent_radix r)) (slice_index_or LIMITS byte 0)) ↔ IsFree r byte
+    IsTrue (nat_lt (max (r.byte layout.mantissa_radix) (effective_exponent_radix r)) (slice_index_or LIMITS byte 0)) ↔ IsFree r byte
 unfolding IsPunctuation limit
 free_below_limit word byte fits =
     let entry : slice_index_or LIMITS byte 0 ≡ limit byte = limit_entry byte fits in
     let cases : (value byte < 36) ⊎ (value byte ≡ 255) = value-cases byte fits in
-    let mantissa_fits : (raw word).mantissa_radix < 256 = mod-lt _ (pow_pos 8) in
-    let exponent_fits : (raw word).exponent_radix < 256 = mod-lt _ (pow_pos 8) in
+    let mantissa_fits : (raw word).byte layout.mantissa_radix < 256 = mod-lt _ (pow_pos 8) in
+    let exponent_fits : (raw word).byte layout.exponent_radix < 256 = mod-lt _ (pow_pos 8) in
     rw entry (grind (arith, nat_tests))

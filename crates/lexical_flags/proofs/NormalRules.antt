@@ -5,8 +5,9 @@ use Rattle.std.proofs.lemmas.Bool.{cases_Bool, cond-false, false≢true}
 use Rattle.std.proofs.lemmas.Bool.Decides.{nat_tests}
 use Rattle.lexical_base.specs.Ascii.{ByteSet, allowed_ascii}
 use Rattle.lexical_base.specs.declared.error.Error.{Error}
+use Rattle.lexical_flags.specs.Layout as layout
 use Rattle.lexical_flags.specs.Layout.{IsClean}
-use Rattle.lexical_flags.specs.Record.{Record, raw, fill, trim, effective, separator_on, SeparatorIsUsed}
+use Rattle.lexical_flags.specs.Record.{Record, raw, fill, trim, set_byte, effective, separator_on, SeparatorIsUsed}
 use Rattle.lexical_flags.specs.Roles.{Disjoint, cased, only, signs, prefix, suffix}
 use Rattle.lexical_base.specs.Digits.{digits_of}
 use Rattle.lexical_flags.specs.declared.format_flags.all_rules.Rule.{Rule}
@@ -24,17 +25,17 @@ IsFree-fill : (r : Record) (byte : ℕ) → IsFree (fill r) byte ≡ IsFree r by
 unfolding IsPunctuation
 IsFree-fill r byte =
     ap (λ radix. (byte ≡ 0) ⊎ (IsTrue (allowed_ascii byte)
-    × (IsTrue (digits_of r.mantissa_radix byte || digits_of radix byte) → ⊥) × (IsTrue (signs byte) → ⊥)))
-    (fill_once r.exponent_radix r.mantissa_radix)
+    × (IsTrue (digits_of (r.byte layout.mantissa_radix) byte || digits_of radix byte) → ⊥) × (IsTrue (signs byte) → ⊥)))
+    (fill_once (r.byte layout.exponent_radix) (r.byte layout.mantissa_radix))
 
 -- the rules demand the same of filled fields
 Demands-fill : (rule : Rule) (r : Record) → Demands rule (fill r) ≡ Demands rule r
 Demands-fill rules.MantissaRadixInRange r = refl
-Demands-fill rules.ExponentBaseInRange r = ap IsRadix (fill_once r.exponent_base r.mantissa_radix)
-Demands-fill rules.ExponentRadixInRange r = ap IsRadix (fill_once r.exponent_radix r.mantissa_radix)
-Demands-fill rules.DigitSeparatorIsFree r = IsFree-fill r r.digit_separator
-Demands-fill rules.BasePrefixIsFree r = IsFree-fill r r.base_prefix
-Demands-fill rules.BaseSuffixIsFree r = IsFree-fill r r.base_suffix
+Demands-fill rules.ExponentBaseInRange r = ap IsRadix (fill_once (r.byte layout.exponent_base) (r.byte layout.mantissa_radix))
+Demands-fill rules.ExponentRadixInRange r = ap IsRadix (fill_once (r.byte layout.exponent_radix) (r.byte layout.mantissa_radix))
+Demands-fill rules.DigitSeparatorIsFree r = IsFree-fill r (r.byte layout.digit_separator)
+Demands-fill rules.BasePrefixIsFree r = IsFree-fill r (r.byte layout.base_prefix)
+Demands-fill rules.BaseSuffixIsFree r = IsFree-fill r (r.byte layout.base_suffix)
 Demands-fill _ r = refl
 
 Disjoint-nothing : (A : ByteSet) → Disjoint (only 0) A
@@ -42,7 +43,7 @@ unfolding cased
 Disjoint-nothing A = Disjoint-from _ _ (λ byte below is_zero in_a. absurd (false≢true is_zero))
 
 -- fields without their separator still meet the rules that they met
-Demands-bare : (rule : Rule) (r : Record) → Demands rule r → Demands rule (record r { digit_separator = 0 })
+Demands-bare : (rule : Rule) (r : Record) → Demands rule r → Demands rule (set_byte r layout.digit_separator 0)
 unfolding IsPunctuation
 Demands-bare rules.MantissaRadixInRange r h = h
 Demands-bare rules.DigitSeparatorIsFree r h = inl refl
@@ -53,8 +54,8 @@ Demands-trim : (rule : Rule) (r : Record) → Demands rule r → Demands rule (t
 Demands-trim rule r h =
     elim (cases_Bool (separator_on r)) [
       | inl on ↦ subst (Demands rule) (sym (trim-same r (inl on))) h
-      | inr off ↦ subst (λ n. Demands rule (record r { digit_separator = n }))
-          (sym (cond-false (separator_on r) r.digit_separator 0 off)) (Demands-bare rule r h)
+      | inr off ↦ subst (λ n. Demands rule (set_byte r layout.digit_separator n))
+          (sym (cond-false (separator_on r) (r.byte layout.digit_separator) 0 off)) (Demands-bare rule r h)
     ]
 
 -- what fields meet they meet when filled and trimmed

@@ -4,6 +4,7 @@ use Rattle.std.proofs.Common.{◌↔◌, ◌∙◌, sym, inl, inr, arith}
 use Rattle.std.specs.List.{AllByRecursion}
 use Rattle.std.proofs.lemmas.Bool.Decides.{nat_tests}
 use Rattle.lexical_base.specs.Ascii.{ByteSet, allowed_ascii}
+use Rattle.lexical_flags.specs.Layout as layout
 use Rattle.lexical_flags.specs.Record.{Record, raw}
 use Rattle.lexical_flags.specs.Roles.{Disjoint, cased, digits, signs, exponent, point, own_roles, five_roles}
 use Rattle.lexical_flags.specs.Rules.{IsPunctuation, Lawful}
@@ -49,7 +50,7 @@ accepted_from_roles word e p h =
     let of_exponent = pairs.0 in
     let others = pairs.1 in
     record {
-      exponent_is_punctuation = IsPunctuation-from_apart r r.case_sensitive_exponent e h.exponent_is_text of_exponent.1;
+      exponent_is_punctuation = IsPunctuation-from_apart r (r.flag layout.case_sensitive_exponent) e h.exponent_is_text of_exponent.1;
       point_is_punctuation = IsPunctuation-from_apart r true p h.point_is_text others.0;
       apart = of_exponent.0;
       exponent_is_new = own_from_five r (exponent r e) of_exponent.1;
@@ -65,7 +66,7 @@ roles_from_accepted word e p lawful h =
       exponent_is_text = h.exponent_is_punctuation.0;
       point_is_text = h.point_is_punctuation.0;
       roles = (
-        (h.apart, five_from_own r r.case_sensitive_exponent e h.exponent_is_punctuation h.exponent_is_new),
+        (h.apart, five_from_own r (r.flag layout.case_sensitive_exponent) e h.exponent_is_punctuation h.exponent_is_new),
         (five_from_own r true p h.point_is_punctuation h.point_is_new, lawful.roles),
       );
     }
@@ -110,13 +111,13 @@ Disjoint-mark a a_counts b b_counts low high differ = Disjoint-from _ _ (λ byte
 
 -- such a byte that differs from the three of a format has none of their roles
 is_new : (r : Record) (byte : ℕ) (counts : Bool) → 33 ≤ byte → byte ≤ 40
-    → byte ≢ r.digit_separator → byte ≢ r.base_prefix → byte ≢ r.base_suffix
+    → byte ≢ r.byte layout.digit_separator → byte ≢ r.byte layout.base_prefix → byte ≢ r.byte layout.base_suffix
     → AllByRecursion (Disjoint (cased counts byte)) (own_roles r)
 is_new r byte counts low high separator prefix suffix = (
   Disjoint-mark byte counts _ true low high separator,
   (
-    Disjoint-mark byte counts _ r.case_sensitive_base_prefix low high prefix,
-    (Disjoint-mark byte counts _ r.case_sensitive_base_suffix low high suffix, tt),
+    Disjoint-mark byte counts _ (r.flag layout.case_sensitive_base_prefix) low high prefix,
+    (Disjoint-mark byte counts _ (r.flag layout.case_sensitive_base_suffix) low high suffix, tt),
   ),
 )
 
@@ -124,15 +125,15 @@ is_new r byte counts low high separator prefix suffix = (
 pub room_from_lawful : (word : ℕ) → Lawful word → LeavesRoom word
 room_from_lawful word lawful =
     let r : Record = raw word in
-    let e : ℕ = free_from 33 r.digit_separator r.base_prefix r.base_suffix in
-    let p : ℕ = free_from 37 r.digit_separator r.base_prefix r.base_suffix in
-    let e_free = free_from-is 33 r.digit_separator r.base_prefix r.base_suffix in
-    let p_free = free_from-is 37 r.digit_separator r.base_prefix r.base_suffix in
+    let e : ℕ = free_from 33 (r.byte layout.digit_separator) (r.byte layout.base_prefix) (r.byte layout.base_suffix) in
+    let p : ℕ = free_from 37 (r.byte layout.digit_separator) (r.byte layout.base_prefix) (r.byte layout.base_suffix) in
+    let e_free = free_from-is 33 (r.byte layout.digit_separator) (r.byte layout.base_prefix) (r.byte layout.base_suffix) in
+    let p_free = free_from-is 37 (r.byte layout.digit_separator) (r.byte layout.base_prefix) (r.byte layout.base_suffix) in
     let accepted : AreAccepted word e p = record {
       exponent_is_punctuation = IsPunctuation-mark r e e_free.0 (omega arith);
       point_is_punctuation = IsPunctuation-mark r p (omega arith) p_free.1;
-      apart = Disjoint-mark e r.case_sensitive_exponent p true e_free.0 (omega arith) (omega arith);
-      exponent_is_new = is_new r e r.case_sensitive_exponent e_free.0 (omega arith) e_free.2 e_free.3 e_free.4;
+      apart = Disjoint-mark e (r.flag layout.case_sensitive_exponent) p true e_free.0 (omega arith) (omega arith);
+      exponent_is_new = is_new r e (r.flag layout.case_sensitive_exponent) e_free.0 (omega arith) e_free.2 e_free.3 e_free.4;
       point_is_new = is_new r p true (omega arith) p_free.1 p_free.2 p_free.3 p_free.4;
     } in
     record { exponent_byte = e; point_byte = p; fit = roles_from_accepted word e p lawful accepted }

@@ -9,8 +9,9 @@ use Rattle.std.proofs.lemmas.Bool.Decides.{nat_tests}
 use Rattle.lexical_flags.specs.Layout.{part, Flag, Byte, bit, flags, bytes, base_flags, digit_separator_flags, shift}
 use Rattle.lexical_flags.specs.Layout.{IsClean}
 use Rattle.lexical_flags.specs.Layout as layout
-use Rattle.lexical_flags.specs.Record.{Record, tabulate, flag_of, byte_of, raw, fill, trim, pack, word_of, byte_bits}
+use Rattle.lexical_flags.specs.Record.{Record, raw, fill, trim, pack, word_of, byte_bits}
 use Rattle.lexical_flags.specs.Record.{effective, separator_on, HasBytes, IsBuilt}
+use Rattle.lexical_flags.proofs.RecordLemmas.{record_same}
 use Rattle.lexical_flags.proofs.Segments.{joined, segments, segments-joined, joined-segments, joined-below, Fit}
 
 -- how many flags there are below the digit separator flags, and how many of these
@@ -45,18 +46,36 @@ bit_value b = if b then 1 else 0
 
 -- the values of a record, with 0 in the reserved segments
 abbrev values : Record → List ℕ
-values r = laid (λ f. bit_value (flag_of r f)) (byte_of r) 0 0 0
+values r = laid (λ f. bit_value (r.flag f)) r.byte 0 0 0
 
 -- the record with these values
 abbrev from_values : List ℕ → Record
-from_values vs = tabulate (λ f. value_at (bit f) 0 widths vs == 1) (λ b. value_at (shift b) 0 widths vs)
+from_values vs = record { flag = λ f. value_at (bit f) 0 widths vs == 1; byte = λ b. value_at (shift b) 0 widths vs }
 
 bit_value-one : (b : Bool) → (bit_value b == 1) ≡ b
 bit_value-one true = refl
 bit_value-one false = refl
 
 from_values-values : (r : Record) → from_values (values r) ≡ r
-from_values-values r = λ i. tabulate (λ f. bit_value-one (flag_of r f) i) (byte_of r)
+from_values-values r = record_same _ _ on_flag on_byte where
+  on_flag : (f : Flag) → (value_at (bit f) 0 widths (values r) == 1) ≡ r.flag f
+  on_flag layout.required_integer_digits = bit_value-one (r.flag layout.required_integer_digits)
+  on_flag f = bit_value-one (r.flag f)
+
+  on_byte : (b : Byte) → value_at (shift b) 0 widths (values r) ≡ r.byte b
+  on_byte layout.digit_separator = refl
+  on_byte _ = refl
+
+-- the fields of a word are those of its segments
+raw-segments : (w : ℕ) → raw w ≡ from_values (segments 0 widths w)
+raw-segments w = record_same _ _ on_flag on_byte where
+  on_flag : (f : Flag) → (part w (bit f) 1 == 1) ≡ (value_at (bit f) 0 widths (segments 0 widths w) == 1)
+  on_flag layout.required_integer_digits = refl
+  on_flag _ = refl
+
+  on_byte : (b : Byte) → part w (shift b) 8 ≡ value_at (shift b) 0 widths (segments 0 widths w)
+  on_byte layout.digit_separator = refl
+  on_byte _ = refl
 
 -- a flag adds its bit times a power of two
 pub flag_bits-value : (b : Bool) (k : ℕ) → (if b then 2 ^ k else 0) ≡ bit_value b * 2 ^ k
@@ -66,7 +85,7 @@ flag_bits-value false k = omega arith
 word_of-joined : (r : Record) → word_of r ≡ joined 0 widths (values r)
 unfolding word_of
 word_of-joined r =
-    (λ i. sum_by (λ f. flag_bits-value (flag_of r f) (bit f) i) flags + sum_by (byte_bits r) bytes) ∙ omega arith
+    (λ i. sum_by (λ f. flag_bits-value (r.flag f) (bit f) i) flags + sum_by (byte_bits r) bytes) ∙ omega arith
 
 -- a bit is 0 or 1
 pub bit_value-lt : (b : Bool) → bit_value b < 2
@@ -84,7 +103,7 @@ segments-word_of r h =
 
 -- the record of the word of a record is that record
 pub raw-word_of : (r : Record) → HasBytes r → raw (word_of r) ≡ r
-raw-word_of r h = ap from_values (segments-word_of r h) ∙ from_values-values r
+raw-word_of r h = raw-segments (word_of r) ∙ ap from_values (segments-word_of r h) ∙ from_values-values r
 
 word_of-clean : (r : Record) → HasBytes r → IsClean (word_of r)
 word_of-clean r h =
@@ -111,11 +130,11 @@ word_of-raw w l clean =
     ∙ omega (arith, joined-segments 0 widths w, mod-eq_of_lt l)
 
 -- a record has bytes if each of the six is one
-pub HasBytes-by_name : (r : Record) → r.digit_separator < 256 → r.base_prefix < 256 → r.base_suffix < 256
-    → r.mantissa_radix < 256 → r.exponent_base < 256 → r.exponent_radix < 256
+pub HasBytes-by_name : (r : Record) → r.byte layout.digit_separator < 256 → r.byte layout.base_prefix < 256 → r.byte layout.base_suffix < 256
+    → r.byte layout.mantissa_radix < 256 → r.byte layout.exponent_base < 256 → r.byte layout.exponent_radix < 256
     → HasBytes r
 HasBytes-by_name r separator prefix suffix radix base exponent = record { each = fits } where
-  fits : (b : Byte) → byte_of r b < 256
+  fits : (b : Byte) → r.byte b < 256
   fits layout.digit_separator = separator
   fits layout.base_prefix = prefix
   fits layout.base_suffix = suffix
@@ -125,9 +144,7 @@ HasBytes-by_name r separator prefix suffix radix base exponent = record { each =
 
 -- the record of every word has bytes
 pub HasBytes-raw : (w : ℕ) → HasBytes (raw w)
-HasBytes-raw w =
-    HasBytes-by_name (raw w) (mod-lt _ (pow_pos 8)) (mod-lt _ (pow_pos 8)) (mod-lt _ (pow_pos 8)) (mod-lt _ (pow_pos 8))
-    (mod-lt _ (pow_pos 8)) (mod-lt _ (pow_pos 8))
+HasBytes-raw w = record { each = λ b. mod-lt _ (pow_pos 8) }
 
 effective-lt : (own radix : ℕ) → own < 256 → radix < 256 → effective own radix < 256
 effective-lt own radix own_fits radix_fits = grind (arith, nat_tests)
@@ -135,7 +152,7 @@ effective-lt own radix own_fits radix_fits = grind (arith, nat_tests)
 -- filling the exponent bytes leaves bytes
 pub HasBytes-fill : (r : Record) → HasBytes r → HasBytes (fill r)
 HasBytes-fill r h = record { each = fits } where
-  fits : (b : Byte) → byte_of (fill r) b < 256
+  fits : (b : Byte) → (fill r).byte b < 256
   fits layout.exponent_base = effective-lt _ _ (h.each layout.exponent_base) (h.each layout.mantissa_radix)
   fits layout.exponent_radix = effective-lt _ _ (h.each layout.exponent_radix) (h.each layout.mantissa_radix)
   fits layout.digit_separator = h.each layout.digit_separator
@@ -144,8 +161,8 @@ HasBytes-fill r h = record { each = fits } where
 -- dropping the separator leaves bytes
 pub HasBytes-trim : (r : Record) → HasBytes r → HasBytes (trim r)
 HasBytes-trim r h = record { each = fits } where
-  fits : (b : Byte) → byte_of (trim r) b < 256
-  fits layout.digit_separator = cond_both (separator_on r) r.digit_separator 0 (λ n. n < 256)
+  fits : (b : Byte) → (trim r).byte b < 256
+  fits layout.digit_separator = cond_both (separator_on r) (r.byte layout.digit_separator) 0 (λ n. n < 256)
       (λ _. h.each layout.digit_separator) (λ _. omega arith)
   fits layout.base_prefix = h.each layout.base_prefix
   fits b = h.each b
@@ -168,8 +185,11 @@ kept_same false n (inl on) = cc
 kept_same false n (inr absent) = sym absent
 
 -- if the separator is allowed, or absent, nothing is trimmed
-pub trim-same : (r : Record) → IsTrue (separator_on r) ⊎ (r.digit_separator ≡ 0) → trim r ≡ r
-trim-same r h = ap (λ n. record r { digit_separator = n }) (kept_same (separator_on r) r.digit_separator h)
+pub trim-same : (r : Record) → IsTrue (separator_on r) ⊎ (r.byte layout.digit_separator ≡ 0) → trim r ≡ r
+trim-same r h = record_same _ _ (λ f. refl) on_byte where
+  on_byte : (b : Byte) → (trim r).byte b ≡ r.byte b
+  on_byte layout.digit_separator = kept_same (separator_on r) (r.byte layout.digit_separator) h
+  on_byte _ = refl
 
 trimmed_unused : (b : Bool) (n : ℕ) → n ≡ (if b then n else 0) → IsTrue b ⊎ (n ≡ 0)
 trimmed_unused true n e = inl refl
@@ -182,8 +202,8 @@ pack-raw w l = (
       let trimmed : raw w ≡ trim (raw w) = ap raw (sym e) ∙ raw-pack (raw w) (HasBytes-raw w) in
       record {
         clean = subst IsClean e (pack-clean (raw w) (HasBytes-raw w));
-        separator_used = trimmed_unused (separator_on (raw w)) (raw w).digit_separator
-            (ap (λ (r : Record). r.digit_separator) trimmed);
+        separator_used = trimmed_unused (separator_on (raw w)) ((raw w).byte layout.digit_separator)
+            (ap (λ (r : Record). r.byte layout.digit_separator) trimmed);
       },
   λ built. ap word_of (trim-same (raw w) built.separator_used) ∙ word_of-raw w l built.clean,
 )

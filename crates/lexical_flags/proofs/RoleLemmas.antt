@@ -4,6 +4,7 @@ use Rattle.std.proofs.lemmas.Bool.Decides.{nat_tests}
 use Rattle.lexical_base.specs.Ascii.{ByteSet}
 use Rattle.lexical_base.specs.Digits.{value}
 use Rattle.lexical_base.proofs.ValueLemmas.{value_is}
+use Rattle.lexical_flags.specs.Layout as layout
 use Rattle.lexical_flags.specs.Record.{Record, effective_exponent_radix}
 use Rattle.lexical_flags.specs.Roles.{Disjoint, cased, other_case, digits, signs}
 use Rattle.lexical_flags.proofs.DisjointLemmas.{Disjoint-at, Disjoint-from}
@@ -43,7 +44,7 @@ below_neither v m e none inside = grind (arith, nat_tests)
 
 -- so it is no digit
 pub no_digit : (r : Record) (byte : ℕ) → byte < 48 → IsTrue (digits r byte) → ⊥
-no_digit r byte before = below_neither (value byte) r.mantissa_radix (effective_exponent_radix r) (no_value byte before)
+no_digit r byte before = below_neither (value byte) (r.byte layout.mantissa_radix) (effective_exponent_radix r) (no_value byte before)
 
 -- and no sign is one
 pub Disjoint-digits-signs : (r : Record) → Disjoint (digits r) signs

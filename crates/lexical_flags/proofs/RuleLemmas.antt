@@ -7,6 +7,7 @@ use Rattle.std.proofs.lemmas.Bool.Decides.{nat_tests}
 use Rattle.std.proofs.lemmas.List.Elements.{recursion_from_All}
 use Rattle.lexical_base.specs.declared.error.Error.{Error}
 use Rattle.lexical_base.specs.declared.error.Error.TheVariants.{InvalidFlags, Success}
+use Rattle.lexical_flags.specs.Layout as layout
 use Rattle.lexical_flags.specs.Layout.{IsClean}
 use Rattle.lexical_flags.specs.Record.{Record, raw, effective}
 use Rattle.lexical_flags.specs.Roles.{Disjoint, AreDisjoint, cased, digits, signs, own_roles, five_roles}
@@ -60,32 +61,32 @@ Holds-from_lawful rules.DigitSeparatorIsFree word h =
     IsFree-from (raw word) true _ h.digit_separator (assumption pairs) (assumption pairs)
 Holds-from_lawful rules.BasePrefixIsFree word h =
     let pairs = h.roles in
-    IsFree-from (raw word) (raw word).case_sensitive_base_prefix _ h.base_prefix (assumption pairs) (assumption pairs)
+    IsFree-from (raw word) ((raw word).flag layout.case_sensitive_base_prefix) _ h.base_prefix (assumption pairs) (assumption pairs)
 Holds-from_lawful rules.BaseSuffixIsFree word h =
     let pairs = h.roles in
-    IsFree-from (raw word) (raw word).case_sensitive_base_suffix _ h.base_suffix (assumption pairs) (assumption pairs)
+    IsFree-from (raw word) ((raw word).flag layout.case_sensitive_base_suffix) _ h.base_suffix (assumption pairs) (assumption pairs)
 Holds-from_lawful rules.PunctuationDiffers word h = let pairs = h.roles in let others = pairs.1 in others.1
 Holds-from_lawful rules.ReservedBitsAreZero word h = h.clean
 Holds-from_lawful _ word h = let flags = h.flags in assumption flags
 
 -- the radixes of a lawful word
-pub Lawful-mantissa_radix : (word : ℕ) → Lawful word → IsRadix (raw word).mantissa_radix
+pub Lawful-mantissa_radix : (word : ℕ) → Lawful word → IsRadix ((raw word).byte layout.mantissa_radix)
 unfolding Lawful
 Lawful-mantissa_radix word h = h.mantissa_radix
 
 own_radix : (own radix : ℕ) → own ≢ 0 → IsRadix (effective own radix) → IsRadix own
 own_radix own radix some h = grind (arith, nat_tests)
 
-pub Lawful-exponent_base : (word : ℕ) → Lawful word → (raw word).exponent_base ≢ 0 → IsRadix (raw word).exponent_base
+pub Lawful-exponent_base : (word : ℕ) → Lawful word → (raw word).byte layout.exponent_base ≢ 0 → IsRadix ((raw word).byte layout.exponent_base)
 unfolding Lawful
-Lawful-exponent_base word h some = own_radix _ (raw word).mantissa_radix some h.exponent_base
+Lawful-exponent_base word h some = own_radix _ ((raw word).byte layout.mantissa_radix) some h.exponent_base
 
-pub Lawful-exponent_radix : (word : ℕ) → Lawful word → (raw word).exponent_radix ≢ 0 → IsRadix (raw word).exponent_radix
+pub Lawful-exponent_radix : (word : ℕ) → Lawful word → (raw word).byte layout.exponent_radix ≢ 0 → IsRadix ((raw word).byte layout.exponent_radix)
 unfolding Lawful
-Lawful-exponent_radix word h some = own_radix _ (raw word).mantissa_radix some h.exponent_radix
+Lawful-exponent_radix word h some = own_radix _ ((raw word).byte layout.mantissa_radix) some h.exponent_radix
 
 -- the five roles, if the bytes are free and differ
-five_apart : (r : Record) → IsFree r r.digit_separator → IsFree r r.base_prefix → IsFree r r.base_suffix
+five_apart : (r : Record) → IsFree r (r.byte layout.digit_separator) → IsFree r (r.byte layout.base_prefix) → IsFree r (r.byte layout.base_suffix)
     → AreDisjoint (own_roles r) → AreDisjoint (five_roles r)
 five_apart r separator prefix suffix own =
     let digits_apart : (counts : Bool) (byte : ℕ) → IsFree r byte
@@ -109,9 +110,9 @@ pub Lawful-from_all : (word : ℕ) → ((rule : Rule) → Holds rule word) → L
 unfolding Holds Lawful
 Lawful-from_all word h =
     let r : Record = raw word in
-    let separator : IsFree r r.digit_separator = h rules.DigitSeparatorIsFree in
-    let prefix : IsFree r r.base_prefix = h rules.BasePrefixIsFree in
-    let suffix : IsFree r r.base_suffix = h rules.BaseSuffixIsFree in
+    let separator : IsFree r (r.byte layout.digit_separator) = h rules.DigitSeparatorIsFree in
+    let prefix : IsFree r (r.byte layout.base_prefix) = h rules.BasePrefixIsFree in
+    let suffix : IsFree r (r.byte layout.base_suffix) = h rules.BaseSuffixIsFree in
     record {
       mantissa_radix = h rules.MantissaRadixInRange;
       exponent_base = h rules.ExponentBaseInRange;

@@ -3,6 +3,7 @@ use Rattle.std.specs.Prelude.{ℕ, ◌+◌, ◌-◌, Bool, true, IsTrue, if◌th
 use Rattle.std.specs.List.{list_all, range_with_len}
 use Rattle.lexical_base.specs.Ascii.{ByteSet, between}
 use Rattle.lexical_base.specs.Digits.{digits_of}
+use Rattle.lexical_flags.specs.Layout as layout
 use Rattle.lexical_flags.specs.Pairs.{ArePairwise}
 use Rattle.lexical_flags.specs.Record.{Record, effective_exponent_radix}
 
@@ -33,7 +34,7 @@ only own = cased true own
 
 -- the digits of the mantissa and those of the exponent
 abbrev pub digits : Record → ByteSet
-digits r byte = digits_of r.mantissa_radix byte || digits_of (effective_exponent_radix r) byte
+digits r byte = digits_of (r.byte layout.mantissa_radix) byte || digits_of (effective_exponent_radix r) byte
 
 -- + and -
 abbrev pub signs : ByteSet
@@ -41,19 +42,19 @@ signs byte = (byte == 43) || (byte == 45)
 
 -- the digit separator
 abbrev pub separator : Record → ByteSet
-separator r = only r.digit_separator
+separator r = only (r.byte layout.digit_separator)
 
 -- the base prefix
 abbrev pub prefix : Record → ByteSet
-prefix r = cased r.case_sensitive_base_prefix r.base_prefix
+prefix r = cased (r.flag layout.case_sensitive_base_prefix) (r.byte layout.base_prefix)
 
 -- the base suffix
 abbrev pub suffix : Record → ByteSet
-suffix r = cased r.case_sensitive_base_suffix r.base_suffix
+suffix r = cased (r.flag layout.case_sensitive_base_suffix) (r.byte layout.base_suffix)
 
 -- the exponent character, which is chosen beside the format
 abbrev pub exponent : Record → ℕ → ByteSet
-exponent r chosen = cased r.case_sensitive_exponent chosen
+exponent r chosen = cased (r.flag layout.case_sensitive_exponent) chosen
 
 -- the decimal point, which is chosen beside the format
 abbrev pub point : ℕ → ByteSet

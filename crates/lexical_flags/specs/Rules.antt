@@ -5,6 +5,7 @@ use Rattle.std.specs.List.{AllByRecursion}
 use Rattle.lexical_base.specs.Ascii.{allowed_ascii}
 use Rattle.lexical_base.specs.declared.error.Error.{Error}
 use Rattle.lexical_base.specs.declared.error.Error.TheVariants as errors
+use Rattle.lexical_flags.specs.Layout as layout
 use Rattle.lexical_flags.specs.declared.format_flags.all_rules.Rule.{Rule}
 use Rattle.lexical_flags.specs.declared.format_flags.all_rules.Rule.TheVariants as rules
 use Rattle.lexical_flags.specs.Layout.{IsClean}
@@ -33,30 +34,30 @@ has_no_place consecutive internal leading trailing = consecutive && not (interna
 
 -- whether the flags that a rule reads contradict each other
 abbrev pub contradict : Rule → Record → Bool
-contradict rules.ExponentFlagsAgree r = r.no_exponent_notation && r.required_exponent_notation
-contradict rules.MantissaSignFlagsAgree r = r.no_positive_mantissa_sign && r.required_mantissa_sign
-contradict rules.ExponentSignFlagsAgree r = r.no_positive_exponent_sign && r.required_exponent_sign
-contradict rules.SpecialCaseFlagsAgree r = r.no_special && r.case_sensitive_special
-contradict rules.SpecialSeparatorFlagsAgree r = r.no_special && r.special_digit_separator
+contradict rules.ExponentFlagsAgree r = r.flag layout.no_exponent_notation && r.flag layout.required_exponent_notation
+contradict rules.MantissaSignFlagsAgree r = r.flag layout.no_positive_mantissa_sign && r.flag layout.required_mantissa_sign
+contradict rules.ExponentSignFlagsAgree r = r.flag layout.no_positive_exponent_sign && r.flag layout.required_exponent_sign
+contradict rules.SpecialCaseFlagsAgree r = r.flag layout.no_special && r.flag layout.case_sensitive_special
+contradict rules.SpecialSeparatorFlagsAgree r = r.flag layout.no_special && r.flag layout.special_digit_separator
 contradict rules.IntegerConsecutiveIsAllowed r =
-    has_no_place r.integer_consecutive_digit_separator r.integer_internal_digit_separator
-    r.integer_leading_digit_separator r.integer_trailing_digit_separator
+    has_no_place (r.flag layout.integer_consecutive_digit_separator) (r.flag layout.integer_internal_digit_separator)
+    (r.flag layout.integer_leading_digit_separator) (r.flag layout.integer_trailing_digit_separator)
 contradict rules.FractionConsecutiveIsAllowed r =
-    has_no_place r.fraction_consecutive_digit_separator r.fraction_internal_digit_separator
-    r.fraction_leading_digit_separator r.fraction_trailing_digit_separator
+    has_no_place (r.flag layout.fraction_consecutive_digit_separator) (r.flag layout.fraction_internal_digit_separator)
+    (r.flag layout.fraction_leading_digit_separator) (r.flag layout.fraction_trailing_digit_separator)
 contradict rules.ExponentConsecutiveIsAllowed r =
-    has_no_place r.exponent_consecutive_digit_separator r.exponent_internal_digit_separator
-    r.exponent_leading_digit_separator r.exponent_trailing_digit_separator
+    has_no_place (r.flag layout.exponent_consecutive_digit_separator) (r.flag layout.exponent_internal_digit_separator)
+    (r.flag layout.exponent_leading_digit_separator) (r.flag layout.exponent_trailing_digit_separator)
 contradict _ r = false
 
 -- what a rule demands of the fields of a word; the rule of reserved bits demands nothing of them
 abbrev pub Demands : Rule → Record → Type 0
-Demands rules.MantissaRadixInRange r = IsRadix r.mantissa_radix
+Demands rules.MantissaRadixInRange r = IsRadix (r.byte layout.mantissa_radix)
 Demands rules.ExponentBaseInRange r = IsRadix (effective_exponent_base r)
 Demands rules.ExponentRadixInRange r = IsRadix (effective_exponent_radix r)
-Demands rules.DigitSeparatorIsFree r = IsFree r r.digit_separator
-Demands rules.BasePrefixIsFree r = IsFree r r.base_prefix
-Demands rules.BaseSuffixIsFree r = IsFree r r.base_suffix
+Demands rules.DigitSeparatorIsFree r = IsFree r (r.byte layout.digit_separator)
+Demands rules.BasePrefixIsFree r = IsFree r (r.byte layout.base_prefix)
+Demands rules.BaseSuffixIsFree r = IsFree r (r.byte layout.base_suffix)
 Demands rules.PunctuationDiffers r = AreDisjoint (own_roles r)
 Demands rule r = IsFalse (contradict rule r)
 
@@ -142,13 +143,13 @@ IsErrorOf word error = IsFirstError rules_in_order word error
 -- what makes a word lawful: its radixes are in range, its flags agree, its bytes are text, no byte plays two roles, and
 -- the reserved bits are 0
 pub record LawfulParts (word : ℕ) : Type 0 where
-  pub mantissa_radix : IsRadix (raw word).mantissa_radix
+  pub mantissa_radix : IsRadix ((raw word).byte layout.mantissa_radix)
   pub exponent_base : IsRadix (effective_exponent_base (raw word))
   pub exponent_radix : IsRadix (effective_exponent_radix (raw word))
   pub flags : AllByRecursion (λ rule. Holds rule word) flag_rules
-  pub digit_separator : IsTextOrNone (raw word).digit_separator
-  pub base_prefix : IsTextOrNone (raw word).base_prefix
-  pub base_suffix : IsTextOrNone (raw word).base_suffix
+  pub digit_separator : IsTextOrNone ((raw word).byte layout.digit_separator)
+  pub base_prefix : IsTextOrNone ((raw word).byte layout.base_prefix)
+  pub base_suffix : IsTextOrNone ((raw word).byte layout.base_suffix)
   pub roles : AreDisjoint (five_roles (raw word))
   pub clean : IsClean word
 

@@ -7,6 +7,7 @@
 #![tactic(auto, using(crate::proofs::ByteParts::byte_parts))]
 
 ghost use Rattle.std.specs.Prelude.{◌≡◌, ℕ, ◌/◌, ◌%◌, ◌^◌, ◌≤ℤ◌, ◌<ℤ◌, pos, unsigned_abs};
+ghost use Rattle.lexical_flags.specs.Layout as layout;
 ghost use Rattle.lexical_flags.specs.Record.{raw, effective, effective_exponent_base, effective_exponent_radix};
 ghost use Rattle.lexical_flags.specs.Common.{common};
 ghost use Rattle.lexical_flags.specs.Rules.{IsRadix, Lawful};
@@ -217,7 +218,7 @@ const RESERVED_MASK: u128 = !(FLAG_MASK | DIGIT_SEPARATOR | !0 << BASE_PREFIX_SH
 /// Returns the digit separator, even if no flag allows one; 0 if there is none.
 #[inline(always)]
 pub const fn digit_separator(format: u128) -> u8
-    ensures { result ≡ (raw format).digit_separator }
+    ensures { result ≡ (raw format).byte layout.digit_separator }
 {
     ((format & DIGIT_SEPARATOR) >> DIGIT_SEPARATOR_SHIFT) as u8
 }
@@ -225,7 +226,7 @@ pub const fn digit_separator(format: u128) -> u8
 /// Returns the base prefix, 0 if there is none.
 #[inline(always)]
 pub const fn base_prefix(format: u128) -> u8
-    ensures { result ≡ (raw format).base_prefix }
+    ensures { result ≡ (raw format).byte layout.base_prefix }
 {
     ((format & BASE_PREFIX) >> BASE_PREFIX_SHIFT) as u8
 }
@@ -233,7 +234,7 @@ pub const fn base_prefix(format: u128) -> u8
 /// Returns the base suffix, 0 if there is none.
 #[inline(always)]
 pub const fn base_suffix(format: u128) -> u8
-    ensures { result ≡ (raw format).base_suffix }
+    ensures { result ≡ (raw format).byte layout.base_suffix }
 {
     ((format & BASE_SUFFIX) >> BASE_SUFFIX_SHIFT) as u8
 }
@@ -241,7 +242,7 @@ pub const fn base_suffix(format: u128) -> u8
 /// Returns the mantissa radix: 0 to 255, and 2 to 36 if lawful.
 #[inline(always)]
 pub const fn mantissa_radix(format: u128) -> u32
-    ensures value { result ≡ (raw format).mantissa_radix }
+    ensures value { result ≡ (raw format).byte layout.mantissa_radix }
     ensures lawful { Lawful format → IsRadix result }
 {
     ((format & MANTISSA_RADIX) >> MANTISSA_RADIX_SHIFT) as u32
@@ -283,7 +284,7 @@ pub const fn exponent_radix(format: u128) -> u32
 pub const fn radix_from_flags(format: u128, mask: u128, shift: i32) -> u32
     requires from { pos 0 ≤ℤ shift }
     requires below { shift <ℤ pos 128 }
-    ensures { result ≡ effective (common format mask / 2 ^ unsigned_abs shift % 2 ^ 32) (raw format).mantissa_radix }
+    ensures { result ≡ effective (common format mask / 2 ^ unsigned_abs shift % 2 ^ 32) ((raw format).byte layout.mantissa_radix) }
 {
     let own = (((format & mask) >> shift) & 0xFFFF_FFFF) as u32;
     if own == 0 {

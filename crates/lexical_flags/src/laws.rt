@@ -125,17 +125,17 @@ pub fn role_facts()
 /// Examples of the fields of words.
 #[tactic(auto, unfolding(crate::specs::Record::word_of))]
 pub fn field_examples()
-    ensures separator { (raw 0x06050403_02000001_00000000_0000000C).digit_separator ≡ 1 }
-    ensures prefix { (raw 0x06050403_02000001_00000000_0000000C).base_prefix ≡ 2 }
-    ensures suffix { (raw 0x06050403_02000001_00000000_0000000C).base_suffix ≡ 3 }
-    ensures radix { (raw 0x06050403_02000001_00000000_0000000C).mantissa_radix ≡ 4 }
-    ensures base { (raw 0x06050403_02000001_00000000_0000000C).exponent_base ≡ 5 }
-    ensures exponent_radix { (raw 0x06050403_02000001_00000000_0000000C).exponent_radix ≡ 6 }
+    ensures separator { (raw 0x06050403_02000001_00000000_0000000C).byte layout.digit_separator ≡ 1 }
+    ensures prefix { (raw 0x06050403_02000001_00000000_0000000C).byte layout.base_prefix ≡ 2 }
+    ensures suffix { (raw 0x06050403_02000001_00000000_0000000C).byte layout.base_suffix ≡ 3 }
+    ensures radix { (raw 0x06050403_02000001_00000000_0000000C).byte layout.mantissa_radix ≡ 4 }
+    ensures base { (raw 0x06050403_02000001_00000000_0000000C).byte layout.exponent_base ≡ 5 }
+    ensures exponent_radix { (raw 0x06050403_02000001_00000000_0000000C).byte layout.exponent_radix ≡ 6 }
 
     // Bits 2 and 3 are set in 0xC.
-    ensures fraction_digits { (raw 0xC).required_fraction_digits ≡ false }
-    ensures exponent_digits { (raw 0xC).required_exponent_digits ≡ true }
-    ensures mantissa_digits { (raw 0xC).required_mantissa_digits ≡ true }
+    ensures fraction_digits { (raw 0xC).flag layout.required_fraction_digits ≡ false }
+    ensures exponent_digits { (raw 0xC).flag layout.required_exponent_digits ≡ true }
+    ensures mantissa_digits { (raw 0xC).flag layout.required_mantissa_digits ≡ true }
 
     // An empty exponent byte is the mantissa radix.
     ensures filled_base { effective_exponent_base (raw 0x0A001000_00000000_00000000_0000000C) ≡ 16 }

@@ -7,17 +7,17 @@ use Rattle.std.proofs.lemmas.Bool.Decides.{nat_tests}
 use Rattle.std.proofs.lemmas.List.Elements.{All-nil}
 use Rattle.lexical_flags.specs.Layout.{Flag, Byte, digit_separator_flags}
 use Rattle.lexical_flags.specs.Layout as layout
-use Rattle.lexical_flags.specs.Record.{Record, flag_of, byte_of, raw, trim, fill, pack, effective, separator_on}
+use Rattle.lexical_flags.specs.Record.{Record, raw, trim, fill, pack, effective, separator_on}
 use Rattle.lexical_flags.specs.Record.{SeparatorIsUsed, HasBytes}
 use Rattle.lexical_flags.proofs.RecordLemmas.{record_same}
 use Rattle.lexical_flags.proofs.Packing.{raw-pack, pack-injective, HasBytes-raw, HasBytes-fill, HasBytes-trim}
-use Rattle.lexical_builder.specs.Writes.{Write, IsLegal, flag_in, last_flag, last_byte, after}
-use Rattle.lexical_builder.proofs.WriteLemmas.{left_by, flag_of-after, byte_of-after, after-append, after_none}
+use Rattle.lexical_builder.specs.Writes.{Write, IsLegal, last_flag, last_byte, after}
+use Rattle.lexical_builder.proofs.WriteLemmas.{after-append, after_none}
 use Rattle.lexical_builder.proofs.WriteLemmas.{HasBytes-after}
 use Rattle.lexical_util.specs.Edits.{edited}
 use Rattle.lexical_util.specs.Normal.{normal_form_of}
 use Rattle.lexical_util.specs.Compose.{LeavesByte, IsPacked, SurvivesPacking, Composes, AlwaysCompose}
-use Rattle.lexical_util.proofs.NormalLemmas.{flag_of-trim-fill, list_any_same, use_same, used_same, full, kept}
+use Rattle.lexical_util.proofs.NormalLemmas.{list_any_same, use_same, used_same, full, kept}
 
 -- what is written is the same over both values; what is not is each value
 over_both : {T : Type 0} (o : Option T) (d e : T) → (o ≡ None → d ≡ e) → unwrap_or o d ≡ unwrap_or o e
@@ -32,43 +32,38 @@ module _ (R : Record) (L : List Write) where
   abbrev back : Record
   back = fill (trim R)
 
-  same_flags : (f : Flag) → flag_of (after back L) f ≡ flag_of (after R L) f
-  same_flags f = flag_of-after back L f ∙ ap (left_by (λ x. flag_in x f) L) (flag_of-trim-fill R f)
-      ∙ sym (flag_of-after R L f)
+  same_flags : (f : Flag) → (after back L).flag f ≡ (after R L).flag f
+  unfolding after
+  same_flags f = refl
 
   same_on : separator_on (after back L) ≡ separator_on (after R L)
-  same_on = list_any_same (flag_of (after back L)) (flag_of (after R L)) digit_separator_flags same_flags
+  same_on = list_any_same (after back L).flag (after R L).flag digit_separator_flags same_flags
 
-  same_byte : (b : Byte) → (LeavesByte L b → byte_of back b ≡ byte_of R b)
-      → byte_of (after back L) b ≡ byte_of (after R L) b
-  same_byte b h = byte_of-after back L b ∙ over_both (last_byte L b) (byte_of back b) (byte_of R b) h
-      ∙ sym (byte_of-after R L b)
+  same_byte : (b : Byte) → (LeavesByte L b → back.byte b ≡ R.byte b)
+      → (after back L).byte b ≡ (after R L).byte b
+  unfolding after
+  same_byte b h = over_both (last_byte L b) (back.byte b) (R.byte b) h
 
-  byte_back : (b : Byte) → byte_of (after back L) b ≡ byte_of (after R L) b → LeavesByte L b
-      → byte_of back b ≡ byte_of R b
-  byte_back b e = from_both (last_byte L b) (byte_of back b) (byte_of R b)
-      (sym (byte_of-after back L b) ∙ e ∙ byte_of-after R L b)
+  byte_back : (b : Byte) → (after back L).byte b ≡ (after R L).byte b → LeavesByte L b
+      → back.byte b ≡ R.byte b
+  unfolding after
+  byte_back b = from_both (last_byte L b) (back.byte b) (R.byte b)
 
   same_from_survival : SurvivesPacking R L → trim (after back L) ≡ trim (after R L)
-  same_from_survival stay = record_same _ _ (λ f. flag_of-trim (after back L) f ∙ same_flags f
-      ∙ sym (flag_of-trim (after R L) f)) on_byte where
-        flag_of-trim : (S : Record) (f : Flag) → flag_of (trim S) f ≡ flag_of S f
-        flag_of-trim S layout.required_integer_digits = refl
-        flag_of-trim S _ = refl
-
-        on_byte : (b : Byte) → byte_of (trim (after back L)) b ≡ byte_of (trim (after R L)) b
-        on_byte layout.digit_separator = use_same (separator_on (after back L)) (separator_on (after R L))
-            (after back L).digit_separator (after R L).digit_separator same_on
-            (λ on. same_byte layout.digit_separator (λ left. stay.byte layout.digit_separator left (sym same_on ∙ on)))
-        on_byte b = same_byte b (λ left. stay.byte b left tt)
+  same_from_survival stay = record_same _ _ same_flags on_byte where
+    on_byte : (b : Byte) → (trim (after back L)).byte b ≡ (trim (after R L)).byte b
+    on_byte layout.digit_separator = use_same (separator_on (after back L)) (separator_on (after R L))
+        ((after back L).byte layout.digit_separator) ((after R L).byte layout.digit_separator) same_on
+        (λ on. same_byte layout.digit_separator (λ left. stay.byte layout.digit_separator left (sym same_on ∙ on)))
+    on_byte b = same_byte b (λ left. stay.byte b left tt)
 
   survival_from_same : trim (after back L) ≡ trim (after R L) → SurvivesPacking R L
   survival_from_same e = record { byte = on_byte } where
-    on_byte : (b : Byte) → LeavesByte L b → IsPacked (after R L) b → byte_of back b ≡ byte_of R b
+    on_byte : (b : Byte) → LeavesByte L b → IsPacked (after R L) b → back.byte b ≡ R.byte b
     on_byte layout.digit_separator left on = byte_back layout.digit_separator
-        (used_same (separator_on (after back L)) (separator_on (after R L)) (after back L).digit_separator
-        (after R L).digit_separator same_on (ap (λ (S : Record). S.digit_separator) e) (same_on ∙ on)) left
-    on_byte b left packed = byte_back b (ap (λ S. byte_of S b) e) left
+        (used_same (separator_on (after back L)) (separator_on (after R L)) ((after back L).byte layout.digit_separator)
+        ((after R L).byte layout.digit_separator) same_on (ap (λ (S : Record). S.byte layout.digit_separator) e) (same_on ∙ on)) left
+    on_byte b left packed = byte_back b (ap (λ S. S.byte b) e) left
 
 -- two edits are one exactly if they compose
 pub edited-again : (w : ℕ) (K L : List Write) → All IsLegal K → All IsLegal L
@@ -101,44 +96,45 @@ set_before (Some v) d unset e = absurd (unset (ap Some e))
 
 -- and so of several flags
 any_before : (R : Record) (L : List Write) (fs : List Flag) → AllByRecursion (λ f. last_flag L f ≢ Some true) fs
-    → IsTrue (list_any (flag_of (after R L)) fs) → IsTrue (list_any (flag_of R) fs)
+    → IsTrue (list_any (after R L).flag fs) → IsTrue (list_any R.flag fs)
+unfolding after
 any_before R L [] unset on = on
 any_before R L (f ∷ fs) unset on = elim (or_cases _ _ on) [
-  | inl set ↦ or_left _ _ (set_before (last_flag L f) (flag_of R f) unset.0 (sym (flag_of-after R L f) ∙ set))
+  | inl set ↦ or_left _ _ (set_before (last_flag L f) (R.flag f) unset.0 set)
   | inr rest ↦ or_right _ _ (any_before R L fs unset.1 rest)
 ]
 
 -- an exponent byte is not empty after writes that do not empty it for good
 not_empty : (w : ℕ) (K : List Write) (b : Byte) (own : ℕ)
-    → byte_of (fill (raw w)) b ≡ effective own (raw w).mantissa_radix → (raw w).mantissa_radix ≢ 0
-    → last_byte K b ≢ Some 0 → byte_of (after (fill (raw w)) K) b ≢ 0
-not_empty w K b own filled radix kept empty = stays_full (last_byte K b) (byte_of (fill (raw w)) b) kept
-    (λ e. radix (filled_once own (raw w).mantissa_radix (sym filled ∙ e)))
-    (sym (byte_of-after (fill (raw w)) K b) ∙ empty)
+    → (fill (raw w)).byte b ≡ effective own ((raw w).byte layout.mantissa_radix) → (raw w).byte layout.mantissa_radix ≢ 0
+    → last_byte K b ≢ Some 0 → (after (fill (raw w)) K).byte b ≢ 0
+unfolding after
+not_empty w K b own filled radix kept empty = stays_full (last_byte K b) ((fill (raw w)).byte b) kept
+    (λ e. radix (filled_once own ((raw w).byte layout.mantissa_radix) (sym filled ∙ e))) empty
 
 -- a record survives packing if its separator is used, written or not packed, and no exponent byte is empty beside a
 -- mantissa radix
 pub survives_packing : (R : Record) (L : List Write)
     → (LeavesByte L layout.digit_separator → IsTrue (separator_on (after R L)) → SeparatorIsUsed R)
-    → (R.exponent_base ≡ 0 → R.mantissa_radix ≡ 0) → (R.exponent_radix ≡ 0 → R.mantissa_radix ≡ 0) → SurvivesPacking R L
+    → (R.byte layout.exponent_base ≡ 0 → R.byte layout.mantissa_radix ≡ 0) → (R.byte layout.exponent_radix ≡ 0 → R.byte layout.mantissa_radix ≡ 0) → SurvivesPacking R L
 survives_packing R L used base radix = record { byte = on_byte } where
-  on_byte : (b : Byte) → LeavesByte L b → IsPacked (after R L) b → byte_of (fill (trim R)) b ≡ byte_of R b
-  on_byte layout.digit_separator left on = kept (separator_on R) R.digit_separator (used left on)
-  on_byte layout.exponent_base left packed = full R.exponent_base R.mantissa_radix base
-  on_byte layout.exponent_radix left packed = full R.exponent_radix R.mantissa_radix radix
+  on_byte : (b : Byte) → LeavesByte L b → IsPacked (after R L) b → (fill (trim R)).byte b ≡ R.byte b
+  on_byte layout.digit_separator left on = kept (separator_on R) (R.byte layout.digit_separator) (used left on)
+  on_byte layout.exponent_base left packed = full (R.byte layout.exponent_base) (R.byte layout.mantissa_radix) base
+  on_byte layout.exponent_radix left packed = full (R.byte layout.exponent_radix) (R.byte layout.mantissa_radix) radix
   on_byte _ left packed = refl
 
 -- lists that compose on every word with a mantissa radix
-pub Composes-always : (w : ℕ) (K L : List Write) → (raw w).mantissa_radix ≢ 0 → AlwaysCompose K L → Composes w K L
+pub Composes-always : (w : ℕ) (K L : List Write) → (raw w).byte layout.mantissa_radix ≢ 0 → AlwaysCompose K L → Composes w K L
 Composes-always w K L radix always = survives_packing (after (fill (raw w)) K) L
     (λ left on. inl (any_before (after (fill (raw w)) K) L digit_separator_flags (always.digit_separator left) on))
-    (λ e. absurd (not_empty w K layout.exponent_base (raw w).exponent_base refl radix always.exponent_base e))
-    (λ e. absurd (not_empty w K layout.exponent_radix (raw w).exponent_radix refl radix always.exponent_radix e))
+    (λ e. absurd (not_empty w K layout.exponent_base ((raw w).byte layout.exponent_base) refl radix always.exponent_base e))
+    (λ e. absurd (not_empty w K layout.exponent_radix ((raw w).byte layout.exponent_radix) refl radix always.exponent_radix e))
 
 -- if no separator is dropped, editing the normal form is editing the word
 pub edited-normal : (w : ℕ) (L : List Write) → SeparatorIsUsed (raw w) → All IsLegal L
     → edited (normal_form_of w) L ≡ edited w L
 edited-normal w L used legal = (edited-again w [] L (All-nil IsLegal) legal).1
     (subst (λ R. SurvivesPacking R L) (sym (after_none (fill (raw w)))) (survives_packing (fill (raw w)) L (λ left on. used)
-    (filled_once (raw w).exponent_base (raw w).mantissa_radix)
-    (filled_once (raw w).exponent_radix (raw w).mantissa_radix)))
+    (filled_once ((raw w).byte layout.exponent_base) ((raw w).byte layout.mantissa_radix))
+    (filled_once ((raw w).byte layout.exponent_radix) ((raw w).byte layout.mantissa_radix))))

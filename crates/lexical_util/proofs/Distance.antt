@@ -9,7 +9,7 @@ use Rattle.std.proofs.lemmas.List.Sums.{sum_by-cons, length-filter}
 use Rattle.std.proofs.lemmas.Bool.Decides.{nat_tests}
 use Rattle.lexical_flags.specs.Layout.{flags, bytes}
 use Rattle.lexical_flags.specs.Layout as layout
-use Rattle.lexical_flags.specs.Record.{Record, flag_of, byte_of, trim, separator_on}
+use Rattle.lexical_flags.specs.Record.{Record, set_byte, trim, separator_on}
 use Rattle.lexical_builder.specs.Writes.{Write, write_flag, write_byte, new_record, flag_in, byte_in, after, changes}
 use Rattle.lexical_builder.proofs.WriteLemmas.{after_none, after-append}
 use Rattle.lexical_util.proofs.FieldWrites.{Leaves, Leaves-field_writes, flag_after, byte_after}
@@ -44,8 +44,8 @@ one_more p (Some v) d = grind (arith, nat_tests)
 
 write_one : (r : Record) (x y : Write) → (if changes r y then 1 else 0) ≤
     (if changes (after r (x ∷ [])) y then 1 else 0) + (if overwrites x y then 1 else 0)
-write_one r x (write_flag f v) = rw (flag_after r x f) (one_more (λ d. not (beq d v)) (flag_in x f) (flag_of r f))
-write_one r x (write_byte b v) = rw (byte_after r x b) (one_more (λ d. not (d == v)) (byte_in x b) (byte_of r b))
+write_one r x (write_flag f v) = rw (flag_after r x f) (one_more (λ d. not (beq d v)) (flag_in x f) (r.flag f))
+write_one r x (write_byte b v) = rw (byte_after r x b) (one_more (λ d. not (d == v)) (byte_in x b) (r.byte b))
 
 count_one : (r : Record) (x : Write) (writes : List Write)
     → count_by (changes r) writes ≤ count_by (changes (after r (x ∷ []))) writes + count_by (overwrites x) writes
@@ -113,9 +113,9 @@ pub distance-trim : (r : Record) → distance new_record (trim r) ≤ distance n
 unfolding distance
 distance-trim r = by_use (separator_on r) where
   by_use : (on : Bool) → count_by (changes new_record)
-      (field_writes (record r { digit_separator = if on then r.digit_separator else 0 }))
+      (field_writes (set_byte r layout.digit_separator (if on then r.byte layout.digit_separator else 0)))
       ≤ count_by (changes new_record) (field_writes r)
   by_use true = le_refl _
-  by_use false = count_fewer (changes new_record) (map (λ f. write_flag f (flag_of r f)) flags)
-      (map (λ b. write_byte b (byte_of r b)) (drop 1 bytes)) (write_byte layout.digit_separator 0)
-      (write_byte layout.digit_separator r.digit_separator) refl
+  by_use false = count_fewer (changes new_record) (map (λ f. write_flag f (r.flag f)) flags)
+      (map (λ b. write_byte b (r.byte b)) (drop 1 bytes)) (write_byte layout.digit_separator 0)
+      (write_byte layout.digit_separator (r.byte layout.digit_separator)) refl

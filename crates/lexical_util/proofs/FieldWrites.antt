@@ -8,33 +8,33 @@ use Rattle.std.proofs.lemmas.Bool.{cases_Bool, not-false}
 use Rattle.std.proofs.lemmas.List.Elements.{All-append, All-head, All-map, All-tail}
 use Rattle.lexical_flags.specs.Layout.{Flag, Byte, bit, shift, flags, bytes}
 use Rattle.lexical_flags.specs.Layout as layout
-use Rattle.lexical_flags.specs.Record.{Record, flag_of, byte_of, HasBytes}
+use Rattle.lexical_flags.specs.Record.{Record, HasBytes}
 use Rattle.lexical_flags.proofs.RecordLemmas.{record_same}
 use Rattle.lexical_builder.specs.Writes.{Write, write_flag, write_byte, IsLegal, flag_in, byte_in, after, changes}
-use Rattle.lexical_builder.proofs.WriteLemmas.{left_by, left_by-cons, flag_of-after, byte_of-after, after_none}
+use Rattle.lexical_builder.proofs.WriteLemmas.{left_by, left_by-cons, after_none}
 use Rattle.lexical_builder.proofs.WriteLemmas.{after-append}
 use Rattle.lexical_util.specs.Listing.{field_writes}
 
 -- to write every field of a record makes it, whatever the record before
 pub after-field_writes : (s r : Record) → after s (field_writes r) ≡ r
+unfolding after
 after-field_writes s r =
-    record_same _ _ (λ f. flag_of-after s (field_writes r) f ∙ on_flag f)
-    (λ b. byte_of-after s (field_writes r) b ∙ on_byte b) where
-      on_flag : (f : Flag) → left_by (λ x. flag_in x f) (field_writes r) (flag_of s f) ≡ flag_of r f
+    record_same _ _ on_flag on_byte where
+      on_flag : (f : Flag) → left_by (λ x. flag_in x f) (field_writes r) (s.flag f) ≡ r.flag f
       on_flag layout.required_integer_digits = refl
       on_flag _ = refl
 
-      on_byte : (b : Byte) → left_by (λ x. byte_in x b) (field_writes r) (byte_of s b) ≡ byte_of r b
+      on_byte : (b : Byte) → left_by (λ x. byte_in x b) (field_writes r) (s.byte b) ≡ r.byte b
       on_byte layout.digit_separator = refl
       on_byte _ = refl
 
 -- what holds of the write of each field holds of all
-All-field_writes : (P : Write → Type 0) (r : Record) → ((f : Flag) → P (write_flag f (flag_of r f)))
-    → ((b : Byte) → P (write_byte b (byte_of r b))) → All P (field_writes r)
+All-field_writes : (P : Write → Type 0) (r : Record) → ((f : Flag) → P (write_flag f (r.flag f)))
+    → ((b : Byte) → P (write_byte b (r.byte b))) → All P (field_writes r)
 All-field_writes P r on_flag on_byte =
-    All-append P (map (λ f. write_flag f (flag_of r f)) flags) (map (λ b. write_byte b (byte_of r b)) bytes)
-    (All-map P (λ f. write_flag f (flag_of r f)) flags (λ k d l. on_flag _))
-    (All-map P (λ b. write_byte b (byte_of r b)) bytes (λ k d l. on_byte _))
+    All-append P (map (λ f. write_flag f (r.flag f)) flags) (map (λ b. write_byte b (r.byte b)) bytes)
+    (All-map P (λ f. write_flag f (r.flag f)) flags (λ k d l. on_flag _))
+    (All-map P (λ b. write_byte b (r.byte b)) bytes (λ k d l. on_byte _))
 
 -- the writes of a record whose bytes fit are legal
 pub legal-field_writes : (r : Record) → HasBytes r → All IsLegal (field_writes r)
@@ -47,7 +47,7 @@ Leaves r x = changes r x ≡ false
 -- to write the fields of a record into it changes nothing
 pub Leaves-field_writes : (r : Record) → All (Leaves r) (field_writes r)
 Leaves-field_writes r =
-    All-field_writes (Leaves r) r (λ f. no_change (flag_of r f)) (λ b. ap not (eq-eqb _ _ refl)) where
+    All-field_writes (Leaves r) r (λ f. no_change (r.flag f)) (λ b. ap not (eq-eqb _ _ refl)) where
       no_change : (v : Bool) → not (beq v v) ≡ false
       no_change true = refl
       no_change false = refl
@@ -72,9 +72,9 @@ module _ {K : Type 0} (number : K → ℕ) (keys : List K)
 
 -- a write that does not change r gives each field r's value, or none
 flag_in-same : (r : Record) (x : Write) (f : Flag) → Leaves r x
-    → (flag_in x f ≡ None) ⊎ (flag_in x f ≡ Some (flag_of r f))
+    → (flag_in x f ≡ None) ⊎ (flag_in x f ≡ Some (r.flag f))
 flag_in-same r (write_byte c v) f e = inl refl
-flag_in-same r (write_flag g v) f e = own_or_none bit flags found (flag_of r) g f v (same (flag_of r g) v e) where
+flag_in-same r (write_flag g v) f e = own_or_none bit flags found r.flag g f v (same (r.flag g) v e) where
   found : (f : Flag) → find (λ x. bit x == bit f) flags ≡ Some f
   found layout.required_integer_digits = refl
   found _ = refl
@@ -86,22 +86,24 @@ flag_in-same r (write_flag g v) f e = own_or_none bit flags found (flag_of r) g 
   same false false e = refl
 
 byte_in-same : (r : Record) (x : Write) (b : Byte) → Leaves r x
-    → (byte_in x b ≡ None) ⊎ (byte_in x b ≡ Some (byte_of r b))
+    → (byte_in x b ≡ None) ⊎ (byte_in x b ≡ Some (r.byte b))
 byte_in-same r (write_flag g v) b e = inl refl
-byte_in-same r (write_byte c v) b e = own_or_none shift bytes found (byte_of r) c b v
-    (eqb-true (byte_of r c) v (not-false _ e)) where
+byte_in-same r (write_byte c v) b e = own_or_none shift bytes found r.byte c b v
+    (eqb-true (r.byte c) v (not-false _ e)) where
       found : (b : Byte) → find (λ x. shift x == shift b) bytes ≡ Some b
       found layout.digit_separator = refl
       found _ = refl
 
 -- the fields after one write
 pub flag_after : (r : Record) (x : Write) (f : Flag)
-    → flag_of (after r (x ∷ [])) f ≡ unwrap_or (flag_in x f) (flag_of r f)
-flag_after r x f = flag_of-after r (x ∷ []) f ∙ left_by-cons (λ y. flag_in y f) x [] (flag_of r f)
+    → (after r (x ∷ [])).flag f ≡ unwrap_or (flag_in x f) (r.flag f)
+unfolding after
+flag_after r x f = left_by-cons (λ y. flag_in y f) x [] (r.flag f)
 
 pub byte_after : (r : Record) (x : Write) (b : Byte)
-    → byte_of (after r (x ∷ [])) b ≡ unwrap_or (byte_in x b) (byte_of r b)
-byte_after r x b = byte_of-after r (x ∷ []) b ∙ left_by-cons (λ y. byte_in y b) x [] (byte_of r b)
+    → (after r (x ∷ [])).byte b ≡ unwrap_or (byte_in x b) (r.byte b)
+unfolding after
+byte_after r x b = left_by-cons (λ y. byte_in y b) x [] (r.byte b)
 
 -- what holds of a value and of what may be written over it holds afterwards
 either_way : {T : Type 0} (P : T → Type 0) (o : Option T) (d v : T) → (o ≡ None) ⊎ (o ≡ Some v) → P d → P v
@@ -112,15 +114,15 @@ either_way P o d v (inr some) on_d on_v = subst (λ p. P (unwrap_or p d)) (sym s
 -- a write that does not change r, into any record, keeps each field that is r's
 still_leaves : (r s : Record) (x y : Write) → Leaves r x → Leaves r y → Leaves s y → Leaves (after s (x ∷ [])) y
 still_leaves r s x (write_flag f u) leaves on_r on_s = subst (λ d. not (beq d u) ≡ false) (sym (flag_after s x f))
-    (either_way (λ d. not (beq d u) ≡ false) _ _ (flag_of r f) (flag_in-same r x f leaves) on_s on_r)
+    (either_way (λ d. not (beq d u) ≡ false) _ _ (r.flag f) (flag_in-same r x f leaves) on_s on_r)
 still_leaves r s x (write_byte b u) leaves on_r on_s = subst (λ d. not (d == u) ≡ false) (sym (byte_after s x b))
-    (either_way (λ d. not (d == u) ≡ false) _ _ (byte_of r b) (byte_in-same r x b leaves) on_s on_r)
+    (either_way (λ d. not (d == u) ≡ false) _ _ (r.byte b) (byte_in-same r x b leaves) on_s on_r)
 
 -- a write that does not change the record leaves it as it was, and so does a list of them
 after_one : (r : Record) (x : Write) → Leaves r x → after r (x ∷ []) ≡ r
 after_one r x e = record_same _ _
-    (λ f. flag_after r x f ∙ either_way (λ d. d ≡ flag_of r f) _ _ _ (flag_in-same r x f e) refl refl)
-    (λ b. byte_after r x b ∙ either_way (λ d. d ≡ byte_of r b) _ _ _ (byte_in-same r x b e) refl refl)
+    (λ f. flag_after r x f ∙ either_way (λ d. d ≡ r.flag f) _ _ _ (flag_in-same r x f e) refl refl)
+    (λ b. byte_after r x b ∙ either_way (λ d. d ≡ r.byte b) _ _ _ (byte_in-same r x b e) refl refl)
 
 pub after-leaves : (r : Record) (writes : List Write) → All (Leaves r) writes → after r writes ≡ r
 after-leaves r [] all = after_none r

@@ -7,7 +7,7 @@ use Rattle.std.proofs.lemmas.Bool.Decides.{nat_tests}
 use Rattle.std.proofs.lemmas.List.Elements.{All-nil}
 use Rattle.lexical_flags.specs.Layout.{Flag, Byte, bit, digit_separator_flags, IsClean}
 use Rattle.lexical_flags.specs.Layout as layout
-use Rattle.lexical_flags.specs.Record.{Record, flag_of, byte_of, raw, trim, fill, pack, word_of, effective}
+use Rattle.lexical_flags.specs.Record.{Record, raw, trim, fill, pack, word_of, effective}
 use Rattle.lexical_flags.specs.Record.{separator_on}
 use Rattle.lexical_flags.proofs.RecordLemmas.{record_same}
 use Rattle.lexical_flags.proofs.Packing.{raw-injective}
@@ -16,11 +16,6 @@ use Rattle.lexical_builder.proofs.WriteLemmas.{after_none}
 use Rattle.lexical_util.proofs.EditLemmas.{edited-fields, edited-clean, edited-fits}
 use Rattle.lexical_util.specs.Groups.{any_flag, bits_of}
 use Rattle.lexical_util.specs.Normal.{normal_form_of, SameFormat, IsNormal}
-
--- filling and trimming leave the flags
-pub flag_of-trim-fill : (R : Record) (f : Flag) → flag_of (trim (fill R)) f ≡ flag_of R f
-flag_of-trim-fill R layout.required_integer_digits = refl
-flag_of-trim-fill R _ = refl
 
 -- a test of some flags depends on them alone
 pub list_any_same : (p q : Flag → Bool) (fs : List Flag) → ((f : Flag) → p f ≡ q f) → list_any p fs ≡ list_any q fs
@@ -36,32 +31,30 @@ used_same p q x y e h t = grind (arith, nat_tests)
 
 -- records of the same format are one when filled and trimmed
 pub trim-same_format : (R S : Record) → SameFormat R S → trim (fill R) ≡ trim (fill S)
-trim-same_format R S s = record_same _ _ (λ f. flag_of-trim-fill R f ∙ s.flags f
-    ∙ sym (flag_of-trim-fill S f)) on_byte where
-      on_byte : (b : Byte) → byte_of (trim (fill R)) b ≡ byte_of (trim (fill S)) b
-      on_byte layout.digit_separator = use_same (separator_on R) (separator_on S) R.digit_separator S.digit_separator
-          (list_any_same (flag_of R) (flag_of S) digit_separator_flags s.flags) s.digit_separator
-      on_byte layout.base_prefix = s.base_prefix
-      on_byte layout.base_suffix = s.base_suffix
-      on_byte layout.mantissa_radix = s.mantissa_radix
-      on_byte layout.exponent_base = s.exponent_base
-      on_byte layout.exponent_radix = s.exponent_radix
+trim-same_format R S s = record_same _ _ s.flags on_byte where
+  on_byte : (b : Byte) → (trim (fill R)).byte b ≡ (trim (fill S)).byte b
+  on_byte layout.digit_separator = use_same (separator_on R) (separator_on S) (R.byte layout.digit_separator) (S.byte layout.digit_separator)
+      (list_any_same R.flag S.flag digit_separator_flags s.flags) s.digit_separator
+  on_byte layout.base_prefix = s.base_prefix
+  on_byte layout.base_suffix = s.base_suffix
+  on_byte layout.mantissa_radix = s.mantissa_radix
+  on_byte layout.exponent_base = s.exponent_base
+  on_byte layout.exponent_radix = s.exponent_radix
 
 -- records that are one when filled and trimmed have the same format
 pub SameFormat-from_trim : (R S : Record) → trim (fill R) ≡ trim (fill S) → SameFormat R S
 SameFormat-from_trim R S e =
-    let flags_agree : (f : Flag) → flag_of R f ≡ flag_of S f = λ f. sym (flag_of-trim-fill R f)
-    ∙ ap (λ (T : Record). flag_of T f) e ∙ flag_of-trim-fill S f in
+    let flags_agree : (f : Flag) → R.flag f ≡ S.flag f = λ f. ap (λ (T : Record). T.flag f) e in
     record {
       flags = flags_agree;
-      base_prefix = ap (λ (T : Record). T.base_prefix) e;
-      base_suffix = ap (λ (T : Record). T.base_suffix) e;
-      mantissa_radix = ap (λ (T : Record). T.mantissa_radix) e;
-      exponent_base = ap (λ (T : Record). T.exponent_base) e;
-      exponent_radix = ap (λ (T : Record). T.exponent_radix) e;
-      digit_separator = used_same (separator_on R) (separator_on S) R.digit_separator S.digit_separator
-          (list_any_same (flag_of R) (flag_of S) digit_separator_flags flags_agree)
-          (ap (λ (T : Record). T.digit_separator) e);
+      base_prefix = ap (λ (T : Record). T.byte layout.base_prefix) e;
+      base_suffix = ap (λ (T : Record). T.byte layout.base_suffix) e;
+      mantissa_radix = ap (λ (T : Record). T.byte layout.mantissa_radix) e;
+      exponent_base = ap (λ (T : Record). T.byte layout.exponent_base) e;
+      exponent_radix = ap (λ (T : Record). T.byte layout.exponent_radix) e;
+      digit_separator = used_same (separator_on R) (separator_on S) (R.byte layout.digit_separator) (S.byte layout.digit_separator)
+          (list_any_same R.flag S.flag digit_separator_flags flags_agree)
+          (ap (λ (T : Record). T.byte layout.digit_separator) e);
     }
 
 -- the normal form packs the filled record
@@ -105,13 +98,13 @@ kept false n (inr k) = sym k
 -- a record has the same format when filled and trimmed
 pub SameFormat-normal : (R : Record) → SameFormat R (trim (fill R))
 SameFormat-normal R = record {
-  flags = λ f. sym (flag_of-trim-fill R f);
+  flags = λ f. refl;
   base_prefix = refl;
   base_suffix = refl;
   mantissa_radix = refl;
-  exponent_base = effective_again R.exponent_base R.mantissa_radix;
-  exponent_radix = effective_again R.exponent_radix R.mantissa_radix;
-  digit_separator = λ t. sym (cond-true (separator_on R) R.digit_separator 0 t);
+  exponent_base = effective_again (R.byte layout.exponent_base) (R.byte layout.mantissa_radix);
+  exponent_radix = effective_again (R.byte layout.exponent_radix) (R.byte layout.mantissa_radix);
+  digit_separator = λ t. sym (cond-true (separator_on R) (R.byte layout.digit_separator) 0 t);
 }
 
 module _ (w : ℕ) where
@@ -139,24 +132,24 @@ module _ (w : ℕ) where
       let fields : trim (fill R) ≡ R = sym (raw_normal w) ∙ ap raw e in
       record {
         clean = subst IsClean e clean_normal;
-        separator_used = unused (separator_on R) R.digit_separator (ap (λ (S : Record). S.digit_separator) fields);
-        exponent_base = unfilled R.exponent_base R.mantissa_radix (ap (λ (S : Record). S.exponent_base) fields);
-        exponent_radix = unfilled R.exponent_radix R.mantissa_radix (ap (λ (S : Record). S.exponent_radix) fields);
+        separator_used = unused (separator_on R) (R.byte layout.digit_separator) (ap (λ (S : Record). S.byte layout.digit_separator) fields);
+        exponent_base = unfilled (R.byte layout.exponent_base) (R.byte layout.mantissa_radix) (ap (λ (S : Record). S.byte layout.exponent_base) fields);
+        exponent_radix = unfilled (R.byte layout.exponent_radix) (R.byte layout.mantissa_radix) (ap (λ (S : Record). S.byte layout.exponent_radix) fields);
       }
 
   pub fixed_from_normal : w < 2 ^ 128 → IsNormal w → normal_form_of w ≡ w
   unfolding IsNormal
   fixed_from_normal fits n = raw-injective (normal_form_of w) w normal_fits fits clean_normal n.clean
-      (raw_normal w ∙ record_same (trim (fill (raw w))) (raw w) (λ f. flag_of-trim-fill (raw w) f) on_byte) where
-        on_byte : (b : Byte) → byte_of (trim (fill (raw w))) b ≡ byte_of (raw w) b
-        on_byte layout.digit_separator = kept (separator_on (raw w)) (raw w).digit_separator n.separator_used
-        on_byte layout.exponent_base = full (raw w).exponent_base (raw w).mantissa_radix n.exponent_base
-        on_byte layout.exponent_radix = full (raw w).exponent_radix (raw w).mantissa_radix n.exponent_radix
+      (raw_normal w ∙ record_same (trim (fill (raw w))) (raw w) (λ f. refl) on_byte) where
+        on_byte : (b : Byte) → (trim (fill (raw w))).byte b ≡ (raw w).byte b
+        on_byte layout.digit_separator = kept (separator_on (raw w)) ((raw w).byte layout.digit_separator) n.separator_used
+        on_byte layout.exponent_base = full ((raw w).byte layout.exponent_base) ((raw w).byte layout.mantissa_radix) n.exponent_base
+        on_byte layout.exponent_radix = full ((raw w).byte layout.exponent_radix) ((raw w).byte layout.mantissa_radix) n.exponent_radix
         on_byte _ = refl
 
   pub groups_normal : (fs : List Flag) → any_flag w fs ≡ any_flag (normal_form_of w) fs
   unfolding any_flag
-  groups_normal fs = list_any_same (flag_of (raw w)) (flag_of (raw (normal_form_of w))) fs normal_keeps.flags
+  groups_normal fs = list_any_same (raw w).flag (raw (normal_form_of w)).flag fs normal_keeps.flags
 
   pub flags_normal : (fs : List Flag) → bits_of w fs ≡ bits_of (normal_form_of w) fs
   unfolding bits_of

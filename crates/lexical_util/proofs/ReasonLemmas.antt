@@ -1,12 +1,13 @@
 -- What may be cleared without effect.
 use Rattle.std.proofs.Common.{ℕ, ◌≡◌, ◌≢◌, ◌↔◌, ◌==◌, bit_and, None, inl, inr, Bool, true, false, IsTrue, not, List, [], ◌∷◌, refl, sym, subst, ap, ◌∙◌, arith}
 use Rattle.lexical_base.specs.Ascii.{ByteSet, between}
+use Rattle.lexical_flags.specs.Layout as layout
 use Rattle.lexical_flags.specs.Layout.{IsClean}
 use Rattle.std.specs.List.{AllByRecursion, filter_map}
 use Rattle.std.specs.Bool.{⊤, IsFalse, then_some}
 use Rattle.std.proofs.lemmas.Bool.{false≢true, true≢false, cond-false, cases_eq, not-false, not_from_true}
 use Rattle.std.proofs.lemmas.Bool.Decides.{nat_tests}
-use Rattle.lexical_flags.specs.Record.{Record, raw, fill, pack, word_of, separator_on}
+use Rattle.lexical_flags.specs.Record.{Record, set_byte, raw, fill, pack, word_of, separator_on}
 use Rattle.lexical_flags.specs.Roles.{digits, are_disjoint, Disjoint, AreDisjoint, cased, separator, prefix, suffix, exponent, point, own_roles}
 use Rattle.lexical_flags.specs.Rules.{IsRadix, IsFree, IsPunctuation, Demands, Holds}
 use Rattle.lexical_flags.specs.declared.format_flags.all_rules.Rule.{Rule}
@@ -42,10 +43,10 @@ unfolding IsPunctuation
 Demands-prefix r same rules.PunctuationDiffers = ap (λ A. AreDisjoint (separator r ∷ A ∷ suffix r ∷ [])) same
 Demands-prefix r same _ = refl
 
-AreAlike-prefix : (r : Record) → r.base_prefix ≡ 0 → AreAlike r (without_prefix_case r)
+AreAlike-prefix : (r : Record) → r.byte layout.base_prefix ≡ 0 → AreAlike r (without_prefix_case r)
 unfolding IsPunctuation
 AreAlike-prefix r none =
-    let same : prefix r ≡ prefix (without_prefix_case r) = absent _ _ r.base_prefix none in
+    let same : prefix r ≡ prefix (without_prefix_case r) = absent _ _ (r.byte layout.base_prefix) none in
     record {
       demands = Demands-prefix r same;
       punctuation = refl;
@@ -60,10 +61,10 @@ unfolding IsPunctuation
 Demands-suffix r same rules.PunctuationDiffers = ap (λ A. AreDisjoint (separator r ∷ prefix r ∷ A ∷ [])) same
 Demands-suffix r same _ = refl
 
-AreAlike-suffix : (r : Record) → r.base_suffix ≡ 0 → AreAlike r (without_suffix_case r)
+AreAlike-suffix : (r : Record) → r.byte layout.base_suffix ≡ 0 → AreAlike r (without_suffix_case r)
 unfolding IsPunctuation
 AreAlike-suffix r none =
-    let same : suffix r ≡ suffix (without_suffix_case r) = absent _ _ r.base_suffix none in
+    let same : suffix r ≡ suffix (without_suffix_case r) = absent _ _ (r.byte layout.base_suffix) none in
     record {
       demands = Demands-suffix r same;
       punctuation = refl;
@@ -106,19 +107,19 @@ SameRules-alike s v w alike like =
     }
 
 -- the case of an absent prefix or suffix has no effect on them
-pub without_prefix : (v w : ℕ) → (raw v).base_prefix ≡ 0 → IsWith (without_prefix_case (raw v)) v w → SameRules v w
+pub without_prefix : (v w : ℕ) → (raw v).byte layout.base_prefix ≡ 0 → IsWith (without_prefix_case (raw v)) v w → SameRules v w
 without_prefix v w none = SameRules-alike _ v w (AreAlike-prefix (raw v) none)
 
-pub without_suffix : (v w : ℕ) → (raw v).base_suffix ≡ 0 → IsWith (without_suffix_case (raw v)) v w → SameRules v w
+pub without_suffix : (v w : ℕ) → (raw v).byte layout.base_suffix ≡ 0 → IsWith (without_suffix_case (raw v)) v w → SameRules v w
 without_suffix v w none = SameRules-alike _ v w (AreAlike-suffix (raw v) none)
 
 -- and a separator that no flag allows none on the normal form
 pub normal_without_separator : (v w : ℕ) → separator_on (raw v) ≡ false → raw w ≡ without_separator (raw v)
     → normal_form_of w ≡ normal_form_of v
-unfolding after
+unfolding after word_of
 normal_without_separator v w off fields =
     ap (λ r. pack (fill r)) fields
-    ∙ ap (λ n. word_of (record (fill (raw v)) { digit_separator = n }))
+    ∙ ap (λ n. word_of (set_byte (fill (raw v)) layout.digit_separator n))
     (cond-false (separator_on (raw v)) 0 0 off ∙ sym (cond-false (separator_on (raw v)) _ 0 off))
 
 -- nothing is said exactly if no case holds

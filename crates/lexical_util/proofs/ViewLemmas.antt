@@ -1,7 +1,7 @@
 -- What a mask reads of a word, for a mask that is written as a number.
 use Rattle.std.proofs.Common.{ℕ, ◌≡◌, ◌*◌, ◌^◌, ◌<◌, ◌==◌, ◌≢◌, ◌⊎◌, nat_lt, IsTrue, inl, inr, true}
 use Rattle.std.proofs.Common.{not, zero, suc, if◌then◌else◌}
-use Rattle.std.proofs.Common.{List, sum_by, bit_and, refl, ap, sym, ◌∙◌, arith}
+use Rattle.std.proofs.Common.{List, sum_by, bit_and, refl, sym, ◌∙◌, arith}
 use Rattle.std.proofs.Math.Nat.{mod-lt, zero-mul}
 use Rattle.std.proofs.lemmas.Bool.{cases_eq}
 use Rattle.std.proofs.lemmas.Bool.Decides.{nat_tests}
@@ -10,7 +10,6 @@ use Rattle.std.proofs.lemmas.Nat.Bits.{and_high}
 use Rattle.lexical_flags.specs.Layout.{part, Flag, bit}
 use Rattle.lexical_flags.specs.Record.{raw, flag_bits}
 use Rattle.lexical_flags.specs.Constants.{mask_of}
-use Rattle.lexical_flags.proofs.RecordLemmas.{flag_of-raw}
 use Rattle.lexical_flags.proofs.Masks.{ascends, and_all}
 use Rattle.lexical_flags.proofs.FlagBits.{flag_by_mask, mask_test}
 use Rattle.lexical_flags.specs.Common.{common}
@@ -30,7 +29,6 @@ one_bit (suc (suc n)) k small = absurd (omega arith)
 
 flag_bits-raw : (word : ℕ) (f : Flag) → part word (bit f) 1 * 2 ^ bit f ≡ flag_bits (raw word) f
 flag_bits-raw word f = one_bit (part word (bit f) 1) (bit f) (mod-lt _ (omega arith))
-    ∙ ap (λ set. if set then 2 ^ bit f else 0) (sym (flag_of-raw word f))
 
 -- the bits of several flags
 pub bits_by_mask : (word mask : ℕ) (fs : List Flag) → mask ≡ mask_of fs → ascends bit 1 0 fs ≡ true

@@ -3,7 +3,7 @@ use Rattle.std.specs.Prelude.{◌≡◌, ◌≢◌, ℕ, IsTrue, true, List, Som
 use Rattle.std.specs.List.{AllByRecursion}
 use Rattle.lexical_flags.specs.Layout.{Byte, digit_separator_flags}
 use Rattle.lexical_flags.specs.Layout as layout
-use Rattle.lexical_flags.specs.Record.{Record, byte_of, raw, fill, trim, separator_on}
+use Rattle.lexical_flags.specs.Record.{Record, raw, fill, trim, separator_on}
 use Rattle.lexical_builder.specs.Writes.{Write, last_flag, last_byte, after}
 
 -- no write is to this byte
@@ -18,7 +18,7 @@ IsPacked r _ = ⊤
 -- each byte that the writes leave, and that is packed after them, is the same if the record is packed and filled before
 -- them
 pub record SurvivesPacking (r : Record) (writes : List Write) : Type 0 where
-  pub byte : (b : Byte) → LeavesByte writes b → IsPacked (after r writes) b → byte_of (fill (trim r)) b ≡ byte_of r b
+  pub byte : (b : Byte) → LeavesByte writes b → IsPacked (after r writes) b → (fill (trim r)).byte b ≡ r.byte b
 
 -- what the first list makes of the fields of a word survives packing, but for what the second list writes
 abbrev pub Composes : ℕ → List Write → List Write → Type 0

@@ -4,7 +4,7 @@ use Rattle.std.specs.List.{list_any}
 use Rattle.std.specs.Str.{bytes_eq}
 use Rattle.lexical_flags.specs.Layout.{Flag, bit, flags, bytes}
 use Rattle.lexical_flags.specs.Layout as layout
-use Rattle.lexical_flags.specs.Record.{Record, flag_of, byte_of, pack}
+use Rattle.lexical_flags.specs.Record.{Record, pack}
 use Rattle.lexical_builder.specs.OptionByte.{option_of_byte}
 use Rattle.lexical_builder.specs.Writes.{Write, write_flag, write_byte, IsLegal, new_record, after, changes}
 use Rattle.lexical_util.specs.Edits.{flags_of, writes_of}
@@ -30,7 +30,7 @@ edit_of (write_byte layout.exponent_radix value) = edits.ExponentRadix (option_o
 
 -- the writes of all fields of a record, in the order of their bits
 abbrev pub field_writes : Record → List Write
-field_writes r = map (λ f. write_flag f (flag_of r f)) flags ++ map (λ b. write_byte b (byte_of r b)) bytes
+field_writes r = map (λ f. write_flag f (r.flag f)) flags ++ map (λ b. write_byte b (r.byte b)) bytes
 
 -- the edits of a record's fields that differ from those of a new builder
 abbrev pub changing : Record → List Edit

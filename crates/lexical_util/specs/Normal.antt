@@ -1,7 +1,8 @@
 -- Normal forms, and the words that have the same one.
 use Rattle.std.specs.Prelude.{◌≡◌, ℕ, IsTrue, []}
+use Rattle.lexical_flags.specs.Layout as layout
 use Rattle.lexical_flags.specs.Layout.{Flag, IsClean}
-use Rattle.lexical_flags.specs.Record.{Record, flag_of, raw, separator_on, SeparatorIsUsed, effective_exponent_base}
+use Rattle.lexical_flags.specs.Record.{Record, raw, separator_on, SeparatorIsUsed, effective_exponent_base}
 use Rattle.lexical_flags.specs.Record.{effective_exponent_radix}
 use Rattle.lexical_util.specs.Edits.{edited}
 
@@ -12,21 +13,21 @@ normal_form_of word = edited word []
 -- two records that mean the same: all fields agree, the exponent bytes by their effective values, and the separator
 -- only if a flag allows one
 pub record SameFormat (r s : Record) : Type 0 where
-  pub flags : (f : Flag) → flag_of r f ≡ flag_of s f
-  pub base_prefix : r.base_prefix ≡ s.base_prefix
-  pub base_suffix : r.base_suffix ≡ s.base_suffix
-  pub mantissa_radix : r.mantissa_radix ≡ s.mantissa_radix
+  pub flags : (f : Flag) → r.flag f ≡ s.flag f
+  pub base_prefix : r.byte layout.base_prefix ≡ s.byte layout.base_prefix
+  pub base_suffix : r.byte layout.base_suffix ≡ s.byte layout.base_suffix
+  pub mantissa_radix : r.byte layout.mantissa_radix ≡ s.byte layout.mantissa_radix
   pub exponent_base : effective_exponent_base r ≡ effective_exponent_base s
   pub exponent_radix : effective_exponent_radix r ≡ effective_exponent_radix s
-  pub digit_separator : IsTrue (separator_on r) → r.digit_separator ≡ s.digit_separator
+  pub digit_separator : IsTrue (separator_on r) → r.byte layout.digit_separator ≡ s.byte layout.digit_separator
 
 -- a word that is its own normal form: clean, with a separator only if a flag allows one, and with no empty exponent
 -- byte unless the mantissa radix is 0 too
 pub record NormalParts (word : ℕ) : Type 0 where
   pub clean : IsClean word
   pub separator_used : SeparatorIsUsed (raw word)
-  pub exponent_base : (raw word).exponent_base ≡ 0 → (raw word).mantissa_radix ≡ 0
-  pub exponent_radix : (raw word).exponent_radix ≡ 0 → (raw word).mantissa_radix ≡ 0
+  pub exponent_base : (raw word).byte layout.exponent_base ≡ 0 → (raw word).byte layout.mantissa_radix ≡ 0
+  pub exponent_radix : (raw word).byte layout.exponent_radix ≡ 0 → (raw word).byte layout.mantissa_radix ≡ 0
 
 -- the same as one word, whose parts a proof sees by `unfolding IsNormal`
 unfoldable pub IsNormal : ℕ → Type 0

@@ -5,8 +5,9 @@ use Rattle.std.specs.Int.Bits.{bit_and}
 use Rattle.std.specs.List.{filter_map}
 use Rattle.lexical_base.specs.Ascii.{ByteSet, between, allowed_ascii}
 use Rattle.lexical_base.specs.Digits.{digits_of}
+use Rattle.lexical_flags.specs.Layout as layout
 use Rattle.lexical_flags.specs.Layout.{IsClean}
-use Rattle.lexical_flags.specs.Record.{Record, raw, separator_on, effective_exponent_base, effective_exponent_radix}
+use Rattle.lexical_flags.specs.Record.{Record, set_flag, set_byte, raw, separator_on, effective_exponent_base, effective_exponent_radix}
 use Rattle.lexical_flags.specs.Roles.{are_disjoint, digits, signs, separator, prefix, suffix}
 use Rattle.lexical_flags.specs.Rules.{contradict, Holds}
 use Rattle.lexical_flags.specs.Options.{AreAccepted}
@@ -36,13 +37,13 @@ padded cases = take 3 (map said cases ++ None ∷ None ∷ [])
 
 -- the bytes of a format as the edits that write them
 abbrev pub separator_edit : Record → Edit
-separator_edit r = edits.DigitSeparator (option_of_byte r.digit_separator)
+separator_edit r = edits.DigitSeparator (option_of_byte (r.byte layout.digit_separator))
 
 abbrev pub prefix_edit : Record → Edit
-prefix_edit r = edits.BasePrefix (option_of_byte r.base_prefix)
+prefix_edit r = edits.BasePrefix (option_of_byte (r.byte layout.base_prefix))
 
 abbrev pub suffix_edit : Record → Edit
-suffix_edit r = edits.BaseSuffix (option_of_byte r.base_suffix)
+suffix_edit r = edits.BaseSuffix (option_of_byte (r.byte layout.base_suffix))
 
 -- a radix or a base that is not 2 to 36
 abbrev pub out_of_range : ℕ → Edit → List (Case Reason)
@@ -51,7 +52,7 @@ out_of_range radix edit = (not (between 2 36 radix), reasons.OutOfRange edit) �
 -- the radix of which a byte is a digit: that of the mantissa, if it is one there
 abbrev pub radix_of_digit : Record → ℕ → ℕ
 radix_of_digit r byte =
-    if digits_of r.mantissa_radix byte then r.mantissa_radix else effective_exponent_radix r
+    if digits_of (r.byte layout.mantissa_radix) byte then r.byte layout.mantissa_radix else effective_exponent_radix r
 
 -- a byte that is not free
 abbrev pub not_free : Record → ℕ → Edit → List (Case Reason)
@@ -82,15 +83,15 @@ flag_reason _ = reasons.ReservedBits
 -- what may be wrong where a rule is broken
 abbrev pub cases_of : Rule → ℕ → List (Case Reason)
 cases_of rules.MantissaRadixInRange word =
-    let radix = (raw word).mantissa_radix in out_of_range radix (edits.MantissaRadix radix)
+    let radix = (raw word).byte layout.mantissa_radix in out_of_range radix (edits.MantissaRadix radix)
 cases_of rules.ExponentBaseInRange word =
     let base = effective_exponent_base (raw word) in out_of_range base (edits.ExponentBase (option_of_byte base))
 cases_of rules.ExponentRadixInRange word =
     let radix = effective_exponent_radix (raw word) in out_of_range radix (edits.ExponentRadix (option_of_byte radix))
 cases_of rules.DigitSeparatorIsFree word =
-    let r = raw word in not_free r r.digit_separator (separator_edit r)
-cases_of rules.BasePrefixIsFree word = let r = raw word in not_free r r.base_prefix (prefix_edit r)
-cases_of rules.BaseSuffixIsFree word = let r = raw word in not_free r r.base_suffix (suffix_edit r)
+    let r = raw word in not_free r (r.byte layout.digit_separator) (separator_edit r)
+cases_of rules.BasePrefixIsFree word = let r = raw word in not_free r (r.byte layout.base_prefix) (prefix_edit r)
+cases_of rules.BaseSuffixIsFree word = let r = raw word in not_free r (r.byte layout.base_suffix) (suffix_edit r)
 cases_of rules.PunctuationDiffers word =
     let r = raw word in
     share (separator r) (prefix r) (separator_edit r) (prefix_edit r)
@@ -109,10 +110,10 @@ reasons_of rule word = filter_map said (cases_of rule word)
 -- byte that is absent
 abbrev pub unused_cases : Record → List (Case Unused)
 unused_cases r =
-    (not (separator_on r) && not (r.digit_separator == 0), unused.NotAllowed (separator_edit r))
-    ∷ (separator_on r && (r.digit_separator == 0), unused.NoSeparator)
-    ∷ (r.case_sensitive_base_prefix && (r.base_prefix == 0), unused.NoByte setters.CaseSensitiveBasePrefix (edits.BasePrefix None))
-    ∷ (r.case_sensitive_base_suffix && (r.base_suffix == 0), unused.NoByte setters.CaseSensitiveBaseSuffix (edits.BaseSuffix None))
+    (not (separator_on r) && not (r.byte layout.digit_separator == 0), unused.NotAllowed (separator_edit r))
+    ∷ (separator_on r && (r.byte layout.digit_separator == 0), unused.NoSeparator)
+    ∷ (r.flag layout.case_sensitive_base_prefix && (r.byte layout.base_prefix == 0), unused.NoByte setters.CaseSensitiveBasePrefix (edits.BasePrefix None))
+    ∷ (r.flag layout.case_sensitive_base_suffix && (r.byte layout.base_suffix == 0), unused.NoByte setters.CaseSensitiveBaseSuffix (edits.BaseSuffix None))
     ∷ []
 
 -- what of a word has no effect
@@ -121,13 +122,13 @@ unused_of word = filter_map said (unused_cases (raw word))
 
 -- the fields without what has no effect: the separator, and the case of the base prefix or suffix
 abbrev pub without_separator : Record → Record
-without_separator r = record r { digit_separator = 0 }
+without_separator r = set_byte r layout.digit_separator 0
 
 abbrev pub without_prefix_case : Record → Record
-without_prefix_case r = record r { case_sensitive_base_prefix = false }
+without_prefix_case r = set_flag r layout.case_sensitive_base_prefix false
 
 abbrev pub without_suffix_case : Record → Record
-without_suffix_case r = record r { case_sensitive_base_suffix = false }
+without_suffix_case r = set_flag r layout.case_sensitive_base_suffix false
 
 -- a word with other fields, whose reserved bits are 0 if those of the first are
 pub record IsWith (fields : Record) (word other : ℕ) : Type 0 where

@@ -3,6 +3,7 @@
 ghost use Rattle.std.specs.Prelude.{◌≡◌, ◌≢◌, ℕ, IfErr, IfOk, ◌<◌, ◌^◌, ◌↔◌, ◌++◌, IsTrue, Some, List, All};
 ghost use Rattle.std.specs.Result.{OkIff};
 ghost use Rattle.lexical_base.specs.declared.error.Error.{Error};
+ghost use Rattle.lexical_flags.specs.Layout as layout;
 ghost use Rattle.lexical_flags.specs.Layout.{Flag, IsClean};
 ghost use Rattle.lexical_flags.specs.Record.{raw, fill, trim, SeparatorIsUsed};
 ghost use Rattle.lexical_flags.specs.Rules.{Lawful, IsErrorOf};
@@ -325,7 +326,7 @@ pub const fn edit_word(format: u128, edits: &[Edit]) -> u128
     ensures again { (more : List Write) → All IsLegal more
         → (edited result more ≡ edited format (all_writes edits.now ++ more))
         ↔ Composes format (all_writes edits.now) more }
-    ensures always { (raw format).mantissa_radix ≢ 0 → (more : List Write) → All IsLegal more
+    ensures always { (raw format).byte layout.mantissa_radix ≢ 0 → (more : List Write) → All IsLegal more
         → AlwaysCompose (all_writes edits.now) more
         → edited result more ≡ edited format (all_writes edits.now ++ more) }
     ensures legal { All IsLegal (all_writes edits.now) }

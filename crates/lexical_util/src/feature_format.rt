@@ -2,6 +2,7 @@
 #![tactic(auto, using(crate::proofs::ViewLemmas::masks_and_powers))]
 
 ghost use Rattle.std.specs.Prelude.{◌≡◌, ◌≢◌, ℕ, ◌↔◌, ◌%◌, ◌^◌, IsTrue};
+ghost use Rattle.lexical_flags.specs.Layout as layout;
 ghost use Rattle.lexical_flags.specs.Record.{raw, fill, effective_exponent_base, effective_exponent_radix};
 ghost use Rattle.lexical_flags.specs.Roles.{digits};
 ghost use Rattle.lexical_flags.specs.Rules.{IsRadix, Lawful, IsErrorOf, IsFirstError, radix_rules};
@@ -131,7 +132,7 @@ impl NumberFormat {
     /// Returns the [digit separator][NumberFormatBuilder::digit_separator], allowed or not; 0 if there is none.
     #[inline(always)]
     pub const fn digit_separator(&self) -> u8
-        ensures { result ≡ (raw self.now).digit_separator }
+        ensures { result ≡ (raw self.now).byte layout.digit_separator }
     {
         flags::digit_separator(self.format)
     }
@@ -139,7 +140,7 @@ impl NumberFormat {
     /// Returns whether the digit separator byte is not 0.
     #[inline(always)]
     pub const fn has_digit_separator(&self) -> bool
-        ensures { IsTrue result ↔ ((raw self.now).digit_separator ≢ 0) }
+        ensures { IsTrue result ↔ ((raw self.now).byte layout.digit_separator ≢ 0) }
     {
         has_any!(self, DIGIT_SEPARATOR)
     }
@@ -147,7 +148,7 @@ impl NumberFormat {
     /// Returns the [base prefix][NumberFormatBuilder::base_prefix], 0 if there is none.
     #[inline(always)]
     pub const fn base_prefix(&self) -> u8
-        ensures { result ≡ (raw self.now).base_prefix }
+        ensures { result ≡ (raw self.now).byte layout.base_prefix }
     {
         flags::base_prefix(self.format)
     }
@@ -155,7 +156,7 @@ impl NumberFormat {
     /// Returns whether the base prefix byte is not 0.
     #[inline(always)]
     pub const fn has_base_prefix(&self) -> bool
-        ensures { IsTrue result ↔ ((raw self.now).base_prefix ≢ 0) }
+        ensures { IsTrue result ↔ ((raw self.now).byte layout.base_prefix ≢ 0) }
     {
         has_any!(self, BASE_PREFIX)
     }
@@ -163,7 +164,7 @@ impl NumberFormat {
     /// Returns the [base suffix][NumberFormatBuilder::base_suffix], 0 if there is none.
     #[inline(always)]
     pub const fn base_suffix(&self) -> u8
-        ensures { result ≡ (raw self.now).base_suffix }
+        ensures { result ≡ (raw self.now).byte layout.base_suffix }
     {
         flags::base_suffix(self.format)
     }
@@ -171,7 +172,7 @@ impl NumberFormat {
     /// Returns whether the base suffix byte is not 0.
     #[inline(always)]
     pub const fn has_base_suffix(&self) -> bool
-        ensures { IsTrue result ↔ ((raw self.now).base_suffix ≢ 0) }
+        ensures { IsTrue result ↔ ((raw self.now).byte layout.base_suffix ≢ 0) }
     {
         has_any!(self, BASE_SUFFIX)
     }
@@ -181,7 +182,7 @@ impl NumberFormat {
     /// Returns the [mantissa radix][NumberFormatBuilder::mantissa_radix]: 0 to 255, and 2 to 36 if lawful.
     #[inline(always)]
     pub const fn mantissa_radix(&self) -> u32
-        ensures value { result ≡ (raw self.now).mantissa_radix }
+        ensures value { result ≡ (raw self.now).byte layout.mantissa_radix }
         ensures lawful { Lawful self.now → IsRadix result }
     {
         flags::mantissa_radix(self.format)
@@ -190,7 +191,7 @@ impl NumberFormat {
     /// Returns the same as `mantissa_radix`.
     #[inline(always)]
     pub const fn radix(&self) -> u32
-        ensures value { result ≡ (raw self.now).mantissa_radix }
+        ensures value { result ≡ (raw self.now).byte layout.mantissa_radix }
         ensures lawful { Lawful self.now → IsRadix result }
     {
         self.mantissa_radix()
@@ -199,7 +200,7 @@ impl NumberFormat {
     /// Returns the second power of the mantissa radix.
     #[inline(always)]
     pub const fn radix2(&self) -> u32
-        ensures { result ≡ (raw self.now).mantissa_radix ^ 2 }
+        ensures { result ≡ (raw self.now).byte layout.mantissa_radix ^ 2 }
     {
         let radix = self.mantissa_radix();
         radix * radix
@@ -208,7 +209,7 @@ impl NumberFormat {
     /// Returns the fourth power of the mantissa radix.
     #[inline(always)]
     pub const fn radix4(&self) -> u32
-        ensures { result ≡ (raw self.now).mantissa_radix ^ 4 }
+        ensures { result ≡ (raw self.now).byte layout.mantissa_radix ^ 4 }
     {
         let square = self.radix2();
         square * square
@@ -218,7 +219,7 @@ impl NumberFormat {
     /// 16 it is 0.
     #[inline(always)]
     pub const fn radix8(&self) -> u32
-        ensures { result ≡ (raw self.now).mantissa_radix ^ 8 % 2 ^ 32 }
+        ensures { result ≡ (raw self.now).byte layout.mantissa_radix ^ 8 % 2 ^ 32 }
     {
         let fourth = self.radix4();
         fourth.wrapping_mul(fourth)

@@ -90,7 +90,7 @@ pub const fn edit_facts()
     // unless it writes the separator too.
     ensures again { (word : ℕ) → (first second : List Write) → All IsLegal first → All IsLegal second
         → (edited (edited word first) second ≡ edited word (first ++ second)) ↔ Composes word first second }
-    ensures always { (word : ℕ) → (first second : List Write) → (raw word).mantissa_radix ≢ 0
+    ensures always { (word : ℕ) → (first second : List Write) → (raw word).byte layout.mantissa_radix ≢ 0
         → AlwaysCompose first second → Composes word first second }
 {}
 

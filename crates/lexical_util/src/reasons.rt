@@ -2,7 +2,8 @@
 
 ghost use Rattle.std.specs.Prelude.{◌≡◌, ◌↔◌, ℕ, false, ◌++◌, [], ◌∷◌, None, map, take};
 ghost use Rattle.std.specs.Bool.{then_some};
-ghost use Rattle.lexical_flags.specs.Record.{raw, separator_on};
+ghost use Rattle.lexical_flags.specs.Layout as layout;
+ghost use Rattle.lexical_flags.specs.Record.{raw, set_byte, separator_on};
 ghost use Rattle.lexical_flags.specs.Rules.{Holds};
 ghost use Rattle.lexical_flags.specs.declared.format_flags.all_rules.Rule.TheVariants as rules;
 ghost use Rattle.lexical_util.specs.Reasons.{said, padded, cases_of, reasons_of, out_of_range, not_free, flag_reason, unused_cases};
@@ -213,9 +214,9 @@ pub const fn unused_settings(format: u128) -> [Option<Unused>; UNUSED]
         → normal_form_of other ≡ normal_form_of format }
 
     // The flag of a byte that is absent can be cleared: no rule and no choice of options is affected.
-    ensures prefix_case { (raw format).base_prefix ≡ 0 → (other : ℕ)
+    ensures prefix_case { (raw format).byte layout.base_prefix ≡ 0 → (other : ℕ)
         → IsWith (without_prefix_case (raw format)) format other → SameRules format other }
-    ensures suffix_case { (raw format).base_suffix ≡ 0 → (other : ℕ)
+    ensures suffix_case { (raw format).byte layout.base_suffix ≡ 0 → (other : ℕ)
         → IsWith (without_suffix_case (raw format)) format other → SameRules format other }
 {
     unused_beside(format, flags::digit_separator(format))
@@ -236,7 +237,7 @@ pub const fn unused_fields(builder: &NumberFormatBuilder) -> [Option<Unused>; UN
 
 // What has no effect in a word with another digit separator.
 const fn unused_beside(format: u128, separator: u8) -> [Option<Unused>; UNUSED]
-    ensures { result ≡ map said (unused_cases (record (raw format) { digit_separator = separator })) }
+    ensures { result ≡ map said (unused_cases (set_byte (raw format) layout.digit_separator separator)) }
 {
     let view = NumberFormat::new(format);
     let is_allowed = is_separator_allowed(format);

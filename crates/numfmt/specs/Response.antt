@@ -1,6 +1,7 @@
 -- The responses of the program: what each prints, and its exit status.
 use Rattle.std.specs.Prelude.{ℕ, true, false, List, [], ◌∷◌, ◌++◌, flat_map, codes, decimal, bit_and}
 use Rattle.std.specs.Prelude.{Result, Ok, Err}
+use Rattle.lexical_util.specs.Layout as layout
 use Rattle.lexical_util.specs.Outcomes.{printed_text}
 use Rattle.lexical_util.specs.declared.error.Error.TheVariants.{Success}
 use Rattle.lexical_util.specs.Layout.{flags}
@@ -25,10 +26,10 @@ field name value = name ++ 32 ∷ value
 -- the bytes of a format word, with their names
 abbrev pub bytes : ℕ → List (List ℕ)
 bytes word =
-    field (codes "digit_separator") (decimal (raw word).digit_separator)
-    ∷ field (codes "base_prefix") (decimal (raw word).base_prefix)
-    ∷ field (codes "base_suffix") (decimal (raw word).base_suffix)
-    ∷ field (codes "mantissa_radix") (decimal (raw word).mantissa_radix)
+    field (codes "digit_separator") (decimal ((raw word).byte layout.digit_separator))
+    ∷ field (codes "base_prefix") (decimal ((raw word).byte layout.base_prefix))
+    ∷ field (codes "base_suffix") (decimal ((raw word).byte layout.base_suffix))
+    ∷ field (codes "mantissa_radix") (decimal ((raw word).byte layout.mantissa_radix))
     ∷ field (codes "exponent_base") (decimal (effective_exponent_base (raw word)))
     ∷ field (codes "exponent_radix") (decimal (effective_exponent_radix (raw word)))
     ∷ []

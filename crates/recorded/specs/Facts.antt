@@ -3,6 +3,7 @@ use Rattle.recorded.specs.declared.fact.Fact.{Fact}
 use Rattle.recorded.specs.declared.fact.Fact.TheVariants as facts
 use Rattle.recorded.specs.declared.fact.Fields.{Fields}
 use Rattle.std.specs.Prelude.{ℕ, ◌≡◌, ◌↔◌, IsTrue, List}
+use Rattle.lexical_util.specs.Layout as layout
 use Rattle.lexical_util.specs.Ascii.{allowed_ascii, letters}
 use Rattle.lexical_util.specs.Digits.{digit_of}
 use Rattle.lexical_util.specs.Outcomes.{printed_text}
@@ -19,10 +20,10 @@ use Rattle.lexical_util.specs.Groups.{bits_of}
 -- the fields of a word are these
 pub record HasFields (word : ℕ) (fields : Fields) : Type 0 where
   pub flags : bits_of word flags ≡ fields.flags
-  pub digit_separator : (raw word).digit_separator ≡ fields.digit_separator
-  pub base_prefix : (raw word).base_prefix ≡ fields.base_prefix
-  pub base_suffix : (raw word).base_suffix ≡ fields.base_suffix
-  pub mantissa_radix : (raw word).mantissa_radix ≡ fields.mantissa_radix
+  pub digit_separator : (raw word).byte layout.digit_separator ≡ fields.digit_separator
+  pub base_prefix : (raw word).byte layout.base_prefix ≡ fields.base_prefix
+  pub base_suffix : (raw word).byte layout.base_suffix ≡ fields.base_suffix
+  pub mantissa_radix : (raw word).byte layout.mantissa_radix ≡ fields.mantissa_radix
   pub exponent_base : effective_exponent_base (raw word) ≡ fields.exponent_base
   pub exponent_radix : effective_exponent_radix (raw word) ≡ fields.exponent_radix
 

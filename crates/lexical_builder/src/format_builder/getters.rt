@@ -1,6 +1,7 @@
 //! The getters of a builder.
 
 ghost use Rattle.std.specs.Prelude.{◌≡◌};
+ghost use Rattle.lexical_flags.specs.Layout as layout;
 ghost use Rattle.lexical_builder.specs.OptionByte.{option_of_byte};
 
 use super::{
@@ -15,7 +16,7 @@ impl NumberFormatBuilder {
     /// Returns the byte of [`Self::digit_separator`]; `None` if there is none.
     #[inline(always)]
     pub const fn get_digit_separator(&self) -> OptionU8
-        ensures { result ≡ option_of_byte self.now.digit_separator }
+        ensures { result ≡ option_of_byte (self.now.byte layout.digit_separator) }
     {
         NonZeroU8::new(self.bytes[DIGIT_SEPARATOR])
     }
@@ -23,7 +24,7 @@ impl NumberFormatBuilder {
     /// Returns the byte of [`Self::mantissa_radix`].
     #[inline(always)]
     pub const fn get_mantissa_radix(&self) -> u8
-        ensures { result ≡ self.now.mantissa_radix }
+        ensures { result ≡ self.now.byte layout.mantissa_radix }
     {
         self.bytes[MANTISSA_RADIX]
     }
@@ -31,7 +32,7 @@ impl NumberFormatBuilder {
     /// Returns the byte of [`Self::exponent_base`]; `None` if it follows the mantissa radix.
     #[inline(always)]
     pub const fn get_exponent_base(&self) -> OptionU8
-        ensures { result ≡ option_of_byte self.now.exponent_base }
+        ensures { result ≡ option_of_byte (self.now.byte layout.exponent_base) }
     {
         NonZeroU8::new(self.bytes[EXPONENT_BASE])
     }
@@ -39,7 +40,7 @@ impl NumberFormatBuilder {
     /// Returns the byte of [`Self::exponent_radix`]; `None` if it follows the mantissa radix.
     #[inline(always)]
     pub const fn get_exponent_radix(&self) -> OptionU8
-        ensures { result ≡ option_of_byte self.now.exponent_radix }
+        ensures { result ≡ option_of_byte (self.now.byte layout.exponent_radix) }
     {
         NonZeroU8::new(self.bytes[EXPONENT_RADIX])
     }
@@ -47,7 +48,7 @@ impl NumberFormatBuilder {
     /// Returns the byte of [`Self::base_prefix`]; `None` if there is none.
     #[inline(always)]
     pub const fn get_base_prefix(&self) -> OptionU8
-        ensures { result ≡ option_of_byte self.now.base_prefix }
+        ensures { result ≡ option_of_byte (self.now.byte layout.base_prefix) }
     {
         NonZeroU8::new(self.bytes[BASE_PREFIX])
     }
@@ -55,7 +56,7 @@ impl NumberFormatBuilder {
     /// Returns the byte of [`Self::base_suffix`]; `None` if there is none.
     #[inline(always)]
     pub const fn get_base_suffix(&self) -> OptionU8
-        ensures { result ≡ option_of_byte self.now.base_suffix }
+        ensures { result ≡ option_of_byte (self.now.byte layout.base_suffix) }
     {
         NonZeroU8::new(self.bytes[BASE_SUFFIX])
     }
@@ -63,7 +64,7 @@ impl NumberFormatBuilder {
     /// Returns the flag of [`Self::required_integer_digits`].
     #[inline(always)]
     pub const fn get_required_integer_digits(&self) -> bool
-        ensures { result ≡ self.now.required_integer_digits }
+        ensures { result ≡ self.now.flag layout.required_integer_digits }
     {
         self.has_flag(flags::REQUIRED_INTEGER_DIGITS)
     }
@@ -71,7 +72,7 @@ impl NumberFormatBuilder {
     /// Returns the flag of [`Self::required_fraction_digits`].
     #[inline(always)]
     pub const fn get_required_fraction_digits(&self) -> bool
-        ensures { result ≡ self.now.required_fraction_digits }
+        ensures { result ≡ self.now.flag layout.required_fraction_digits }
     {
         self.has_flag(flags::REQUIRED_FRACTION_DIGITS)
     }
@@ -79,7 +80,7 @@ impl NumberFormatBuilder {
     /// Returns the flag of [`Self::required_exponent_digits`].
     #[inline(always)]
     pub const fn get_required_exponent_digits(&self) -> bool
-        ensures { result ≡ self.now.required_exponent_digits }
+        ensures { result ≡ self.now.flag layout.required_exponent_digits }
     {
         self.has_flag(flags::REQUIRED_EXPONENT_DIGITS)
     }
@@ -87,7 +88,7 @@ impl NumberFormatBuilder {
     /// Returns the flag of [`Self::required_mantissa_digits`].
     #[inline(always)]
     pub const fn get_required_mantissa_digits(&self) -> bool
-        ensures { result ≡ self.now.required_mantissa_digits }
+        ensures { result ≡ self.now.flag layout.required_mantissa_digits }
     {
         self.has_flag(flags::REQUIRED_MANTISSA_DIGITS)
     }
@@ -95,7 +96,7 @@ impl NumberFormatBuilder {
     /// Returns the flag of [`Self::no_positive_mantissa_sign`].
     #[inline(always)]
     pub const fn get_no_positive_mantissa_sign(&self) -> bool
-        ensures { result ≡ self.now.no_positive_mantissa_sign }
+        ensures { result ≡ self.now.flag layout.no_positive_mantissa_sign }
     {
         self.has_flag(flags::NO_POSITIVE_MANTISSA_SIGN)
     }
@@ -103,7 +104,7 @@ impl NumberFormatBuilder {
     /// Returns the flag of [`Self::required_mantissa_sign`].
     #[inline(always)]
     pub const fn get_required_mantissa_sign(&self) -> bool
-        ensures { result ≡ self.now.required_mantissa_sign }
+        ensures { result ≡ self.now.flag layout.required_mantissa_sign }
     {
         self.has_flag(flags::REQUIRED_MANTISSA_SIGN)
     }
@@ -111,7 +112,7 @@ impl NumberFormatBuilder {
     /// Returns the flag of [`Self::no_exponent_notation`].
     #[inline(always)]
     pub const fn get_no_exponent_notation(&self) -> bool
-        ensures { result ≡ self.now.no_exponent_notation }
+        ensures { result ≡ self.now.flag layout.no_exponent_notation }
     {
         self.has_flag(flags::NO_EXPONENT_NOTATION)
     }
@@ -119,7 +120,7 @@ impl NumberFormatBuilder {
     /// Returns the flag of [`Self::no_positive_exponent_sign`].
     #[inline(always)]
     pub const fn get_no_positive_exponent_sign(&self) -> bool
-        ensures { result ≡ self.now.no_positive_exponent_sign }
+        ensures { result ≡ self.now.flag layout.no_positive_exponent_sign }
     {
         self.has_flag(flags::NO_POSITIVE_EXPONENT_SIGN)
     }
@@ -127,7 +128,7 @@ impl NumberFormatBuilder {
     /// Returns the flag of [`Self::required_exponent_sign`].
     #[inline(always)]
     pub const fn get_required_exponent_sign(&self) -> bool
-        ensures { result ≡ self.now.required_exponent_sign }
+        ensures { result ≡ self.now.flag layout.required_exponent_sign }
     {
         self.has_flag(flags::REQUIRED_EXPONENT_SIGN)
     }
@@ -135,7 +136,7 @@ impl NumberFormatBuilder {
     /// Returns the flag of [`Self::no_exponent_without_fraction`].
     #[inline(always)]
     pub const fn get_no_exponent_without_fraction(&self) -> bool
-        ensures { result ≡ self.now.no_exponent_without_fraction }
+        ensures { result ≡ self.now.flag layout.no_exponent_without_fraction }
     {
         self.has_flag(flags::NO_EXPONENT_WITHOUT_FRACTION)
     }
@@ -143,7 +144,7 @@ impl NumberFormatBuilder {
     /// Returns the flag of [`Self::no_special`].
     #[inline(always)]
     pub const fn get_no_special(&self) -> bool
-        ensures { result ≡ self.now.no_special }
+        ensures { result ≡ self.now.flag layout.no_special }
     {
         self.has_flag(flags::NO_SPECIAL)
     }
@@ -151,7 +152,7 @@ impl NumberFormatBuilder {
     /// Returns the flag of [`Self::case_sensitive_special`].
     #[inline(always)]
     pub const fn get_case_sensitive_special(&self) -> bool
-        ensures { result ≡ self.now.case_sensitive_special }
+        ensures { result ≡ self.now.flag layout.case_sensitive_special }
     {
         self.has_flag(flags::CASE_SENSITIVE_SPECIAL)
     }
@@ -159,7 +160,7 @@ impl NumberFormatBuilder {
     /// Returns the flag of [`Self::no_integer_leading_zeros`].
     #[inline(always)]
     pub const fn get_no_integer_leading_zeros(&self) -> bool
-        ensures { result ≡ self.now.no_integer_leading_zeros }
+        ensures { result ≡ self.now.flag layout.no_integer_leading_zeros }
     {
         self.has_flag(flags::NO_INTEGER_LEADING_ZEROS)
     }
@@ -167,7 +168,7 @@ impl NumberFormatBuilder {
     /// Returns the flag of [`Self::no_float_leading_zeros`].
     #[inline(always)]
     pub const fn get_no_float_leading_zeros(&self) -> bool
-        ensures { result ≡ self.now.no_float_leading_zeros }
+        ensures { result ≡ self.now.flag layout.no_float_leading_zeros }
     {
         self.has_flag(flags::NO_FLOAT_LEADING_ZEROS)
     }
@@ -175,7 +176,7 @@ impl NumberFormatBuilder {
     /// Returns the flag of [`Self::required_exponent_notation`].
     #[inline(always)]
     pub const fn get_required_exponent_notation(&self) -> bool
-        ensures { result ≡ self.now.required_exponent_notation }
+        ensures { result ≡ self.now.flag layout.required_exponent_notation }
     {
         self.has_flag(flags::REQUIRED_EXPONENT_NOTATION)
     }
@@ -183,7 +184,7 @@ impl NumberFormatBuilder {
     /// Returns the flag of [`Self::case_sensitive_exponent`].
     #[inline(always)]
     pub const fn get_case_sensitive_exponent(&self) -> bool
-        ensures { result ≡ self.now.case_sensitive_exponent }
+        ensures { result ≡ self.now.flag layout.case_sensitive_exponent }
     {
         self.has_flag(flags::CASE_SENSITIVE_EXPONENT)
     }
@@ -191,7 +192,7 @@ impl NumberFormatBuilder {
     /// Returns the flag of [`Self::case_sensitive_base_prefix`].
     #[inline(always)]
     pub const fn get_case_sensitive_base_prefix(&self) -> bool
-        ensures { result ≡ self.now.case_sensitive_base_prefix }
+        ensures { result ≡ self.now.flag layout.case_sensitive_base_prefix }
     {
         self.has_flag(flags::CASE_SENSITIVE_BASE_PREFIX)
     }
@@ -199,7 +200,7 @@ impl NumberFormatBuilder {
     /// Returns the flag of [`Self::case_sensitive_base_suffix`].
     #[inline(always)]
     pub const fn get_case_sensitive_base_suffix(&self) -> bool
-        ensures { result ≡ self.now.case_sensitive_base_suffix }
+        ensures { result ≡ self.now.flag layout.case_sensitive_base_suffix }
     {
         self.has_flag(flags::CASE_SENSITIVE_BASE_SUFFIX)
     }
@@ -207,7 +208,7 @@ impl NumberFormatBuilder {
     /// Returns the flag of [`Self::integer_internal_digit_separator`].
     #[inline(always)]
     pub const fn get_integer_internal_digit_separator(&self) -> bool
-        ensures { result ≡ self.now.integer_internal_digit_separator }
+        ensures { result ≡ self.now.flag layout.integer_internal_digit_separator }
     {
         self.has_flag(flags::INTEGER_INTERNAL_DIGIT_SEPARATOR)
     }
@@ -215,7 +216,7 @@ impl NumberFormatBuilder {
     /// Returns the flag of [`Self::fraction_internal_digit_separator`].
     #[inline(always)]
     pub const fn get_fraction_internal_digit_separator(&self) -> bool
-        ensures { result ≡ self.now.fraction_internal_digit_separator }
+        ensures { result ≡ self.now.flag layout.fraction_internal_digit_separator }
     {
         self.has_flag(flags::FRACTION_INTERNAL_DIGIT_SEPARATOR)
     }
@@ -223,7 +224,7 @@ impl NumberFormatBuilder {
     /// Returns the flag of [`Self::exponent_internal_digit_separator`].
     #[inline(always)]
     pub const fn get_exponent_internal_digit_separator(&self) -> bool
-        ensures { result ≡ self.now.exponent_internal_digit_separator }
+        ensures { result ≡ self.now.flag layout.exponent_internal_digit_separator }
     {
         self.has_flag(flags::EXPONENT_INTERNAL_DIGIT_SEPARATOR)
     }
@@ -231,7 +232,7 @@ impl NumberFormatBuilder {
     /// Returns the flag of [`Self::integer_leading_digit_separator`].
     #[inline(always)]
     pub const fn get_integer_leading_digit_separator(&self) -> bool
-        ensures { result ≡ self.now.integer_leading_digit_separator }
+        ensures { result ≡ self.now.flag layout.integer_leading_digit_separator }
     {
         self.has_flag(flags::INTEGER_LEADING_DIGIT_SEPARATOR)
     }
@@ -239,7 +240,7 @@ impl NumberFormatBuilder {
     /// Returns the flag of [`Self::fraction_leading_digit_separator`].
     #[inline(always)]
     pub const fn get_fraction_leading_digit_separator(&self) -> bool
-        ensures { result ≡ self.now.fraction_leading_digit_separator }
+        ensures { result ≡ self.now.flag layout.fraction_leading_digit_separator }
     {
         self.has_flag(flags::FRACTION_LEADING_DIGIT_SEPARATOR)
     }
@@ -247,7 +248,7 @@ impl NumberFormatBuilder {
     /// Returns the flag of [`Self::exponent_leading_digit_separator`].
     #[inline(always)]
     pub const fn get_exponent_leading_digit_separator(&self) -> bool
-        ensures { result ≡ self.now.exponent_leading_digit_separator }
+        ensures { result ≡ self.now.flag layout.exponent_leading_digit_separator }
     {
         self.has_flag(flags::EXPONENT_LEADING_DIGIT_SEPARATOR)
     }
@@ -255,7 +256,7 @@ impl NumberFormatBuilder {
     /// Returns the flag of [`Self::integer_trailing_digit_separator`].
     #[inline(always)]
     pub const fn get_integer_trailing_digit_separator(&self) -> bool
-        ensures { result ≡ self.now.integer_trailing_digit_separator }
+        ensures { result ≡ self.now.flag layout.integer_trailing_digit_separator }
     {
         self.has_flag(flags::INTEGER_TRAILING_DIGIT_SEPARATOR)
     }
@@ -263,7 +264,7 @@ impl NumberFormatBuilder {
     /// Returns the flag of [`Self::fraction_trailing_digit_separator`].
     #[inline(always)]
     pub const fn get_fraction_trailing_digit_separator(&self) -> bool
-        ensures { result ≡ self.now.fraction_trailing_digit_separator }
+        ensures { result ≡ self.now.flag layout.fraction_trailing_digit_separator }
     {
         self.has_flag(flags::FRACTION_TRAILING_DIGIT_SEPARATOR)
     }
@@ -271,7 +272,7 @@ impl NumberFormatBuilder {
     /// Returns the flag of [`Self::exponent_trailing_digit_separator`].
     #[inline(always)]
     pub const fn get_exponent_trailing_digit_separator(&self) -> bool
-        ensures { result ≡ self.now.exponent_trailing_digit_separator }
+        ensures { result ≡ self.now.flag layout.exponent_trailing_digit_separator }
     {
         self.has_flag(flags::EXPONENT_TRAILING_DIGIT_SEPARATOR)
     }
@@ -279,7 +280,7 @@ impl NumberFormatBuilder {
     /// Returns the flag of [`Self::integer_consecutive_digit_separator`].
     #[inline(always)]
     pub const fn get_integer_consecutive_digit_separator(&self) -> bool
-        ensures { result ≡ self.now.integer_consecutive_digit_separator }
+        ensures { result ≡ self.now.flag layout.integer_consecutive_digit_separator }
     {
         self.has_flag(flags::INTEGER_CONSECUTIVE_DIGIT_SEPARATOR)
     }
@@ -287,7 +288,7 @@ impl NumberFormatBuilder {
     /// Returns the flag of [`Self::fraction_consecutive_digit_separator`].
     #[inline(always)]
     pub const fn get_fraction_consecutive_digit_separator(&self) -> bool
-        ensures { result ≡ self.now.fraction_consecutive_digit_separator }
+        ensures { result ≡ self.now.flag layout.fraction_consecutive_digit_separator }
     {
         self.has_flag(flags::FRACTION_CONSECUTIVE_DIGIT_SEPARATOR)
     }
@@ -295,7 +296,7 @@ impl NumberFormatBuilder {
     /// Returns the flag of [`Self::exponent_consecutive_digit_separator`].
     #[inline(always)]
     pub const fn get_exponent_consecutive_digit_separator(&self) -> bool
-        ensures { result ≡ self.now.exponent_consecutive_digit_separator }
+        ensures { result ≡ self.now.flag layout.exponent_consecutive_digit_separator }
     {
         self.has_flag(flags::EXPONENT_CONSECUTIVE_DIGIT_SEPARATOR)
     }
@@ -303,7 +304,7 @@ impl NumberFormatBuilder {
     /// Returns the flag of [`Self::special_digit_separator`].
     #[inline(always)]
     pub const fn get_special_digit_separator(&self) -> bool
-        ensures { result ≡ self.now.special_digit_separator }
+        ensures { result ≡ self.now.flag layout.special_digit_separator }
     {
         self.has_flag(flags::SPECIAL_DIGIT_SEPARATOR)
     }

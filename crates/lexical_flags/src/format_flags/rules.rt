@@ -7,6 +7,7 @@ ghost use Rattle.std.specs.Prelude.{◌≡◌, ◌≢◌, ◌↔◌, Err, IfErr,
 ghost use Rattle.std.specs.List.{AllByRecursion};
 ghost use Rattle.std.specs.Result.{OkIff};
 ghost use Rattle.lexical_base.specs.Ascii.{letters};
+ghost use Rattle.lexical_flags.specs.Layout as layout;
 ghost use Rattle.lexical_flags.specs.Layout.{IsClean};
 ghost use Rattle.lexical_flags.specs.Record.{raw};
 ghost use Rattle.lexical_flags.specs.Roles.{Disjoint, are_disjoint, clashes, cased, other_case, digits, own_roles};
@@ -118,7 +119,7 @@ const fn are_near(a: u8, b: u8) -> bool
 // Whether the base prefix is case-sensitive.
 #[inline(always)]
 const fn prefix_case_counts(format: u128) -> bool
-    ensures { result ≡ (raw format).case_sensitive_base_prefix }
+    ensures { result ≡ (raw format).flag layout.case_sensitive_base_prefix }
 {
     format & CASE_SENSITIVE_BASE_PREFIX != 0
 }
@@ -126,7 +127,7 @@ const fn prefix_case_counts(format: u128) -> bool
 // Whether the base suffix is case-sensitive.
 #[inline(always)]
 const fn suffix_case_counts(format: u128) -> bool
-    ensures { result ≡ (raw format).case_sensitive_base_suffix }
+    ensures { result ≡ (raw format).flag layout.case_sensitive_base_suffix }
 {
     format & CASE_SENSITIVE_BASE_SUFFIX != 0
 }
@@ -134,7 +135,7 @@ const fn suffix_case_counts(format: u128) -> bool
 // Whether the exponent character is case-sensitive.
 #[inline(always)]
 const fn exponent_case_counts(format: u128) -> bool
-    ensures { result ≡ (raw format).case_sensitive_exponent }
+    ensures { result ≡ (raw format).flag layout.case_sensitive_exponent }
 {
     format & CASE_SENSITIVE_EXPONENT != 0
 }

@@ -1,6 +1,7 @@
 //! Which words a builder packs, and the setter calls that make a word.
 
 ghost use Rattle.std.specs.Prelude.{◌≡◌, ◌≤◌, ◌↔◌, ◌++◌, IsTrue, List, All, length, filter, take, not, if◌then◌else◌};
+ghost use Rattle.lexical_flags.specs.Layout as layout;
 ghost use Rattle.lexical_flags.specs.Layout.{IsClean};
 ghost use Rattle.lexical_flags.specs.Record.{raw, pack, SeparatorIsUsed, IsBuilt};
 ghost use Rattle.lexical_builder.specs.Writes.{Write, IsLegal, new_record, after};
@@ -98,7 +99,7 @@ pub const fn field_edits_of(format: u128) -> [Edit; FIELDS]
 // The exponent base that the word holds, 0 if it is empty.
 #[inline(always)]
 const fn raw_exponent_base(format: u128) -> u8
-    ensures { result ≡ (raw format).exponent_base }
+    ensures { result ≡ (raw format).byte layout.exponent_base }
 {
     ((format & flags::EXPONENT_BASE) >> flags::EXPONENT_BASE_SHIFT) as u8
 }
@@ -106,7 +107,7 @@ const fn raw_exponent_base(format: u128) -> u8
 // The exponent radix that the word holds, 0 if it is empty.
 #[inline(always)]
 const fn raw_exponent_radix(format: u128) -> u8
-    ensures { result ≡ (raw format).exponent_radix }
+    ensures { result ≡ (raw format).byte layout.exponent_radix }
 {
     ((format & flags::EXPONENT_RADIX) >> flags::EXPONENT_RADIX_SHIFT) as u8
 }

@@ -17,7 +17,7 @@ impl NumberFormat {
     /// Returns whether the [flag][super::NumberFormatBuilder::required_integer_digits] is set.
     #[inline(always)]
     pub const fn required_integer_digits(&self) -> bool
-        ensures { result ≡ (raw self.now).required_integer_digits }
+        ensures { result ≡ (raw self.now).flag layout.required_integer_digits }
     {
         has_any!(self, REQUIRED_INTEGER_DIGITS)
     }
@@ -25,7 +25,7 @@ impl NumberFormat {
     /// Returns whether the [flag][super::NumberFormatBuilder::required_fraction_digits] is set.
     #[inline(always)]
     pub const fn required_fraction_digits(&self) -> bool
-        ensures { result ≡ (raw self.now).required_fraction_digits }
+        ensures { result ≡ (raw self.now).flag layout.required_fraction_digits }
     {
         has_any!(self, REQUIRED_FRACTION_DIGITS)
     }
@@ -33,7 +33,7 @@ impl NumberFormat {
     /// Returns whether the [flag][super::NumberFormatBuilder::required_exponent_digits] is set.
     #[inline(always)]
     pub const fn required_exponent_digits(&self) -> bool
-        ensures { result ≡ (raw self.now).required_exponent_digits }
+        ensures { result ≡ (raw self.now).flag layout.required_exponent_digits }
     {
         has_any!(self, REQUIRED_EXPONENT_DIGITS)
     }
@@ -41,7 +41,7 @@ impl NumberFormat {
     /// Returns whether the [flag][super::NumberFormatBuilder::required_mantissa_digits] is set.
     #[inline(always)]
     pub const fn required_mantissa_digits(&self) -> bool
-        ensures { result ≡ (raw self.now).required_mantissa_digits }
+        ensures { result ≡ (raw self.now).flag layout.required_mantissa_digits }
     {
         has_any!(self, REQUIRED_MANTISSA_DIGITS)
     }
@@ -58,7 +58,7 @@ impl NumberFormat {
     /// Returns whether the [flag][super::NumberFormatBuilder::no_positive_mantissa_sign] is set.
     #[inline(always)]
     pub const fn no_positive_mantissa_sign(&self) -> bool
-        ensures { result ≡ (raw self.now).no_positive_mantissa_sign }
+        ensures { result ≡ (raw self.now).flag layout.no_positive_mantissa_sign }
     {
         has_any!(self, NO_POSITIVE_MANTISSA_SIGN)
     }
@@ -66,7 +66,7 @@ impl NumberFormat {
     /// Returns whether the [flag][super::NumberFormatBuilder::required_mantissa_sign] is set.
     #[inline(always)]
     pub const fn required_mantissa_sign(&self) -> bool
-        ensures { result ≡ (raw self.now).required_mantissa_sign }
+        ensures { result ≡ (raw self.now).flag layout.required_mantissa_sign }
     {
         has_any!(self, REQUIRED_MANTISSA_SIGN)
     }
@@ -74,7 +74,7 @@ impl NumberFormat {
     /// Returns whether the [flag][super::NumberFormatBuilder::no_exponent_notation] is set.
     #[inline(always)]
     pub const fn no_exponent_notation(&self) -> bool
-        ensures { result ≡ (raw self.now).no_exponent_notation }
+        ensures { result ≡ (raw self.now).flag layout.no_exponent_notation }
     {
         has_any!(self, NO_EXPONENT_NOTATION)
     }
@@ -82,7 +82,7 @@ impl NumberFormat {
     /// Returns whether the [flag][super::NumberFormatBuilder::no_positive_exponent_sign] is set.
     #[inline(always)]
     pub const fn no_positive_exponent_sign(&self) -> bool
-        ensures { result ≡ (raw self.now).no_positive_exponent_sign }
+        ensures { result ≡ (raw self.now).flag layout.no_positive_exponent_sign }
     {
         has_any!(self, NO_POSITIVE_EXPONENT_SIGN)
     }
@@ -90,7 +90,7 @@ impl NumberFormat {
     /// Returns whether the [flag][super::NumberFormatBuilder::required_exponent_sign] is set.
     #[inline(always)]
     pub const fn required_exponent_sign(&self) -> bool
-        ensures { result ≡ (raw self.now).required_exponent_sign }
+        ensures { result ≡ (raw self.now).flag layout.required_exponent_sign }
     {
         has_any!(self, REQUIRED_EXPONENT_SIGN)
     }
@@ -98,7 +98,7 @@ impl NumberFormat {
     /// Returns whether the [flag][super::NumberFormatBuilder::no_exponent_without_fraction] is set.
     #[inline(always)]
     pub const fn no_exponent_without_fraction(&self) -> bool
-        ensures { result ≡ (raw self.now).no_exponent_without_fraction }
+        ensures { result ≡ (raw self.now).flag layout.no_exponent_without_fraction }
     {
         has_any!(self, NO_EXPONENT_WITHOUT_FRACTION)
     }
@@ -106,7 +106,7 @@ impl NumberFormat {
     /// Returns whether the [flag][super::NumberFormatBuilder::no_special] is set.
     #[inline(always)]
     pub const fn no_special(&self) -> bool
-        ensures { result ≡ (raw self.now).no_special }
+        ensures { result ≡ (raw self.now).flag layout.no_special }
     {
         has_any!(self, NO_SPECIAL)
     }
@@ -114,7 +114,7 @@ impl NumberFormat {
     /// Returns whether the [flag][super::NumberFormatBuilder::case_sensitive_special] is set.
     #[inline(always)]
     pub const fn case_sensitive_special(&self) -> bool
-        ensures { result ≡ (raw self.now).case_sensitive_special }
+        ensures { result ≡ (raw self.now).flag layout.case_sensitive_special }
     {
         has_any!(self, CASE_SENSITIVE_SPECIAL)
     }
@@ -122,7 +122,7 @@ impl NumberFormat {
     /// Returns whether the [flag][super::NumberFormatBuilder::no_integer_leading_zeros] is set.
     #[inline(always)]
     pub const fn no_integer_leading_zeros(&self) -> bool
-        ensures { result ≡ (raw self.now).no_integer_leading_zeros }
+        ensures { result ≡ (raw self.now).flag layout.no_integer_leading_zeros }
     {
         has_any!(self, NO_INTEGER_LEADING_ZEROS)
     }
@@ -130,7 +130,7 @@ impl NumberFormat {
     /// Returns whether the [flag][super::NumberFormatBuilder::no_float_leading_zeros] is set.
     #[inline(always)]
     pub const fn no_float_leading_zeros(&self) -> bool
-        ensures { result ≡ (raw self.now).no_float_leading_zeros }
+        ensures { result ≡ (raw self.now).flag layout.no_float_leading_zeros }
     {
         has_any!(self, NO_FLOAT_LEADING_ZEROS)
     }
@@ -138,7 +138,7 @@ impl NumberFormat {
     /// Returns whether the [flag][super::NumberFormatBuilder::required_exponent_notation] is set.
     #[inline(always)]
     pub const fn required_exponent_notation(&self) -> bool
-        ensures { result ≡ (raw self.now).required_exponent_notation }
+        ensures { result ≡ (raw self.now).flag layout.required_exponent_notation }
     {
         has_any!(self, REQUIRED_EXPONENT_NOTATION)
     }
@@ -146,7 +146,7 @@ impl NumberFormat {
     /// Returns whether the [flag][super::NumberFormatBuilder::case_sensitive_exponent] is set.
     #[inline(always)]
     pub const fn case_sensitive_exponent(&self) -> bool
-        ensures { result ≡ (raw self.now).case_sensitive_exponent }
+        ensures { result ≡ (raw self.now).flag layout.case_sensitive_exponent }
     {
         has_any!(self, CASE_SENSITIVE_EXPONENT)
     }
@@ -154,7 +154,7 @@ impl NumberFormat {
     /// Returns whether the [flag][super::NumberFormatBuilder::case_sensitive_base_prefix] is set.
     #[inline(always)]
     pub const fn case_sensitive_base_prefix(&self) -> bool
-        ensures { result ≡ (raw self.now).case_sensitive_base_prefix }
+        ensures { result ≡ (raw self.now).flag layout.case_sensitive_base_prefix }
     {
         has_any!(self, CASE_SENSITIVE_BASE_PREFIX)
     }
@@ -162,7 +162,7 @@ impl NumberFormat {
     /// Returns whether the [flag][super::NumberFormatBuilder::case_sensitive_base_suffix] is set.
     #[inline(always)]
     pub const fn case_sensitive_base_suffix(&self) -> bool
-        ensures { result ≡ (raw self.now).case_sensitive_base_suffix }
+        ensures { result ≡ (raw self.now).flag layout.case_sensitive_base_suffix }
     {
         has_any!(self, CASE_SENSITIVE_BASE_SUFFIX)
     }
@@ -172,7 +172,7 @@ impl NumberFormat {
     /// Returns whether the [flag][super::NumberFormatBuilder::integer_internal_digit_separator] is set.
     #[inline(always)]
     pub const fn integer_internal_digit_separator(&self) -> bool
-        ensures { result ≡ (raw self.now).integer_internal_digit_separator }
+        ensures { result ≡ (raw self.now).flag layout.integer_internal_digit_separator }
     {
         has_any!(self, INTEGER_INTERNAL_DIGIT_SEPARATOR)
     }
@@ -180,7 +180,7 @@ impl NumberFormat {
     /// Returns whether the [flag][super::NumberFormatBuilder::fraction_internal_digit_separator] is set.
     #[inline(always)]
     pub const fn fraction_internal_digit_separator(&self) -> bool
-        ensures { result ≡ (raw self.now).fraction_internal_digit_separator }
+        ensures { result ≡ (raw self.now).flag layout.fraction_internal_digit_separator }
     {
         has_any!(self, FRACTION_INTERNAL_DIGIT_SEPARATOR)
     }
@@ -188,7 +188,7 @@ impl NumberFormat {
     /// Returns whether the [flag][super::NumberFormatBuilder::exponent_internal_digit_separator] is set.
     #[inline(always)]
     pub const fn exponent_internal_digit_separator(&self) -> bool
-        ensures { result ≡ (raw self.now).exponent_internal_digit_separator }
+        ensures { result ≡ (raw self.now).flag layout.exponent_internal_digit_separator }
     {
         has_any!(self, EXPONENT_INTERNAL_DIGIT_SEPARATOR)
     }
@@ -196,7 +196,7 @@ impl NumberFormat {
     /// Returns whether the [flag][super::NumberFormatBuilder::integer_leading_digit_separator] is set.
     #[inline(always)]
     pub const fn integer_leading_digit_separator(&self) -> bool
-        ensures { result ≡ (raw self.now).integer_leading_digit_separator }
+        ensures { result ≡ (raw self.now).flag layout.integer_leading_digit_separator }
     {
         has_any!(self, INTEGER_LEADING_DIGIT_SEPARATOR)
     }
@@ -204,7 +204,7 @@ impl NumberFormat {
     /// Returns whether the [flag][super::NumberFormatBuilder::fraction_leading_digit_separator] is set.
     #[inline(always)]
     pub const fn fraction_leading_digit_separator(&self) -> bool
-        ensures { result ≡ (raw self.now).fraction_leading_digit_separator }
+        ensures { result ≡ (raw self.now).flag layout.fraction_leading_digit_separator }
     {
         has_any!(self, FRACTION_LEADING_DIGIT_SEPARATOR)
     }
@@ -212,7 +212,7 @@ impl NumberFormat {
     /// Returns whether the [flag][super::NumberFormatBuilder::exponent_leading_digit_separator] is set.
     #[inline(always)]
     pub const fn exponent_leading_digit_separator(&self) -> bool
-        ensures { result ≡ (raw self.now).exponent_leading_digit_separator }
+        ensures { result ≡ (raw self.now).flag layout.exponent_leading_digit_separator }
     {
         has_any!(self, EXPONENT_LEADING_DIGIT_SEPARATOR)
     }
@@ -220,7 +220,7 @@ impl NumberFormat {
     /// Returns whether the [flag][super::NumberFormatBuilder::integer_trailing_digit_separator] is set.
     #[inline(always)]
     pub const fn integer_trailing_digit_separator(&self) -> bool
-        ensures { result ≡ (raw self.now).integer_trailing_digit_separator }
+        ensures { result ≡ (raw self.now).flag layout.integer_trailing_digit_separator }
     {
         has_any!(self, INTEGER_TRAILING_DIGIT_SEPARATOR)
     }
@@ -228,7 +228,7 @@ impl NumberFormat {
     /// Returns whether the [flag][super::NumberFormatBuilder::fraction_trailing_digit_separator] is set.
     #[inline(always)]
     pub const fn fraction_trailing_digit_separator(&self) -> bool
-        ensures { result ≡ (raw self.now).fraction_trailing_digit_separator }
+        ensures { result ≡ (raw self.now).flag layout.fraction_trailing_digit_separator }
     {
         has_any!(self, FRACTION_TRAILING_DIGIT_SEPARATOR)
     }
@@ -236,7 +236,7 @@ impl NumberFormat {
     /// Returns whether the [flag][super::NumberFormatBuilder::exponent_trailing_digit_separator] is set.
     #[inline(always)]
     pub const fn exponent_trailing_digit_separator(&self) -> bool
-        ensures { result ≡ (raw self.now).exponent_trailing_digit_separator }
+        ensures { result ≡ (raw self.now).flag layout.exponent_trailing_digit_separator }
     {
         has_any!(self, EXPONENT_TRAILING_DIGIT_SEPARATOR)
     }
@@ -244,7 +244,7 @@ impl NumberFormat {
     /// Returns whether the [flag][super::NumberFormatBuilder::integer_consecutive_digit_separator] is set.
     #[inline(always)]
     pub const fn integer_consecutive_digit_separator(&self) -> bool
-        ensures { result ≡ (raw self.now).integer_consecutive_digit_separator }
+        ensures { result ≡ (raw self.now).flag layout.integer_consecutive_digit_separator }
     {
         has_any!(self, INTEGER_CONSECUTIVE_DIGIT_SEPARATOR)
     }
@@ -252,7 +252,7 @@ impl NumberFormat {
     /// Returns whether the [flag][super::NumberFormatBuilder::fraction_consecutive_digit_separator] is set.
     #[inline(always)]
     pub const fn fraction_consecutive_digit_separator(&self) -> bool
-        ensures { result ≡ (raw self.now).fraction_consecutive_digit_separator }
+        ensures { result ≡ (raw self.now).flag layout.fraction_consecutive_digit_separator }
     {
         has_any!(self, FRACTION_CONSECUTIVE_DIGIT_SEPARATOR)
     }
@@ -260,7 +260,7 @@ impl NumberFormat {
     /// Returns whether the [flag][super::NumberFormatBuilder::exponent_consecutive_digit_separator] is set.
     #[inline(always)]
     pub const fn exponent_consecutive_digit_separator(&self) -> bool
-        ensures { result ≡ (raw self.now).exponent_consecutive_digit_separator }
+        ensures { result ≡ (raw self.now).flag layout.exponent_consecutive_digit_separator }
     {
         has_any!(self, EXPONENT_CONSECUTIVE_DIGIT_SEPARATOR)
     }
@@ -304,7 +304,7 @@ impl NumberFormat {
     /// Returns whether the [flag][super::NumberFormatBuilder::special_digit_separator] is set.
     #[inline(always)]
     pub const fn special_digit_separator(&self) -> bool
-        ensures { result ≡ (raw self.now).special_digit_separator }
+        ensures { result ≡ (raw self.now).flag layout.special_digit_separator }
     {
         has_any!(self, SPECIAL_DIGIT_SEPARATOR)
     }

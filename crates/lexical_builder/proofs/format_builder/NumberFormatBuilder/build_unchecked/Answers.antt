@@ -38,7 +38,7 @@ returns-clause-word c =
     let flags_joined : c.word_flags-flags.result ≡ sum_by (flag_bits r) flags = c.word_flags-flags.ensures in
     let used : separator_on (raw c.word_flags-flags.result) ≡ separator_on r =
     ap (λ word. separator_on (raw word)) flags_joined ∙ separator_on-flags r in
-    let trimmed : c.used_separator-separator.result ≡ (trim r).digit_separator =
+    let trimmed : c.used_separator-separator.result ≡ (trim r).byte layout.digit_separator =
     c.used_separator-separator.ensures ∙ ap (λ on. if on then byte layout.digit_separator else 0) used in
     let joined = fields_joined (trim r) (HasBytes-trim r bytes) in
     let same = ap pack c.self.view_is in

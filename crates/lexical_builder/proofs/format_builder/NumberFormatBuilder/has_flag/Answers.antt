@@ -1,9 +1,8 @@
-use Rattle.std.proofs.Common.{◌∙◌, ◌≡◌, ◌==◌, ◌^◌, ℕ, not, ap, sym, bit_and, slice_index}
-use Rattle.lexical_flags.specs.Layout.{Flag, part}
-use Rattle.lexical_flags.specs.Record.{flag_of}
+use Rattle.std.proofs.Common.{◌∙◌, ◌≡◌, ◌==◌, ◌^◌, ℕ, not, ap, sym, bit_and}
+use Rattle.lexical_flags.specs.Layout.{Flag}
+use Rattle.lexical_flags.specs.Record.{Record}
 use Rattle.lexical_flags.proofs.FlagBits.{flag_test}
-use Rattle.lexical_flags.proofs.RecordLemmas.{flag_of-tabulate}
-use Rattle.lexical_builder.specs.BuilderBits.{builder_bit, index_of, flag_with, flags_in}
+use Rattle.lexical_builder.specs.BuilderBits.{builder_bit, flag_with, flags_in}
 use Rattle.lexical_builder.proofs.BuilderFlags.{flags_in-mask}
 use Rattle.lexical_builder.proofs.format_builder.NumberFormatBuilder.has_flag.Goals as goal
 
@@ -15,6 +14,4 @@ returns c =
     ∙ flags_in-mask f in
     ap (λ m. not (bit_and held m == 0)) mask
     ∙ flag_test held (builder_bit f)
-    ∙ sym (flag_of-tabulate (λ f. part held (builder_bit f) 1 == 1)
-    (λ b. slice_index c.self.inside.bytes (index_of b)) f)
-    ∙ ap (λ r. flag_of r f) c.self.view_is
+    ∙ ap (λ (r : Record). r.flag f) c.self.view_is

@@ -1,10 +1,13 @@
 -- without this a search takes two seconds
-use Rattle.std.proofs.Common.{ℕ, ◌≡◌, ◌<◌, ◌==◌, ◌∙◌, if◌then◌else◌, List, length, slice_index, slice_set, ap, arith, rules}
+use Rattle.std.proofs.Common.{ℕ, ◌≡◌, ◌<◌, ◌==◌, ◌∙◌, if◌then◌else◌, List, [], ◌∷◌, length, slice_index, slice_set, refl, ap}
+use Rattle.std.proofs.Common.{sym, arith, rules}
 use Rattle.std.proofs.lemmas.List.{get_or-set_same, get_or-set_other}
 use Rattle.std.proofs.lemmas.Bool.Decides.{nat_tests}
-use Rattle.lexical_flags.specs.Layout.{part}
-use Rattle.lexical_flags.specs.Record.{tabulate, flag_of, byte_of}
-use Rattle.lexical_builder.specs.BuilderBits.{builder_bit, index_of}
+use Rattle.lexical_flags.specs.Record.{Record}
+use Rattle.lexical_flags.proofs.RecordLemmas.{record_same}
+use Rattle.lexical_builder.specs.BuilderBits.{index_of, byte_at, record_of}
+use Rattle.lexical_builder.specs.Writes.{after, write_byte}
+use Rattle.lexical_builder.proofs.WriteLemmas.{after-byte}
 use Rattle.lexical_builder.proofs.format_builder.NumberFormatBuilder.with_byte.Goals as goal
 
 -- a byte of a list in which one is replaced
@@ -13,8 +16,11 @@ after_set : (bytes : List ℕ) (i j value : ℕ) → i < length bytes
 after_set bytes i j value l = grind (arith, nat_tests, get_or-set_same, get_or-set_other)
 
 pub returns : goal.returns
+unfolding after
 returns c =
+    let r : Record = record_of c.self.inside in
     let six : c.args.index < length c.self.inside.bytes = search rules in
-    (λ i. tabulate (λ f. part c.self.inside.flags (builder_bit f) 1 == 1)
-    (λ b. after_set c.self.inside.bytes c.args.index (index_of b) c.args.value six i))
-    ∙ ap (λ r. tabulate (flag_of r) (λ b. if index_of b == c.args.index then c.args.value else byte_of r b)) c.self.view_is
+    record_same _ _ (λ f. refl) (λ b. after_set c.self.inside.bytes c.args.index (index_of b) c.args.value six
+    ∙ ap (λ j. if index_of b == j then c.args.value else r.byte b) (sym c.requires.byte)
+    ∙ sym (after-byte r (byte_at c.args.index) c.args.value b))
+    ∙ ap (λ (s : Record). after s (write_byte (byte_at c.args.index) c.args.value ∷ [])) c.self.view_is

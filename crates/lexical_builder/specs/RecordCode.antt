@@ -1,0 +1,33 @@
+-- A record as two lists, by which a proof tells records apart: a function has no code of its own.
+use Rattle.std.specs.Prelude.{◌≡◌, ℕ, Bool, false, refl, List, map, slice_index_or}
+use Rattle.std.specs.Coded.{Coded, code_by, coded×, coded_bool, coded_list, coded_ℕ}
+use Rattle.lexical_flags.specs.Layout.{Flag, Byte, flags, bytes}
+use Rattle.lexical_flags.specs.Layout as layout
+use Rattle.lexical_flags.specs.Record.{Record}
+use Rattle.lexical_builder.specs.BuilderBits.{builder_bit, index_of}
+
+-- its flags and its bytes
+abbrev to_lists : Record → List Bool × List ℕ
+to_lists r = (map r.flag flags, map r.byte bytes)
+
+-- and back
+abbrev from_lists : List Bool × List ℕ → Record
+from_lists p = record {
+  flag = λ f. slice_index_or p.0 (builder_bit f) false;
+  byte = λ b. slice_index_or p.1 (index_of b) 0;
+}
+
+pub from_lists-to_lists : (r : Record) → from_lists (to_lists r) ≡ r
+from_lists-to_lists r = λ i. record { flag = λ f. on_flag f i; byte = λ b. on_byte b i } where
+  on_flag : (f : Flag) → slice_index_or (map r.flag flags) (builder_bit f) false ≡ r.flag f
+  on_flag layout.required_integer_digits = refl
+  on_flag _ = refl
+
+  on_byte : (b : Byte) → slice_index_or (map r.byte bytes) (index_of b) 0 ≡ r.byte b
+  on_byte layout.digit_separator = refl
+  on_byte _ = refl
+
+abbrev pub record_code : Coded Record
+record_code =
+    code_by (List Bool × List ℕ) (coded× (coded_list coded_bool) (coded_list coded_ℕ)) to_lists from_lists
+    from_lists-to_lists
