@@ -7,7 +7,7 @@
 //!
 //! # `Flag`
 //!
-//! the flags
+//! The 31 flags.
 //!
 //! ```text
 //! pub data Flag : Type 0 where
@@ -20,7 +20,7 @@
 //!
 //! # `bit`
 //!
-//! the bit of a flag
+//! The bit of each flag.
 //!
 //! ```text
 //! abbrev pub bit : Flag → ℕ
@@ -33,7 +33,7 @@
 //!
 //! # `IsClean`
 //!
-//! the reserved bits, which no field takes, are 0
+//! `IsClean word` holds if the reserved bits of `word`, the bits of no field, are 0.
 //!
 //! ```text
 //! pub record IsClean (word : ℕ) : Type 0 where
@@ -79,56 +79,54 @@
 //!
 //! # `Record`
 //!
-//! the fields of a format; a byte that is absent is 0
+//! The fields of a format: a truth value for each flag, and a number for each byte, which is 0 if the byte is absent.
 //!
 //! ```text
 //! pub record Record : Type 0 where
-//!   pub required_integer_digits : Bool
-//!   pub required_fraction_digits : Bool
-//!   pub required_exponent_digits : Bool
-//! ..
-//!   pub exponent_radix : ℕ
+//!   pub flag : Flag → Bool
+//!   pub byte : Byte → ℕ
 //! ```
 //!
 //! # `raw`
 //!
-//! the fields of a word
+//! `raw word` is the record of the fields of `word`.
 //!
 //! ```text
 //! abbrev pub raw : ℕ → Record
-//! raw word = tabulate (λ f. part word (bit f) 1 == 1) (λ b. part word (shift b) 8)
+//! raw word = record { flag = λ f. part word (bit f) 1 == 1; byte = λ b. part word (shift b) 8 }
 //! ```
 //!
 //! # `fill`
 //!
-//! the record with both exponent bytes filled in
+//! `fill r` is `r` with the effective exponent base and radix as its exponent bytes.
 //!
 //! ```text
 //! abbrev pub fill : Record → Record
-//! fill r = record r { exponent_base = effective_exponent_base r; exponent_radix = effective_exponent_radix r }
+//! fill r =
+//!     set_byte (set_byte r layout.exponent_base (effective_exponent_base r)) layout.exponent_radix (effective_exponent_radix r)
 //! ```
 //!
 //! # `SeparatorIsUsed`
 //!
-//! there is no digit separator unless a flag allows one
+//! `SeparatorIsUsed r` holds if some flag of `r` allows a digit separator, or `r` has none.
 //!
 //! ```text
 //! abbrev pub SeparatorIsUsed : Record → Type 0
-//! SeparatorIsUsed r = IsTrue (separator_on r) ⊎ (r.digit_separator ≡ 0)
+//! SeparatorIsUsed r = IsTrue (separator_on r) ⊎ (r.byte layout.digit_separator ≡ 0)
 //! ```
 //!
 //! # `trim`
 //!
-//! the record without its digit separator if no flag allows one
+//! `trim r` is `r` with its digit separator set to 0 if no flag of `r` allows one.
 //!
 //! ```text
 //! abbrev pub trim : Record → Record
-//! trim r = record r { digit_separator = if separator_on r then r.digit_separator else 0 }
+//! trim r = set_byte r layout.digit_separator (if separator_on r then r.byte layout.digit_separator else 0)
 //! ```
 //!
 //! # `pack`
 //!
-//! the word that a record is packed into
+//! `pack r` is the word that `r` is packed into.
 //!
 //! ```text
 //! abbrev pub pack : Record → ℕ
@@ -137,7 +135,7 @@
 //!
 //! # `IsBuilt`
 //!
-//! a word that some record is packed into: no reserved bit, and no digit separator unless a flag allows one
+//! `IsBuilt word` holds if the reserved bits of `word` are 0, and it has no digit separator unless a flag allows one.
 //!
 //! ```text
 //! pub record IsBuilt (word : ℕ) : Type 0 where
@@ -147,16 +145,16 @@
 //!
 //! # `HasBytes`
 //!
-//! each byte is 0 to 255
+//! `HasBytes r` holds if each byte of `r` is between 0 and 255.
 //!
 //! ```text
 //! pub record HasBytes (r : Record) : Type 0 where
-//!   pub each : (b : Byte) → byte_of r b < 256
+//!   pub each : (b : Byte) → r.byte b < 256
 //! ```
 //!
 //! # `IsErrorOf`
 //!
-//! the same for all rules; one word, so that a search does not take it apart
+//! `IsErrorOf word error` holds if `error` is the error of the first rule that `word` breaks, or `Success`.
 //!
 //! ```text
 //! unfoldable pub IsErrorOf : ℕ → Error → Type 0
@@ -165,7 +163,7 @@
 //!
 //! # `Lawful`
 //!
-//! a word that breaks no rule: the parts above under one word, so that a search does not take it apart
+//! `Lawful word` holds if all of these parts do. Proof search does not unfold this name.
 //!
 //! ```text
 //! unfoldable pub Lawful : ℕ → Type 0
@@ -174,20 +172,16 @@
 //!
 //! # `new_record`
 //!
-//! the record of a new builder: radix 10, and digits required in the mantissa and the exponent
+//! The record of a new builder.
 //!
 //! ```text
 //! abbrev pub new_record : Record
-//! new_record = record (tabulate (λ f. false) (λ b. 0)) {
-//!   required_exponent_digits = true;
-//!   required_mantissa_digits = true;
-//!   mantissa_radix = 10;
-//! }
+//! new_record = record { flag = new_flag; byte = new_byte }
 //! ```
 //!
 //! # `Write`
 //!
-//! a field and the value that it gets
+//! A field and its new value.
 //!
 //! ```text
 //! pub data Write : Type 0 where
@@ -197,7 +191,7 @@
 //!
 //! # `IsLegal`
 //!
-//! the value fits its field: a byte is 0 to 255
+//! `IsLegal write` holds if the value fits its field: a byte is between 0 and 255.
 //!
 //! ```text
 //! abbrev pub IsLegal : Write → Type 0
@@ -207,45 +201,22 @@
 //!
 //! # `after`
 //!
-//! each field has the value of the last write to it, or the record's own
+//! `after r writes` is the record in which each field has the value of the last write to it, or else its value in `r`.
 //!
 //! ```text
 //! unfoldable pub after : Record → List Write → Record
 //! after r writes =
-//!     tabulate (λ f. unwrap_or (last_flag writes f) (flag_of r f)) (λ b. unwrap_or (last_byte writes b) (byte_of r b))
+//!     record { flag = λ f. unwrap_or (last_flag writes f) (r.flag f); byte = λ b. unwrap_or (last_byte writes b) (r.byte b) }
 //! ```
 //!
 //! # `SameWrites`
 //!
-//! the lists write the same fields, each with the same last value
+//! `SameWrites writes others` holds if both lists write the same fields, each with the same last value.
 //!
 //! ```text
 //! pub record SameWrites (writes others : List Write) : Type 0 where
 //!   pub same_flags : (f : Flag) → last_flag writes f ≡ last_flag others f
 //!   pub same_bytes : (b : Byte) → last_byte writes b ≡ last_byte others b
-//! ```
-//!
-//! # `Composes`
-//!
-//! what the first list makes of the fields of a word survives packing, but for what the second list writes
-//!
-//! ```text
-//! abbrev pub Composes : ℕ → List Write → List Write → Type 0
-//! Composes word first second = SurvivesPacking (after (fill (raw word)) first) second
-//! ```
-//!
-//! # `AlwaysCompose`
-//!
-//! lists that compose on every word whose mantissa radix is not 0
-//!
-//! ```text
-//! pub record AlwaysCompose (first second : List Write) : Type 0 where
-//!   -- the first leaves no exponent byte empty
-//!   pub exponent_base : last_byte first layout.exponent_base ≢ Some 0
-//!   pub exponent_radix : last_byte first layout.exponent_radix ≢ Some 0
-//!   -- the second sets no separator flag, unless it writes the separator too
-//!   pub digit_separator : LeavesByte second layout.digit_separator
-//!       → AllByRecursion (λ f. last_flag second f ≢ Some true) digit_separator_flags
 //! ```
 //!
 //! # `all_writes`
@@ -272,7 +243,7 @@
 //!
 //! ```text
 //! unfoldable pub any_flag : ℕ → List Flag → Bool
-//! any_flag word fs = list_any (flag_of (raw word)) fs
+//! any_flag word fs = list_any (raw word).flag fs
 //! ```
 //!
 //! # `bits_of`
@@ -284,27 +255,38 @@
 //! bits_of word fs = sum_by (flag_bits (raw word)) fs
 //! ```
 //!
-//! # `changing`
+//! # `AreEditsOf`
 //!
-//! the edits of a record's fields that differ from those of a new builder
+//! `AreEditsOf writes edits` holds if each of `edits` is the edit of the one of `writes` at its index.
 //!
 //! ```text
-//! abbrev pub changing : Record → List Edit
-//! changing r = map edit_of (filter (changes new_record) (field_writes r))
+//! abbrev pub AreEditsOf : List Write → List Edit → Type 0
+//! AreEditsOf [] [] = ⊤
+//! AreEditsOf (write ∷ writes) (edit ∷ edits) = IsEditOf write edit × AreEditsOf writes edits
+//! AreEditsOf _ _ = ⊥
 //! ```
 //!
-//! # `unchanging`
+//! # `needed_writes`
 //!
-//! the edits of its other fields, which change nothing in a new builder
+//! The writes of the fields in which a record differs from a new builder.
 //!
 //! ```text
-//! abbrev pub unchanging : Record → List Edit
-//! unchanging r = map edit_of (filter (λ x. not (changes new_record x)) (field_writes r))
+//! abbrev pub needed_writes : Record → List Write
+//! needed_writes r = filter (changes new_record) (field_writes r)
+//! ```
+//!
+//! # `other_writes`
+//!
+//! The writes of the other fields.
+//!
+//! ```text
+//! abbrev pub other_writes : Record → List Write
+//! other_writes r = filter (λ write. not (changes new_record write)) (field_writes r)
 //! ```
 //!
 //! # `IsBuiltByWrites`
 //!
-//! some legal writes to a new builder make the word
+//! `IsBuiltByWrites word` holds if some legal writes to a new builder make `word`.
 //!
 //! ```text
 //! pub record IsBuiltByWrites (word : ℕ) : Type 0 where
@@ -328,13 +310,13 @@
 //!
 //! ```text
 //! pub record SameFormat (r s : Record) : Type 0 where
-//!   pub flags : (f : Flag) → flag_of r f ≡ flag_of s f
-//!   pub base_prefix : r.base_prefix ≡ s.base_prefix
-//!   pub base_suffix : r.base_suffix ≡ s.base_suffix
-//!   pub mantissa_radix : r.mantissa_radix ≡ s.mantissa_radix
+//!   pub flags : (f : Flag) → r.flag f ≡ s.flag f
+//!   pub base_prefix : r.byte layout.base_prefix ≡ s.byte layout.base_prefix
+//!   pub base_suffix : r.byte layout.base_suffix ≡ s.byte layout.base_suffix
+//!   pub mantissa_radix : r.byte layout.mantissa_radix ≡ s.byte layout.mantissa_radix
 //!   pub exponent_base : effective_exponent_base r ≡ effective_exponent_base s
 //!   pub exponent_radix : effective_exponent_radix r ≡ effective_exponent_radix s
-//!   pub digit_separator : IsTrue (separator_on r) → r.digit_separator ≡ s.digit_separator
+//!   pub digit_separator : IsTrue (separator_on r) → r.byte layout.digit_separator ≡ s.byte layout.digit_separator
 //! ```
 //!
 //! # `IsNormal`

@@ -190,25 +190,6 @@ pub const FIELDS: usize = FLAGS + 6;
 /// All setters, in the order of the variants: those of the flags, and those of nine groups.
 pub const SETTERS: [FlagSetter; FLAGS + 9] = with_setters!(variants());
 
-impl FlagSetter {
-    /// Returns the name of the setter: the variant in snake case.
-    #[must_use]
-    pub const fn name(self) -> &'static str {
-        SETTER_NAMES[self as usize]
-    }
-
-    /// Returns the setter of this name, or `None` if no setter of flags has it.
-    #[must_use]
-    pub fn from_name(name: &str) -> Option<FlagSetter> {
-        for setter in &SETTERS {
-            if setter.name() == name {
-                return Some(*setter);
-            }
-        }
-        None
-    }
-}
-
 /// Applies one edit: calls the setter that it names.
 #[must_use]
 #[inline(always)]
@@ -279,10 +260,9 @@ pub const fn apply_all(mut builder: NumberFormatBuilder, edits: &[Edit]) -> Numb
 /// 4. The digit separator is set to 0 if no flag allows one anywhere, and the fields are packed. The
 ///    reserved bits are 0.
 ///
-/// Editing twice can differ from editing once with both lists: the first call drops a digit separator
-/// that has no flag yet, and the second fills an exponent byte that the first emptied. If the mantissa
-/// radix of `format` is not 0, two calls are one if the first list leaves no exponent byte `None`, and
-/// the second sets no digit separator flag unless it writes the digit separator too.
+/// Pass all edits in one call. Two calls are not always one call with both lists: the first drops a
+/// digit separator that no flag allows yet, and the second fills an exponent byte that the first set to
+/// `None`.
 ///
 /// In plain Rust:
 ///
@@ -313,15 +293,6 @@ pub const fn apply_all(mut builder: NumberFormatBuilder, edits: &[Edit]) -> Numb
 /// ensures same_writes { (writes : List Write) → All IsLegal writes
 ///     → SameWrites writes (all_writes edits.now) → edited format writes ≡ result }
 ///
-/// // Editing the result once more is editing the word with both lists exactly if they compose; on a
-/// // word with a mantissa radix they do if the first list leaves no exponent byte empty, and the
-/// // second sets no separator flag, unless it writes the separator too.
-/// ensures again { (more : List Write) → All IsLegal more
-///     → (edited result more ≡ edited format (all_writes edits.now ++ more))
-///     ↔ Composes format (all_writes edits.now) more }
-/// ensures always { (raw format).mantissa_radix ≢ 0 → (more : List Write) → All IsLegal more
-///     → AlwaysCompose (all_writes edits.now) more
-///     → edited result more ≡ edited format (all_writes edits.now ++ more) }
 /// ensures legal { All IsLegal (all_writes edits.now) }
 /// ```
 #[must_use]

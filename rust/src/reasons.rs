@@ -200,7 +200,7 @@ pub const fn unused_fields(builder: &NumberFormatBuilder) -> [Option<Unused>; UN
 // What has no effect in a word with another digit separator.
 const fn unused_beside(format: u128, separator: u8) -> [Option<Unused>; UNUSED] {
     let view = FormatView::new(format);
-    let is_allowed = is_separator_allowed(format);
+    let is_allowed = flags::is_separator_allowed(format);
     let no_separator = separator == 0;
     let no_prefix = view.base_prefix() == 0;
     let no_suffix = view.base_suffix() == 0;
@@ -219,11 +219,6 @@ const fn unused_beside(format: u128, separator: u8) -> [Option<Unused>; UNUSED] 
             Unused::NoByte(FlagSetter::CaseSensitiveBaseSuffix, Edit::BaseSuffix(None)),
         ),
     ]
-}
-
-// Whether a flag allows a digit separator somewhere.
-pub(crate) const fn is_separator_allowed(format: u128) -> bool {
-    format & flags::DIGIT_SEPARATOR_FLAG_MASK != 0
 }
 
 // The edit that writes the digit separator of a word.

@@ -8,7 +8,8 @@ use Rattle.std.proofs.lemmas.Bool.Decides.{nat_tests}
 use Rattle.std.proofs.lemmas.List.{length-map}
 use Rattle.std.proofs.lemmas.Nat.{and_le_l}
 use Rattle.std.proofs.lemmas.Simd.{mask_l-mod, tops_compared, zip2_splat_left}
-use Rattle.lexical_base.specs.Ascii.{in_either, between, AreRanges}
+use Rattle.lexical_base.specs.Ascii.{between}
+use Rattle.lexical_base.specs.Private.{in_either, AreRanges}
 
 -- the operations on two lanes, as the compiler makes them: `-`, `+`, and the mask of `simd_lt`
 abbrev minus : ℕ → ℕ → ℕ

@@ -3,7 +3,8 @@ use Rattle.std.proofs.Common.{◌≡◌, ℕ, zero, suc, ◌+◌, ◌/◌, ◌%�
 use Rattle.std.proofs.Common.{◌∷◌, [], ◌++◌, length, codes, length-append, arith}
 use Rattle.std.specs.Fmt.{decimal, digits, digits_onto, digit_glyph}
 use Rattle.lexical_base.specs.Ascii.{between}
-use Rattle.lexical_base.specs.Sentences.{piece_text, room, numbered}
+use Rattle.lexical_base.specs.Private.{room}
+use Rattle.lexical_base.specs.Additions.Sentences.{piece_text, numbered}
 use Rattle.lexical_base.specs.declared.error.sentence.Piece.{Piece}
 use Rattle.lexical_base.specs.declared.error.sentence.Piece.TheVariants as pieces
 

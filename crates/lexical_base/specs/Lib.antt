@@ -1,5 +1,6 @@
 pub mod Ascii
-pub mod Sentences
 pub mod Digits
 pub mod Outcomes
 pub mod OutcomeOrder
+pub mod Private
+pub mod Additions

@@ -2,7 +2,8 @@
 
 ghost use Rattle.std.specs.Prelude.{◌≡◌, ◌↔◌, ◌-◌, ◌≤◌, ◌&&◌, nat_le, IsTrue};
 ghost use Rattle.std.specs.List.{AllPass, list_all};
-ghost use Rattle.lexical_base.specs.Ascii.{allowed_ascii, letters, in_either, AreRanges};
+ghost use Rattle.lexical_base.specs.Ascii.{allowed_ascii, letters};
+ghost use Rattle.lexical_base.specs.Private.{in_either, AreRanges};
 
 use std::simd::prelude::*;
 

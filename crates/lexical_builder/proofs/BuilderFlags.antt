@@ -9,7 +9,8 @@ use Rattle.lexical_flags.specs.Layout.{part, Flag, bit, flags, base_flags, digit
 use Rattle.lexical_flags.specs.Layout as layout
 use Rattle.lexical_flags.proofs.Packing.{low, high}
 use Rattle.lexical_flags.proofs.Segments.{joined-segments}
-use Rattle.lexical_builder.specs.BuilderBits.{builder_bit, flags_in}
+use Rattle.lexical_builder.specs.BuilderBits.{builder_bit}
+use Rattle.lexical_builder.specs.Private.{flags_in}
 
 bit-lt : (n k : ℕ) → part n k 1 < 2
 bit-lt n k = mod-lt _ (omega arith)

@@ -12,7 +12,8 @@ use Rattle.lexical_flags.specs.Record.{Record, HasBytes}
 use Rattle.lexical_flags.proofs.RecordLemmas.{record_same}
 use Rattle.lexical_builder.specs.Writes.{Write, write_flag, write_byte, IsLegal, new_record, flag_in, byte_in, after}
 use Rattle.lexical_builder.specs.Writes.{SameWrites, write_flags, last_byte}
-use Rattle.lexical_builder.specs.BuilderBits.{flags_with, index_of, record_of_parts}
+use Rattle.lexical_builder.specs.BuilderBits.{index_of, record_of_parts}
+use Rattle.lexical_builder.specs.Private.{flags_with}
 
 -- the value that writes leave in a field that began with d, if h says what one write gives it
 abbrev pub left_by : {T : Type 0} → (Write → Option T) → List Write → T → T

@@ -1,5 +1,5 @@
--- Where a builder keeps each field, and the record that it stands for.
-use Rattle.std.specs.Prelude.{ℕ, ◌+◌, ◌-◌, ◌*◌, ◌^◌, ◌<◌, ◌==◌, nat_lt, if◌then◌else◌, List, filter, find, unwrap_or}
+-- For the builder, `from_parts` and `to_parts`: where a builder keeps each field, and the record that it represents.
+use Rattle.std.specs.Prelude.{ℕ, ◌+◌, ◌-◌, ◌==◌, nat_lt, if◌then◌else◌, List}
 use Rattle.std.specs.Prelude.{length, slice_index}
 use Rattle.lexical_flags.specs.Layout.{part, Flag, Byte, bit, flags, bytes, base_flags, digit_separator_flags}
 use Rattle.lexical_flags.specs.Layout as layout
@@ -19,22 +19,6 @@ index_of layout.mantissa_radix = 3
 index_of layout.exponent_base = 4
 index_of layout.exponent_radix = 5
 
--- the flags of a word, at the bits of a builder
-abbrev pub flags_in : ℕ → ℕ
-flags_in word = part word 0 (length base_flags) + part word 32 (length digit_separator_flags) * 2 ^ length base_flags
-
--- the flag that has this mask
-abbrev pub flag_with : ℕ → Flag
-flag_with mask = unwrap_or (find (λ f. 2 ^ bit f == mask) flags) layout.no_special
-
--- the flags that a mask has
-abbrev pub flags_with : ℕ → List Flag
-flags_with mask = filter (λ f. part mask (bit f) 1 == 1) flags
-
--- the byte at this index
-abbrev pub byte_at : ℕ → Byte
-byte_at index = unwrap_or (find (λ b. index_of b == index) bytes) layout.digit_separator
-
 -- the record with the flags at these bits, and these six bytes
 abbrev pub record_of_parts : ℕ → List ℕ → Record
 record_of_parts flags bytes =
@@ -43,7 +27,3 @@ record_of_parts flags bytes =
 -- the record that a builder stands for
 abbrev pub record_of : Inside → Record
 record_of inside = record_of_parts inside.flags inside.bytes
-
--- the bits that no flag has are 0
-abbrev pub HasClearTop : Inside → Type 0
-HasClearTop inside = inside.flags < 2 ^ length flags

@@ -1,5 +1,6 @@
 pub mod OptionByte
 pub mod BuilderBits
+pub mod Private
 pub mod NewRecord
 pub mod Writes
 pub use Rattle.lexical_flags.specs.Layout

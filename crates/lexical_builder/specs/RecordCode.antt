@@ -1,4 +1,5 @@
--- A record as two lists, by which a proof tells records apart: a function has no code of its own.
+-- For the type's `impl Model`: bookkeeping by which proofs tell records apart, and no part of the model. No contract cites
+-- it.
 use Rattle.std.specs.Prelude.{◌≡◌, ℕ, Bool, false, refl, List, map, slice_index_or}
 use Rattle.std.specs.Coded.{Coded, code_by, coded×, coded_bool, coded_list, coded_ℕ}
 use Rattle.lexical_flags.specs.Layout.{Flag, Byte, flags, bytes}

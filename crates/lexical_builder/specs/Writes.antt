@@ -7,49 +7,49 @@ use Rattle.lexical_flags.specs.Layout.{Flag, Byte, bit, shift}
 use Rattle.lexical_flags.specs.Record.{Record}
 pub use Rattle.lexical_builder.specs.NewRecord.{new_record, radix_record}
 
--- a field and the value that it gets
+-- A field and its new value.
 pub data Write : Type 0 where
   write_flag : Flag → Bool → Write
   write_byte : Byte → ℕ → Write
 
--- the value fits its field: a byte is 0 to 255
+-- `IsLegal write` holds if the value fits its field: a byte is between 0 and 255.
 abbrev pub IsLegal : Write → Type 0
 IsLegal (write_flag f value) = ⊤
 IsLegal (write_byte b value) = value < 256
 
--- the same value for several flags
+-- The writes of one value to several flags.
 abbrev pub write_flags : List Flag → Bool → List Write
 write_flags fs value = map (λ f. write_flag f value) fs
 
--- what one write gives a flag, if it is a write to that flag
+-- `flag_in write f` is `Some value` if `write` writes `value` to the flag `f`, and `None` otherwise.
 abbrev pub flag_in : Write → Flag → Option Bool
 flag_in (write_flag g value) f = if bit g == bit f then Some value else None
 flag_in (write_byte b value) f = None
 
--- what one write gives a byte, if it is a write to that byte
+-- `byte_in write b` is `Some value` if `write` writes `value` to the byte `b`, and `None` otherwise.
 abbrev pub byte_in : Write → Byte → Option ℕ
 byte_in (write_flag f value) b = None
 byte_in (write_byte c value) b = if shift c == shift b then Some value else None
 
--- the last value that the writes give a flag, if there is one
+-- The last value that some writes give a flag, or `None` if they do not write it.
 abbrev pub last_flag : List Write → Flag → Option Bool
 last_flag writes f = last_or None (filter_map (λ x. flag_in x f) writes)
 
--- the last value that the writes give a byte, if there is one
+-- The last value that some writes give a byte, or `None` if they do not write it.
 abbrev pub last_byte : List Write → Byte → Option ℕ
 last_byte writes b = last_or None (filter_map (λ x. byte_in x b) writes)
 
--- each field has the value of the last write to it, or the record's own
+-- `after r writes` is the record in which each field has the value of the last write to it, or else its value in `r`.
 unfoldable pub after : Record → List Write → Record
 after r writes =
     record { flag = λ f. unwrap_or (last_flag writes f) (r.flag f); byte = λ b. unwrap_or (last_byte writes b) (r.byte b) }
 
--- whether the write changes the record
+-- `changes r write` is true if `write` gives its field another value than `r` has.
 abbrev pub changes : Record → Write → Bool
 changes r (write_flag f value) = not (beq (r.flag f) value)
 changes r (write_byte b value) = not (r.byte b == value)
 
--- the lists write the same fields, each with the same last value
+-- `SameWrites writes others` holds if both lists write the same fields, each with the same last value.
 pub record SameWrites (writes others : List Write) : Type 0 where
   pub same_flags : (f : Flag) → last_flag writes f ≡ last_flag others f
   pub same_bytes : (b : Byte) → last_byte writes b ≡ last_byte others b

@@ -7,7 +7,8 @@ ghost use Rattle.lexical_flags.specs.Layout.{IsClean, bit, part};
 ghost use Rattle.lexical_flags.specs.Record.{Record, HasBytes, raw, fill, trim, pack, effective, separator_on};
 ghost use Rattle.lexical_flags.specs.Rules.{IsErrorOf, IsRadix, Lawful};
 ghost use Rattle.lexical_builder.specs.OptionByte.{byte_of_option};
-ghost use Rattle.lexical_builder.specs.BuilderBits.{builder_bit, flags_in, index_of, byte_at, flag_with, flags_with, record_of_parts};
+ghost use Rattle.lexical_builder.specs.BuilderBits.{builder_bit, index_of, record_of_parts};
+ghost use Rattle.lexical_builder.specs.Private.{flags_in, byte_at, flag_with, flags_with};
 ghost use Rattle.lexical_builder.specs.Writes.{new_record, radix_record, after, write_flags, write_byte};
 
 use lexical_base::error::Error;
@@ -94,7 +95,8 @@ impl Model for NumberFormatBuilder {
 
     ghost coded = { record_code };
 
-    ghost use Rattle.lexical_builder.specs.BuilderBits.{record_of, HasClearTop};
+    ghost use Rattle.lexical_builder.specs.BuilderBits.{record_of};
+    ghost use Rattle.lexical_builder.specs.Private.{HasClearTop};
 
     ghost view = { record_of };
 

@@ -3,7 +3,7 @@ use Rattle.std.specs.Prelude.{ℕ, Option, IsSome, List, filter_map}
 use Rattle.lexical_util.specs.declared.edits.Edit.{Edit}
 use Rattle.lexical_util.specs.declared.edits.text.SettingError.{SettingError}
 use Rattle.lexical_util.specs.declared.edits.text.SettingError.TheVariants as errors
-use Rattle.lexical_util.specs.SettingNumbers.{edit_of_numbers, number_of, byte_of}
+use Rattle.lexical_util.specs.Additions.SettingNumbers.{edit_of_numbers, number_of, byte_of}
 use Rattle.lexical_c.specs.declared.words.NumberedEdit.{NumberedEdit}
 
 -- an edit as the number of its setter and its argument

@@ -1,7 +1,7 @@
 -- Rules, their reasons, and settings without effect, as numbers: the index of each in its order.
 use Rattle.std.specs.Prelude.{ℕ, Option, None, Some, map, get_or, slice_get}
 use Rattle.lexical_util.specs.Record.{Record}
-use Rattle.lexical_util.specs.Reasons.{said, padded, cases_of, unused_cases}
+use Rattle.lexical_util.specs.Additions.Reasons.{said, padded, cases_of, unused_cases}
 use Rattle.lexical_util.specs.declared.format_flags.Rule.{Rule}
 use Rattle.lexical_util.specs.declared.reasons.Reason.{Reason}
 use Rattle.lexical_util.specs.declared.reasons.Unused.{Unused}

@@ -4,7 +4,8 @@ ghost use Rattle.std.specs.Prelude.{◌≡◌, ◌↔◌, ◌++◌, ◌<◌, ◌
 ghost use Rattle.lexical_util.specs.Layout.{IsClean, flags};
 ghost use Rattle.lexical_util.specs.Record.{raw, fill, trim, pack, IsBuilt};
 ghost use Rattle.lexical_util.specs.Edits.{all_writes, edited};
-ghost use Rattle.lexical_util.specs.Listing.{IsBuiltByWrites, changing, unchanging};
+ghost use Rattle.lexical_util.specs.Listing.{IsBuiltByWrites};
+ghost use Rattle.lexical_util.specs.Additions.FieldEdits.{needed_edits, other_edits};
 ghost use Rattle.lexical_util.specs.Normal.{normal_form_of, SameFormat, IsNormal};
 ghost use Rattle.lexical_util.specs.Writes.{Write, IsLegal, new_record, after};
 ghost use Rattle.lexical_c.specs.Words.{fields_of};
@@ -152,10 +153,10 @@ pub extern "C" fn peltzivar_is_built(format: Word) -> bool
 /// Writes one edit for each field, those first that change a new builder, and returns how many these are.
 #[unsafe(no_mangle)]
 pub extern "C" fn peltzivar_edits_of(format: Word, edits: &mut [NumberedEdit; FIELDS]) -> usize
-    ensures numbers { edits.new ≡ map numbered (changing (raw format) ++ unchanging (raw format)) }
+    ensures numbers { edits.new ≡ map numbered (needed_edits (raw format) ++ other_edits (raw format)) }
     ensures each { All HasSetter edits.new }
-    ensures list { known edits.new ≡ changing (raw format) ++ unchanging (raw format) }
-    ensures number { result ≡ length (changing (raw format)) }
+    ensures list { known edits.new ≡ needed_edits (raw format) ++ other_edits (raw format) }
+    ensures number { result ≡ length (needed_edits (raw format)) }
     ensures legal { All IsLegal (all_writes (known edits.new)) }
     ensures first { after new_record (all_writes (take result (known edits.new))) ≡ raw format }
     ensures whole { after new_record (all_writes (known edits.new)) ≡ raw format }

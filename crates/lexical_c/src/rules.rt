@@ -13,8 +13,8 @@ ghost use Rattle.lexical_c.specs.Outcomes.{IsNumberOfOne, SUCCESS, error_number}
 ghost use Rattle.lexical_c.specs.RuleNumbers.{rule_of, reason_at, unused_at};
 ghost use Rattle.lexical_c.specs.Texts.{IsWritten};
 ghost use Rattle.lexical_c.specs.Words.{fields_of};
-ghost use Rattle.lexical_util.specs.RuleFields.{mask_read};
-ghost use Rattle.lexical_util.specs.ReasonText.{reason_text, unused_text};
+ghost use Rattle.lexical_util.specs.BrokenRules.{mask_read};
+ghost use Rattle.lexical_util.specs.Additions.ReasonText.{reason_text, unused_text};
 
 use crate::outcomes::{ErrorNumber, error_number};
 use crate::texts::{write_nothing, write_sentence};

@@ -2,8 +2,8 @@
 
 ghost use Rattle.std.specs.Prelude.{◌≡◌, ◌<◌, ℕ, [], None, IfSome, IfOk, IfErr};
 ghost use Rattle.std.specs.Str.{IsUtf8};
-ghost use Rattle.lexical_util.specs.SettingNumbers.{name_of_setter, setter_count, mask_of_edit};
-ghost use Rattle.lexical_util.specs.SettingText.{edit_or_error_in, setting_text};
+ghost use Rattle.lexical_util.specs.Additions.SettingNumbers.{name_of_setter, setter_count, mask_of_edit};
+ghost use Rattle.lexical_util.specs.Additions.SettingText.{edit_or_error_in, setting_text};
 ghost use Rattle.lexical_c.specs.Edits.{edit_of, numbered, error_code};
 ghost use Rattle.lexical_c.specs.Texts.{IsWritten};
 

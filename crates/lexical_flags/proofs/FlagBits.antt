@@ -11,7 +11,7 @@ use Rattle.std.proofs.lemmas.Bool.Decides.{nat_tests}
 use Rattle.lexical_flags.specs.Layout.{part, Flag, bit, shift, flags, bytes, digit_separator_flags}
 use Rattle.lexical_flags.specs.Record.{Record, raw, word_of, flag_bits, byte_bits}
 use Rattle.lexical_flags.specs.Record.{separator_on, HasBytes}
-use Rattle.lexical_flags.specs.Constants.{mask_of}
+use Rattle.lexical_flags.specs.Additions.Masks.{mask_of}
 use Rattle.lexical_flags.specs.declared.format_flags.TheConstants.{DIGIT_SEPARATOR_FLAG_MASK}
 use Rattle.lexical_flags.proofs.Packing.{high, bit_value, bit_value-lt, flag_bits-value, raw-word_of, HasBytes-by_name}
 use Rattle.lexical_flags.proofs.Masks.{ascends, and_all, or_all, sum-below}

@@ -15,7 +15,8 @@ use Rattle.lexical_flags.specs.declared.format_flags.all_rules.Rule.{Rule}
 use Rattle.lexical_flags.specs.declared.format_flags.all_rules.Rule.TheVariants as rules
 use Rattle.lexical_flags.specs.Rules.{IsRadix, IsFree, IsTextOrNone, IsPunctuation, Holds, IsFirstError}
 use Rattle.lexical_flags.specs.Rules.{IsErrorOf, Lawful, error_of, flag_rules, rules_in_order}
-use Rattle.lexical_flags.specs.Rules.{AreIfBroken, first_error, OrElse}
+use Rattle.lexical_flags.specs.Rules.{OrElse}
+use Rattle.lexical_flags.specs.Additions.BrokenRules.{AreIfBroken, first_error}
 use Rattle.lexical_flags.proofs.RoleLemmas.{Disjoint-digits-cased, Disjoint-signs-cased, Disjoint-digits-signs, not_in}
 
 -- what a free byte is

@@ -1,6 +1,6 @@
--- The constants of `format_flags`, by the names of their fields.
-use Rattle.std.specs.Prelude.{ℕ, zero, suc, ℤ, ◌≡◌, ◌*◌, ◌^◌, List, [], ◌∷◌, sum_by, bit_and}
-use Rattle.lexical_flags.specs.Layout.{Flag, Byte, bit}
+-- For `layout_facts`: the constants of the program, and what they are compared with.
+use Rattle.std.specs.Prelude.{ℕ, zero, suc, ℤ, ◌≡◌, ◌*◌, List, [], ◌∷◌, bit_and}
+use Rattle.lexical_flags.specs.Layout.{Flag, Byte}
 use Rattle.lexical_flags.specs.Layout as layout
 use Rattle.lexical_flags.specs.declared.format_flags.TheConstants as constants
 
@@ -39,13 +39,13 @@ flag_constant layout.exponent_consecutive_digit_separator = constants.EXPONENT_C
 flag_constant layout.special_digit_separator = constants.SPECIAL_DIGIT_SEPARATOR
 
 -- the mask of a byte
-abbrev pub byte_mask : Byte → ℕ
-byte_mask layout.digit_separator = constants.DIGIT_SEPARATOR
-byte_mask layout.base_prefix = constants.BASE_PREFIX
-byte_mask layout.base_suffix = constants.BASE_SUFFIX
-byte_mask layout.mantissa_radix = constants.MANTISSA_RADIX
-byte_mask layout.exponent_base = constants.EXPONENT_BASE
-byte_mask layout.exponent_radix = constants.EXPONENT_RADIX
+abbrev pub byte_constant : Byte → ℕ
+byte_constant layout.digit_separator = constants.DIGIT_SEPARATOR
+byte_constant layout.base_prefix = constants.BASE_PREFIX
+byte_constant layout.base_suffix = constants.BASE_SUFFIX
+byte_constant layout.mantissa_radix = constants.MANTISSA_RADIX
+byte_constant layout.exponent_base = constants.EXPONENT_BASE
+byte_constant layout.exponent_radix = constants.EXPONENT_RADIX
 
 -- the constant of the lowest bit of a byte
 abbrev pub byte_shift : Byte → ℤ
@@ -55,10 +55,6 @@ byte_shift layout.base_suffix = constants.BASE_SUFFIX_SHIFT
 byte_shift layout.mantissa_radix = constants.MANTISSA_RADIX_SHIFT
 byte_shift layout.exponent_base = constants.EXPONENT_BASE_SHIFT
 byte_shift layout.exponent_radix = constants.EXPONENT_RADIX_SHIFT
-
--- the mask of some flags
-abbrev pub mask_of : List Flag → ℕ
-mask_of fs = sum_by (λ f. 2 ^ bit f) fs
 
 -- `count` numbers from `first` on, each twice the one before
 abbrev pub doublings : ℕ → ℕ → List ℕ

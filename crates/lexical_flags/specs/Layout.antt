@@ -1,11 +1,11 @@
 -- The flags and bytes of a format word, and their bits.
 use Rattle.std.specs.Prelude.{ℕ, ◌≡◌, ◌/◌, ◌%◌, ◌^◌, List, [], ◌∷◌, ◌++◌}
 
--- the n bits of a word from bit s up
+-- `part word s n` is the number in the n bits of `word` from bit s up.
 abbrev pub part : ℕ → ℕ → ℕ → ℕ
 part word s n = word / 2 ^ s % 2 ^ n
 
--- the flags
+-- The 31 flags.
 pub data Flag : Type 0 where
   required_integer_digits : Flag
   required_fraction_digits : Flag
@@ -39,7 +39,7 @@ pub data Flag : Type 0 where
   exponent_consecutive_digit_separator : Flag
   special_digit_separator : Flag
 
--- the six bytes
+-- The six bytes.
 pub data Byte : Type 0 where
   digit_separator : Byte
   base_prefix : Byte
@@ -48,7 +48,7 @@ pub data Byte : Type 0 where
   exponent_base : Byte
   exponent_radix : Byte
 
--- the bit of a flag
+-- The bit of each flag.
 abbrev pub bit : Flag → ℕ
 bit required_integer_digits = 0
 bit required_fraction_digits = 1
@@ -82,7 +82,7 @@ bit fraction_consecutive_digit_separator = 42
 bit exponent_consecutive_digit_separator = 43
 bit special_digit_separator = 44
 
--- the lowest bit of a byte
+-- The lowest bit of each byte.
 abbrev pub shift : Byte → ℕ
 shift digit_separator = 64
 shift base_prefix = 88
@@ -91,95 +91,74 @@ shift mantissa_radix = 104
 shift exponent_base = 112
 shift exponent_radix = 120
 
--- the flags from bit 0 up
+-- The flags from bit 0 up.
 abbrev pub base_flags : List Flag
 base_flags =
-    required_integer_digits ∷ required_fraction_digits ∷ required_exponent_digits ∷
-    required_mantissa_digits ∷ no_positive_mantissa_sign ∷ required_mantissa_sign ∷
-    no_exponent_notation ∷ no_positive_exponent_sign ∷ required_exponent_sign ∷
-    no_exponent_without_fraction ∷ no_special ∷ case_sensitive_special ∷ no_integer_leading_zeros ∷
-    no_float_leading_zeros ∷ required_exponent_notation ∷ case_sensitive_exponent ∷
+    required_integer_digits ∷ required_fraction_digits ∷ required_exponent_digits ∷ required_mantissa_digits ∷
+    no_positive_mantissa_sign ∷ required_mantissa_sign ∷ no_exponent_notation ∷ no_positive_exponent_sign ∷
+    required_exponent_sign ∷ no_exponent_without_fraction ∷ no_special ∷ case_sensitive_special ∷
+    no_integer_leading_zeros ∷ no_float_leading_zeros ∷ required_exponent_notation ∷ case_sensitive_exponent ∷
     case_sensitive_base_prefix ∷ case_sensitive_base_suffix ∷ []
 
--- the flags that require digits
+-- The flags that require digits.
 abbrev pub required_digits : List Flag
 required_digits =
-    required_integer_digits ∷ required_fraction_digits ∷ required_exponent_digits ∷
-    required_mantissa_digits ∷ []
+    required_integer_digits ∷ required_fraction_digits ∷ required_exponent_digits ∷ required_mantissa_digits ∷ []
 
--- the flags that allow a digit separator between digits
+-- The flags that allow a digit separator between digits.
 abbrev pub internal_digit_separator : List Flag
 internal_digit_separator =
-    integer_internal_digit_separator ∷ fraction_internal_digit_separator ∷
-    exponent_internal_digit_separator ∷ []
+    integer_internal_digit_separator ∷ fraction_internal_digit_separator ∷ exponent_internal_digit_separator ∷ []
 
--- before digits
+-- The flags that allow a digit separator before digits.
 abbrev pub leading_digit_separator : List Flag
 leading_digit_separator =
-    integer_leading_digit_separator ∷ fraction_leading_digit_separator ∷
-    exponent_leading_digit_separator ∷ []
+    integer_leading_digit_separator ∷ fraction_leading_digit_separator ∷ exponent_leading_digit_separator ∷ []
 
--- after digits
+-- The flags that allow a digit separator after digits.
 abbrev pub trailing_digit_separator : List Flag
 trailing_digit_separator =
-    integer_trailing_digit_separator ∷ fraction_trailing_digit_separator ∷
-    exponent_trailing_digit_separator ∷ []
+    integer_trailing_digit_separator ∷ fraction_trailing_digit_separator ∷ exponent_trailing_digit_separator ∷ []
 
--- and several in a row
+-- The flags that allow several digit separators in a row.
 abbrev pub consecutive_digit_separator : List Flag
 consecutive_digit_separator =
     integer_consecutive_digit_separator ∷ fraction_consecutive_digit_separator ∷
     exponent_consecutive_digit_separator ∷ []
 
--- the flags of the bits 32 to 44: all that allow a digit separator somewhere
+-- The flags from bit 32 up: all that allow a digit separator somewhere.
 abbrev pub digit_separator_flags : List Flag
 digit_separator_flags =
     internal_digit_separator ++ leading_digit_separator ++ trailing_digit_separator ++
     consecutive_digit_separator ++ special_digit_separator ∷ []
 
--- those of the integer
+-- The digit separator flags of the integer.
 abbrev pub integer_digit_separator_flags : List Flag
 integer_digit_separator_flags =
     integer_internal_digit_separator ∷ integer_leading_digit_separator ∷
     integer_trailing_digit_separator ∷ integer_consecutive_digit_separator ∷ []
 
--- those of the fraction
+-- The digit separator flags of the fraction.
 abbrev pub fraction_digit_separator_flags : List Flag
 fraction_digit_separator_flags =
     fraction_internal_digit_separator ∷ fraction_leading_digit_separator ∷
     fraction_trailing_digit_separator ∷ fraction_consecutive_digit_separator ∷ []
 
--- those of the exponent
+-- The digit separator flags of the exponent.
 abbrev pub exponent_digit_separator_flags : List Flag
 exponent_digit_separator_flags =
     exponent_internal_digit_separator ∷ exponent_leading_digit_separator ∷
     exponent_trailing_digit_separator ∷ exponent_consecutive_digit_separator ∷ []
 
--- the flags that a parser's front end handles
-abbrev pub interface_flags : List Flag
-interface_flags =
-    required_digits ++
-    no_exponent_notation ∷ no_positive_exponent_sign ∷ required_exponent_sign ∷ no_exponent_without_fraction ∷
-    no_float_leading_zeros ∷ required_exponent_notation ∷ [] ++
-    internal_digit_separator ++ leading_digit_separator ++ trailing_digit_separator ++ consecutive_digit_separator
-
--- the flags of exponents, except the case of the exponent character
-abbrev pub exponent_flags : List Flag
-exponent_flags =
-    required_exponent_digits ∷ no_exponent_notation ∷ no_positive_exponent_sign ∷
-    required_exponent_sign ∷ no_exponent_without_fraction ∷ required_exponent_notation ∷
-    exponent_internal_digit_separator ∷ exponent_leading_digit_separator ∷
-    exponent_trailing_digit_separator ∷ exponent_consecutive_digit_separator ∷ []
-
--- all flags, in the order of their bits
+-- All flags, in the order of their bits.
 abbrev pub flags : List Flag
 flags = base_flags ++ digit_separator_flags
 
--- all bytes, in the order of their bits
+-- All bytes, in the order of their bits.
 abbrev pub bytes : List Byte
 bytes = digit_separator ∷ base_prefix ∷ base_suffix ∷ mantissa_radix ∷ exponent_base ∷ exponent_radix ∷ []
 
--- the reserved bits, which no field takes, are 0
+-- `IsClean word` holds if the reserved bits of `word`, the bits of no field, are 0.
 pub record IsClean (word : ℕ) : Type 0 where
   pub below_separator_flags : part word 18 14 ≡ 0
   pub below_separator : part word 45 19 ≡ 0

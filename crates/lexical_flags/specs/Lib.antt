@@ -5,8 +5,8 @@ pub mod Constants
 pub mod Common
 pub mod Roles
 pub mod Rules
-pub mod RuleFields
 pub mod Options
 pub mod Literals
+pub mod Additions
 pub use Rattle.lexical_base.specs.Ascii
 pub use Rattle.lexical_base.specs.Digits

@@ -1,4 +1,4 @@
--- Formats that are literals: what their words are, and whether they are lawful, computes.
+-- For proofs: what computes on words that are literals.
 use Rattle.std.specs.Prelude.{⊤}
 use Rattle.lexical_base.specs.Digits.{value}
 use Rattle.lexical_flags.specs.Common.{common}

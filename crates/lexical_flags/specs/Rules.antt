@@ -1,6 +1,5 @@
 -- The rules of a format word, and the error of the first that it breaks.
 use Rattle.std.specs.Prelude.{ℕ, Bool, false, not, ◌≡◌, ◌≤◌, ◌⊎◌, ◌&&◌, ◌||◌, IsTrue, IsFalse, List, [], ◌∷◌, ◌++◌}
-use Rattle.std.specs.Prelude.{Option, None, Some}
 use Rattle.std.specs.List.{AllByRecursion}
 use Rattle.lexical_base.specs.Ascii.{allowed_ascii}
 use Rattle.lexical_base.specs.declared.error.Error.{Error}
@@ -12,27 +11,27 @@ use Rattle.lexical_flags.specs.Layout.{IsClean}
 use Rattle.lexical_flags.specs.Record.{Record, raw, effective_exponent_base, effective_exponent_radix}
 use Rattle.lexical_flags.specs.Roles.{AreDisjoint, digits, signs, own_roles, five_roles}
 
--- numbers can be written in this radix
+-- `IsRadix radix` holds if numbers can be written in `radix`.
 abbrev pub IsRadix : ℕ → Type 0
 IsRadix radix = (2 ≤ radix) × (radix ≤ 36)
 
--- a byte of text that is no digit of the format and no sign
+-- `IsPunctuation r byte` holds if `byte` is allowed ASCII and neither a digit of `r` nor a sign.
 unfoldable pub IsPunctuation : Record → ℕ → Type 0
 IsPunctuation r byte = IsTrue (allowed_ascii byte) × (IsTrue (digits r byte) → ⊥) × (IsTrue (signs byte) → ⊥)
 
--- such a byte, or none
+-- `IsFree r byte` holds if `byte` is absent or punctuation.
 abbrev pub IsFree : Record → ℕ → Type 0
 IsFree r byte = (byte ≡ 0) ⊎ IsPunctuation r byte
 
--- a byte of text, or none
+-- `IsTextOrNone byte` holds if `byte` is absent or allowed ASCII.
 abbrev pub IsTextOrNone : ℕ → Type 0
 IsTextOrNone byte = (byte ≡ 0) ⊎ IsTrue (allowed_ascii byte)
 
--- consecutive separators are allowed, but none between, before or after digits
+-- True if separators in a row are allowed, but none between, before or after digits.
 abbrev pub has_no_place : Bool → Bool → Bool → Bool → Bool
 has_no_place consecutive internal leading trailing = consecutive && not (internal || leading || trailing)
 
--- whether the flags that a rule reads contradict each other
+-- `contradict rule r` is true if the flags of `r` that `rule` reads contradict each other.
 abbrev pub contradict : Rule → Record → Bool
 contradict rules.ExponentFlagsAgree r = r.flag layout.no_exponent_notation && r.flag layout.required_exponent_notation
 contradict rules.MantissaSignFlagsAgree r = r.flag layout.no_positive_mantissa_sign && r.flag layout.required_mantissa_sign
@@ -50,7 +49,7 @@ contradict rules.ExponentConsecutiveIsAllowed r =
     (r.flag layout.exponent_leading_digit_separator) (r.flag layout.exponent_trailing_digit_separator)
 contradict _ r = false
 
--- what a rule demands of the fields of a word; the rule of reserved bits demands nothing of them
+-- What a rule demands of the fields of a word. The rule of the reserved bits demands nothing of them.
 abbrev pub Demands : Rule → Record → Type 0
 Demands rules.MantissaRadixInRange r = IsRadix (r.byte layout.mantissa_radix)
 Demands rules.ExponentBaseInRange r = IsRadix (effective_exponent_base r)
@@ -61,12 +60,12 @@ Demands rules.BaseSuffixIsFree r = IsFree r (r.byte layout.base_suffix)
 Demands rules.PunctuationDiffers r = AreDisjoint (own_roles r)
 Demands rule r = IsFalse (contradict rule r)
 
--- a word keeps a rule
+-- `Holds rule word` holds if `word` keeps `rule`.
 unfoldable pub Holds : Rule → ℕ → Type 0
 Holds rules.ReservedBitsAreZero word = IsClean word
 Holds rule word = Demands rule (raw word)
 
--- the error of a word that breaks a rule
+-- The error of each rule.
 abbrev pub error_of : Rule → Error
 error_of rules.MantissaRadixInRange = errors.InvalidMantissaRadix
 error_of rules.ExponentBaseInRange = errors.InvalidExponentBase
@@ -85,16 +84,16 @@ error_of rules.FractionConsecutiveIsAllowed = errors.InvalidConsecutiveFractionD
 error_of rules.ExponentConsecutiveIsAllowed = errors.InvalidConsecutiveExponentDigitSeparator
 error_of rules.ReservedBitsAreZero = errors.InvalidFlags
 
--- the rules of radixes, in their order
+-- The radix rules, in their order.
 abbrev pub radix_rules : List Rule
 radix_rules = rules.MantissaRadixInRange ∷ rules.ExponentBaseInRange ∷ rules.ExponentRadixInRange ∷ []
 
--- those of punctuation
+-- The punctuation rules, in their order.
 abbrev pub punctuation_rules : List Rule
 punctuation_rules =
     rules.DigitSeparatorIsFree ∷ rules.BasePrefixIsFree ∷ rules.BaseSuffixIsFree ∷ rules.PunctuationDiffers ∷ []
 
--- those of flags
+-- The flag rules, in their order.
 abbrev pub flag_rules : List Rule
 flag_rules =
     rules.ExponentFlagsAgree ∷ rules.MantissaSignFlagsAgree ∷ rules.ExponentSignFlagsAgree ∷
@@ -102,46 +101,28 @@ flag_rules =
     rules.IntegerConsecutiveIsAllowed ∷ rules.FractionConsecutiveIsAllowed ∷
     rules.ExponentConsecutiveIsAllowed ∷ []
 
--- that of reserved bits
+-- The rule of the reserved bits.
 abbrev pub reserved_rules : List Rule
 reserved_rules = rules.ReservedBitsAreZero ∷ []
 
--- all rules, in their order
+-- All rules, in their order.
 abbrev pub rules_in_order : List Rule
 rules_in_order = radix_rules ++ punctuation_rules ++ flag_rules ++ reserved_rules
 
--- an error if a demand is not met, and else what follows
+-- `OrElse demand own next error` holds if `demand` fails and `error` is `own`, or if `demand` holds and `next error` does.
 abbrev pub OrElse : Type 0 → Error → (Error → Type 0) → Error → Type 0
 OrElse demand own next error = ((demand → ⊥) × (error ≡ own)) ⊎ (demand × next error)
 
--- the error of the first of these rules that a word breaks, and Success if it breaks none
+-- `IsFirstError rules word error` holds if `error` is the error of the first of `rules` that `word` breaks, or `Success`.
 abbrev pub IsFirstError : List Rule → ℕ → Error → Type 0
 IsFirstError [] word error = error ≡ errors.Success
 IsFirstError (rule ∷ rules) word error = OrElse (Holds rule word) (error_of rule) (IsFirstError rules word) error
 
--- a rule if a word breaks it, and nothing if it keeps it
-abbrev pub IsIfBroken : ℕ → Rule → Option Rule → Type 0
-IsIfBroken word rule broken =
-    ((Holds rule word → ⊥) × (broken ≡ Some rule)) ⊎ (Holds rule word × (broken ≡ None))
-
--- the same for each of these rules, in their order
-abbrev pub AreIfBroken : ℕ → List Rule → List (Option Rule) → Type 0
-AreIfBroken word [] broken = broken ≡ []
-AreIfBroken word (rule ∷ rules) [] = ⊥
-AreIfBroken word (rule ∷ rules) (one ∷ more) = IsIfBroken word rule one × AreIfBroken word rules more
-
--- the error of the first rule, and Success if there is none
-abbrev pub first_error : List (Option Rule) → Error
-first_error [] = errors.Success
-first_error (None ∷ broken) = first_error broken
-first_error (Some rule ∷ broken) = error_of rule
-
--- the same for all rules; one word, so that a search does not take it apart
+-- `IsErrorOf word error` holds if `error` is the error of the first rule that `word` breaks, or `Success`.
 unfoldable pub IsErrorOf : ℕ → Error → Type 0
 IsErrorOf word error = IsFirstError rules_in_order word error
 
--- what makes a word lawful: its radixes are in range, its flags agree, its bytes are text, no byte plays two roles, and
--- the reserved bits are 0
+-- What makes a word lawful: radixes in range, flags that agree, allowed ASCII, no byte with two roles, no reserved bit.
 pub record LawfulParts (word : ℕ) : Type 0 where
   pub mantissa_radix : IsRadix ((raw word).byte layout.mantissa_radix)
   pub exponent_base : IsRadix (effective_exponent_base (raw word))
@@ -153,6 +134,6 @@ pub record LawfulParts (word : ℕ) : Type 0 where
   pub roles : AreDisjoint (five_roles (raw word))
   pub clean : IsClean word
 
--- a word that breaks no rule: the parts above under one word, so that a search does not take it apart
+-- `Lawful word` holds if all of these parts do. Proof search does not unfold this name.
 unfoldable pub Lawful : ℕ → Type 0
 Lawful word = LawfulParts word

@@ -11,10 +11,12 @@ ghost use Rattle.lexical_flags.specs.Record.{effective_exponent_base, effective_
 ghost use Rattle.lexical_flags.specs.Pairs.{ArePairwise};
 ghost use Rattle.lexical_flags.specs.Roles.{Disjoint, digits};
 ghost use Rattle.lexical_flags.specs.Rules.{Demands, Holds, Lawful, IsErrorOf};
-ghost use Rattle.lexical_flags.specs.RuleFields.{mask_read};
+ghost use Rattle.lexical_flags.specs.Additions.BrokenRules.{mask_read};
 ghost use Rattle.lexical_flags.specs.declared.format_flags.all_rules.Rule.{Rule};
 ghost use Rattle.lexical_flags.specs.Options.{AreAccepted, HaveOneRole};
-ghost use Rattle.lexical_flags.specs.Constants.{flag_constant, byte_mask, byte_shift, mask_of, doublings, ShareNoBit};
+ghost use Rattle.lexical_flags.specs.Constants.{flag_constant, byte_constant, byte_shift, doublings, ShareNoBit};
+ghost use Rattle.lexical_flags.specs.Additions.Masks.{interface_flags, exponent_flags};
+ghost use Rattle.lexical_flags.specs.Additions.Masks.{mask_of};
 
 use crate::format_flags::*;
 
@@ -30,10 +32,10 @@ pub fn layout_facts()
 
     // Each byte is eight bits from its shift up.
     ensures shift { (b : Byte) → byte_shift b ≡ pos (shift b) }
-    ensures mask { (b : Byte) → byte_mask b ≡ 255 * 2 ^ shift b }
-    ensures shifted_mask { (b : Byte) → byte_mask b / 2 ^ shift b ≡ 255 }
-    ensures masks_share_no_bit { ArePairwise ShareNoBit (map byte_mask layout.bytes) }
-    ensures masks_share_no_flag { (b : Byte) → ShareNoBit (byte_mask b) FLAG_MASK }
+    ensures mask { (b : Byte) → byte_constant b ≡ 255 * 2 ^ shift b }
+    ensures shifted_mask { (b : Byte) → byte_constant b / 2 ^ shift b ≡ 255 }
+    ensures masks_share_no_bit { ArePairwise ShareNoBit (map byte_constant layout.bytes) }
+    ensures masks_share_no_flag { (b : Byte) → ShareNoBit (byte_constant b) FLAG_MASK }
     ensures radix { RADIX ≡ MANTISSA_RADIX }
     ensures radix_shift { RADIX_SHIFT ≡ MANTISSA_RADIX_SHIFT }
     ensures radix_mask { RADIX_MASK ≡ bit_or MANTISSA_RADIX EXPONENT_RADIX }
@@ -49,9 +51,9 @@ pub fn layout_facts()
     ensures trailing { TRAILING_DIGIT_SEPARATOR ≡ mask_of layout.trailing_digit_separator }
     ensures consecutive { CONSECUTIVE_DIGIT_SEPARATOR ≡ mask_of layout.consecutive_digit_separator }
     ensures flags { FLAG_MASK ≡ mask_of layout.flags }
-    ensures interface { INTERFACE_FLAG_MASK ≡ mask_of layout.interface_flags }
+    ensures interface { INTERFACE_FLAG_MASK ≡ mask_of interface_flags }
     ensures separators { DIGIT_SEPARATOR_FLAG_MASK ≡ mask_of layout.digit_separator_flags }
-    ensures exponents { EXPONENT_FLAG_MASK ≡ mask_of layout.exponent_flags }
+    ensures exponents { EXPONENT_FLAG_MASK ≡ mask_of exponent_flags }
     ensures integer { INTEGER_DIGIT_SEPARATOR_FLAG_MASK ≡ mask_of layout.integer_digit_separator_flags }
     ensures fraction { FRACTION_DIGIT_SEPARATOR_FLAG_MASK ≡ mask_of layout.fraction_digit_separator_flags }
     ensures exponent { EXPONENT_DIGIT_SEPARATOR_FLAG_MASK ≡ mask_of layout.exponent_digit_separator_flags }

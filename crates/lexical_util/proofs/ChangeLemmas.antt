@@ -1,6 +1,6 @@
 -- Which edits of a flag or of a group change a new builder.
 use Rattle.std.proofs.Common.{◌≡◌, Bool, true, false, refl}
-use Rattle.lexical_util.specs.Listing.{changes_new}
+use Rattle.lexical_util.specs.Private.{differs_from_new}
 use Rattle.lexical_util.specs.declared.edits.FlagSetter.{FlagSetter}
 use Rattle.lexical_util.specs.declared.edits.FlagSetter.TheVariants as setters
 use Rattle.lexical_util.specs.declared.edits.Edit.TheVariants as edits
@@ -8,7 +8,7 @@ use Rattle.lexical_util.specs.declared.edits.Edit.TheVariants as edits
 -- a setter of one flag changes a new record exactly if it sets the flag
 pub flag_change : (s : FlagSetter) (v : Bool) → (s ≡ setters.RequiredDigits → ⊥)
     → (s ≡ setters.RequiredExponentDigits → ⊥) → (s ≡ setters.RequiredMantissaDigits → ⊥)
-    → changes_new (edits.Flag s v) ≡ v
+    → differs_from_new (edits.Flag s v) ≡ v
 flag_change setters.RequiredDigits v a b c = absurd (a refl)
 flag_change setters.RequiredExponentDigits v a b c = absurd (b refl)
 flag_change setters.RequiredMantissaDigits v a b c = absurd (c refl)
@@ -16,6 +16,6 @@ flag_change _ true a b c = refl
 flag_change _ false a b c = refl
 
 -- the setter of the required digits changes a new record either way
-pub group_change : (v : Bool) → changes_new (edits.Flag setters.RequiredDigits v) ≡ true
+pub group_change : (v : Bool) → differs_from_new (edits.Flag setters.RequiredDigits v) ≡ true
 group_change true = refl
 group_change false = refl

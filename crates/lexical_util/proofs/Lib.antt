@@ -1,10 +1,9 @@
 mod EditLemmas
 mod NormalLemmas
 mod ViewLemmas
-mod ListingLemmas
+pub mod ListingLemmas
 mod ChangeLemmas
 mod ImageLemmas
-mod ComposeLemmas
 mod SetterNameLemmas
 mod Distance
 mod FieldWrites

@@ -8,12 +8,13 @@ use Rattle.std.proofs.lemmas.List.Elements.{All-nil}
 use Rattle.lexical_flags.specs.Layout.{Flag, Byte, bit, digit_separator_flags, IsClean}
 use Rattle.lexical_flags.specs.Layout as layout
 use Rattle.lexical_flags.specs.Record.{Record, raw, trim, fill, pack, word_of, effective}
-use Rattle.lexical_flags.specs.Record.{separator_on}
+use Rattle.lexical_flags.specs.Record.{separator_on, SeparatorIsUsed}
 use Rattle.lexical_flags.proofs.RecordLemmas.{record_same}
 use Rattle.lexical_flags.proofs.Packing.{raw-injective}
-use Rattle.lexical_builder.specs.Writes.{IsLegal}
+use Rattle.lexical_builder.specs.Writes.{Write, IsLegal, after}
 use Rattle.lexical_builder.proofs.WriteLemmas.{after_none}
 use Rattle.lexical_util.proofs.EditLemmas.{edited-fields, edited-clean, edited-fits}
+use Rattle.lexical_util.specs.Edits.{edited}
 use Rattle.lexical_util.specs.Groups.{any_flag, bits_of}
 use Rattle.lexical_util.specs.Normal.{normal_form_of, SameFormat, IsNormal}
 
@@ -154,3 +155,17 @@ module _ (w : ℕ) where
   pub flags_normal : (fs : List Flag) → bits_of w fs ≡ bits_of (normal_form_of w) fs
   unfolding bits_of
   flags_normal fs = λ i. sum_by (λ f. if normal_keeps.flags f i then 2 ^ bit f else 0) fs
+
+-- If the separator of a record is used, then filling and trimming the record changes nothing that filling once has not.
+filled_again : (R : Record) → SeparatorIsUsed R → fill (trim (fill R)) ≡ fill R
+filled_again R used = record_same _ _ (λ f. refl) on_byte where
+  on_byte : (b : Byte) → (fill (trim (fill R))).byte b ≡ (fill R).byte b
+  on_byte layout.digit_separator = kept (separator_on R) (R.byte layout.digit_separator) used
+  on_byte layout.exponent_base = sym (effective_again (R.byte layout.exponent_base) (R.byte layout.mantissa_radix))
+  on_byte layout.exponent_radix = sym (effective_again (R.byte layout.exponent_radix) (R.byte layout.mantissa_radix))
+  on_byte _ = refl
+
+-- If the separator of a word is used, then editing its normal form is editing the word.
+pub edited-normal : (w : ℕ) (L : List Write) → SeparatorIsUsed (raw w) → edited (normal_form_of w) L ≡ edited w L
+edited-normal w L used = ap (λ S. pack (after (fill S) L)) (raw_normal w)
+    ∙ ap (λ S. pack (after S L)) (filled_again (raw w) used)

@@ -5,9 +5,9 @@ use Rattle.std.proofs.lemmas.Bool.Decides.{Decides-ltb}
 use Rattle.lexical_flags.specs.Record as record_of
 use Rattle.lexical_builder.specs.Writes as writes
 use Rattle.lexical_util.specs.Edits.{edited, all_writes}
-use Rattle.lexical_util.specs.SettingNumbers.{number_of, number_of_name, name_of}
-use Rattle.lexical_util.specs.SettingNumbers.{mask_of_edit, setter_names, setter_count, edit_of_numbers, byte_of}
-use Rattle.lexical_util.specs.SetterNames.{setter_name}
+use Rattle.lexical_util.specs.Additions.SettingNumbers.{number_of, number_of_name, name_of}
+use Rattle.lexical_util.specs.Additions.SettingNumbers.{mask_of_edit, setter_names, setter_count, edit_of_numbers, byte_of}
+use Rattle.lexical_util.specs.Additions.SetterNames.{setter_name}
 use Rattle.lexical_util.specs.contracts.edits.FlagSetter.{the_type}
 use Rattle.lexical_util.specs.declared.edits.FlagSetter.{FlagSetter}
 use Rattle.lexical_util.specs.declared.edits.FlagSetter.TheVariants as setters

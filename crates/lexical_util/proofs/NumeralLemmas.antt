@@ -12,7 +12,7 @@ use Rattle.std.proofs.lemmas.List.Elements.{All-map, All-more, recursion_from_Al
 use Rattle.std.proofs.lemmas.List.Sums.{AllPass-from_list_all, list_all-from_AllPass}
 use Rattle.std.proofs.lemmas.Option.{cond_some}
 use Rattle.lexical_base.specs.Digits.{value, digit_of, numeral}
-use Rattle.lexical_util.specs.Numeral.{is_digit, is_numeral}
+use Rattle.lexical_util.specs.Additions.Numeral.{is_digit, is_numeral}
 
 -- the parts of a numeral
 pub record NumeralParts (radix most : ℕ) (digits : List ℕ) : Type 0 where

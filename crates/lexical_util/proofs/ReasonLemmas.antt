@@ -15,14 +15,14 @@ use Rattle.lexical_flags.specs.declared.format_flags.all_rules.Rule.TheVariants 
 use Rattle.lexical_flags.specs.Options.{AreAccepted}
 use Rattle.lexical_builder.specs.Writes.{after}
 use Rattle.lexical_util.specs.Normal.{normal_form_of}
-use Rattle.lexical_flags.specs.RuleFields.{mask_read}
+use Rattle.lexical_flags.specs.Additions.BrokenRules.{mask_read}
 use Rattle.lexical_flags.proofs.ReservedBits.{reserved_bits}
 use Rattle.lexical_flags.proofs.RoleLemmas.{no_digit}
 use Rattle.lexical_util.specs.declared.edits.Edit.{Edit}
 use Rattle.lexical_util.specs.declared.reasons.Reason.{Reason}
-use Rattle.lexical_util.specs.Reasons.{Case, said, padded, cases_of, reasons_of, not_free, flag_reason}
-use Rattle.lexical_util.specs.Reasons.{separator_edit, prefix_edit, suffix_edit}
-use Rattle.lexical_util.specs.Reasons.{without_separator, without_prefix_case, without_suffix_case, IsWith, SameRules}
+use Rattle.lexical_util.specs.Additions.Reasons.{Case, said, padded, cases_of, reasons_of, not_free, flag_reason}
+use Rattle.lexical_util.specs.Additions.Reasons.{separator_edit, prefix_edit, suffix_edit}
+use Rattle.lexical_util.specs.Additions.Reasons.{without_separator, without_prefix_case, without_suffix_case, IsWith, SameRules}
 
 -- the case of an absent byte does not count
 absent : (c d : Bool) (byte : ℕ) → byte ≡ 0 → cased c byte ≡ cased d byte

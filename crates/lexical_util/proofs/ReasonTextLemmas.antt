@@ -6,8 +6,8 @@ use Rattle.lexical_util.specs.declared.edits.FlagSetter.{FlagSetter}
 use Rattle.lexical_util.specs.declared.edits.FlagSetter.TheVariants as setters
 use Rattle.lexical_util.specs.declared.edits.Edit.{Edit}
 use Rattle.lexical_util.specs.declared.edits.Edit.TheVariants as edits
-use Rattle.lexical_util.specs.SetterNames.{setter_name}
-use Rattle.lexical_util.specs.SettingNumbers.{name_of}
+use Rattle.lexical_util.specs.Additions.SetterNames.{setter_name}
+use Rattle.lexical_util.specs.Additions.SettingNumbers.{name_of}
 
 short_setter-test : (setter : FlagSetter) → nat_lt (length (setter_name setter)) 49 ≡ true
 short_setter-test setters.RequiredIntegerDigits = refl

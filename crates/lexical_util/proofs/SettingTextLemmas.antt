@@ -12,7 +12,7 @@ use Rattle.lexical_util.specs.declared.edits.FlagSetter.{FlagSetter}
 use Rattle.lexical_util.specs.declared.edits.FlagSetter.TheVariants as setters
 use Rattle.lexical_util.specs.declared.edits.text.SettingError.{SettingError}
 use Rattle.lexical_util.specs.declared.edits.text.SettingError.TheVariants.{UnknownName}
-use Rattle.lexical_util.specs.SettingText.{HasByte, byte_in, optional_byte_in, map_ok, edit_or_error_in, setting_text}
+use Rattle.lexical_util.specs.Additions.SettingText.{HasByte, byte_in, optional_byte_in, map_ok, edit_or_error_in, setting_text}
 
 -- whether a byte was read
 abbrev is_read : Result ℕ SettingError → ℕ → Bool

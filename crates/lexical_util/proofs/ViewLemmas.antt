@@ -9,7 +9,7 @@ use Rattle.std.proofs.lemmas.Nat.{pow-add, pow_pos}
 use Rattle.std.proofs.lemmas.Nat.Bits.{and_high}
 use Rattle.lexical_flags.specs.Layout.{part, Flag, bit}
 use Rattle.lexical_flags.specs.Record.{raw, flag_bits}
-use Rattle.lexical_flags.specs.Constants.{mask_of}
+use Rattle.lexical_flags.specs.Additions.Masks.{mask_of}
 use Rattle.lexical_flags.proofs.Masks.{ascends, and_all}
 use Rattle.lexical_flags.proofs.FlagBits.{flag_by_mask, mask_test}
 use Rattle.lexical_flags.specs.Common.{common}

@@ -1,15 +1,10 @@
 pub mod Edits
-pub mod SetterNames
-pub mod SettingNumbers
-pub mod Numeral
-pub mod SettingText
 pub mod Normal
 pub mod Groups
 pub mod Listing
-pub mod Compose
-pub mod Reasons
-pub mod ReasonText
+pub mod Private
 pub mod Unfoldable
+pub mod Additions
 pub use Rattle.lexical_base.specs.Ascii
 pub use Rattle.lexical_base.specs.Digits
 pub use Rattle.lexical_base.specs.Outcomes
@@ -21,7 +16,8 @@ pub use Rattle.lexical_flags.specs.Common
 pub use Rattle.lexical_flags.specs.Pairs
 pub use Rattle.lexical_flags.specs.Roles
 pub use Rattle.lexical_flags.specs.Rules
-pub use Rattle.lexical_flags.specs.RuleFields
+pub use Rattle.lexical_flags.specs.Additions.Masks
+pub use Rattle.lexical_flags.specs.Additions.BrokenRules
 pub use Rattle.lexical_flags.specs.Options
 pub use Rattle.lexical_builder.specs.BuilderBits
 pub use Rattle.lexical_builder.specs.OptionByte

@@ -1,53 +1,44 @@
--- The edits that write all fields of a record, and which of them a new builder needs.
-use Rattle.std.specs.Prelude.{◌≡◌, ℕ, Bool, not, List, [], ◌∷◌, ◌++◌, map, filter, find, unwrap_or, All}
-use Rattle.std.specs.List.{list_any}
-use Rattle.std.specs.Str.{bytes_eq}
-use Rattle.lexical_flags.specs.Layout.{Flag, bit, flags, bytes}
+-- The words that setter calls make, and the setter calls of single fields that make a word.
+use Rattle.std.specs.Prelude.{ℕ, ◌≡◌, ◌++◌, not, List, [], ◌∷◌, map, filter, All, ⊤}
+use Rattle.lexical_flags.specs.Layout.{flags, bytes}
 use Rattle.lexical_flags.specs.Layout as layout
 use Rattle.lexical_flags.specs.Record.{Record, pack}
 use Rattle.lexical_builder.specs.OptionByte.{option_of_byte}
 use Rattle.lexical_builder.specs.Writes.{Write, write_flag, write_byte, IsLegal, new_record, after, changes}
-use Rattle.lexical_util.specs.Edits.{flags_of, writes_of}
-use Rattle.lexical_util.specs.declared.edits.FlagSetter.{FlagSetter}
-use Rattle.lexical_util.specs.declared.edits.FlagSetter.TheVariants as setters
-use Rattle.lexical_util.specs.declared.edits.TheConstants.{SETTERS}
+use Rattle.lexical_util.specs.Edits.{flags_of}
 use Rattle.lexical_util.specs.declared.edits.Edit.{Edit}
 use Rattle.lexical_util.specs.declared.edits.Edit.TheVariants as edits
 
--- the setter that writes this flag and no other
-abbrev pub setter_of : Flag → FlagSetter
-setter_of f = unwrap_or (find (λ setter. bytes_eq (map bit (flags_of setter)) (bit f ∷ [])) SETTERS) setters.NoSpecial
+-- `IsEditOf write edit` holds if `edit` calls the setter of one field to do `write`.
+abbrev pub IsEditOf : Write → Edit → Type 0
+IsEditOf (write_flag f value) (edits.Flag setter flag) = (flags_of setter ≡ f ∷ []) × (flag ≡ value)
+IsEditOf (write_flag f value) _ = ⊥
+IsEditOf (write_byte layout.digit_separator value) edit = edit ≡ edits.DigitSeparator (option_of_byte value)
+IsEditOf (write_byte layout.base_prefix value) edit = edit ≡ edits.BasePrefix (option_of_byte value)
+IsEditOf (write_byte layout.base_suffix value) edit = edit ≡ edits.BaseSuffix (option_of_byte value)
+IsEditOf (write_byte layout.mantissa_radix value) edit = edit ≡ edits.MantissaRadix value
+IsEditOf (write_byte layout.exponent_base value) edit = edit ≡ edits.ExponentBase (option_of_byte value)
+IsEditOf (write_byte layout.exponent_radix value) edit = edit ≡ edits.ExponentRadix (option_of_byte value)
 
--- the edit that does a write of one field
-abbrev pub edit_of : Write → Edit
-edit_of (write_flag f value) = edits.Flag (setter_of f) value
-edit_of (write_byte layout.digit_separator value) = edits.DigitSeparator (option_of_byte value)
-edit_of (write_byte layout.base_prefix value) = edits.BasePrefix (option_of_byte value)
-edit_of (write_byte layout.base_suffix value) = edits.BaseSuffix (option_of_byte value)
-edit_of (write_byte layout.mantissa_radix value) = edits.MantissaRadix value
-edit_of (write_byte layout.exponent_base value) = edits.ExponentBase (option_of_byte value)
-edit_of (write_byte layout.exponent_radix value) = edits.ExponentRadix (option_of_byte value)
+-- `AreEditsOf writes edits` holds if each of `edits` is the edit of the one of `writes` at its index.
+abbrev pub AreEditsOf : List Write → List Edit → Type 0
+AreEditsOf [] [] = ⊤
+AreEditsOf (write ∷ writes) (edit ∷ edits) = IsEditOf write edit × AreEditsOf writes edits
+AreEditsOf _ _ = ⊥
 
--- the writes of all fields of a record, in the order of their bits
+-- `field_writes r` has a write for each field of `r`, in the order of the bits.
 abbrev pub field_writes : Record → List Write
 field_writes r = map (λ f. write_flag f (r.flag f)) flags ++ map (λ b. write_byte b (r.byte b)) bytes
 
--- the edits of a record's fields that differ from those of a new builder
-abbrev pub changing : Record → List Edit
-changing r = map edit_of (filter (changes new_record) (field_writes r))
+-- The writes of the fields in which a record differs from a new builder.
+abbrev pub needed_writes : Record → List Write
+needed_writes r = filter (changes new_record) (field_writes r)
 
--- the edits of its other fields, which change nothing in a new builder
-abbrev pub unchanging : Record → List Edit
-unchanging r = map edit_of (filter (λ x. not (changes new_record x)) (field_writes r))
+-- The writes of the other fields.
+abbrev pub other_writes : Record → List Write
+other_writes r = filter (λ write. not (changes new_record write)) (field_writes r)
 
--- the edits of all fields, and whether one changes a new builder: what the code chooses from, and by what
-abbrev pub field_edits : Record → List Edit
-field_edits r = map edit_of (field_writes r)
-
-abbrev pub changes_new : Edit → Bool
-changes_new edit = list_any (changes new_record) (writes_of edit)
-
--- some legal writes to a new builder make the word
+-- `IsBuiltByWrites word` holds if some legal writes to a new builder make `word`.
 pub record IsBuiltByWrites (word : ℕ) : Type 0 where
   pub writes : List Write
   pub legal : All IsLegal writes

@@ -10,14 +10,12 @@ ghost use Rattle.lexical_flags.specs.Rules.{Lawful, IsErrorOf};
 ghost use Rattle.lexical_builder.specs.Writes.{Write, IsLegal, write_flags, after, SameWrites};
 ghost use Rattle.lexical_util.specs.Edits.{flags_of, writes_of, all_writes, edited};
 ghost use Rattle.lexical_util.specs.Normal.{normal_form_of, SameFormat, IsNormal};
-ghost use Rattle.lexical_util.specs.Compose.{Composes, AlwaysCompose};
 ghost use Rattle.lexical_util.specs.Groups.{any_flag, bits_of};
-ghost use Rattle.lexical_util.specs.SetterNames.{setter_name};
 
-use crate::laws::{edit_facts, normal_form_facts};
 use lexical_base::error::Error;
 use lexical_builder::format_builder::{NumberFormatBuilder, OptionU8};
 use lexical_flags::format_flags::{FLAG_MASK, check};
+use lexical_flags::laws::rule_facts;
 
 // Calls `$rows!` with `$args`, a row for each flag, and a row for each group of flags. A row has the
 // variant of `FlagSetter`, and the name that the setter and, for a flag, the getter have.
@@ -203,27 +201,6 @@ pub const FIELDS: usize = FLAGS + 6;
 /// All setters, in the order of the variants: those of the flags, and those of nine groups.
 pub const SETTERS: [FlagSetter; FLAGS + 9] = with_setters!(variants());
 
-impl FlagSetter {
-    /// Returns the name of the setter: the variant in snake case.
-    pub const fn name(self) -> &'static str
-        ensures { result.now ≡ setter_name self }
-    {
-        SETTER_NAMES[self as usize]
-    }
-
-    /// Returns the setter of this name, or `None` if no setter of flags has it.
-    pub fn from_name(name: &str) -> Option<FlagSetter>
-        ensures { (setter : FlagSetter) → (result ≡ Some setter) ↔ (setter_name setter ≡ name.now) }
-    {
-        for setter in &SETTERS {
-            if setter.name() == name {
-                return Some(*setter);
-            }
-        }
-        None
-    }
-}
-
 /// Applies one edit: calls the setter that it names.
 #[inline(always)]
 pub const fn apply(builder: NumberFormatBuilder, edit: Edit) -> NumberFormatBuilder
@@ -291,10 +268,9 @@ pub const fn apply_all(mut builder: NumberFormatBuilder, edits: &[Edit]) -> Numb
 /// 4. The digit separator is set to 0 if no flag allows one anywhere, and the fields are packed. The
 ///    reserved bits are 0.
 ///
-/// Editing twice can differ from editing once with both lists: the first call drops a digit separator
-/// that has no flag yet, and the second fills an exponent byte that the first emptied. If the mantissa
-/// radix of `format` is not 0, two calls are one if the first list leaves no exponent byte `None`, and
-/// the second sets no digit separator flag unless it writes the digit separator too.
+/// Pass all edits in one call. Two calls are not always one call with both lists: the first drops a
+/// digit separator that no flag allows yet, and the second fills an exponent byte that the first set to
+/// `None`.
 ///
 /// In plain Rust:
 ///
@@ -320,18 +296,8 @@ pub const fn edit_word(format: u128, edits: &[Edit]) -> u128
     ensures same_writes { (writes : List Write) → All IsLegal writes
         → SameWrites writes (all_writes edits.now) → edited format writes ≡ result }
 
-    // Editing the result once more is editing the word with both lists exactly if they compose; on a
-    // word with a mantissa radix they do if the first list leaves no exponent byte empty, and the
-    // second sets no separator flag, unless it writes the separator too.
-    ensures again { (more : List Write) → All IsLegal more
-        → (edited result more ≡ edited format (all_writes edits.now ++ more))
-        ↔ Composes format (all_writes edits.now) more }
-    ensures always { (raw format).byte layout.mantissa_radix ≢ 0 → (more : List Write) → All IsLegal more
-        → AlwaysCompose (all_writes edits.now) more
-        → edited result more ≡ edited format (all_writes edits.now ++ more) }
     ensures legal { All IsLegal (all_writes edits.now) }
 {
-    edit_facts();
     apply_all(NumberFormatBuilder::rebuild(format), edits).build_unchecked()
 }
 
@@ -370,7 +336,7 @@ pub const fn normal_form(format: u128) -> u128
         → edited result writes ≡ edited format writes }
     ensures normal { IsNormal result }
 {
-    normal_form_facts();
+    rule_facts();
     NumberFormatBuilder::rebuild(format).build_unchecked()
 }
 

@@ -11,10 +11,9 @@ ghost use Rattle.lexical_flags.specs.Rules.{Lawful, IsErrorOf};
 ghost use Rattle.lexical_builder.specs.Writes.{Write, IsLegal, write_flag, write_byte, new_record, radix_record, after, SameWrites};
 ghost use Rattle.lexical_util.specs.Edits.{all_writes, edited};
 ghost use Rattle.lexical_util.specs.Normal.{normal_form_of, SameFormat, IsNormal};
-ghost use Rattle.lexical_util.specs.Compose.{Composes, AlwaysCompose};
 ghost use Rattle.lexical_util.specs.Groups.{any_flag, bits_of};
-ghost use Rattle.lexical_util.specs.Listing.{changing};
-ghost use Rattle.lexical_util.specs.SettingText.{HasByte, edit_or_error_in, setting_text};
+ghost use Rattle.lexical_util.specs.Additions.FieldEdits.{needed_edits};
+ghost use Rattle.lexical_util.specs.Additions.SettingText.{HasByte, edit_or_error_in, setting_text};
 ghost use Rattle.lexical_util.specs.declared.edits.Edit.{Edit};
 ghost use Rattle.lexical_util.specs.declared.edits.Edit.TheVariants as edits;
 ghost use Rattle.lexical_util.specs.declared.edits.FlagSetter.TheVariants as setters;
@@ -33,66 +32,19 @@ pub fn write_facts()
         → all_writes (first ++ second) ≡ all_writes first ++ all_writes second }
 {}
 
-/// What the normal form of a word is, for any word.
+/// The normal forms of any two words.
 #[inline(always)]
 pub const fn normal_form_facts()
-    // It is the only word without reserved bits that has the fields of the word, filled and trimmed.
-    ensures fields { (word : ℕ) → raw (normal_form_of word) ≡ trim (fill (raw word)) }
-    ensures clean { (word : ℕ) → IsClean (normal_form_of word) }
-    ensures fits { (word : ℕ) → normal_form_of word < 2 ^ 128 }
-    ensures only { (word other : ℕ) → other < 2 ^ 128 → IsClean other
-        → raw other ≡ trim (fill (raw word)) → other ≡ normal_form_of word }
-
-    // It is its own normal form. These words are the normal ones.
-    ensures again { (word : ℕ) → normal_form_of (normal_form_of word) ≡ normal_form_of word }
-    ensures normal { (word : ℕ) → IsNormal (normal_form_of word) }
-    ensures unchanged { (word : ℕ) → word < 2 ^ 128 → (normal_form_of word ≡ word) ↔ IsNormal word }
-
-    // It means the same, and two words have the same normal form exactly if they mean the same.
+    // The normal form of a word is equivalent to it, and two words have the same one if and only if they are equivalent.
     ensures same { (word : ℕ) → SameFormat (raw word) (raw (normal_form_of word)) }
     ensures equal { (a b : ℕ) → (normal_form_of a ≡ normal_form_of b) ↔ SameFormat (raw a) (raw b) }
-    ensures groups { (word : ℕ) → (fs : List Flag) → any_flag word fs ≡ any_flag (normal_form_of word) fs }
-    ensures flags { (word : ℕ) → (fs : List Flag) → bits_of word fs ≡ bits_of (normal_form_of word) fs }
 
-    // It is lawful if the word is, or any other word that means the same.
-    ensures lawful { (word : ℕ) → Lawful word → Lawful (normal_form_of word) }
+    // The normal form of a word is lawful if any equivalent word is.
     ensures lawful_same { (word other : ℕ) → SameFormat (raw word) (raw other) → Lawful other
         → Lawful (normal_form_of word) }
-
-    // If no reserved bit and no separator is dropped, the error is the same.
-    ensures error { (word : ℕ) → IsClean word → SeparatorIsUsed (raw word)
-        → (error : Error) → IsErrorOf word error ↔ IsErrorOf (normal_form_of word) error }
-
-    // If no separator is dropped, it does not matter which of the two is edited.
-    ensures edits { (word : ℕ) → SeparatorIsUsed (raw word) → (writes : List Write) → All IsLegal writes
-        → edited (normal_form_of word) writes ≡ edited word writes }
 {
     flags::rule_facts();
 }
-
-/// What writes make of a word, for any word.
-#[inline(always)]
-pub const fn edit_facts()
-    // It is the only word without reserved bits that has these fields.
-    ensures fields { (word : ℕ) → (writes : List Write) → All IsLegal writes
-        → raw (edited word writes) ≡ trim (after (fill (raw word)) writes) }
-    ensures clean { (word : ℕ) → (writes : List Write) → All IsLegal writes → IsClean (edited word writes) }
-    ensures fits { (word : ℕ) → (writes : List Write) → All IsLegal writes → edited word writes < 2 ^ 128 }
-    ensures only { (word : ℕ) → (writes : List Write) → All IsLegal writes → (other : ℕ) → other < 2 ^ 128
-        → IsClean other → raw other ≡ trim (after (fill (raw word)) writes) → other ≡ edited word writes }
-
-    // Only the last write of each field counts.
-    ensures same_writes { (word : ℕ) → (writes others : List Write) → SameWrites writes others
-        → edited word writes ≡ edited word others }
-
-    // Two edits are one with both lists exactly if they compose. On a word with a mantissa radix they
-    // do if the first list leaves no exponent byte empty, and the second sets no separator flag,
-    // unless it writes the separator too.
-    ensures again { (word : ℕ) → (first second : List Write) → All IsLegal first → All IsLegal second
-        → (edited (edited word first) second ≡ edited word (first ++ second)) ↔ Composes word first second }
-    ensures always { (word : ℕ) → (first second : List Write) → (raw word).byte layout.mantissa_radix ≢ 0
-        → AlwaysCompose first second → Composes word first second }
-{}
 
 /// What an edit prints is read as that edit.
 pub fn setting_facts()
@@ -149,10 +101,10 @@ pub fn edit_examples()
 
 /// The fewest edits of single fields that make a word of a new builder, written out.
 pub fn listing_examples()
-    ensures standard { changing (raw 0x00000A00_00000000_00000000_0000000C) ≡ [] }
-    ensures decimal { changing (raw 0x0A0A0A00_00000000_00000000_0000000C)
+    ensures standard { needed_edits (raw 0x00000A00_00000000_00000000_0000000C) ≡ [] }
+    ensures decimal { needed_edits (raw 0x0A0A0A00_00000000_00000000_0000000C)
         ≡ edits.ExponentBase (Some 10) ∷ edits.ExponentRadix (Some 10) ∷ [] }
-    ensures zero { changing (raw 0)
+    ensures zero { needed_edits (raw 0)
         ≡ edits.Flag setters.RequiredExponentDigits false ∷ edits.Flag setters.RequiredMantissaDigits false
         ∷ edits.MantissaRadix 0 ∷ [] }
 {}

@@ -3,7 +3,7 @@
 ghost use Rattle.std.specs.Prelude.{◌≤◌, IsTrue};
 ghost use Rattle.std.specs.Option.{SomeIff};
 ghost use Rattle.lexical_base.specs.Digits.{numeral};
-ghost use Rattle.lexical_util.specs.Numeral.{is_numeral};
+ghost use Rattle.lexical_util.specs.Additions.Numeral.{is_numeral};
 
 use lexical_base::digit::char_to_digit;
 

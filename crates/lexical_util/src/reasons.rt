@@ -6,9 +6,9 @@ ghost use Rattle.lexical_flags.specs.Layout as layout;
 ghost use Rattle.lexical_flags.specs.Record.{raw, set_byte, separator_on};
 ghost use Rattle.lexical_flags.specs.Rules.{Holds};
 ghost use Rattle.lexical_flags.specs.declared.format_flags.all_rules.Rule.TheVariants as rules;
-ghost use Rattle.lexical_util.specs.Reasons.{said, padded, cases_of, reasons_of, out_of_range, not_free, flag_reason, unused_cases};
-ghost use Rattle.lexical_util.specs.Reasons.{radix_of_digit, separator_edit, prefix_edit, suffix_edit};
-ghost use Rattle.lexical_util.specs.Reasons.{without_separator, without_prefix_case, without_suffix_case, IsWith, SameRules};
+ghost use Rattle.lexical_util.specs.Additions.Reasons.{said, padded, cases_of, reasons_of, out_of_range, not_free, flag_reason, unused_cases};
+ghost use Rattle.lexical_util.specs.Additions.Reasons.{radix_of_digit, separator_edit, prefix_edit, suffix_edit};
+ghost use Rattle.lexical_util.specs.Additions.Reasons.{without_separator, without_prefix_case, without_suffix_case, IsWith, SameRules};
 ghost use Rattle.lexical_util.specs.Normal.{normal_form_of};
 
 use crate::edits::{Edit, FlagSetter};
@@ -240,7 +240,7 @@ const fn unused_beside(format: u128, separator: u8) -> [Option<Unused>; UNUSED]
     ensures { result ≡ map said (unused_cases (set_byte (raw format) layout.digit_separator separator)) }
 {
     let view = NumberFormat::new(format);
-    let is_allowed = is_separator_allowed(format);
+    let is_allowed = flags::is_separator_allowed(format);
     let no_separator = separator == 0;
     let no_prefix = view.base_prefix() == 0;
     let no_suffix = view.base_suffix() == 0;
@@ -259,14 +259,6 @@ const fn unused_beside(format: u128, separator: u8) -> [Option<Unused>; UNUSED]
             Unused::NoByte(FlagSetter::CaseSensitiveBaseSuffix, Edit::BaseSuffix(None)),
         ),
     ]
-}
-
-// Whether a flag allows a digit separator somewhere.
-#[tactic(auto, using(lexical_flags::proofs::FlagBits::separator_flag_set, lexical_flags::proofs::FlagBits::no_separator_flag_set))]
-pub(crate) const fn is_separator_allowed(format: u128) -> bool
-    ensures { result ≡ separator_on (raw format) }
-{
-    format & flags::DIGIT_SEPARATOR_FLAG_MASK != 0
 }
 
 // The edit that writes the digit separator of a word.

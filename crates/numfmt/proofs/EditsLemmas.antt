@@ -8,7 +8,7 @@ use Rattle.std.proofs.lemmas.List.{take_more, take_more_set}
 use Rattle.std.proofs.lemmas.List.Elements.{filter_map-append}
 use Rattle.std.proofs.lemmas.List.Folds.{list_all_at, list_all_more}
 use Rattle.lexical_util.specs.declared.edits.Edit.{Edit}
-use Rattle.lexical_util.specs.SettingText.{edit_in}
+use Rattle.lexical_util.specs.Additions.SettingText.{edit_in}
 use Rattle.numfmt.specs.EditText.{edits_in}
 
 -- whether a text writes an edit

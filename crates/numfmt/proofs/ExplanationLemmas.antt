@@ -3,9 +3,9 @@ use Rattle.std.proofs.Common.{◌≡◌, ◌≢◌, ◌↔◌, ℕ, List, [], �
 use Rattle.std.proofs.Common.{Option, None, Some, flat_map, length, length-append, arith, refl, sym, ap, ◌∙◌}
 use Rattle.std.specs.List.{AllByRecursion, cons_option, filter_map}
 use Rattle.lexical_util.specs.Outcomes.{printed_text}
-use Rattle.lexical_util.specs.Reasons.{said, padded, cases_of, reasons_of, unused_of}
-use Rattle.lexical_util.specs.ReasonText.{reason_text, unused_text}
-use Rattle.lexical_util.specs.Listing.{field_edits}
+use Rattle.lexical_util.specs.Additions.Reasons.{said, padded, cases_of, reasons_of, unused_of}
+use Rattle.lexical_util.specs.Additions.ReasonText.{reason_text, unused_text}
+use Rattle.lexical_util.specs.Additions.FieldEdits.{field_edits}
 use Rattle.lexical_util.specs.Record.{raw}
 use Rattle.lexical_util.specs.Rules.{Holds, Lawful, error_of, rules_in_order}
 use Rattle.lexical_util.specs.declared.format_flags.Rule.{Rule}

@@ -16,7 +16,7 @@ use Rattle.std.proofs.lemmas.List.{drop-set, take-set-le, length-set, take-appen
 use Rattle.std.proofs.lemmas.List.Sums.{AllPass-from_list_all, list_all-from_AllPass, passes_at_first}
 use Rattle.std.proofs.lemmas.List.Elements.{All-cons, All-head, All-nil, All-tail, All-weaker}
 use Rattle.lexical_util.specs.Digits.{digit_characters, is_lowercase, uppercase, value}
-use Rattle.lexical_util.specs.Numeral.{is_digit}
+use Rattle.lexical_util.specs.Additions.Numeral.{is_digit}
 use Rattle.numfmt.specs.WordText.{hex, hex_digits, IsPrintedForm, digit_at, last_digits, printed}
 use Rattle.lexical_util.proofs.NumeralLemmas.{numeral_from, numeral_parts}
 

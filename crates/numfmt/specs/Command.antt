@@ -9,14 +9,14 @@ use Rattle.lexical_util.specs.declared.edits.Edit.{Edit}
 use Rattle.lexical_util.specs.declared.format.TheConstants.{STANDARD}
 use Rattle.lexical_util.specs.Edits.{edited, all_writes}
 use Rattle.lexical_util.specs.Normal.{normal_form_of}
-use Rattle.lexical_util.specs.Reasons.{unused_of}
+use Rattle.lexical_util.specs.Additions.Reasons.{unused_of}
 use Rattle.numfmt.specs.declared.response.Answer.{Answer}
 use Rattle.numfmt.specs.declared.response.Answer.TheVariants as answers
 use Rattle.numfmt.specs.declared.response.Refusal.{Refusal}
 use Rattle.numfmt.specs.declared.response.Refusal.TheVariants.{UnknownCommand, WrongNumberOfArguments, TooManyEdits}
 use Rattle.numfmt.specs.declared.response.Refusal.TheVariants.{BadWord, BadEdit, BadByte}
 use Rattle.numfmt.specs.WordText.{word_in}
-use Rattle.lexical_util.specs.SettingText.{byte_in}
+use Rattle.lexical_util.specs.Additions.SettingText.{byte_in}
 use Rattle.numfmt.specs.EditText.{edits_in}
 use Rattle.numfmt.specs.Response.{Response}
 

@@ -2,7 +2,7 @@
 use Rattle.std.specs.Prelude.{ℕ, Option, is_some, List}
 use Rattle.std.specs.Bool.{then_some}
 use Rattle.std.specs.List.{filter_map, list_all}
-use Rattle.lexical_util.specs.SettingText.{edit_in}
+use Rattle.lexical_util.specs.Additions.SettingText.{edit_in}
 use Rattle.lexical_util.specs.declared.edits.Edit.{Edit}
 
 -- the edits that the texts write, if each of them writes one

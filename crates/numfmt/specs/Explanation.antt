@@ -1,14 +1,14 @@
 -- What there is to say of a format word: the rules that it breaks, and the settings without effect.
 use Rattle.std.specs.Prelude.{ℕ, ◌==◌, bit_and, if◌then◌else◌, List, [], ◌∷◌, ◌++◌, Option, None, Some, codes, flat_map}
-use Rattle.lexical_util.specs.RuleFields.{mask_read}
+use Rattle.lexical_util.specs.BrokenRules.{mask_read}
 use Rattle.lexical_util.specs.Outcomes.{printed_text}
 use Rattle.lexical_util.specs.Record.{raw}
 use Rattle.lexical_util.specs.Rules.{error_of, rules_in_order}
-use Rattle.lexical_util.specs.Listing.{field_edits}
-use Rattle.lexical_util.specs.Reasons.{reasons_of, unused_of}
-use Rattle.lexical_util.specs.ReasonText.{reason_text, unused_text}
-use Rattle.lexical_util.specs.SettingNumbers.{mask_of_edit}
-use Rattle.lexical_util.specs.SettingText.{setting_text}
+use Rattle.lexical_util.specs.Additions.FieldEdits.{field_edits}
+use Rattle.lexical_util.specs.Additions.Reasons.{reasons_of, unused_of}
+use Rattle.lexical_util.specs.Additions.ReasonText.{reason_text, unused_text}
+use Rattle.lexical_util.specs.Additions.SettingNumbers.{mask_of_edit}
+use Rattle.lexical_util.specs.Additions.SettingText.{setting_text}
 use Rattle.lexical_util.specs.declared.edits.Edit.{Edit}
 use Rattle.lexical_util.specs.declared.format_flags.Rule.{Rule}
 use Rattle.lexical_util.specs.declared.reasons.Reason.{Reason}

@@ -5,7 +5,7 @@ use Rattle.lexical_util.specs.Layout as layout
 use Rattle.lexical_util.specs.Outcomes.{printed_text}
 use Rattle.lexical_util.specs.declared.error.Error.TheVariants.{Success}
 use Rattle.lexical_util.specs.Layout.{flags}
-use Rattle.lexical_util.specs.Constants.{mask_of}
+use Rattle.lexical_util.specs.Masks.{mask_of}
 use Rattle.lexical_util.specs.Record.{raw, effective_exponent_base, effective_exponent_radix}
 use Rattle.numfmt.specs.declared.response.Answer.{Answer}
 use Rattle.numfmt.specs.declared.response.Answer.TheVariants as answers

@@ -1,9 +1,9 @@
 -- The builder expression of a format word, as Rust code.
 use Rattle.std.specs.Prelude.{ℕ, List, ◌++◌, Option, Some, None, codes, decimal, flat_map}
 use Rattle.lexical_util.specs.Record.{raw}
-use Rattle.lexical_util.specs.Listing.{changing}
-use Rattle.lexical_util.specs.SettingNumbers.{name_of}
-use Rattle.lexical_util.specs.SettingText.{truth_text}
+use Rattle.lexical_util.specs.Additions.FieldEdits.{needed_edits}
+use Rattle.lexical_util.specs.Additions.SettingNumbers.{name_of}
+use Rattle.lexical_util.specs.Additions.SettingText.{truth_text}
 use Rattle.lexical_util.specs.declared.edits.Edit.{Edit}
 use Rattle.lexical_util.specs.declared.edits.Edit.TheVariants as edits
 
@@ -35,4 +35,4 @@ call_text edit = call (name_of edit) (argument_text edit)
 -- packing
 unfoldable pub source_text : ℕ → List ℕ
 source_text word =
-    codes "NumberFormatBuilder::new()" ++ flat_map call_text (changing (raw word)) ++ codes ".build_unchecked()"
+    codes "NumberFormatBuilder::new()" ++ flat_map call_text (needed_edits (raw word)) ++ codes ".build_unchecked()"

@@ -4,7 +4,7 @@ use Rattle.std.specs.Prelude.{length, take, drop, slice_index, codes, bytes_eq}
 use Rattle.std.specs.Bool.{then_some}
 use Rattle.std.specs.List.{list_all}
 use Rattle.lexical_util.specs.Digits.{digit_characters, is_lowercase, numeral}
-use Rattle.lexical_util.specs.Numeral.{is_numeral}
+use Rattle.lexical_util.specs.Additions.Numeral.{is_numeral}
 
 -- what follows `0x`
 abbrev pub hex_digits : List ℕ → List ℕ

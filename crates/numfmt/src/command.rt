@@ -3,7 +3,7 @@
 ghost use Rattle.std.specs.Prelude.{◌≡◌, IfErr, map, string_bytes};
 ghost use Rattle.std.specs.Result.{result_ok};
 ghost use Rattle.numfmt.specs.WordText.{word_in};
-ghost use Rattle.lexical_util.specs.SettingText.{byte_in};
+ghost use Rattle.lexical_util.specs.Additions.SettingText.{byte_in};
 ghost use Rattle.numfmt.specs.Command.{Responds, request_of, one_word, two_words, word_and_bytes, word_and_edits};
 ghost use Rattle.numfmt.specs.Command as commands;
 

@@ -2,7 +2,7 @@
 
 ghost use Rattle.std.specs.Prelude.{◌≡◌, ◌↔◌, ℕ, List, [], Some, IsErr, IsTrue, OnOk, flat_map};
 ghost use Rattle.std.specs.Io.KnownBytes.{Appends};
-ghost use Rattle.lexical_util.specs.Reasons.{unused_of};
+ghost use Rattle.lexical_util.specs.Additions.Reasons.{unused_of};
 ghost use Rattle.lexical_util.specs.Rules.{Lawful};
 ghost use Rattle.numfmt.specs.Explanation.{explanation, line_of, rule_text};
 

@@ -5,7 +5,6 @@
 use crate::edits::{Edit, FlagSetter, FIELDS};
 use crate::format_builder::NonZeroU8;
 use crate::format_flags as flags;
-use crate::reasons::is_separator_allowed;
 use crate::view::FormatView;
 
 /// Returns whether `build_unchecked` can return this word: its reserved bits are 0, and it has a digit
@@ -28,7 +27,7 @@ pub const fn is_built(format: u128) -> bool {
 
 // Whether there is no digit separator, or a flag that allows one.
 const fn is_separator_used(format: u128) -> bool {
-    flags::digit_separator(format) == 0 || is_separator_allowed(format)
+    flags::digit_separator(format) == 0 || flags::is_separator_allowed(format)
 }
 
 /// Returns the setter calls that make `format` from a new builder, and how many of them are needed.
@@ -55,8 +54,8 @@ const fn is_separator_used(format: u128) -> bool {
 /// For all arguments; [`definitions`](crate::definitions) has the words.
 ///
 /// ```text
-/// ensures list { result.0 ≡ changing (raw format) ++ unchanging (raw format) }
-/// ensures number { result.1 ≡ length (changing (raw format)) }
+/// ensures list { AreEditsOf (needed_writes (raw format) ++ other_writes (raw format)) result.0 }
+/// ensures number { result.1 ≡ length (needed_writes (raw format)) }
 /// ensures legal { All IsLegal (all_writes result.0) }
 ///
 /// // The first part makes the fields of the word, and so does the whole list.

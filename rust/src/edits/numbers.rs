@@ -2,7 +2,7 @@
 
 //! The numbers and names of setters, and edits as two numbers.
 
-use crate::edits::{edit_word, Edit, SETTERS};
+use crate::edits::{edit_word, Edit, FlagSetter, SETTERS};
 use crate::format_builder::NonZeroU8;
 use crate::format_flags as flags;
 
@@ -32,6 +32,25 @@ pub const SETTER_NAMES: [&str; SETTERS.len() + 7] = with_setters!(names());
 
 // How many setters there are.
 const SETTER_COUNT: u8 = FIRST_BYTE + 7;
+
+impl FlagSetter {
+    /// Returns the name of the setter: the variant in snake case.
+    #[must_use]
+    pub const fn name(self) -> &'static str {
+        SETTER_NAMES[self as usize]
+    }
+
+    /// Returns the setter of this name, or `None` if no setter of flags has it.
+    #[must_use]
+    pub fn from_name(name: &str) -> Option<FlagSetter> {
+        for setter in &SETTERS {
+            if setter.name() == name {
+                return Some(*setter);
+            }
+        }
+        None
+    }
+}
 
 impl Edit {
     /// Returns the number of the setter: its index in [`SETTER_NAMES`].

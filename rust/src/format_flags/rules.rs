@@ -335,6 +335,14 @@ pub const fn is_clean(format: u128) -> bool {
     format & RESERVED_MASK == 0
 }
 
+/// Returns whether some flag of `format` allows a digit separator, in a number or in a special value.
+/// `lexical-util` has no such function.
+#[must_use]
+#[inline(always)]
+pub const fn is_separator_allowed(format: u128) -> bool {
+    format & DIGIT_SEPARATOR_FLAG_MASK != 0
+}
+
 // THE FIRST BROKEN RULE
 
 // Whether all rules of punctuation are kept.

@@ -2,7 +2,7 @@
 
 ghost use Rattle.std.specs.Prelude.{◌≡◌, ◌<◌, ◌∷◌, [], ◌+◌, length, IsErr, OnOk, Some};
 ghost use Rattle.std.specs.Fmt.{WritesInCalls, decimal};
-ghost use Rattle.lexical_base.specs.Sentences.{piece_text, numbered};
+ghost use Rattle.lexical_base.specs.Additions.Sentences.{piece_text, numbered};
 
 use crate::error::Sink;
 use std::fmt;
@@ -30,7 +30,8 @@ pub struct Sentence(pub Piece, pub Piece, pub Piece, pub Piece);
 
 impl Model for Sentence {
     ghost use Rattle.std.specs.Prelude.{ℕ, ◌<◌, ◌+◌, ◌++◌, List};
-    ghost use Rattle.lexical_base.specs.Sentences.{piece_text, room};
+    ghost use Rattle.lexical_base.specs.Additions.Sentences.{piece_text};
+    ghost use Rattle.lexical_base.specs.Private.{room};
 
     ghost Value = { List ℕ };
 

@@ -1,8 +1,9 @@
 //! The rules as values.
 
 ghost use Rattle.std.specs.Prelude.{◌≡◌, ◌↔◌, IsTrue};
-ghost use Rattle.lexical_flags.specs.RuleFields.{mask_read};
-ghost use Rattle.lexical_flags.specs.Rules.{Holds, IsErrorOf, IsIfBroken, AreIfBroken, error_of, first_error, rules_in_order};
+ghost use Rattle.lexical_flags.specs.Additions.BrokenRules.{mask_read};
+ghost use Rattle.lexical_flags.specs.Rules.{Holds, IsErrorOf, error_of, rules_in_order};
+ghost use Rattle.lexical_flags.specs.Additions.BrokenRules.{IsIfBroken, AreIfBroken, first_error};
 
 use crate::format_flags::rules::*;
 use crate::format_flags::*;

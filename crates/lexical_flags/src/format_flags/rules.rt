@@ -9,8 +9,9 @@ ghost use Rattle.std.specs.Result.{OkIff};
 ghost use Rattle.lexical_base.specs.Ascii.{letters};
 ghost use Rattle.lexical_flags.specs.Layout as layout;
 ghost use Rattle.lexical_flags.specs.Layout.{IsClean};
-ghost use Rattle.lexical_flags.specs.Record.{raw};
-ghost use Rattle.lexical_flags.specs.Roles.{Disjoint, are_disjoint, clashes, cased, other_case, digits, own_roles};
+ghost use Rattle.lexical_flags.specs.Record.{raw, separator_on};
+ghost use Rattle.lexical_flags.specs.Roles.{Disjoint, are_disjoint, cased, other_case, digits, own_roles};
+ghost use Rattle.lexical_flags.specs.Additions.BrokenRules.{clashes};
 ghost use Rattle.lexical_flags.specs.Options.{AreAccepted, IsOptionsError, HaveOneRole, LeavesRoom};
 ghost use Rattle.lexical_flags.specs.Rules.{IsRadix, IsFree, IsPunctuation, Holds, IsFirstError, IsErrorOf, Lawful};
 ghost use Rattle.lexical_flags.specs.Rules.{radix_rules, punctuation_rules, flag_rules, reserved_rules};
@@ -399,6 +400,16 @@ pub const fn is_clean(format: u128) -> bool
     ensures { IsTrue result ↔ IsClean format }
 {
     format & RESERVED_MASK == 0
+}
+
+/// Returns whether some flag of `format` allows a digit separator, in a number or in a special value.
+/// `lexical-util` has no such function.
+#[inline(always)]
+#[tactic(auto, using(crate::proofs::FlagBits::separator_flag_set, crate::proofs::FlagBits::no_separator_flag_set))]
+pub const fn is_separator_allowed(format: u128) -> bool
+    ensures { result ≡ separator_on (raw format) }
+{
+    format & DIGIT_SEPARATOR_FLAG_MASK != 0
 }
 
 // THE FIRST BROKEN RULE

@@ -4,7 +4,7 @@
 ghost use Rattle.std.specs.Prelude.{[], ◌∷◌, Some, None};
 ghost use Rattle.lexical_flags.specs.Constants.{ShareNoBit};
 ghost use Rattle.lexical_flags.specs.Options.{HaveOneRole, IsOptionsError, LeavesRoom};
-ghost use Rattle.lexical_flags.specs.Rules.{AreIfBroken};
+ghost use Rattle.lexical_flags.specs.Additions.BrokenRules.{AreIfBroken};
 ghost use Rattle.lexical_flags.specs.declared.format_flags.all_rules.Rule.TheVariants as rules;
 ghost use Rattle.lexical_flags.specs.Pairs.{ArePairwise};
 ghost use Rattle.lexical_flags.specs.Record.{raw, SeparatorIsUsed};

@@ -6,11 +6,12 @@ ghost use Rattle.lexical_flags.specs.Layout.{IsClean};
 ghost use Rattle.lexical_flags.specs.Record.{raw, pack, SeparatorIsUsed, IsBuilt};
 ghost use Rattle.lexical_builder.specs.Writes.{Write, IsLegal, new_record, after};
 ghost use Rattle.lexical_util.specs.Edits.{all_writes};
-ghost use Rattle.lexical_util.specs.Listing.{field_edits, changes_new, changing, unchanging, IsBuiltByWrites};
+ghost use Rattle.lexical_util.specs.Listing.{AreEditsOf, needed_writes, other_writes, IsBuiltByWrites};
+ghost use Rattle.lexical_util.specs.Additions.FieldEdits.{field_edits};
+ghost use Rattle.lexical_util.specs.Private.{differs_from_new};
 
 use crate::edits::{Edit, FIELDS, FlagSetter};
 use crate::feature_format::NumberFormat;
-use crate::reasons::is_separator_allowed;
 use lexical_builder::format_builder::NonZeroU8;
 use lexical_flags::format_flags as flags;
 
@@ -29,7 +30,7 @@ pub const fn is_built(format: u128) -> bool
 const fn is_separator_used(format: u128) -> bool
     ensures { IsTrue result ↔ SeparatorIsUsed (raw format) }
 {
-    flags::digit_separator(format) == 0 || is_separator_allowed(format)
+    flags::digit_separator(format) == 0 || flags::is_separator_allowed(format)
 }
 
 /// Returns the setter calls that make `format` from a new builder, and how many of them are needed.
@@ -51,8 +52,8 @@ const fn is_separator_used(format: u128) -> bool
 /// assert_eq!(edits[..count], needed);
 /// ```
 pub fn edits_of(format: u128) -> ([Edit; FIELDS], usize)
-    ensures list { result.0 ≡ changing (raw format) ++ unchanging (raw format) }
-    ensures number { result.1 ≡ length (changing (raw format)) }
+    ensures list { AreEditsOf (needed_writes (raw format) ++ other_writes (raw format)) result.0 }
+    ensures number { result.1 ≡ length (needed_writes (raw format)) }
     ensures legal { All IsLegal (all_writes result.0) }
 
     // The first part makes the fields of the word, and so does the whole list.
@@ -115,7 +116,7 @@ const fn raw_exponent_radix(format: u128) -> u8
 // Whether an edit changes a new builder.
 #[tactic(auto, using(crate::proofs::ChangeLemmas::flag_change, crate::proofs::ChangeLemmas::group_change))]
 const fn is_change(edit: Edit) -> bool
-    ensures { result ≡ changes_new edit }
+    ensures { result ≡ differs_from_new edit }
 {
     match edit {
         Edit::Flag(setter, flag) => match setter {
@@ -135,9 +136,9 @@ const fn is_change(edit: Edit) -> bool
 // Moves those edits that change a new builder, or those that do not, to the front in their order, and
 // returns how many there are.
 fn move_to_front(edits: &mut [Edit], changed: bool) -> usize
-    ensures count { result ≡ length (filter (λ e. if changed then changes_new e else not (changes_new e)) edits.old) }
+    ensures count { result ≡ length (filter (λ e. if changed then differs_from_new e else not (differs_from_new e)) edits.old) }
     ensures front { take result edits.new
-        ≡ filter (λ e. if changed then changes_new e else not (changes_new e)) edits.old }
+        ≡ filter (λ e. if changed then differs_from_new e else not (differs_from_new e)) edits.old }
 {
     let mut count = 0;
     for index in 0..edits.len() {

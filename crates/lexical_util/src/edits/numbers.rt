@@ -1,10 +1,11 @@
 //! The numbers and names of setters, and edits as two numbers.
 
-ghost use Rattle.std.specs.Prelude.{◌≡◌, ◌<◌, ℕ, Some};
-ghost use Rattle.lexical_util.specs.SettingNumbers.{number_of, name_of, name_of_setter, byte_of, mask_of_edit};
-ghost use Rattle.lexical_util.specs.SettingNumbers.{setter_count, number_of_name, edit_of_numbers, edit_of_name};
+ghost use Rattle.std.specs.Prelude.{◌≡◌, ◌<◌, ◌↔◌, ℕ, Some};
+ghost use Rattle.lexical_util.specs.Additions.SetterNames.{setter_name};
+ghost use Rattle.lexical_util.specs.Additions.SettingNumbers.{number_of, name_of, name_of_setter, byte_of, mask_of_edit};
+ghost use Rattle.lexical_util.specs.Additions.SettingNumbers.{setter_count, number_of_name, edit_of_numbers, edit_of_name};
 
-use crate::edits::{Edit, SETTERS, edit_word};
+use crate::edits::{Edit, FlagSetter, SETTERS, edit_word};
 use lexical_builder::format_builder::NonZeroU8;
 use lexical_flags::format_flags as flags;
 
@@ -34,6 +35,27 @@ pub const SETTER_NAMES: [&str; SETTERS.len() + 7] = with_setters!(names());
 
 // How many setters there are.
 const SETTER_COUNT: u8 = FIRST_BYTE + 7;
+
+impl FlagSetter {
+    /// Returns the name of the setter: the variant in snake case.
+    pub const fn name(self) -> &'static str
+        ensures { result.now ≡ setter_name self }
+    {
+        SETTER_NAMES[self as usize]
+    }
+
+    /// Returns the setter of this name, or `None` if no setter of flags has it.
+    pub fn from_name(name: &str) -> Option<FlagSetter>
+        ensures { (setter : FlagSetter) → (result ≡ Some setter) ↔ (setter_name setter ≡ name.now) }
+    {
+        for setter in &SETTERS {
+            if setter.name() == name {
+                return Some(*setter);
+            }
+        }
+        None
+    }
+}
 
 impl Edit {
     /// Returns the number of the setter: its index in [`SETTER_NAMES`].

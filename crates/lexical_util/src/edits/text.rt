@@ -1,10 +1,11 @@
 //! Settings as text: `NAME=VALUE`.
 
 ghost use Rattle.std.specs.Prelude.{◌≡◌, ◌≤◌, Bool, Some, length};
-ghost use Rattle.lexical_base.specs.Sentences.{piece_text, room};
-ghost use Rattle.lexical_util.specs.Numeral.{is_numeral};
-ghost use Rattle.lexical_util.specs.SettingText.{byte_in, optional_byte_in, truth_in, with_value, setting_in};
-ghost use Rattle.lexical_util.specs.SettingText.{edit_or_error_in, setting_text, value_text, error_text};
+ghost use Rattle.lexical_base.specs.Additions.Sentences.{piece_text};
+ghost use Rattle.lexical_base.specs.Private.{room};
+ghost use Rattle.lexical_util.specs.Additions.Numeral.{is_numeral};
+ghost use Rattle.lexical_util.specs.Additions.SettingText.{byte_in, optional_byte_in, truth_in, with_value, setting_in};
+ghost use Rattle.lexical_util.specs.Additions.SettingText.{edit_or_error_in, setting_text, value_text, error_text};
 
 use crate::edits::Edit;
 use crate::numeral::read_numeral;

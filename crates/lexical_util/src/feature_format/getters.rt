@@ -5,6 +5,7 @@ ghost use Rattle.std.specs.Prelude.{◌≡◌, ◌≢◌, ◌↔◌, IsTrue};
 ghost use Rattle.lexical_flags.specs.Layout as layout;
 ghost use Rattle.lexical_flags.specs.Record.{raw};
 ghost use Rattle.lexical_flags.specs.Common.{common};
+ghost use Rattle.lexical_flags.specs.Additions.Masks as masks;
 ghost use Rattle.lexical_flags.specs.declared.format_flags.TheConstants as constants;
 ghost use Rattle.lexical_util.specs.Groups.{any_flag, bits_of};
 
@@ -323,7 +324,7 @@ impl NumberFormat {
     /// Returns the word with everything but [`INTERFACE_FLAG_MASK`][flags::INTERFACE_FLAG_MASK] masked out.
     #[inline(always)]
     pub const fn interface_flags(&self) -> u128
-        ensures bits { result ≡ bits_of self.now layout.interface_flags }
+        ensures bits { result ≡ bits_of self.now masks.interface_flags }
         ensures common { result ≡ common self.now constants.INTERFACE_FLAG_MASK }
     {
         self.format & flags::INTERFACE_FLAG_MASK
@@ -341,7 +342,7 @@ impl NumberFormat {
     /// Returns the word with everything but [`EXPONENT_FLAG_MASK`][flags::EXPONENT_FLAG_MASK] masked out.
     #[inline(always)]
     pub const fn exponent_flags(&self) -> u128
-        ensures bits { result ≡ bits_of self.now layout.exponent_flags }
+        ensures bits { result ≡ bits_of self.now masks.exponent_flags }
         ensures common { result ≡ common self.now constants.EXPONENT_FLAG_MASK }
     {
         self.format & flags::EXPONENT_FLAG_MASK

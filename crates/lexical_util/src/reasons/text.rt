@@ -1,9 +1,10 @@
 //! The sentences of reasons and of settings without effect.
 
 ghost use Rattle.std.specs.Prelude.{◌≡◌, ◌<◌, ◌≤◌, ◌+◌, ◌++◌, length, Some};
-ghost use Rattle.lexical_base.specs.Sentences.{piece_text, room};
-ghost use Rattle.lexical_util.specs.SetterNames.{setter_name};
-ghost use Rattle.lexical_util.specs.ReasonText.{words_of, described, sameness, reason_text, unused_text};
+ghost use Rattle.lexical_base.specs.Additions.Sentences.{piece_text};
+ghost use Rattle.lexical_base.specs.Private.{room};
+ghost use Rattle.lexical_util.specs.Additions.SetterNames.{setter_name};
+ghost use Rattle.lexical_util.specs.Additions.ReasonText.{words_of, described, sameness, reason_text, unused_text};
 
 use crate::edits::{Edit, FlagSetter};
 use crate::reasons::{Reason, Unused};

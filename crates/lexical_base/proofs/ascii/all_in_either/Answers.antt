@@ -1,5 +1,5 @@
 use Rattle.std.proofs.Common.{◌/◌, length}
-use Rattle.lexical_base.specs.Ascii.{in_either}
+use Rattle.lexical_base.specs.Private.{in_either}
 use Rattle.lexical_base.proofs.ChunkLemmas.{chunks_and_rest, tells_all}
 use Rattle.lexical_base.proofs.ascii.all_in_either.Goals as goal
 

@@ -2,7 +2,7 @@ use Rattle.std.proofs.Common.{◌-◌, ◌&&◌, ◌∙◌, sym, ap, ap₂}
 use Rattle.std.specs.List.{list_all}
 use Rattle.std.proofs.lemmas.List.{take_all}
 use Rattle.std.proofs.lemmas.List.Folds.{list_all_more}
-use Rattle.lexical_base.specs.Ascii.{in_either}
+use Rattle.lexical_base.specs.Private.{in_either}
 use Rattle.lexical_base.proofs.LaneLemmas.{none_joined, none_above}
 use Rattle.lexical_base.proofs.ascii.block_in_either.Goals as goal
 

@@ -1,7 +1,7 @@
 use Rattle.std.proofs.Common.{◌≡◌, take}
 use Rattle.std.specs.Prelude.{nat_le}
 use Rattle.std.specs.List.{list_all}
-use Rattle.lexical_base.specs.Ascii.{in_either}
+use Rattle.lexical_base.specs.Private.{in_either}
 use Rattle.lexical_base.proofs.ascii.block_in_either.Given as goal
 
 abbrev pub invariant-loop-chunk : goal.invariant-loop-chunk

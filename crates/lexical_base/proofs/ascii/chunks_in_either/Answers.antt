@@ -2,7 +2,7 @@ use Rattle.std.proofs.Common.{◌/◌, ◌∙◌, sym, ap, length, [], refl}
 use Rattle.std.specs.List.{list_all}
 use Rattle.std.proofs.lemmas.List.{take_all}
 use Rattle.std.proofs.lemmas.List.Folds.{list_all_at}
-use Rattle.lexical_base.specs.Ascii.{in_either}
+use Rattle.lexical_base.specs.Private.{in_either}
 use Rattle.lexical_base.proofs.ChunkLemmas.{chunks_and_rest}
 use Rattle.lexical_base.proofs.ascii.chunks_in_either.Goals as goal
 

@@ -1,6 +1,6 @@
 use Rattle.std.proofs.Common.{◌≡◌, true, take}
 use Rattle.std.specs.List.{list_all}
-use Rattle.lexical_base.specs.Ascii.{in_either}
+use Rattle.lexical_base.specs.Private.{in_either}
 use Rattle.lexical_base.proofs.ascii.chunks_in_either.Given as goal
 
 abbrev pub invariant-loop-block : goal.invariant-loop-block

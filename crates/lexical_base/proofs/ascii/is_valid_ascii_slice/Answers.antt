@@ -1,5 +1,6 @@
 use Rattle.std.proofs.Common.{refl}
-use Rattle.lexical_base.specs.Ascii.{in_either, allowed_ascii}
+use Rattle.lexical_base.specs.Ascii.{allowed_ascii}
+use Rattle.lexical_base.specs.Private.{in_either}
 use Rattle.lexical_base.proofs.ChunkLemmas.{same_test}
 use Rattle.lexical_base.proofs.ascii.is_valid_ascii_slice.Goals as goal
 

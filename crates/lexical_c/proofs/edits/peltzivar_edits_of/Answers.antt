@@ -1,6 +1,9 @@
 use Rattle.std.proofs.Common.{rules, refl, ◌++◌, length, map, take, sym, ap, subst, ◌∙◌, arith, All}
+use Rattle.std.proofs.lemmas.List.{length-map}
 use Rattle.lexical_util.specs.Record.{raw}
-use Rattle.lexical_util.specs.Listing.{changing, unchanging}
+use Rattle.lexical_util.specs.Additions.FieldEdits.{edit_of_write, needed_edits, other_edits}
+use Rattle.lexical_util.specs.Listing.{needed_writes}
+use Rattle.lexical_util.proofs.ListingLemmas.{only_both}
 use Rattle.lexical_util.specs.Writes.{IsLegal, new_record, after}
 use Rattle.lexical_util.specs.Edits.{all_writes}
 use Rattle.lexical_c.specs.Edits.{numbered}
@@ -19,13 +22,14 @@ pub returns : goal.returns
 returns c =
     let listed = c.edits_of-list.ensures in
     let format = c.number.ensures in
-    let list = listed.list ∙ ap (λ word. changing (raw word) ++ unchanging (raw word)) format in
+    let list = only_both (raw c.number.result) _ listed.list ∙ ap (λ word. needed_edits (raw word) ++ other_edits (raw word)) format in
     let (numbers, known, each) = all_numbered c.loop-index.invariant (omega (arith, c.loop-index-test.false)) in
     record {
       numbers = numbers ∙ ap (map numbered) list;
       each = each;
       list = known ∙ list;
-      number = listed.number ∙ ap (λ word. length (changing (raw word))) format;
+      number = listed.number ∙ sym (length-map (needed_writes (raw c.number.result)) edit_of_write)
+          ∙ ap (λ word. length (needed_edits (raw word))) format;
       legal = subst (λ edits. All IsLegal (all_writes edits)) (sym known) listed.legal;
       first = ap (λ edits. after new_record (all_writes (take c.edits_of-list.result.1 edits))) known
           ∙ listed.first ∙ ap raw format;

@@ -1,6 +1,6 @@
 use Rattle.std.proofs.Common.{None, map, get_or, sym, ap, ◌∙◌, arith}
 use Rattle.std.proofs.lemmas.List.{get_or_default, get_or_past}
-use Rattle.lexical_util.specs.Reasons.{said, unused_cases}
+use Rattle.lexical_util.specs.Additions.Reasons.{said, unused_cases}
 use Rattle.lexical_c.specs.Words.{fields_of}
 use Rattle.lexical_c.proofs.rules.unused_at.Goals as goal
 

@@ -1,6 +1,6 @@
 use Rattle.std.proofs.Common.{[], ◌∙◌, arith}
 use Rattle.std.proofs.lemmas.List.{get_or_past}
-use Rattle.lexical_util.specs.SettingNumbers.{setter_names}
+use Rattle.lexical_util.specs.Additions.SettingNumbers.{setter_names}
 use Rattle.lexical_c.proofs.setters.peltzivar_setter_name.Goals as goal
 
 pub returns-clause-unknown : goal.returns-clause-unknown

@@ -1,25 +1,28 @@
--- The result is the normal form, and each clause what the laws say of that.
+-- The result is the normal form, and each clause is a lemma about that.
 use Rattle.std.proofs.Common.{◌∙◌, refl, sym, ap, arith}
 use Rattle.lexical_flags.specs.Record.{pack}
-use Rattle.lexical_util.proofs.NormalLemmas.{normal_form-is}
+use Rattle.lexical_util.specs.Normal.{normal_form_of}
+use Rattle.lexical_util.proofs.NormalLemmas.{normal_form-is, raw_normal, clean_normal, normal_only, normal_again}
+use Rattle.lexical_util.proofs.NormalLemmas.{normal_from_fixed, fixed_from_normal, normal_keeps, groups_normal}
+use Rattle.lexical_util.proofs.NormalLemmas.{flags_normal, edited-normal}
 use Rattle.lexical_util.proofs.edits.normal_form.Goals as goal
 
 pub returns : goal.returns
 returns c =
-    let format = c.args.format in
-    let facts = c.normal_form_facts.ensures in
-    rw (c.build_unchecked.ensures.word ∙ ap pack c.rebuild.ensures ∙ sym (normal_form-is format)) (record {
+    let w = c.args.format in
+    let rules = c.rule_facts.ensures in
+    rw (c.build_unchecked.ensures.word ∙ ap pack c.rebuild.ensures ∙ sym (normal_form-is w)) (record {
       word = refl;
-      fields = facts.fields format;
-      clean = facts.clean format;
-      only = facts.only format;
-      again = facts.again format;
-      unchanged = facts.unchanged format (omega arith);
-      same = facts.same format;
-      groups = facts.groups format;
-      flags = facts.flags format;
-      lawful = facts.lawful format;
-      error = facts.error format;
-      edits = facts.edits format;
-      normal = facts.normal format;
+      fields = raw_normal w;
+      clean = clean_normal w;
+      only = normal_only w;
+      again = normal_again w;
+      unchanged = (normal_from_fixed w, fixed_from_normal w (omega arith));
+      same = normal_keeps w;
+      groups = groups_normal w;
+      flags = flags_normal w;
+      lawful = rules.kept_lawful w (normal_form_of w) (clean_normal w) (raw_normal w);
+      error = rules.same_error w (normal_form_of w) (clean_normal w) (raw_normal w);
+      edits = λ used writes legal. edited-normal w writes used;
+      normal = normal_from_fixed (normal_form_of w) (normal_again w);
     })

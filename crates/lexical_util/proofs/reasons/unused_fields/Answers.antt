@@ -2,7 +2,7 @@ use Rattle.std.proofs.Common.{◌≡◌, ◌∙◌, ap, map, arith}
 use Rattle.std.proofs.lemmas.Bool.Decides.{nat_tests}
 use Rattle.lexical_flags.specs.Layout as layout
 use Rattle.lexical_flags.specs.Record.{Record, trim, set_byte}
-use Rattle.lexical_util.specs.Reasons.{said, unused_cases}
+use Rattle.lexical_util.specs.Additions.Reasons.{said, unused_cases}
 use Rattle.lexical_util.proofs.reasons.unused_fields.Goals as goal
 use Rattle.lexical_util.proofs.reasons.unused_fields.Goals.{in-Some, in-None}
 

@@ -1,7 +1,7 @@
 use Rattle.std.proofs.Common.{◌∙◌, ap, map}
 use Rattle.lexical_flags.specs.Layout as layout
 use Rattle.lexical_flags.specs.Record.{raw, set_byte}
-use Rattle.lexical_util.specs.Reasons.{said, unused_cases}
+use Rattle.lexical_util.specs.Additions.Reasons.{said, unused_cases}
 use Rattle.lexical_util.proofs.ReasonLemmas.{without_prefix, without_suffix, normal_without_separator}
 use Rattle.lexical_util.proofs.reasons.unused_settings.Goals as goal
 

@@ -2,7 +2,7 @@
 use Rattle.std.proofs.Common.{[], string_bytes, sym, ap, ◌∙◌, arith}
 use Rattle.std.proofs.lemmas.List.{length-map, get_or-map}
 use Rattle.std.specs.Result.{result_ok}
-use Rattle.lexical_util.specs.SettingText.{edit_in}
+use Rattle.lexical_util.specs.Additions.SettingText.{edit_in}
 use Rattle.numfmt.proofs.EditsLemmas.{HaveRead-next, edits_in-none}
 use Rattle.numfmt.proofs.edit.read_edits.Goals as goal
 

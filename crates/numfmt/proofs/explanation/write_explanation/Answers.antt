@@ -1,7 +1,7 @@
 -- What is said of each rule, and then the settings without effect.
 use Rattle.std.proofs.Common.{[], refl}
-use Rattle.lexical_util.specs.Reasons.{said, unused_cases}
-use Rattle.lexical_util.specs.ReasonText.{unused_text}
+use Rattle.lexical_util.specs.Additions.Reasons.{said, unused_cases}
+use Rattle.lexical_util.specs.Additions.ReasonText.{unused_text}
 use Rattle.lexical_util.specs.Record.{raw}
 use Rattle.lexical_util.specs.Rules.{rules_in_order}
 use Rattle.std.proofs.lemmas.List.{take_all}

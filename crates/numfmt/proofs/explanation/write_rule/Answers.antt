@@ -5,8 +5,8 @@ use Rattle.std.proofs.KnownBytes.{Appends-nil, Appends-trans}
 use Rattle.std.proofs.lemmas.Bool.{false≢true}
 use Rattle.std.proofs.lemmas.Bool.Decides.{nat_tests}
 use Rattle.std.proofs.lemmas.List.{take_all}
-use Rattle.lexical_util.specs.ReasonText.{reason_text}
-use Rattle.lexical_util.specs.Reasons.{reasons_of}
+use Rattle.lexical_util.specs.Additions.ReasonText.{reason_text}
+use Rattle.lexical_util.specs.Additions.Reasons.{reasons_of}
 use Rattle.lexical_util.proofs.ReasonLemmas.{kept_without_reason}
 use Rattle.numfmt.specs.Explanation.{field_line, text_for}
 use Rattle.numfmt.proofs.ExplanationLemmas.{text_for-some}

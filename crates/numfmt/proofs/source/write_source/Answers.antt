@@ -3,9 +3,11 @@ use Rattle.std.proofs.Common.{◌≡◌, ℕ, List, ◌∷◌, ◌++◌, append_
 use Rattle.std.proofs.Common.{subst, sym, ap, ◌∙◌, arith}
 use Rattle.std.specs.Io.KnownBytes.{Appends}
 use Rattle.std.proofs.KnownBytes.{Appends-nil, Appends-trans}
-use Rattle.std.proofs.lemmas.List.{take_all, take_at}
+use Rattle.std.proofs.lemmas.List.{take_all, take_at, length-map}
 use Rattle.lexical_util.specs.Record.{raw}
-use Rattle.lexical_util.specs.Listing.{changing, unchanging}
+use Rattle.lexical_util.specs.Additions.FieldEdits.{edit_of_write, needed_edits, other_edits}
+use Rattle.lexical_util.specs.Listing.{needed_writes}
+use Rattle.lexical_util.proofs.ListingLemmas.{only_both}
 use Rattle.numfmt.specs.Source.{source_text, call, call_text}
 use Rattle.numfmt.proofs.WritingLemmas.{one_more, then}
 use Rattle.numfmt.proofs.source.write_source.Goals as goal
@@ -16,7 +18,13 @@ loop-edit-init g c = Appends-nil (g.W.Output.contents c.write_all.new.self)
 pub shared_whole_as_front-edit-items : goal.shared_whole_as_front-edit-items
 shared_whole_as_front-edit-items g c =
     let edits = c.edits_of-edits.ensures in
-    omega (arith, edits.number, simp length-append at (ap length edits.list))
+    let fields = raw c.args.word in
+    omega (
+      arith,
+      edits.number,
+      length-map (needed_writes fields) edit_of_write,
+      simp length-append at (ap length (only_both fields _ edits.list)),
+    )
 
 -- a call in the pieces in which it is written
 pieces : (name value : List ℕ) → codes "." ++ (name ++ (codes "(" ++ (value ++ codes ")"))) ≡ call name value
@@ -39,9 +47,10 @@ unfolding source_text
 returns-clause-text g c =
     let edits = c.edits_of-edits in
     let fields = raw c.args.word in
-    let is : take edits.result.1 edits.result.0 ≡ changing fields =
-    ap (take edits.result.1) edits.ensures.list
-    ∙ take_at (changing fields) (unchanging fields) edits.result.1 (sym edits.ensures.number) in
+    let is : take edits.result.1 edits.result.0 ≡ needed_edits fields =
+    ap (take edits.result.1) (only_both fields _ edits.ensures.list)
+    ∙ take_at (needed_edits fields) (other_edits fields) edits.result.1
+    (length-map (needed_writes fields) edit_of_write ∙ sym edits.ensures.number) in
     let contents = g.W.Output.contents in
     let written = take_all c.loop-edit.edit-index _ c.loop-edit-test.false ∙ is in
     let calls = subst (λ list. Appends (contents c.write_all.new.self) (contents c.loop-edit.out)

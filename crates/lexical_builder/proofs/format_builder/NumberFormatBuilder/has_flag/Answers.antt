@@ -2,7 +2,8 @@ use Rattle.std.proofs.Common.{◌∙◌, ◌≡◌, ◌==◌, ◌^◌, ℕ, not,
 use Rattle.lexical_flags.specs.Layout.{Flag}
 use Rattle.lexical_flags.specs.Record.{Record}
 use Rattle.lexical_flags.proofs.FlagBits.{flag_test}
-use Rattle.lexical_builder.specs.BuilderBits.{builder_bit, flag_with, flags_in}
+use Rattle.lexical_builder.specs.BuilderBits.{builder_bit}
+use Rattle.lexical_builder.specs.Private.{flag_with, flags_in}
 use Rattle.lexical_builder.proofs.BuilderFlags.{flags_in-mask}
 use Rattle.lexical_builder.proofs.format_builder.NumberFormatBuilder.has_flag.Goals as goal
 

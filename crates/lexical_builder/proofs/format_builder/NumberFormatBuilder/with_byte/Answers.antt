@@ -5,7 +5,8 @@ use Rattle.std.proofs.lemmas.List.{get_or-set_same, get_or-set_other}
 use Rattle.std.proofs.lemmas.Bool.Decides.{nat_tests}
 use Rattle.lexical_flags.specs.Record.{Record}
 use Rattle.lexical_flags.proofs.RecordLemmas.{record_same}
-use Rattle.lexical_builder.specs.BuilderBits.{index_of, byte_at, record_of}
+use Rattle.lexical_builder.specs.BuilderBits.{index_of, record_of}
+use Rattle.lexical_builder.specs.Private.{byte_at}
 use Rattle.lexical_builder.specs.Writes.{after, write_byte}
 use Rattle.lexical_builder.proofs.WriteLemmas.{after-byte}
 use Rattle.lexical_builder.proofs.format_builder.NumberFormatBuilder.with_byte.Goals as goal

@@ -1,5 +1,5 @@
 use Rattle.std.proofs.Common.{rules}
-use Rattle.lexical_flags.specs.Rules.{IsIfBroken}
+use Rattle.lexical_flags.specs.Additions.BrokenRules.{IsIfBroken}
 use Rattle.lexical_flags.specs.declared.format_flags.all_rules.Rule.TheVariants as every
 use Rattle.lexical_flags.proofs.RuleLemmas.{first_of_broken}
 use Rattle.lexical_flags.proofs.format_flags.all_rules.broken_rules.Goals as goal

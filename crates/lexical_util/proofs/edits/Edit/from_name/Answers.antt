@@ -1,5 +1,5 @@
 use Rattle.std.proofs.Common.{◌∙◌, ap}
-use Rattle.lexical_util.specs.SettingNumbers.{number_of_name, edit_of_numbers}
+use Rattle.lexical_util.specs.Additions.SettingNumbers.{number_of_name, edit_of_numbers}
 use Rattle.lexical_util.proofs.edits.Edit.from_name.Goals as goal
 
 pub returns : goal.returns

@@ -1,5 +1,5 @@
 use Rattle.std.proofs.Common.{◌∙◌, ap, sym}
-use Rattle.lexical_util.specs.SettingText.{setting_of}
+use Rattle.lexical_util.specs.Additions.SettingText.{setting_of}
 use Rattle.lexical_util.proofs.edits.Edit.from_setting.Goals as goal
 
 pub returns-in-Some : goal.returns-in-Some

@@ -1,8 +1,8 @@
 use Rattle.std.proofs.Common.{◌+◌, ◌==◌, sym, ◌∙◌, take_all, arith}
 use Rattle.std.specs.List.{position_or_len}
 use Rattle.std.proofs.lemmas.List.{drop_all}
-use Rattle.lexical_util.specs.SettingText.{setting_in}
-use Rattle.lexical_util.specs.SettingText as text
+use Rattle.lexical_util.specs.Additions.SettingText.{setting_in}
+use Rattle.lexical_util.specs.Additions.SettingText as text
 use Rattle.lexical_util.proofs.edits.Edit.from_text.Goals as goal
 
 pub returns-in-Some : goal.returns-in-Some

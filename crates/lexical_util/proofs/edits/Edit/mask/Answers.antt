@@ -1,5 +1,5 @@
 use Rattle.std.proofs.Common.{◌∙◌, ap, sym}
-use Rattle.lexical_util.specs.SettingNumbers.{mask_of_edit}
+use Rattle.lexical_util.specs.Additions.SettingNumbers.{mask_of_edit}
 use Rattle.lexical_util.proofs.NumberLemmas.{flags_of_zero}
 use Rattle.lexical_util.proofs.edits.Edit.mask.Goals as goal
 

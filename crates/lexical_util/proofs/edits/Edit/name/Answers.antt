@@ -1,5 +1,5 @@
 use Rattle.std.proofs.Common.{◌∙◌, ap, sym}
-use Rattle.lexical_util.specs.SettingNumbers.{edit_of_numbers, byte_of, name_of_setter, number_of_name}
+use Rattle.lexical_util.specs.Additions.SettingNumbers.{edit_of_numbers, byte_of, name_of_setter, number_of_name}
 use Rattle.lexical_util.proofs.NumberLemmas.{number_of_its_name}
 use Rattle.lexical_util.proofs.edits.Edit.name.Goals as goal
 

@@ -1,7 +1,7 @@
 use Rattle.std.proofs.Common.{codes}
 use Rattle.std.proofs.lemmas.List.{append_assoc}
-use Rattle.lexical_util.specs.SettingNumbers.{name_of}
-use Rattle.lexical_util.specs.SettingText.{value_text}
+use Rattle.lexical_util.specs.Additions.SettingNumbers.{name_of}
+use Rattle.lexical_util.specs.Additions.SettingText.{value_text}
 use Rattle.lexical_util.proofs.edits.Edit.sentence.Goals as goal
 
 pub returns : goal.returns

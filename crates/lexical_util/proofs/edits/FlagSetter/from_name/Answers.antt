@@ -4,7 +4,7 @@ use Rattle.std.proofs.lemmas.Bool.Decides.{not_from_Decides}
 use Rattle.std.proofs.lemmas.List.{get_or_default}
 use Rattle.std.proofs.lemmas.List.Elements.{AllWithin-more}
 use Rattle.lexical_util.specs.declared.edits.TheConstants.{SETTERS}
-use Rattle.lexical_util.specs.SetterNames.{setter_name}
+use Rattle.lexical_util.specs.Additions.SetterNames.{setter_name}
 use Rattle.lexical_util.proofs.SetterNameLemmas.{place_of, at_place, place-below, some_named}
 use Rattle.lexical_util.proofs.edits.FlagSetter.from_name.Goals as goal
 

@@ -1,6 +1,6 @@
 use Rattle.std.proofs.Common.{◌≢◌}
 use Rattle.std.specs.List.{AllWithin}
-use Rattle.lexical_util.specs.SetterNames.{setter_name}
+use Rattle.lexical_util.specs.Additions.SetterNames.{setter_name}
 use Rattle.lexical_util.proofs.edits.FlagSetter.from_name.Given as goal
 
 -- No setter so far has the name.

@@ -1,6 +1,6 @@
 use Rattle.std.proofs.Common.{[], sym, arith}
 use Rattle.std.proofs.lemmas.List.{get_or_default, get_or_past}
-use Rattle.lexical_util.specs.SettingNumbers.{setter_names}
+use Rattle.lexical_util.specs.Additions.SettingNumbers.{setter_names}
 use Rattle.lexical_base.proofs.TableLemmas.{text_in_table}
 use Rattle.lexical_util.proofs.edits.numbers.name_of_number.Goals as goal
 

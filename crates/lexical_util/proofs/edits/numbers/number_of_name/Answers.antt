@@ -4,7 +4,7 @@ use Rattle.std.proofs.lemmas.Bool.{cases_lt}
 use Rattle.std.proofs.lemmas.Bool.Decides.{not_from_Decides}
 use Rattle.std.proofs.lemmas.List.Sums.{position_or_len_is}
 use Rattle.std.proofs.lemmas.Slice.Eq.{bytes_eq-Decides}
-use Rattle.lexical_util.specs.SettingNumbers.{setter_names, name_of_setter}
+use Rattle.lexical_util.specs.Additions.SettingNumbers.{setter_names, name_of_setter}
 use Rattle.lexical_util.proofs.edits.numbers.number_of_name.Goals as goal
 
 -- The first number whose name is the name is the number of the name, and if there is none it is that of no setter.

@@ -1,6 +1,6 @@
 use Rattle.std.proofs.Common.{◌≡◌, ◌<◌, ℕ, false}
 use Rattle.std.specs.Str.{bytes_eq}
-use Rattle.lexical_util.specs.SettingNumbers.{name_of_setter}
+use Rattle.lexical_util.specs.Additions.SettingNumbers.{name_of_setter}
 use Rattle.lexical_util.proofs.edits.numbers.number_of_name.Given as goal
 
 -- No setter so far has the name.

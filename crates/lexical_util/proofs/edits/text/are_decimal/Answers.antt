@@ -1,6 +1,6 @@
 use Rattle.std.proofs.Common.{◌≡◌, true, sym, ap, ◌∙◌, is_some, not, take_all, arith}
 use Rattle.std.proofs.lemmas.List.Elements.{All-more}
-use Rattle.lexical_util.specs.Numeral.{is_digit}
+use Rattle.lexical_util.specs.Additions.Numeral.{is_digit}
 use Rattle.lexical_util.proofs.NumeralLemmas.{digit_passes, numeral_from}
 use Rattle.lexical_util.proofs.edits.text.are_decimal.Goals as goal
 

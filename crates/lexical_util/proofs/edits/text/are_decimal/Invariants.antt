@@ -1,6 +1,6 @@
 use Rattle.std.proofs.Common.{take}
 use Rattle.std.specs.List.{AllPass}
-use Rattle.lexical_util.specs.Numeral.{is_digit}
+use Rattle.lexical_util.specs.Additions.Numeral.{is_digit}
 use Rattle.lexical_util.proofs.edits.text.are_decimal.Given as goal
 
 -- All bytes so far are digits.

@@ -1,6 +1,6 @@
 use Rattle.std.proofs.Common.{ap, sym, ◌∙◌, arith}
 use Rattle.lexical_util.specs.declared.edits.Edit.TheVariants as edits
-use Rattle.lexical_util.specs.SettingText.{map_ok}
+use Rattle.lexical_util.specs.Additions.SettingText.{map_ok}
 use Rattle.lexical_util.proofs.edits.text.with_value.Goals as goal
 
 -- search proves these goals as well; given here so that the must-fail edit

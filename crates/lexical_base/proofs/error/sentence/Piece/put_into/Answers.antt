@@ -1,6 +1,6 @@
 use Rattle.std.proofs.Common.{rules, ◌≡◌, ◌<◌, ◌++◌, [], ◌∷◌, codes, refl}
 use Rattle.std.proofs.lemmas.Str.{encode_ascii}
-use Rattle.lexical_base.specs.Sentences.{piece_text}
+use Rattle.lexical_base.specs.Additions.Sentences.{piece_text}
 use Rattle.lexical_base.proofs.PieceLemmas.{first, last}
 use Rattle.lexical_base.proofs.error.sentence.Piece.put_into.Goals as goal
 

@@ -1,8 +1,8 @@
 -- The sentences that say what is wrong with a word, and what of it has no effect.
 use Rattle.std.specs.Prelude.{ℕ, ◌==◌, if◌then◌else◌, List, ◌++◌, codes, decimal}
-use Rattle.lexical_base.specs.Sentences.{numbered, shown}
-use Rattle.lexical_util.specs.SetterNames.{setter_name}
-use Rattle.lexical_util.specs.SettingNumbers.{byte_of}
+use Rattle.lexical_base.specs.Additions.Sentences.{numbered, shown}
+use Rattle.lexical_util.specs.Additions.SetterNames.{setter_name}
+use Rattle.lexical_util.specs.Additions.SettingNumbers.{byte_of}
 use Rattle.lexical_util.specs.declared.edits.Edit.{Edit}
 use Rattle.lexical_util.specs.declared.edits.Edit.TheVariants as edits
 use Rattle.lexical_util.specs.declared.reasons.Reason.{Reason}

@@ -1,5 +1,5 @@
 -- Sentences that are put together from pieces.
-use Rattle.std.specs.Prelude.{ℕ, ◌+◌, if◌then◌else◌, List, ◌∷◌, ◌++◌, length, codes, decimal}
+use Rattle.std.specs.Prelude.{ℕ, if◌then◌else◌, List, ◌∷◌, ◌++◌, codes, decimal}
 use Rattle.lexical_base.specs.Ascii.{between}
 use Rattle.lexical_base.specs.declared.error.sentence.Piece.{Piece}
 use Rattle.lexical_base.specs.declared.error.sentence.Piece.TheVariants as pieces
@@ -19,10 +19,3 @@ piece_text (pieces.Words words) = words.now
 piece_text (pieces.Number number) = decimal number
 piece_text (pieces.Numbered name byte) = numbered name.now byte
 piece_text (pieces.Shown name byte) = shown name.now byte
-
--- room for it, if a number has at most 64 digits
-abbrev pub room : Piece → ℕ
-room (pieces.Words words) = length words.now
-room (pieces.Number number) = 64
-room (pieces.Numbered name byte) = 4 + length name.now + 65
-room (pieces.Shown name byte) = 4 + length name.now + 65

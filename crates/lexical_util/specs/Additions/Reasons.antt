@@ -7,11 +7,11 @@ use Rattle.lexical_base.specs.Ascii.{ByteSet, between, allowed_ascii}
 use Rattle.lexical_base.specs.Digits.{digits_of}
 use Rattle.lexical_flags.specs.Layout as layout
 use Rattle.lexical_flags.specs.Layout.{IsClean}
-use Rattle.lexical_flags.specs.Record.{Record, set_flag, set_byte, raw, separator_on, effective_exponent_base, effective_exponent_radix}
+use Rattle.lexical_flags.specs.Record.{Record, set_byte, raw, separator_on, effective_exponent_base, effective_exponent_radix}
 use Rattle.lexical_flags.specs.Roles.{are_disjoint, digits, signs, separator, prefix, suffix}
 use Rattle.lexical_flags.specs.Rules.{contradict, Holds}
 use Rattle.lexical_flags.specs.Options.{AreAccepted}
-use Rattle.lexical_flags.specs.RuleFields.{mask_read}
+use Rattle.lexical_flags.specs.Additions.BrokenRules.{mask_read}
 use Rattle.lexical_flags.specs.declared.format_flags.all_rules.Rule.{Rule}
 use Rattle.lexical_flags.specs.declared.format_flags.all_rules.Rule.TheVariants as rules
 use Rattle.lexical_builder.specs.OptionByte.{option_of_byte}
@@ -119,6 +119,10 @@ unused_cases r =
 -- what of a word has no effect
 abbrev pub unused_of : ℕ → List Unused
 unused_of word = filter_map said (unused_cases (raw word))
+
+-- the record with another value of one flag
+abbrev pub set_flag : Record → layout.Flag → Bool → Record
+set_flag r f value = record r { flag = λ g. if layout.bit g == layout.bit f then value else r.flag g }
 
 -- the fields without what has no effect: the separator, and the case of the base prefix or suffix
 abbrev pub without_separator : Record → Record

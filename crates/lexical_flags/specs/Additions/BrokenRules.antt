@@ -1,14 +1,19 @@
--- The fields that each rule reads.
-use Rattle.std.specs.Prelude.{ℕ, ◌+◌, List, [], ◌∷◌, sum_by}
+-- For `Rule::mask`, `Rule::if_broken`, `broken_rules` and `clashes`: the bits that a rule reads, and which rules a word
+-- breaks.
+use Rattle.std.specs.Prelude.{ℕ, ◌+◌, ◌≡◌, ◌⊎◌, Bool, not, List, [], ◌∷◌, Option, None, Some, sum_by}
+use Rattle.lexical_base.specs.declared.error.Error.{Error}
+use Rattle.lexical_base.specs.declared.error.Error.TheVariants as errors
 use Rattle.lexical_flags.specs.Layout.{Flag, Byte, integer_digit_separator_flags, fraction_digit_separator_flags}
 use Rattle.lexical_flags.specs.Layout.{exponent_digit_separator_flags}
 use Rattle.lexical_flags.specs.Layout as layout
-use Rattle.lexical_flags.specs.Constants.{mask_of, byte_mask}
-use Rattle.lexical_flags.specs.declared.format_flags.TheConstants.{RESERVED_MASK}
+use Rattle.lexical_flags.specs.Additions.Masks.{byte_mask, mask_of, reserved_mask}
+use Rattle.lexical_flags.specs.Record.{Record}
+use Rattle.lexical_flags.specs.Roles.{are_disjoint, separator, prefix, suffix}
+use Rattle.lexical_flags.specs.Rules.{Holds, error_of}
 use Rattle.lexical_flags.specs.declared.format_flags.all_rules.Rule.{Rule}
 use Rattle.lexical_flags.specs.declared.format_flags.all_rules.Rule.TheVariants as rules
 
--- the flags that a rule reads
+-- The flags that each rule reads.
 abbrev pub flags_read : Rule → List Flag
 flags_read rules.PunctuationDiffers = layout.case_sensitive_base_prefix ∷ layout.case_sensitive_base_suffix ∷ []
 flags_read rules.ExponentFlagsAgree = layout.no_exponent_notation ∷ layout.required_exponent_notation ∷ []
@@ -21,7 +26,7 @@ flags_read rules.FractionConsecutiveIsAllowed = fraction_digit_separator_flags
 flags_read rules.ExponentConsecutiveIsAllowed = exponent_digit_separator_flags
 flags_read _ = []
 
--- the bytes that a rule reads
+-- The bytes that each rule reads.
 abbrev pub bytes_read : Rule → List Byte
 bytes_read rules.MantissaRadixInRange = layout.mantissa_radix ∷ []
 bytes_read rules.ExponentBaseInRange = layout.exponent_base ∷ layout.mantissa_radix ∷ []
@@ -32,7 +37,32 @@ bytes_read rules.BaseSuffixIsFree = layout.base_suffix ∷ layout.mantissa_radix
 bytes_read rules.PunctuationDiffers = layout.digit_separator ∷ layout.base_prefix ∷ layout.base_suffix ∷ []
 bytes_read _ = []
 
--- the bits that a rule reads: those of its fields, and for the last rule those of no field
+-- The bits that a rule reads: those of its fields, and for the last rule the reserved bits.
 abbrev pub mask_read : Rule → ℕ
-mask_read rules.ReservedBitsAreZero = RESERVED_MASK
+mask_read rules.ReservedBitsAreZero = reserved_mask
 mask_read rule = mask_of (flags_read rule) + sum_by byte_mask (bytes_read rule)
+
+-- `IsIfBroken word rule broken` holds if `broken` is `Some rule` and `word` breaks `rule`, or `None` and it keeps `rule`.
+abbrev pub IsIfBroken : ℕ → Rule → Option Rule → Type 0
+IsIfBroken word rule broken =
+    ((Holds rule word → ⊥) × (broken ≡ Some rule)) ⊎ (Holds rule word × (broken ≡ None))
+
+-- `AreIfBroken word rules broken` holds if `broken` has, for each of `rules` in order, what `IsIfBroken` states.
+abbrev pub AreIfBroken : ℕ → List Rule → List (Option Rule) → Type 0
+AreIfBroken word [] broken = broken ≡ []
+AreIfBroken word (rule ∷ rules) [] = ⊥
+AreIfBroken word (rule ∷ rules) (one ∷ more) = IsIfBroken word rule one × AreIfBroken word rules more
+
+-- The error of the first of some broken rules, and `Success` if there is none.
+abbrev pub first_error : List (Option Rule) → Error
+first_error [] = errors.Success
+first_error (None ∷ broken) = first_error broken
+first_error (Some rule ∷ broken) = error_of rule
+
+-- Whether separator and prefix, separator and suffix, and prefix and suffix share a byte.
+abbrev pub clashes : Record → List Bool
+clashes r =
+    not (are_disjoint (separator r) (prefix r))
+    ∷ not (are_disjoint (separator r) (suffix r))
+    ∷ not (are_disjoint (prefix r) (suffix r))
+    ∷ []

@@ -5,8 +5,8 @@ use Rattle.std.specs.List.{before_first, after_first}
 use Rattle.std.specs.Result.{result_ok}
 use Rattle.lexical_base.specs.Digits.{numeral}
 use Rattle.lexical_builder.specs.OptionByte.{option_of_byte}
-use Rattle.lexical_util.specs.Numeral.{is_numeral}
-use Rattle.lexical_util.specs.SettingNumbers.{name_of, byte_of, edit_of_name}
+use Rattle.lexical_util.specs.Additions.Numeral.{is_numeral}
+use Rattle.lexical_util.specs.Additions.SettingNumbers.{name_of, byte_of, edit_of_name}
 use Rattle.lexical_util.specs.declared.edits.Edit.{Edit}
 use Rattle.lexical_util.specs.declared.edits.Edit.TheVariants as edits
 use Rattle.lexical_util.specs.declared.edits.text.SettingError.{SettingError}

@@ -4,11 +4,11 @@ use Rattle.std.specs.Prelude.{List, [], ◌∷◌, ◌++◌, map, get_or, codes}
 use Rattle.std.specs.List.{position_or_len, sum_by}
 use Rattle.std.specs.Str.{bytes_eq}
 use Rattle.lexical_flags.specs.Layout.{bit}
-use Rattle.lexical_flags.specs.Constants.{byte_mask}
+use Rattle.lexical_flags.specs.Additions.Masks.{byte_mask}
 use Rattle.lexical_builder.specs.OptionByte.{byte_of_option, option_of_byte}
 use Rattle.lexical_builder.specs.Writes.{Write, write_flag, write_byte}
 use Rattle.lexical_util.specs.Edits.{writes_of}
-use Rattle.lexical_util.specs.SetterNames.{setter_name}
+use Rattle.lexical_util.specs.Additions.SetterNames.{setter_name}
 use Rattle.lexical_util.specs.declared.edits.FlagSetter.{FlagSetter}
 use Rattle.lexical_util.specs.declared.edits.FlagSetter.TheVariants as setters
 use Rattle.lexical_util.specs.declared.edits.TheConstants.{SETTERS}

@@ -1,0 +1,26 @@
+-- For private functions and the proofs of this crate: no public contract cites these definitions.
+use Rattle.std.specs.Prelude.{ℕ, ◌+◌, ◌*◌, ◌^◌, ◌<◌, ◌==◌, List, filter, find, unwrap_or, length}
+use Rattle.lexical_flags.specs.Layout.{part, Flag, Byte, bit, flags, bytes, base_flags, digit_separator_flags}
+use Rattle.lexical_flags.specs.Layout as layout
+use Rattle.lexical_builder.specs.BuilderBits.{index_of}
+use Rattle.lexical_builder.specs.declared.format_builder.NumberFormatBuilder.TheInside.{Inside}
+
+-- the flags of a word, at the bits of a builder
+abbrev pub flags_in : ℕ → ℕ
+flags_in word = part word 0 (length base_flags) + part word 32 (length digit_separator_flags) * 2 ^ length base_flags
+
+-- the flag that has this mask
+abbrev pub flag_with : ℕ → Flag
+flag_with mask = unwrap_or (find (λ f. 2 ^ bit f == mask) flags) layout.no_special
+
+-- the flags that a mask has
+abbrev pub flags_with : ℕ → List Flag
+flags_with mask = filter (λ f. part mask (bit f) 1 == 1) flags
+
+-- the byte at this index
+abbrev pub byte_at : ℕ → Byte
+byte_at index = unwrap_or (find (λ b. index_of b == index) bytes) layout.digit_separator
+
+-- the bits that no flag has are 0
+abbrev pub HasClearTop : Inside → Type 0
+HasClearTop inside = inside.flags < 2 ^ length flags

@@ -1,0 +1,32 @@
+-- For the masks of fields, rules and edits: masks as sums of bits, and the flags of two masks.
+use Rattle.std.specs.Prelude.{ℕ, ◌+◌, ◌-◌, ◌*◌, ◌^◌, List, [], ◌∷◌, ◌++◌, sum_by}
+use Rattle.lexical_flags.specs.Layout.{Flag, Byte, bit, shift}
+use Rattle.lexical_flags.specs.Layout as layout
+
+-- The mask of a byte.
+abbrev pub byte_mask : Byte → ℕ
+byte_mask b = 255 * 2 ^ shift b
+
+-- The mask of some flags.
+abbrev pub mask_of : List Flag → ℕ
+mask_of fs = sum_by (λ f. 2 ^ bit f) fs
+
+-- The mask of the reserved bits.
+abbrev pub reserved_mask : ℕ
+reserved_mask = (2 ^ 14 - 1) * 2 ^ 18 + (2 ^ 19 - 1) * 2 ^ 45 + (2 ^ 16 - 1) * 2 ^ 72
+
+-- The flags that a parser's front end handles.
+abbrev pub interface_flags : List Flag
+interface_flags =
+    layout.required_digits ++
+    layout.no_exponent_notation ∷ layout.no_positive_exponent_sign ∷ layout.required_exponent_sign ∷ layout.no_exponent_without_fraction ∷
+    layout.no_float_leading_zeros ∷ layout.required_exponent_notation ∷ [] ++
+    layout.internal_digit_separator ++ layout.leading_digit_separator ++ layout.trailing_digit_separator ++ layout.consecutive_digit_separator
+
+-- The flags of exponents, except the case of the exponent character.
+abbrev pub exponent_flags : List Flag
+exponent_flags =
+    layout.required_exponent_digits ∷ layout.no_exponent_notation ∷ layout.no_positive_exponent_sign ∷
+    layout.required_exponent_sign ∷ layout.no_exponent_without_fraction ∷ layout.required_exponent_notation ∷
+    layout.exponent_internal_digit_separator ∷ layout.exponent_leading_digit_separator ∷
+    layout.exponent_trailing_digit_separator ∷ layout.exponent_consecutive_digit_separator ∷ []

@@ -1,0 +1,41 @@
+-- For `field_edits_of`, `numfmt` and `peltzivar_edits_of`: the edits of single fields as functions.
+use Rattle.std.specs.Prelude.{List, [], ◌∷◌, map, find, unwrap_or}
+use Rattle.std.specs.Str.{bytes_eq}
+use Rattle.lexical_flags.specs.Layout.{Flag, bit}
+use Rattle.lexical_flags.specs.Layout as layout
+use Rattle.lexical_flags.specs.Record.{Record}
+use Rattle.lexical_builder.specs.OptionByte.{option_of_byte}
+use Rattle.lexical_builder.specs.Writes.{Write, write_flag, write_byte}
+use Rattle.lexical_util.specs.Edits.{flags_of}
+use Rattle.lexical_util.specs.Listing.{field_writes, needed_writes, other_writes}
+use Rattle.lexical_util.specs.declared.edits.FlagSetter.{FlagSetter}
+use Rattle.lexical_util.specs.declared.edits.FlagSetter.TheVariants as setters
+use Rattle.lexical_util.specs.declared.edits.TheConstants.{SETTERS}
+use Rattle.lexical_util.specs.declared.edits.Edit.{Edit}
+use Rattle.lexical_util.specs.declared.edits.Edit.TheVariants as edits
+
+-- The setter that writes this flag and no other.
+abbrev pub setter_of : Flag → FlagSetter
+setter_of f = unwrap_or (find (λ setter. bytes_eq (map bit (flags_of setter)) (bit f ∷ [])) SETTERS) setters.NoSpecial
+
+-- The edit of a write.
+abbrev pub edit_of_write : Write → Edit
+edit_of_write (write_flag f value) = edits.Flag (setter_of f) value
+edit_of_write (write_byte layout.digit_separator value) = edits.DigitSeparator (option_of_byte value)
+edit_of_write (write_byte layout.base_prefix value) = edits.BasePrefix (option_of_byte value)
+edit_of_write (write_byte layout.base_suffix value) = edits.BaseSuffix (option_of_byte value)
+edit_of_write (write_byte layout.mantissa_radix value) = edits.MantissaRadix value
+edit_of_write (write_byte layout.exponent_base value) = edits.ExponentBase (option_of_byte value)
+edit_of_write (write_byte layout.exponent_radix value) = edits.ExponentRadix (option_of_byte value)
+
+-- The edits of all fields of a record.
+abbrev pub field_edits : Record → List Edit
+field_edits r = map edit_of_write (field_writes r)
+
+-- The edits of the fields in which a record differs from a new builder.
+abbrev pub needed_edits : Record → List Edit
+needed_edits r = map edit_of_write (needed_writes r)
+
+-- The edits of the other fields.
+abbrev pub other_edits : Record → List Edit
+other_edits r = map edit_of_write (other_writes r)
