@@ -5,7 +5,8 @@
 - Each block of code is a piece of a file; `..` stands for lines that it leaves out.
 - Each name with a `_` or `::` is in some code, but for those of the changelog, and each word of FORMAT.md.
 - check_format.py compares FORMAT.md, check_header.py the header of C, and check_clauses.py the clauses in PROVED.md.
-- PROVED.md names each file of definitions, and DIFFERENCES.md each public name that the Rust crate does not have.
+- check_definitions.py follows the definitions that headline calls cite, and compares the reading lists in PROVED.md.
+- DIFFERENCES.md names each public name that the Rust crate does not have.
 - A format word outside of a block of code can be pasted: it has no `_`.
 - Flags, fields, rules, reserved bits and outcomes are as many as a page says, and so are the rows of rust/erase's tables.
 - Each file of a folder must-fail/ is an edit. There are no fewer edits and tests than before.
@@ -25,6 +26,7 @@ import sys
 
 sys.dont_write_bytecode = True
 import check_clauses
+import check_definitions
 import check_format
 import check_header
 
@@ -168,7 +170,7 @@ def substituted(text):
     loader.exec_module(erase)
     counts = {"texts": len(erase.SUBSTITUTIONS + erase.EVERYWHERE), "items in place": len(erase.ITEMS)}
     for name, count in counts.items():
-        number = re.search(rf"(\w+) {name}", text)[1]
+        number = re.search(rf"(\w+) {name}", text.partition("## The plain Rust")[2])[1]
         if {"two": "2", **WORDS}.get(number, number) != str(count):
             yield f"rust/erase has {count} {name}, not {number}"
 
@@ -210,8 +212,6 @@ def main():
         if page.name == "FORMAT.md":
             found += [*check_format.format_page(), *unused_words(text, files)]
         if page.name == "PROVED.md":
-            specs = {path.stem for path in (TOP / "crates").glob("*/specs/*.antt")} - {"Lib"}
-            found += [f"has no `{name}` of specs/" for name in sorted(specs) if f"`{name}`" not in text]
             found += [*check_clauses.clauses(), *substituted(text)]
         if page == TOP / "README.md":
             found += readme(text)
@@ -220,7 +220,8 @@ def main():
         for it in found:
             print(f"{page.relative_to(TOP)}: {it}")
         wrong += len(found)
-    for it in (*(f"c/peltzivar.h: {it}" for it in check_header.header(wanted)), *not_run(), *layout()):
+    others = (*check_definitions.definitions(), *not_run(), *layout())
+    for it in (*(f"c/peltzivar.h: {it}" for it in check_header.header(wanted)), *others):
         print(it)
         wrong += 1
     print(counted())
