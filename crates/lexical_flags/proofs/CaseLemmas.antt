@@ -79,7 +79,8 @@ far_apart a_counts a b_counts b below told far =
 
 -- if no two of the bytes that a format names are near, their roles are disjoint
 pub own_roles_apart : (r : Record) {a b c : ℕ} {ab ac bc : Bool}
-    → a ≡ r.byte layout.digit_separator → b ≡ r.byte layout.base_prefix → c ≡ r.byte layout.base_suffix → r.byte layout.digit_separator < 256 → r.byte layout.base_prefix < 256
+    → a ≡ r.byte layout.digit_separator → b ≡ r.byte layout.base_prefix → c ≡ r.byte layout.base_suffix
+    → r.byte layout.digit_separator < 256 → r.byte layout.base_prefix < 256
     → (IsTrue ab ↔ ((a ≢ 0) × (bit_or a 32 ≡ bit_or b 32)))
     → (IsTrue ac ↔ ((a ≢ 0) × (bit_or a 32 ≡ bit_or c 32)))
     → (IsTrue bc ↔ ((b ≢ 0) × (bit_or b 32 ≡ bit_or c 32)))
