@@ -24,7 +24,6 @@ TOLD = {
 # Rows that leave out clauses of their functions, with the reason.
 PARTIAL = {
     "`laws::layout_facts`": "one clause a fact, all told together",
-    "`laws::normal_form_facts`, `edit_facts`": "the clauses of `normal_form` and `edit_word`, told there",
 }
 LIBRARIES = ["lexical_base", "lexical_flags", "lexical_builder", "lexical_util"]
 # Functions with clauses that stand in no row: examples, the method of a trait that callers implement, texts of private types.

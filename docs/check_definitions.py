@@ -36,7 +36,7 @@ CALLS = {
     "migrate": ["migrate"],
 }
 # The most lines of one call, and of all together.
-MOST = {"edit_word": 315, "all": 616}
+MOST = {"edit_word": 300, "all": 570}
 # The files at the top of specs/ that no headline call reaches, each with the reason.
 APART = {
     "lexical_base.Outcomes": "the 49 values of `Error`, and their texts",
@@ -49,15 +49,6 @@ APART = {
     "lexical_util.Unfoldable": "what a caller's proof may unfold",
 }
 UNCITED = ["Private", "Literals", "Unfoldable"]  # the files of private vocabulary, and of what proofs unfold
-# Until the files have moved: additions that are still at the top of specs/, and findings that are not printed.
-MOVING = ["lexical_base.Sentences", "lexical_flags.RuleFields", "lexical_util.Numeral", "lexical_util.Reasons"]
-MOVING += [f"lexical_util.{name}" for name in ("ReasonText", "SetterNames", "SettingNumbers", "SettingText")]
-KNOWN = [
-    "edits_of reaches the constant SETTERS by changing, edit_of, setter_of",
-    "lexical_base.Ascii: no public contract reaches in_either, AreRanges",
-    "lexical_builder.BuilderBits: no public contract reaches flags_in, flag_with, flags_with, byte_at",
-    "lexical_util.Listing: no public contract reaches changes_new",
-]
 
 
 def short(file):
@@ -66,8 +57,8 @@ def short(file):
 
 
 def is_addition(file):
-    """Returns whether a file is in a folder of specs/, is Private.antt, or is to move there."""
-    return file in FILES and (short(file).count(".") > 1 or file.endswith(".Private") or short(file) in MOVING)
+    """Returns whether a file is in a folder of specs/, or is Private.antt."""
+    return file in FILES and (short(file).count(".") > 1 or file.endswith(".Private"))
 
 
 def public(call):
@@ -127,7 +118,7 @@ def misplaced():
             yield f"{name}: no public contract reaches {uncited}"
         if name.count(".") > 1 and not file.endswith(".Private") and not served:
             yield f"{name}: its first comment names no public function that it serves"
-    yield from (f"{it} is no file for the table" for it in [*APART, *MOVING] if it not in files or files[it] in headline)
+    yield from (f"{it} is no file for the table" for it in APART if it not in files or files[it] in headline)
 
 
 def tables():
@@ -163,8 +154,7 @@ def definitions():
              for it in cites(Item(file, name)) if it.file == "unknown name"]
     found += [*(it for call in CALLS for it in unfit(call)), *misplaced()]
     found += [f"{it}: {total(it)} lines of definitions, more than {most}" for it, most in MOST.items() if total(it) > most]
-    yield from (it for it in found if it not in KNOWN)
-    yield from (f"not found, so not to be in KNOWN: {it}" for it in KNOWN if it not in found)
+    yield from found
     if PAGE.read_text() != page():
         yield "docs/PROVED.md: its tables of definitions are old: run docs/check_definitions.py --write"
 

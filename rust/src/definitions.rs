@@ -172,11 +172,14 @@
 //!
 //! # `new_record`
 //!
-//! The record of a new builder.
+//! The record of a new builder: mantissa radix 10, and digits required in the mantissa and the exponent.
 //!
 //! ```text
 //! abbrev pub new_record : Record
-//! new_record = record { flag = new_flag; byte = new_byte }
+//! new_record = record {
+//!   flag = λ f. bit f == bit layout.required_exponent_digits || bit f == bit layout.required_mantissa_digits;
+//!   byte = λ b. if shift b == shift layout.mantissa_radix then 10 else 0;
+//! }
 //! ```
 //!
 //! # `Write`
@@ -255,15 +258,20 @@
 //! bits_of word fs = sum_by (flag_bits (raw word)) fs
 //! ```
 //!
-//! # `AreEditsOf`
+//! # `IsEditOf`
 //!
-//! `AreEditsOf writes edits` holds if each of `edits` is the edit of the one of `writes` at its index.
+//! `IsEditOf write edit` holds if `edit` calls the setter of one field to do `write`.
 //!
 //! ```text
-//! abbrev pub AreEditsOf : List Write → List Edit → Type 0
-//! AreEditsOf [] [] = ⊤
-//! AreEditsOf (write ∷ writes) (edit ∷ edits) = IsEditOf write edit × AreEditsOf writes edits
-//! AreEditsOf _ _ = ⊥
+//! abbrev pub IsEditOf : Write → Edit → Type 0
+//! IsEditOf (write_flag f value) (edits.Flag setter flag) = (flags_of setter ≡ f ∷ []) × (flag ≡ value)
+//! IsEditOf (write_flag f value) _ = ⊥
+//! IsEditOf (write_byte layout.digit_separator value) edit = edit ≡ edits.DigitSeparator (option_of_byte value)
+//! IsEditOf (write_byte layout.base_prefix value) edit = edit ≡ edits.BasePrefix (option_of_byte value)
+//! IsEditOf (write_byte layout.base_suffix value) edit = edit ≡ edits.BaseSuffix (option_of_byte value)
+//! IsEditOf (write_byte layout.mantissa_radix value) edit = edit ≡ edits.MantissaRadix value
+//! IsEditOf (write_byte layout.exponent_base value) edit = edit ≡ edits.ExponentBase (option_of_byte value)
+//! IsEditOf (write_byte layout.exponent_radix value) edit = edit ≡ edits.ExponentRadix (option_of_byte value)
 //! ```
 //!
 //! # `needed_writes`
@@ -297,7 +305,7 @@
 //!
 //! # `normal_form_of`
 //!
-//! the word that an empty list of writes makes of a word
+//! `normal_form_of word` is `word` edited by no writes.
 //!
 //! ```text
 //! abbrev pub normal_form_of : ℕ → ℕ
@@ -306,7 +314,7 @@
 //!
 //! # `SameFormat`
 //!
-//! two records that mean the same: all fields agree, the exponent bytes by their effective values, and the separator only if a flag allows one
+//! `SameFormat r s` holds if `r` and `s` are equivalent: their fields are equal, the exponent bytes by their effective values, and the separators if a flag allows one.
 //!
 //! ```text
 //! pub record SameFormat (r s : Record) : Type 0 where
@@ -321,9 +329,12 @@
 //!
 //! # `IsNormal`
 //!
-//! the same as one word, whose parts a proof sees by `unfolding IsNormal`
+//! `IsNormal word` holds if the reserved bits of `word` are 0, it has a separator only if a flag allows one, and an exponent byte is 0 only if the mantissa radix is 0 too.
 //!
 //! ```text
-//! unfoldable pub IsNormal : ℕ → Type 0
-//! IsNormal word = NormalParts word
+//! pub record IsNormal (word : ℕ) : Type 0 where
+//!   pub clean : IsClean word
+//!   pub separator_used : SeparatorIsUsed (raw word)
+//!   pub exponent_base : (raw word).byte layout.exponent_base ≡ 0 → (raw word).byte layout.mantissa_radix ≡ 0
+//!   pub exponent_radix : (raw word).byte layout.exponent_radix ≡ 0 → (raw word).byte layout.mantissa_radix ≡ 0
 //! ```

@@ -1,6 +1,6 @@
 -- What filling and trimming do to the rules: filled fields meet the same ones, trimmed fields still meet those that
 -- they met, and so does a clean word with such fields.
-use Rattle.std.proofs.Common.{◌≡◌, ℕ, ◌⊎◌, ◌↔◌, inl, inr, ◌||◌, IsTrue, refl, sym, ap, subst, arith}
+use Rattle.std.proofs.Common.{◌≡◌, ℕ, ◌⊎◌, ◌↔◌, inl, inr, ◌||◌, true, IsTrue, refl, sym, ap, subst, arith}
 use Rattle.std.proofs.lemmas.Bool.{cases_Bool, cond-false, false≢true}
 use Rattle.std.proofs.lemmas.Bool.Decides.{nat_tests}
 use Rattle.lexical_base.specs.Ascii.{ByteSet, allowed_ascii}
@@ -8,7 +8,7 @@ use Rattle.lexical_base.specs.declared.error.Error.{Error}
 use Rattle.lexical_flags.specs.Layout as layout
 use Rattle.lexical_flags.specs.Layout.{IsClean}
 use Rattle.lexical_flags.specs.Record.{Record, raw, fill, trim, set_byte, effective, separator_on, SeparatorIsUsed}
-use Rattle.lexical_flags.specs.Roles.{Disjoint, cased, only, signs, prefix, suffix}
+use Rattle.lexical_flags.specs.Roles.{Disjoint, cased, signs, prefix, suffix}
 use Rattle.lexical_base.specs.Digits.{digits_of}
 use Rattle.lexical_flags.specs.declared.format_flags.all_rules.Rule.{Rule}
 use Rattle.lexical_flags.specs.declared.format_flags.all_rules.Rule.TheVariants as rules
@@ -38,7 +38,7 @@ Demands-fill rules.BasePrefixIsFree r = IsFree-fill r (r.byte layout.base_prefix
 Demands-fill rules.BaseSuffixIsFree r = IsFree-fill r (r.byte layout.base_suffix)
 Demands-fill _ r = refl
 
-Disjoint-nothing : (A : ByteSet) → Disjoint (only 0) A
+Disjoint-nothing : (A : ByteSet) → Disjoint (cased true 0) A
 unfolding cased
 Disjoint-nothing A = Disjoint-from _ _ (λ byte below is_zero in_a. absurd (false≢true is_zero))
 

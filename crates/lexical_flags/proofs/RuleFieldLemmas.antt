@@ -1,5 +1,5 @@
 -- A rule depends on no other bit than those that it reads.
-use Rattle.std.proofs.Common.{ℕ, ◌≡◌, ◌-◌, ◌*◌, ◌/◌, ◌^◌, ◌==◌, ◌⊎◌, ◌&&◌, ◌||◌, not, IsTrue, IsFalse, [], ◌∷◌}
+use Rattle.std.proofs.Common.{ℕ, ◌≡◌, ◌-◌, ◌*◌, ◌/◌, ◌^◌, ◌==◌, ◌⊎◌, ◌&&◌, ◌||◌, not, true, IsTrue, IsFalse, [], ◌∷◌}
 use Rattle.std.proofs.Common.{bit_and, refl, ap, sym, subst, ◌∙◌}
 use Rattle.std.proofs.lemmas.Nat.{and_assoc}
 use Rattle.lexical_base.specs.Ascii.{allowed_ascii}
@@ -7,7 +7,7 @@ use Rattle.lexical_base.specs.Digits.{digits_of}
 use Rattle.lexical_flags.specs.Layout as layout
 use Rattle.lexical_flags.specs.Layout.{Flag, Byte, part, bit, shift, IsClean}
 use Rattle.lexical_flags.specs.Record.{raw, effective}
-use Rattle.lexical_flags.specs.Roles.{AreDisjoint, cased, only, signs}
+use Rattle.lexical_flags.specs.Roles.{AreDisjoint, cased, signs}
 use Rattle.lexical_flags.specs.Rules.{IsRadix, IsPunctuation, Demands, Holds, has_no_place}
 use Rattle.lexical_flags.specs.Additions.BrokenRules.{mask_read}
 use Rattle.lexical_flags.specs.declared.format_flags.all_rules.Rule.{Rule}
@@ -62,7 +62,7 @@ Demands-same rules.BaseSuffixIsFree v w same =
     IsFree-same v w _ _ (byte v w _ same layout.base_suffix refl) (byte v w _ same layout.mantissa_radix refl)
     (byte v w _ same layout.exponent_radix refl)
 Demands-same rules.PunctuationDiffers v w same = λ i.
-    AreDisjoint (only (byte v w _ same layout.digit_separator refl i)
+    AreDisjoint (cased true (byte v w _ same layout.digit_separator refl i)
     ∷ cased (flag v w _ same layout.case_sensitive_base_prefix refl i) (byte v w _ same layout.base_prefix refl i)
     ∷ cased (flag v w _ same layout.case_sensitive_base_suffix refl i) (byte v w _ same layout.base_suffix refl i)
     ∷ [])

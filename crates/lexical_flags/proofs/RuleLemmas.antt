@@ -1,7 +1,7 @@
 -- A word is lawful exactly if it keeps every rule, and has one error.
 use Rattle.std.proofs.Common.{◌≡◌, ℕ, ◌≢◌, ◌↔◌, inl, inr, Bool, true, IsTrue, List, [], ◌∷◌, ◌++◌, Option, sym, ap, ◌∙◌}
-use Rattle.std.proofs.Common.{subst, arith}
-use Rattle.std.specs.List.{AllByRecursion}
+use Rattle.std.proofs.Common.{subst, refl, arith}
+use Rattle.std.specs.List.{AllByRecursion, AllZip}
 use Rattle.std.proofs.lemmas.Bool.{cases_eq}
 use Rattle.std.proofs.lemmas.Bool.Decides.{nat_tests}
 use Rattle.std.proofs.lemmas.List.Elements.{recursion_from_All}
@@ -16,7 +16,7 @@ use Rattle.lexical_flags.specs.declared.format_flags.all_rules.Rule.TheVariants 
 use Rattle.lexical_flags.specs.Rules.{IsRadix, IsFree, IsTextOrNone, IsPunctuation, Holds, IsFirstError}
 use Rattle.lexical_flags.specs.Rules.{IsErrorOf, Lawful, error_of, flag_rules, rules_in_order}
 use Rattle.lexical_flags.specs.Rules.{OrElse}
-use Rattle.lexical_flags.specs.Additions.BrokenRules.{AreIfBroken, first_error}
+use Rattle.lexical_flags.specs.Additions.BrokenRules.{IsIfBroken, first_error}
 use Rattle.lexical_flags.proofs.RoleLemmas.{Disjoint-digits-cased, Disjoint-signs-cased, Disjoint-digits-signs, not_in}
 
 -- what a free byte is
@@ -223,15 +223,16 @@ Success-lawful word error h = (
 )
 
 -- the error of the first rule that is broken, if each is in a list or not
-first_of_list : (word : ℕ) (rules : List Rule) (broken : List (Option Rule)) → AreIfBroken word rules broken
+first_of_list : (word : ℕ) (rules : List Rule) (broken : List (Option Rule)) → AllZip (IsIfBroken word) rules broken
     → IsFirstError rules word (first_error broken)
-first_of_list word [] broken h = ap first_error h
+first_of_list word [] [] h = refl
+first_of_list word [] (one ∷ more) h = absurd h
 first_of_list word (rule ∷ rules) [] h = elim h [ ]
 first_of_list word (rule ∷ rules) (one ∷ more) (inl breaks, others) = inl (breaks.0, ap (λ b. first_error (b ∷ more)) breaks.1)
 first_of_list word (rule ∷ rules) (one ∷ more) (inr keeps, others) =
     inr (keeps.0, subst (λ b. IsFirstError rules word (first_error (b ∷ more))) (sym keeps.1) (first_of_list word rules more others))
 
-pub first_of_broken : (word : ℕ) (broken : List (Option Rule)) → AreIfBroken word rules_in_order broken
+pub first_of_broken : (word : ℕ) (broken : List (Option Rule)) → AllZip (IsIfBroken word) rules_in_order broken
     → IsErrorOf word (first_error broken)
 unfolding IsErrorOf
 first_of_broken word broken = first_of_list word rules_in_order broken

@@ -28,10 +28,6 @@ other_case byte = if between 65 90 byte then byte + 32 else if between 97 122 by
 unfoldable pub cased : Bool → ℕ → ByteSet
 cased case_counts own byte = not (own == 0) && ((byte == own) || (not case_counts && (byte == other_case own)))
 
--- The set with this byte only, empty if it is 0.
-abbrev pub only : ℕ → ByteSet
-only own = cased true own
-
 -- The digits of the mantissa and of the exponent.
 abbrev pub digits : Record → ByteSet
 digits r byte = digits_of (r.byte layout.mantissa_radix) byte || digits_of (effective_exponent_radix r) byte
@@ -42,7 +38,7 @@ signs byte = (byte == 43) || (byte == 45)
 
 -- The digit separator.
 abbrev pub separator : Record → ByteSet
-separator r = only (r.byte layout.digit_separator)
+separator r = cased true (r.byte layout.digit_separator)
 
 -- The base prefix.
 abbrev pub prefix : Record → ByteSet
@@ -58,7 +54,7 @@ exponent r chosen = cased (r.flag layout.case_sensitive_exponent) chosen
 
 -- The decimal point, which an options type chooses too.
 abbrev pub point : ℕ → ByteSet
-point chosen = only chosen
+point chosen = cased true chosen
 
 -- The roles of the bytes that a format names.
 abbrev pub own_roles : Record → List ByteSet

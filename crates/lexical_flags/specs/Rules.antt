@@ -101,13 +101,9 @@ flag_rules =
     rules.IntegerConsecutiveIsAllowed ∷ rules.FractionConsecutiveIsAllowed ∷
     rules.ExponentConsecutiveIsAllowed ∷ []
 
--- The rule of the reserved bits.
-abbrev pub reserved_rules : List Rule
-reserved_rules = rules.ReservedBitsAreZero ∷ []
-
 -- All rules, in their order.
 abbrev pub rules_in_order : List Rule
-rules_in_order = radix_rules ++ punctuation_rules ++ flag_rules ++ reserved_rules
+rules_in_order = radix_rules ++ punctuation_rules ++ flag_rules ++ rules.ReservedBitsAreZero ∷ []
 
 -- `OrElse demand own next error` holds if `demand` fails and `error` is `own`, or if `demand` holds and `next error` does.
 abbrev pub OrElse : Type 0 → Error → (Error → Type 0) → Error → Type 0

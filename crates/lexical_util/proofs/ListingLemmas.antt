@@ -1,7 +1,7 @@
 -- The edits of all fields of a record make it from a new builder, and so do those of them alone that change one.
 use Rattle.std.proofs.Common.{◌≡◌, Bool, true, false, not, cond, List, [], ◌∷◌, ◌++◌, map, length, filter, refl, sym}
 use Rattle.std.proofs.Common.{ap, ◌∙◌, subst, All, arith}
-use Rattle.std.specs.List.{list_any}
+use Rattle.std.specs.List.{list_any, AllZip}
 use Rattle.std.proofs.Math.Bool.{or-false}
 use Rattle.std.proofs.lemmas.List.{length-map, map-append}
 use Rattle.std.proofs.lemmas.List.Concat.{flat_map-append}
@@ -16,7 +16,7 @@ use Rattle.lexical_util.proofs.Distance.{distance, distance-is}
 use Rattle.lexical_util.proofs.FieldWrites.{legal-field_writes, Leaves, Leaves-field_writes, after-leaves}
 use Rattle.lexical_util.proofs.FieldWrites.{after-changes}
 use Rattle.lexical_util.specs.Edits.{flags_of, writes_of, all_writes}
-use Rattle.lexical_util.specs.Listing.{IsEditOf, AreEditsOf, field_writes, needed_writes, other_writes}
+use Rattle.lexical_util.specs.Listing.{IsEditOf, field_writes, needed_writes, other_writes}
 use Rattle.lexical_util.specs.Additions.FieldEdits.{setter_of, edit_of_write, field_edits, needed_edits, other_edits}
 use Rattle.lexical_util.specs.declared.edits.FlagSetter.{FlagSetter}
 use Rattle.lexical_util.specs.declared.edits.FlagSetter.TheVariants as setters
@@ -95,7 +95,7 @@ edit_of_write-is (write_flag f value) = (setter_alone f, refl)
 edit_of_write-is (write_byte layout.digit_separator value) = refl
 edit_of_write-is (write_byte _ value) = refl
 
-edits_of_writes : (writes : List Write) → AreEditsOf writes (map edit_of_write writes)
+edits_of_writes : (writes : List Write) → AllZip IsEditOf writes (map edit_of_write writes)
 edits_of_writes [] = tt
 edits_of_writes (x ∷ writes) = (edit_of_write-is x, edits_of_writes writes)
 
@@ -129,18 +129,18 @@ only_edit edit (write_byte layout.mantissa_radix value) is = is
 only_edit edit (write_byte layout.exponent_base value) is = is
 only_edit edit (write_byte layout.exponent_radix value) is = is
 
-only_edits : (es : List Edit) (writes : List Write) → AreEditsOf writes es → es ≡ map edit_of_write writes
+only_edits : (es : List Edit) (writes : List Write) → AllZip IsEditOf writes es → es ≡ map edit_of_write writes
 only_edits [] [] are = refl
 only_edits [] (x ∷ writes) are = absurd are
 only_edits (edit ∷ es) [] are = absurd are
 only_edits (edit ∷ es) (x ∷ writes) are = λ i. only_edit edit x are.0 i ∷ only_edits es writes are.1 i
 
 -- The edits of all fields, those that a new builder needs first.
-pub AreEditsOf-both : (R : Record) → AreEditsOf (needed_writes R ++ other_writes R) (needed_edits R ++ other_edits R)
-AreEditsOf-both R = subst (AreEditsOf (needed_writes R ++ other_writes R))
+pub IsEditOf-both : (R : Record) → AllZip IsEditOf (needed_writes R ++ other_writes R) (needed_edits R ++ other_edits R)
+IsEditOf-both R = subst (AllZip IsEditOf (needed_writes R ++ other_writes R))
     (map-append edit_of_write (needed_writes R) (other_writes R)) (edits_of_writes (needed_writes R ++ other_writes R))
 
-pub only_both : (R : Record) (es : List Edit) → AreEditsOf (needed_writes R ++ other_writes R) es
+pub only_both : (R : Record) (es : List Edit) → AllZip IsEditOf (needed_writes R ++ other_writes R) es
     → es ≡ needed_edits R ++ other_edits R
 only_both R es are = only_edits es (needed_writes R ++ other_writes R) are
     ∙ map-append edit_of_write (needed_writes R) (other_writes R)

@@ -127,7 +127,6 @@ module _ (w : ℕ) where
   normal_again = sym (normal_same w (normal_form_of w) normal_keeps)
 
   pub normal_from_fixed : normal_form_of w ≡ w → IsNormal w
-  unfolding IsNormal
   normal_from_fixed e =
       let R : Record = raw w in
       let fields : trim (fill R) ≡ R = sym (raw_normal w) ∙ ap raw e in
@@ -139,7 +138,6 @@ module _ (w : ℕ) where
       }
 
   pub fixed_from_normal : w < 2 ^ 128 → IsNormal w → normal_form_of w ≡ w
-  unfolding IsNormal
   fixed_from_normal fits n = raw-injective (normal_form_of w) w normal_fits fits clean_normal n.clean
       (raw_normal w ∙ record_same (trim (fill (raw w))) (raw w) (λ f. refl) on_byte) where
         on_byte : (b : Byte) → (trim (fill (raw w))).byte b ≡ (raw w).byte b

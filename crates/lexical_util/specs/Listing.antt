@@ -1,5 +1,5 @@
 -- The words that setter calls make, and the setter calls of single fields that make a word.
-use Rattle.std.specs.Prelude.{ℕ, ◌≡◌, ◌++◌, not, List, [], ◌∷◌, map, filter, All, ⊤}
+use Rattle.std.specs.Prelude.{ℕ, ◌≡◌, ◌++◌, not, List, [], ◌∷◌, map, filter, All}
 use Rattle.lexical_flags.specs.Layout.{flags, bytes}
 use Rattle.lexical_flags.specs.Layout as layout
 use Rattle.lexical_flags.specs.Record.{Record, pack}
@@ -19,12 +19,6 @@ IsEditOf (write_byte layout.base_suffix value) edit = edit ≡ edits.BaseSuffix 
 IsEditOf (write_byte layout.mantissa_radix value) edit = edit ≡ edits.MantissaRadix value
 IsEditOf (write_byte layout.exponent_base value) edit = edit ≡ edits.ExponentBase (option_of_byte value)
 IsEditOf (write_byte layout.exponent_radix value) edit = edit ≡ edits.ExponentRadix (option_of_byte value)
-
--- `AreEditsOf writes edits` holds if each of `edits` is the edit of the one of `writes` at its index.
-abbrev pub AreEditsOf : List Write → List Edit → Type 0
-AreEditsOf [] [] = ⊤
-AreEditsOf (write ∷ writes) (edit ∷ edits) = IsEditOf write edit × AreEditsOf writes edits
-AreEditsOf _ _ = ⊥
 
 -- `field_writes r` has a write for each field of `r`, in the order of the bits.
 abbrev pub field_writes : Record → List Write

@@ -6,12 +6,12 @@ use Rattle.lexical_flags.specs.Record.{Record, raw, separator_on, SeparatorIsUse
 use Rattle.lexical_flags.specs.Record.{effective_exponent_radix}
 use Rattle.lexical_util.specs.Edits.{edited}
 
--- the word that an empty list of writes makes of a word
+-- `normal_form_of word` is `word` edited by no writes.
 abbrev pub normal_form_of : ℕ → ℕ
 normal_form_of word = edited word []
 
--- two records that mean the same: all fields agree, the exponent bytes by their effective values, and the separator
--- only if a flag allows one
+-- `SameFormat r s` holds if `r` and `s` are equivalent: their fields are equal, the exponent bytes by their effective
+-- values, and the separators if a flag allows one.
 pub record SameFormat (r s : Record) : Type 0 where
   pub flags : (f : Flag) → r.flag f ≡ s.flag f
   pub base_prefix : r.byte layout.base_prefix ≡ s.byte layout.base_prefix
@@ -21,14 +21,10 @@ pub record SameFormat (r s : Record) : Type 0 where
   pub exponent_radix : effective_exponent_radix r ≡ effective_exponent_radix s
   pub digit_separator : IsTrue (separator_on r) → r.byte layout.digit_separator ≡ s.byte layout.digit_separator
 
--- a word that is its own normal form: clean, with a separator only if a flag allows one, and with no empty exponent
--- byte unless the mantissa radix is 0 too
-pub record NormalParts (word : ℕ) : Type 0 where
+-- `IsNormal word` holds if the reserved bits of `word` are 0, it has a separator only if a flag allows one, and an exponent
+-- byte is 0 only if the mantissa radix is 0 too.
+pub record IsNormal (word : ℕ) : Type 0 where
   pub clean : IsClean word
   pub separator_used : SeparatorIsUsed (raw word)
   pub exponent_base : (raw word).byte layout.exponent_base ≡ 0 → (raw word).byte layout.mantissa_radix ≡ 0
   pub exponent_radix : (raw word).byte layout.exponent_radix ≡ 0 → (raw word).byte layout.mantissa_radix ≡ 0
-
--- the same as one word, whose parts a proof sees by `unfolding IsNormal`
-unfoldable pub IsNormal : ℕ → Type 0
-IsNormal word = NormalParts word

@@ -54,7 +54,7 @@ const fn is_separator_used(format: u128) -> bool {
 /// For all arguments; [`definitions`](crate::definitions) has the words.
 ///
 /// ```text
-/// ensures list { AreEditsOf (needed_writes (raw format) ++ other_writes (raw format)) result.0 }
+/// ensures list { AllZip IsEditOf (needed_writes (raw format) ++ other_writes (raw format)) result.0 }
 /// ensures number { result.1 ≡ length (needed_writes (raw format)) }
 /// ensures legal { All IsLegal (all_writes result.0) }
 ///

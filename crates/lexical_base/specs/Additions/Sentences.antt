@@ -1,4 +1,4 @@
--- Sentences that are put together from pieces.
+-- For `put_into`: sentences that are put together from pieces.
 use Rattle.std.specs.Prelude.{ℕ, if◌then◌else◌, List, ◌∷◌, ◌++◌, codes, decimal}
 use Rattle.lexical_base.specs.Ascii.{between}
 use Rattle.lexical_base.specs.declared.error.sentence.Piece.{Piece}

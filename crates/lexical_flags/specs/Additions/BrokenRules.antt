@@ -47,12 +47,6 @@ abbrev pub IsIfBroken : ℕ → Rule → Option Rule → Type 0
 IsIfBroken word rule broken =
     ((Holds rule word → ⊥) × (broken ≡ Some rule)) ⊎ (Holds rule word × (broken ≡ None))
 
--- `AreIfBroken word rules broken` holds if `broken` has, for each of `rules` in order, what `IsIfBroken` states.
-abbrev pub AreIfBroken : ℕ → List Rule → List (Option Rule) → Type 0
-AreIfBroken word [] broken = broken ≡ []
-AreIfBroken word (rule ∷ rules) [] = ⊥
-AreIfBroken word (rule ∷ rules) (one ∷ more) = IsIfBroken word rule one × AreIfBroken word rules more
-
 -- The error of the first of some broken rules, and `Success` if there is none.
 abbrev pub first_error : List (Option Rule) → Error
 first_error [] = errors.Success

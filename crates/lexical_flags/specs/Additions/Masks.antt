@@ -1,4 +1,4 @@
--- For the masks of fields, rules and edits: masks as sums of bits, and the flags of two masks.
+-- For `mask`, `interface_flags` and `exponent_flags`: masks as sums of bits, and the flags of two masks.
 use Rattle.std.specs.Prelude.{ℕ, ◌+◌, ◌-◌, ◌*◌, ◌^◌, List, [], ◌∷◌, ◌++◌, sum_by}
 use Rattle.lexical_flags.specs.Layout.{Flag, Byte, bit, shift}
 use Rattle.lexical_flags.specs.Layout as layout

@@ -1,9 +1,10 @@
 //! The rules as values.
 
 ghost use Rattle.std.specs.Prelude.{◌≡◌, ◌↔◌, IsTrue};
+ghost use Rattle.std.specs.List.{AllZip};
 ghost use Rattle.lexical_flags.specs.Additions.BrokenRules.{mask_read};
 ghost use Rattle.lexical_flags.specs.Rules.{Holds, IsErrorOf, error_of, rules_in_order};
-ghost use Rattle.lexical_flags.specs.Additions.BrokenRules.{IsIfBroken, AreIfBroken, first_error};
+ghost use Rattle.lexical_flags.specs.Additions.BrokenRules.{IsIfBroken, first_error};
 
 use crate::format_flags::rules::*;
 use crate::format_flags::*;
@@ -170,7 +171,7 @@ impl Rule {
 /// In plain Rust `broken_rules(format).into_iter().flatten()` goes through them. The error of the first is
 /// that of [`format_error_impl`].
 pub const fn broken_rules(format: u128) -> [Option<Rule>; RULES.len()]
-    ensures broken { AreIfBroken format rules_in_order result }
+    ensures broken { AllZip (IsIfBroken format) rules_in_order result }
     ensures first { IsErrorOf format (first_error result) }
 {
     [

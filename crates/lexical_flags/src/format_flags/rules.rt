@@ -3,7 +3,7 @@
 //! A word that breaks no rule is *lawful*; the view of a word calls it valid.
 #![tactic(auto, using(crate::proofs::FlagBits::flag_tests), unfolding(crate::specs::Rules::Holds, crate::specs::Rules::IsPunctuation))]
 
-ghost use Rattle.std.specs.Prelude.{◌≡◌, ◌≢◌, ◌↔◌, Err, IfErr, IsTrue, bit_or, max};
+ghost use Rattle.std.specs.Prelude.{◌≡◌, ◌≢◌, ◌↔◌, [], ◌∷◌, Err, IfErr, IsTrue, bit_or, max};
 ghost use Rattle.std.specs.List.{AllByRecursion};
 ghost use Rattle.std.specs.Result.{OkIff};
 ghost use Rattle.lexical_base.specs.Ascii.{letters};
@@ -14,7 +14,7 @@ ghost use Rattle.lexical_flags.specs.Roles.{Disjoint, are_disjoint, cased, other
 ghost use Rattle.lexical_flags.specs.Additions.BrokenRules.{clashes};
 ghost use Rattle.lexical_flags.specs.Options.{AreAccepted, IsOptionsError, HaveOneRole, LeavesRoom};
 ghost use Rattle.lexical_flags.specs.Rules.{IsRadix, IsFree, IsPunctuation, Holds, IsFirstError, IsErrorOf, Lawful};
-ghost use Rattle.lexical_flags.specs.Rules.{radix_rules, punctuation_rules, flag_rules, reserved_rules};
+ghost use Rattle.lexical_flags.specs.Rules.{radix_rules, punctuation_rules, flag_rules};
 ghost use Rattle.lexical_flags.specs.declared.format_flags.all_rules.Rule.TheVariants as rules;
 
 use crate::format_flags::*;
@@ -490,7 +490,7 @@ const fn first_broken_flags(format: u128) -> Error
 #[inline(always)]
 #[tactic(auto, unfolding(crate::specs::Rules::Holds))]
 const fn first_broken_reserved(format: u128) -> Error
-    ensures { IsFirstError reserved_rules format result }
+    ensures { IsFirstError (rules.ReservedBitsAreZero ∷ []) format result }
 {
     if is_clean(format) {
         Error::Success

@@ -4,7 +4,8 @@
 ghost use Rattle.std.specs.Prelude.{[], ◌∷◌, Some, None};
 ghost use Rattle.lexical_flags.specs.Constants.{ShareNoBit};
 ghost use Rattle.lexical_flags.specs.Options.{HaveOneRole, IsOptionsError, LeavesRoom};
-ghost use Rattle.lexical_flags.specs.Additions.BrokenRules.{AreIfBroken};
+ghost use Rattle.std.specs.List.{AllZip};
+ghost use Rattle.lexical_flags.specs.Additions.BrokenRules.{IsIfBroken};
 ghost use Rattle.lexical_flags.specs.declared.format_flags.all_rules.Rule.TheVariants as rules;
 ghost use Rattle.lexical_flags.specs.Pairs.{ArePairwise};
 ghost use Rattle.lexical_flags.specs.Record.{raw, SeparatorIsUsed};
@@ -39,9 +40,9 @@ pub fn room_examples()
 
 /// Broken rules and unfit options: flags 4 and 5, which exclude each other, and a digit as exponent character.
 pub fn broken_examples()
-    ensures broken { AreIfBroken 0x0A0A0A00_00000000_00000000_0000003C
+    ensures broken { AllZip (IsIfBroken 0x0A0A0A00_00000000_00000000_0000003C)
         (rules.ExponentFlagsAgree ∷ rules.MantissaSignFlagsAgree ∷ []) (None ∷ Some rules.MantissaSignFlagsAgree ∷ []) }
-    ensures left_out { AreIfBroken 0x0A0A0A00_00000000_00000000_0000003C
+    ensures left_out { AllZip (IsIfBroken 0x0A0A0A00_00000000_00000000_0000003C)
         (rules.ExponentFlagsAgree ∷ rules.MantissaSignFlagsAgree ∷ []) (None ∷ None ∷ []) → ⊥ }
 
     ensures exponent { IsOptionsError 0x0A0A0A00_00000000_00000000_0000000C 0x35 0x35 Error.InvalidExponentSymbol }

@@ -1,4 +1,4 @@
--- Numerals: digits of a radix.
+-- For `read_numeral`: digits of a radix.
 use Rattle.std.specs.Prelude.{ℕ, Bool, ◌&&◌, List, length, nat_lt, nat_le}
 use Rattle.std.specs.List.{list_all}
 use Rattle.lexical_base.specs.Digits.{value}

@@ -1,4 +1,4 @@
--- The sentences that say what is wrong with a word, and what of it has no effect.
+-- For `sentence` of reasons: why a rule is broken, and what has no effect, in words.
 use Rattle.std.specs.Prelude.{ℕ, ◌==◌, if◌then◌else◌, List, ◌++◌, codes, decimal}
 use Rattle.lexical_base.specs.Additions.Sentences.{numbered, shown}
 use Rattle.lexical_util.specs.Additions.SetterNames.{setter_name}

@@ -1,4 +1,4 @@
--- Why a word breaks a rule, and which of its settings have no effect.
+-- For `reasons_of` and `unused_settings`: why a word breaks a rule, and which of its settings have no effect.
 use Rattle.std.specs.Prelude.{ℕ, ◌≡◌, ◌↔◌, false, ◌==◌, ◌&&◌, not, if◌then◌else◌, Bool, Option, None, List, [], ◌∷◌, ◌++◌, map, take}
 use Rattle.std.specs.Bool.{then_some}
 use Rattle.std.specs.Int.Bits.{bit_and}

@@ -1,4 +1,4 @@
--- The names of the setters of flags and of groups.
+-- For `name`: the names of the setters of flags and groups.
 use Rattle.std.specs.Prelude.{ℕ, List, codes}
 use Rattle.lexical_util.specs.declared.edits.FlagSetter.{FlagSetter}
 use Rattle.lexical_util.specs.declared.edits.FlagSetter.TheVariants as setters

@@ -1,4 +1,4 @@
--- The numbers and names of setters, and the edits that numbers stand for.
+-- For `number` and `from_number`: the numbers and names of setters, and the edits that numbers stand for.
 use Rattle.std.specs.Prelude.{ℕ, ◌+◌, ◌^◌, length, not, ◌==◌, nat_lt, if◌then◌else◌, true, false, Option, Some, None}
 use Rattle.std.specs.Prelude.{List, [], ◌∷◌, ◌++◌, map, get_or, codes}
 use Rattle.std.specs.List.{position_or_len, sum_by}

@@ -1,4 +1,4 @@
--- The texts of settings: NAME=VALUE, with the name of a setter, and a `bool` or a byte.
+-- For `from_setting` and `from_text`: the texts NAME=VALUE, with the name of a setter, and a `bool` or a byte.
 use Rattle.std.specs.Prelude.{ℕ, ◌≡◌, ◌<◌, if◌then◌else◌, ◌==◌, ◌&&◌, Bool, true, false, Option, None, Some}
 use Rattle.std.specs.Prelude.{List, ◌∷◌, ◌++◌, length, codes, decimal, bytes_eq, nat_le, Result, Ok, Err}
 use Rattle.std.specs.List.{before_first, after_first}

@@ -1,12 +1,13 @@
 //! Which words a builder packs, and the setter calls that make a word.
 
 ghost use Rattle.std.specs.Prelude.{◌≡◌, ◌≤◌, ◌↔◌, ◌++◌, IsTrue, List, All, length, filter, take, not, if◌then◌else◌};
+ghost use Rattle.std.specs.List.{AllZip};
 ghost use Rattle.lexical_flags.specs.Layout as layout;
 ghost use Rattle.lexical_flags.specs.Layout.{IsClean};
 ghost use Rattle.lexical_flags.specs.Record.{raw, pack, SeparatorIsUsed, IsBuilt};
 ghost use Rattle.lexical_builder.specs.Writes.{Write, IsLegal, new_record, after};
 ghost use Rattle.lexical_util.specs.Edits.{all_writes};
-ghost use Rattle.lexical_util.specs.Listing.{AreEditsOf, needed_writes, other_writes, IsBuiltByWrites};
+ghost use Rattle.lexical_util.specs.Listing.{IsEditOf, needed_writes, other_writes, IsBuiltByWrites};
 ghost use Rattle.lexical_util.specs.Additions.FieldEdits.{field_edits};
 ghost use Rattle.lexical_util.specs.Private.{differs_from_new};
 
@@ -52,7 +53,7 @@ const fn is_separator_used(format: u128) -> bool
 /// assert_eq!(edits[..count], needed);
 /// ```
 pub fn edits_of(format: u128) -> ([Edit; FIELDS], usize)
-    ensures list { AreEditsOf (needed_writes (raw format) ++ other_writes (raw format)) result.0 }
+    ensures list { AllZip IsEditOf (needed_writes (raw format) ++ other_writes (raw format)) result.0 }
     ensures number { result.1 ≡ length (needed_writes (raw format)) }
     ensures legal { All IsLegal (all_writes result.0) }
 

@@ -1,5 +1,6 @@
-use Rattle.std.proofs.Common.{◌++◌, rules}
-use Rattle.lexical_flags.specs.Rules.{IsErrorOf, radix_rules, punctuation_rules, flag_rules, reserved_rules}
+use Rattle.std.proofs.Common.{◌++◌, ◌∷◌, [], rules}
+use Rattle.lexical_flags.specs.declared.format_flags.all_rules.Rule.TheVariants as rules_of
+use Rattle.lexical_flags.specs.Rules.{IsErrorOf, radix_rules, punctuation_rules, flag_rules}
 use Rattle.lexical_flags.proofs.RuleLemmas.{first_in_front}
 use Rattle.lexical_flags.proofs.format_flags.rules.first_broken.Goals as goal
 
@@ -8,4 +9,4 @@ use Rattle.lexical_flags.proofs.format_flags.rules.first_broken.Goals as goal
 pub returns-in_default : goal.returns-in_default
 unfolding IsErrorOf
 returns-in_default c = first_in_front c.args.format _ (search rules) radix_rules
-    (punctuation_rules ++ flag_rules ++ reserved_rules) (search rules)
+    (punctuation_rules ++ flag_rules ++ rules_of.ReservedBitsAreZero ∷ []) (search rules)

@@ -1,6 +1,7 @@
 use borrow.Rule.Slice.PartMut.{put_mid}
 use Rattle.std.proofs.Common.{◌≡◌, ℕ, ◌+◌, ◌-◌, ◌≤◌, List, ◌++◌, length, take, drop, filter, not, ◌∙◌, sym, ap, arith}
 use Rattle.std.proofs.Common.{subst, refl, All, append-nil, length-drop, length-take}
+use Rattle.std.specs.List.{AllZip}
 use Rattle.std.proofs.Math.Seq.{take-append_seam}
 use Rattle.std.proofs.lemmas.List.{drop_all, length-map}
 use Rattle.std.proofs.lemmas.List.Filters.{length-filter_both}
@@ -9,10 +10,10 @@ use Rattle.lexical_flags.proofs.Packing.{HasBytes-raw, pack-raw}
 use Rattle.lexical_builder.specs.Writes.{IsLegal, new_record, after}
 use Rattle.lexical_util.specs.Edits.{all_writes}
 use Rattle.lexical_util.specs.Additions.FieldEdits.{edit_of_write, needed_edits, other_edits}
-use Rattle.lexical_util.specs.Listing.{AreEditsOf, needed_writes, other_writes}
+use Rattle.lexical_util.specs.Listing.{IsEditOf, needed_writes, other_writes}
 use Rattle.lexical_util.specs.Private.{differs_from_new}
 use Rattle.lexical_util.proofs.ImageLemmas.{fewest_writes}
-use Rattle.lexical_util.proofs.ListingLemmas.{needed_edits-is, other_edits-is, AreEditsOf-both, only_both}
+use Rattle.lexical_util.proofs.ListingLemmas.{needed_edits-is, other_edits-is, IsEditOf-both, only_both}
 use Rattle.lexical_util.proofs.ListingLemmas.{after-needed, after-both, legal-both, length-needed}
 use Rattle.lexical_util.proofs.edits.listing.edits_of.Goals as goal
 
@@ -56,7 +57,7 @@ returns-clause-list c =
     (length c.move_to_front-count.new.edits - c.move_to_front-count.result)
     c.move_to_front-count.new.edits c.copy_from_slice.new.self (omega arith) ∙ (λ i. first i ++ second i) in
     let R = raw c.args.format in
-    subst (AreEditsOf (needed_writes R ++ other_writes R)) (sym listed) (AreEditsOf-both R)
+    subst (AllZip IsEditOf (needed_writes R ++ other_writes R)) (sym listed) (IsEditOf-both R)
 
 pub returns-clause-legal : goal.returns-clause-legal
 returns-clause-legal c =
