@@ -9,7 +9,7 @@
 #include <string.h>
 
 static void print_settings(peltzivar_word word) {
-    peltzivar_edit edits[PELTZIVAR_FIELDS];
+    peltzivar_edit edits[PELTZIVAR_FIELD_COUNT];
     const size_t count = peltzivar_edits_of(word, edits);
     for (size_t i = 0; i < count; i++) {
         char text[256];

@@ -78,16 +78,16 @@ static void test_words(void) {
     CHECK(peltzivar_is_built(PELTZIVAR_STANDARD) && !peltzivar_is_built(RESERVED));
 }
 
-/* An array of PELTZIVAR_FIELDS edits is written to its last entry, and no further. */
+/* An array of PELTZIVAR_FIELD_COUNT edits is written to its last entry, and no further. */
 static void test_edits_of(void) {
-    peltzivar_edit edits[PELTZIVAR_FIELDS + 64];
+    peltzivar_edit edits[PELTZIVAR_FIELD_COUNT + 64];
     memset(edits, '#', sizeof edits);
     CHECK(peltzivar_edits_of((peltzivar_word){0xC | 1, 0x0000100000000000}, edits) == 2);
     CHECK(edits[0].setter == PELTZIVAR_SET_REQUIRED_INTEGER_DIGITS && edits[0].value == 1);
     CHECK(edits[1].setter == PELTZIVAR_SET_MANTISSA_RADIX && edits[1].value == 16);
-    const peltzivar_edit last = edits[PELTZIVAR_FIELDS - 1];
+    const peltzivar_edit last = edits[PELTZIVAR_FIELD_COUNT - 1];
     CHECK(last.setter == PELTZIVAR_SET_EXPONENT_RADIX && last.value == 0);
-    for (size_t i = PELTZIVAR_FIELDS; i < PELTZIVAR_FIELDS + 64; i++) {
+    for (size_t i = PELTZIVAR_FIELD_COUNT; i < PELTZIVAR_FIELD_COUNT + 64; i++) {
         CHECK(edits[i].setter == '#' && edits[i].value == '#');
     }
 }
@@ -106,7 +106,7 @@ static void test_rules(void) {
     CHECK(peltzivar_options_error(PELTZIVAR_STANDARD, 'e', '+') == PELTZIVAR_INVALID_DECIMAL_POINT);
     CHECK(peltzivar_options_error(PELTZIVAR_STANDARD, 'e', 'e') == PELTZIVAR_INVALID_PUNCTUATION);
     for (int rule = 0; rule < 256; rule++) {
-        const bool known = rule < PELTZIVAR_RULES;
+        const bool known = rule < PELTZIVAR_RULE_COUNT;
         CHECK(peltzivar_keeps_rule(PELTZIVAR_STANDARD, (uint8_t)rule) == known);
         const bool keeps = known && rule != PELTZIVAR_RULE_RESERVED_BITS_ARE_ZERO;
         CHECK(peltzivar_keeps_rule(RESERVED, (uint8_t)rule) == keeps);
@@ -140,7 +140,7 @@ static void test_reasons(void) {
     static const struct {
         peltzivar_word word;
         const char *why, *end;
-    } rows[PELTZIVAR_RULES] = {
+    } rows[PELTZIVAR_RULE_COUNT] = {
         {{0x0000000000000000, 0x0000000000000000}, "the mantissa radix 0 is not 2 to 36", ""},
         {{0x0000000000000000, 0x0001020000000000}, "the exponent base 1 is not 2 to 36", ""},
         {{0x0000000000000000, 0x0100020000000000}, "the exponent radix 1 is not 2 to 36", ""},
@@ -162,7 +162,7 @@ static void test_reasons(void) {
         {{0x0000000080000000, 0x0000020000000000}, "a reserved bit is set", ""},
     };
     char text[256], wanted[256];
-    for (uint8_t rule = 0; rule < PELTZIVAR_RULES; rule++) {
+    for (uint8_t rule = 0; rule < PELTZIVAR_RULE_COUNT; rule++) {
         snprintf(wanted, sizeof wanted, "%s%s", rows[rule].why, rows[rule].end);
         for (int index = 0; index < 256; index++) {
             memset(text, '#', sizeof text);
@@ -172,20 +172,20 @@ static void test_reasons(void) {
         CHECK(peltzivar_reason(PELTZIVAR_STANDARD, rule, 0, text, sizeof text) == 0 && *text == 0);
     }
     const peltzivar_word clash = {0, 0x0000100061000061}, sign = {0, 0x000010000000002D};
-    CHECK(peltzivar_reason(clash, PELTZIVAR_RULE_BASE_PREFIX_IS_FREE, 2, text, sizeof text));
+    CHECK(peltzivar_reason(clash, PELTZIVAR_RULE_BASE_PREFIX_IS_PUNCTUATION, 2, text, sizeof text));
     CHECK(strcmp(text, "the base prefix 'a' is a digit of radix 16") == 0);
     CHECK(peltzivar_reason(clash, PELTZIVAR_RULE_PUNCTUATION_DIFFERS, 0, text, sizeof text));
     CHECK(strcmp(text, "the digit separator 'a' and the base prefix 'a' are the same") == 0);
-    CHECK(peltzivar_reason(sign, PELTZIVAR_RULE_DIGIT_SEPARATOR_IS_FREE, 1, text, sizeof text));
+    CHECK(peltzivar_reason(sign, PELTZIVAR_RULE_DIGIT_SEPARATOR_IS_PUNCTUATION, 1, text, sizeof text));
     CHECK(strcmp(text, "the digit separator '-' is a sign") == 0);
-    CHECK(peltzivar_reason(ZERO, PELTZIVAR_RULES, 0, text, sizeof text) == 0 && *text == 0);
+    CHECK(peltzivar_reason(ZERO, PELTZIVAR_RULE_COUNT, 0, text, sizeof text) == 0 && *text == 0);
     CHECK(peltzivar_reason(ZERO, UINT8_MAX, 0, text, sizeof text) == 0 && *text == 0);
 
-    CHECK(is_word(peltzivar_rule_mask(PELTZIVAR_RULE_BASE_PREFIX_IS_FREE), 0xFF00FF00FF000000, 0));
+    CHECK(is_word(peltzivar_rule_mask(PELTZIVAR_RULE_BASE_PREFIX_IS_PUNCTUATION), 0xFF00FF00FF000000, 0));
     CHECK(is_word(peltzivar_rule_mask(PELTZIVAR_RULE_EXPONENT_FLAGS_AGREE), 0, 0x4040));
     CHECK(is_word(peltzivar_rule_mask(PELTZIVAR_RULE_INTEGER_CONSECUTIVE_IS_ALLOWED), 0, 0x0000024900000000));
     CHECK(is_word(peltzivar_rule_mask(PELTZIVAR_RULE_RESERVED_BITS_ARE_ZERO), 0xFFFF00, 0xFFFFE000FFFC0000));
-    CHECK(is_word(peltzivar_rule_mask(PELTZIVAR_RULES), 0, 0) && is_word(peltzivar_rule_mask(UINT8_MAX), 0, 0));
+    CHECK(is_word(peltzivar_rule_mask(PELTZIVAR_RULE_COUNT), 0, 0) && is_word(peltzivar_rule_mask(UINT8_MAX), 0, 0));
 }
 
 /* The settings without effect of fields: one alone, each at its index. */

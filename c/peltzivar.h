@@ -115,7 +115,7 @@ enum {
 };
 
 /* How many fields a word has: the flags and six bytes. */
-#define PELTZIVAR_FIELDS (PELTZIVAR_SET_REQUIRED_DIGITS + 6)
+#define PELTZIVAR_FIELD_COUNT (PELTZIVAR_SET_REQUIRED_DIGITS + 6)
 
 /* Success, which is 0, or one of 48 errors, 49 outcomes in all: 1 to 19 are of parsing, each with the index in the text at
  * which it was found; 20 to 36 of formats, which calls below return; 37 to 48 of options. There is no parser here: the
@@ -182,9 +182,9 @@ enum {
     PELTZIVAR_RULE_MANTISSA_RADIX_IN_RANGE = 0, /* mantissa_radix is 2 to 36 */
     PELTZIVAR_RULE_EXPONENT_BASE_IN_RANGE, /* exponent_base is 2 to 36 */
     PELTZIVAR_RULE_EXPONENT_RADIX_IN_RANGE, /* exponent_radix is 2 to 36 */
-    PELTZIVAR_RULE_DIGIT_SEPARATOR_IS_FREE, /* digit_separator is 0 or punctuation */
-    PELTZIVAR_RULE_BASE_PREFIX_IS_FREE, /* base_prefix is 0 or punctuation */
-    PELTZIVAR_RULE_BASE_SUFFIX_IS_FREE, /* base_suffix is 0 or punctuation */
+    PELTZIVAR_RULE_DIGIT_SEPARATOR_IS_PUNCTUATION, /* digit_separator is 0 or punctuation */
+    PELTZIVAR_RULE_BASE_PREFIX_IS_PUNCTUATION, /* base_prefix is 0 or punctuation */
+    PELTZIVAR_RULE_BASE_SUFFIX_IS_PUNCTUATION, /* base_suffix is 0 or punctuation */
     /* no two of these three share a byte; a letter counts in both cases unless its case_sensitive_ flag is set */
     PELTZIVAR_RULE_PUNCTUATION_DIFFERS,
     PELTZIVAR_RULE_EXPONENT_FLAGS_AGREE, /* not both no_exponent_notation and required_exponent_notation */
@@ -198,7 +198,7 @@ enum {
     PELTZIVAR_RULE_EXPONENT_CONSECUTIVE_IS_ALLOWED, /* the same of the exponent */
     PELTZIVAR_RULE_RESERVED_BITS_ARE_ZERO, /* the bits that hold no field are 0 */
 };
-#define PELTZIVAR_RULES 16
+#define PELTZIVAR_RULE_COUNT 16
 
 /* How many reasons there may be for which a word breaks one rule, and how many settings without effect. */
 #define PELTZIVAR_REASONS 3
@@ -256,7 +256,7 @@ bool peltzivar_is_built(peltzivar_word format);
 /* Writes one edit for each field, with its value in the word, and returns how many of them make these fields from
  * PELTZIVAR_NEW_FIELDS. These come first. Where peltzivar_pack can return the word, no shorter list of edits of
  * single fields makes it; an edit of a group stands for several of them. */
-size_t peltzivar_edits_of(peltzivar_word format, peltzivar_edit edits[PELTZIVAR_FIELDS]);
+size_t peltzivar_edits_of(peltzivar_word format, peltzivar_edit edits[PELTZIVAR_FIELD_COUNT]);
 
 /* RULES */
 

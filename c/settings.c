@@ -68,7 +68,7 @@ int main(int argc, char **argv) {
     const peltzivar_word word = peltzivar_pack(&fields);
     const bool is_lawful = !peltzivar_format_error(word);
     if (is_lawful) printf("0x%016" PRIX64 "%016" PRIX64 "\n", word.high, word.low);
-    for (uint8_t rule = 0; rule < PELTZIVAR_RULES; rule++) {
+    for (uint8_t rule = 0; rule < PELTZIVAR_RULE_COUNT; rule++) {
         if (!peltzivar_keeps_rule(word, rule)) print_rule(word, rule);
     }
     for (uint8_t index = 0; index < PELTZIVAR_UNUSED; index++) {

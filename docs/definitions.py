@@ -146,11 +146,11 @@ def items(text, file, imported, names, bound=()):
     """Returns what the words of a text mean, each once. A name of a definition is never taken for a bound one."""
     text = re.sub(r'"[^"\n]*"|(?:--|//).*', "", text)
 
-    def is_free(word):
+    def is_absent_or_punctuation(word):
         item = meaning(word, file, imported, ())
         return not item or item.file == "unknown name" or item.file == "std" and word not in CONSTRUCTORS
 
-    bound = set(filter(is_free, {*bound, *bound_names(text, names)}))
+    bound = set(filter(is_absent_or_punctuation, {*bound, *bound_names(text, names)}))
     return list(dict.fromkeys(it for it in (meaning(word, file, imported, bound) for word in WORD.findall(text)) if it))
 
 

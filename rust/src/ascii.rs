@@ -17,7 +17,7 @@ pub const fn is_valid_ascii(c: u8) -> bool {
 /// Returns whether [`is_valid_ascii`] is true of every byte of `slc`; true for an empty slice.
 #[must_use]
 pub fn is_valid_ascii_slice(slc: &[u8]) -> bool {
-    all_in_either(slc, 0xff, (0x09, 0x0d), (0x20, 0x7e))
+    all_in_ranges(slc, 0xff, (0x09, 0x0d), (0x20, 0x7e))
 }
 
 /// Returns whether the byte `c` is an ASCII letter, uppercase or lowercase.
@@ -30,7 +30,7 @@ pub const fn is_valid_letter(c: u8) -> bool {
 /// Returns whether [`is_valid_letter`] is true of every byte of `slc`; true for an empty slice.
 #[must_use]
 pub fn is_valid_letter_slice(slc: &[u8]) -> bool {
-    all_in_either(slc, 0xdf, (b'A', b'Z'), (b'A', b'Z'))
+    all_in_ranges(slc, 0xdf, (b'A', b'Z'), (b'A', b'Z'))
 }
 
 // Whether every byte of `bytes` is in one of two ranges, each given by its lowest and highest byte,
@@ -38,9 +38,9 @@ pub fn is_valid_letter_slice(slc: &[u8]) -> bool {
 //
 // It looks at 32 bytes at a time, and then at the rest, fewer than 32.
 #[inline(always)]
-fn all_in_either(bytes: &[u8], mask: u8, first: (u8, u8), second: (u8, u8)) -> bool {
+fn all_in_ranges(bytes: &[u8], mask: u8, first: (u8, u8), second: (u8, u8)) -> bool {
     let (chunks, rest) = bytes.as_chunks::<32>();
-    chunks_in_either(chunks, mask, first, second) & few_in_either(rest, mask, first, second)
+    chunks_in_ranges(chunks, mask, first, second) & rest_in_ranges(rest, mask, first, second)
 }
 
 // Whether every byte of chunks, few or many, is in one of the ranges.
@@ -48,19 +48,19 @@ fn all_in_either(bytes: &[u8], mask: u8, first: (u8, u8), second: (u8, u8)) -> b
 // It takes blocks of 16, one after another, and stops at the first that fails. A test after each chunk
 // would take as long as all else.
 #[inline(always)]
-fn chunks_in_either(chunks: &[[u8; 32]], mask: u8, first: (u8, u8), second: (u8, u8)) -> bool {
+fn chunks_in_ranges(chunks: &[[u8; 32]], mask: u8, first: (u8, u8), second: (u8, u8)) -> bool {
     let (blocks, rest) = chunks.as_chunks::<16>();
     for block in blocks {
-        if !block_in_either(block, mask, first, second) {
+        if !block_in_ranges(block, mask, first, second) {
             return false;
         }
     }
-    block_in_either(rest, mask, first, second)
+    block_in_ranges(rest, mask, first, second)
 }
 
 // Whether every byte of a few chunks of `N` bytes is in one of the ranges, with one test after the last.
 #[inline(always)]
-fn block_in_either<const N: usize>(
+fn block_in_ranges<const N: usize>(
     block: &[[u8; N]],
     mask: u8,
     first: (u8, u8),
@@ -69,7 +69,7 @@ fn block_in_either<const N: usize>(
     let last = second.1 - second.0;
     let mut largest = Simd::<u8, N>::splat(0);
     for chunk in block {
-        largest = joined(largest, Simd::from_array(*chunk), mask, first, second);
+        largest = max_distance(largest, Simd::from_array(*chunk), mask, first, second);
     }
     !largest.simd_gt(Simd::splat(last)).any()
 }
@@ -81,7 +81,7 @@ fn block_in_either<const N: usize>(
 // the highest. Distances from the first range are raised by what the second is longer, so that of the
 // two the smaller decides, and of all bytes the largest.
 #[inline(always)]
-fn joined<const N: usize>(
+fn max_distance<const N: usize>(
     largest: Simd<u8, N>,
     lanes: Simd<u8, N>,
     mask: u8,
@@ -98,15 +98,15 @@ fn joined<const N: usize>(
 // Whether every one of fewer than 32 bytes is in one of the ranges: 16 are tested at once, if there are
 // as many, and the others one by one.
 #[inline(always)]
-fn few_in_either(bytes: &[u8], mask: u8, first: (u8, u8), second: (u8, u8)) -> bool {
+fn rest_in_ranges(bytes: &[u8], mask: u8, first: (u8, u8), second: (u8, u8)) -> bool {
     let (halves, rest) = bytes.as_chunks::<16>();
-    block_in_either(halves, mask, first, second) & bytes_in_either(rest, mask, first, second)
+    block_in_ranges(halves, mask, first, second) & bytes_in_ranges(rest, mask, first, second)
 }
 
 // Whether every one of a few bytes is in one of the ranges. It looks at all of them, with one test
 // after the last.
 #[inline(always)]
-fn bytes_in_either(bytes: &[u8], mask: u8, first: (u8, u8), second: (u8, u8)) -> bool {
+fn bytes_in_ranges(bytes: &[u8], mask: u8, first: (u8, u8), second: (u8, u8)) -> bool {
     let mut all = true;
     for byte in bytes {
         let c = *byte & mask;

@@ -42,39 +42,39 @@
 //!   pub below_prefix : part word 72 16 ≡ 0
 //! ```
 //!
-//! # `AreAccepted`
+//! # `OptionsFit`
 //!
-//! both bytes are punctuation, and neither role shares a byte with the other or with one that the format names
+//! Both bytes are punctuation, and their roles share no byte with each other or with a role that the format names.
 //!
 //! ```text
-//! pub record AreAccepted (word exponent_byte point_byte : ℕ) : Type 0 where
+//! pub record OptionsFit (word exponent_byte point_byte : ℕ) : Type 0 where
 //!   pub exponent_is_punctuation : IsPunctuation (raw word) exponent_byte
 //!   pub point_is_punctuation : IsPunctuation (raw word) point_byte
 //!   pub apart : Disjoint (exponent (raw word) exponent_byte) (point point_byte)
-//!   pub exponent_is_new : AllByRecursion (Disjoint (exponent (raw word) exponent_byte)) (own_roles (raw word))
-//!   pub point_is_new : AllByRecursion (Disjoint (point point_byte)) (own_roles (raw word))
+//!   pub exponent_is_new : AllByRecursion (Disjoint (exponent (raw word) exponent_byte)) (format_roles (raw word))
+//!   pub point_is_new : AllByRecursion (Disjoint (point point_byte)) (format_roles (raw word))
 //! ```
 //!
-//! # `HaveOneRole`
+//! # `OptionsHaveOneRole`
 //!
-//! both bytes are text, and no byte plays two of the seven roles
+//! Both bytes are allowed ASCII, and no byte plays two of the seven roles.
 //!
 //! ```text
-//! pub record HaveOneRole (word exponent_byte point_byte : ℕ) : Type 0 where
+//! pub record OptionsHaveOneRole (word exponent_byte point_byte : ℕ) : Type 0 where
 //!   pub exponent_is_text : IsTrue (allowed_ascii exponent_byte)
 //!   pub point_is_text : IsTrue (allowed_ascii point_byte)
 //!   pub roles : AreDisjoint (seven_roles (raw word) exponent_byte point_byte)
 //! ```
 //!
-//! # `LeavesRoom`
+//! # `SomeOptionsFit`
 //!
-//! some pair of bytes fits
+//! Some exponent character and decimal point fit.
 //!
 //! ```text
-//! pub record LeavesRoom (word : ℕ) : Type 0 where
+//! pub record SomeOptionsFit (word : ℕ) : Type 0 where
 //!   pub exponent_byte : ℕ
 //!   pub point_byte : ℕ
-//!   pub fit : HaveOneRole word exponent_byte point_byte
+//!   pub fit : OptionsHaveOneRole word exponent_byte point_byte
 //! ```
 //!
 //! # `Record`
@@ -106,13 +106,13 @@
 //!     set_byte (set_byte r layout.exponent_base (effective_exponent_base r)) layout.exponent_radix (effective_exponent_radix r)
 //! ```
 //!
-//! # `SeparatorIsUsed`
+//! # `SeparatorAllowedOrAbsent`
 //!
-//! `SeparatorIsUsed r` holds if some flag of `r` allows a digit separator, or `r` has none.
+//! `SeparatorAllowedOrAbsent r` holds if some flag of `r` allows a digit separator, or `r` has none.
 //!
 //! ```text
-//! abbrev pub SeparatorIsUsed : Record → Type 0
-//! SeparatorIsUsed r = IsTrue (separator_on r) ⊎ (r.byte layout.digit_separator ≡ 0)
+//! abbrev pub SeparatorAllowedOrAbsent : Record → Type 0
+//! SeparatorAllowedOrAbsent r = IsTrue (separator_allowed r) ⊎ (r.byte layout.digit_separator ≡ 0)
 //! ```
 //!
 //! # `trim`
@@ -121,7 +121,7 @@
 //!
 //! ```text
 //! abbrev pub trim : Record → Record
-//! trim r = set_byte r layout.digit_separator (if separator_on r then r.byte layout.digit_separator else 0)
+//! trim r = set_byte r layout.digit_separator (if separator_allowed r then r.byte layout.digit_separator else 0)
 //! ```
 //!
 //! # `pack`
@@ -140,7 +140,7 @@
 //! ```text
 //! pub record IsBuilt (word : ℕ) : Type 0 where
 //!   pub clean : IsClean word
-//!   pub separator_used : SeparatorIsUsed (raw word)
+//!   pub separator_used : SeparatorAllowedOrAbsent (raw word)
 //! ```
 //!
 //! # `HasBytes`
@@ -224,7 +224,7 @@
 //!
 //! # `all_writes`
 //!
-//! the writes of all edits, in their order
+//! The writes of some edits, in order.
 //!
 //! ```text
 //! abbrev pub all_writes : List Edit → List Write
@@ -233,7 +233,7 @@
 //!
 //! # `edited`
 //!
-//! the word that writes make of a word: its empty exponent bytes are filled, then the fields are written, then they are packed
+//! `edited word writes` is the word that results if the fields of `word` are filled, written in order, and packed.
 //!
 //! ```text
 //! abbrev pub edited : ℕ → List Write → ℕ
@@ -242,7 +242,7 @@
 //!
 //! # `any_flag`
 //!
-//! whether any of these flags is set
+//! True if any of these flags is set.
 //!
 //! ```text
 //! unfoldable pub any_flag : ℕ → List Flag → Bool
@@ -251,7 +251,7 @@
 //!
 //! # `bits_of`
 //!
-//! the sum of the bits of those of these flags that are set
+//! The sum of the bits of those of these flags that are set.
 //!
 //! ```text
 //! unfoldable pub bits_of : ℕ → List Flag → ℕ
@@ -324,7 +324,7 @@
 //!   pub mantissa_radix : r.byte layout.mantissa_radix ≡ s.byte layout.mantissa_radix
 //!   pub exponent_base : effective_exponent_base r ≡ effective_exponent_base s
 //!   pub exponent_radix : effective_exponent_radix r ≡ effective_exponent_radix s
-//!   pub digit_separator : IsTrue (separator_on r) → r.byte layout.digit_separator ≡ s.byte layout.digit_separator
+//!   pub digit_separator : IsTrue (separator_allowed r) → r.byte layout.digit_separator ≡ s.byte layout.digit_separator
 //! ```
 //!
 //! # `IsNormal`
@@ -334,7 +334,7 @@
 //! ```text
 //! pub record IsNormal (word : ℕ) : Type 0 where
 //!   pub clean : IsClean word
-//!   pub separator_used : SeparatorIsUsed (raw word)
+//!   pub separator_used : SeparatorAllowedOrAbsent (raw word)
 //!   pub exponent_base : (raw word).byte layout.exponent_base ≡ 0 → (raw word).byte layout.mantissa_radix ≡ 0
 //!   pub exponent_radix : (raw word).byte layout.exponent_radix ≡ 0 → (raw word).byte layout.mantissa_radix ≡ 0
 //! ```

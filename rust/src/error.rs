@@ -8,11 +8,11 @@
 use core::cmp::Ordering;
 use core::fmt;
 
-mod sentence;
+mod short_text;
 mod sink;
 
-use sentence::put_decimal;
-pub use sentence::{Piece, Sentence, NOTHING};
+use short_text::put_decimal;
+pub use short_text::{Piece, ShortText, EMPTY_PIECE};
 pub use sink::Sink;
 
 /// What a parser or a checker found: one of 48 errors, or [`Error::Success`].

@@ -228,8 +228,8 @@ impl NumberFormatBuilder {
     pub const fn rebuild(format: u128) -> Self {
         let high = (format >> 64) as u64;
         let radix = ((high >> MANTISSA_SHIFT) % 256) as u8;
-        let exponent_base = own_or(((high >> BASE_SHIFT) % 256) as u8, radix);
-        let exponent_radix = own_or((high >> RADIX_SHIFT) as u8, radix);
+        let exponent_base = byte_or_radix(((high >> BASE_SHIFT) % 256) as u8, radix);
+        let exponent_radix = byte_or_radix((high >> RADIX_SHIFT) as u8, radix);
         NumberFormatBuilder {
             flags: builder_flags(format),
             bytes: [
@@ -287,11 +287,11 @@ impl NumberFormatBuilder {
 
 // An exponent byte of a format word, or the mantissa radix if that is 0.
 #[inline(always)]
-const fn own_or(own: u8, mantissa_radix: u8) -> u8 {
-    if own == 0 {
+const fn byte_or_radix(byte: u8, mantissa_radix: u8) -> u8 {
+    if byte == 0 {
         mantissa_radix
     } else {
-        own
+        byte
     }
 }
 

@@ -71,14 +71,14 @@ pub const fn reasons_of(rule: Rule, format: u128) -> [Option<Reason>; REASONS] {
             let radix = flags::exponent_radix(format);
             out_of_range(radix, Edit::ExponentRadix(NonZeroU8::new(radix as u8)))
         }
-        Rule::DigitSeparatorIsFree => {
+        Rule::DigitSeparatorIsPunctuation => {
             let byte = flags::digit_separator(format);
             not_free(format, byte, &separator_edit(format))
         }
-        Rule::BasePrefixIsFree => {
+        Rule::BasePrefixIsPunctuation => {
             not_free(format, flags::base_prefix(format), &prefix_edit(format))
         }
-        Rule::BaseSuffixIsFree => {
+        Rule::BaseSuffixIsPunctuation => {
             not_free(format, flags::base_suffix(format), &suffix_edit(format))
         }
         Rule::PunctuationDiffers => clash_reasons(format),

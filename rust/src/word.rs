@@ -57,7 +57,7 @@ pub const fn format_is_valid(format: u128) -> bool {
 /// ```text
 /// ensures first { IsErrorOf format result }
 /// ensures lawful { (result ≡ Error.Success) ↔ Lawful format }
-/// ensures only { (other : Error) → IsErrorOf format other → other ≡ result }
+/// ensures unique { (other : Error) → IsErrorOf format other → other ≡ result }
 /// ```
 #[must_use]
 #[inline(always)]

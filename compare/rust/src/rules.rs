@@ -26,8 +26,8 @@ struct Role {
 }
 
 impl Role {
-    fn new(byte: u8, case_counts: bool) -> Role {
-        let has_other_case = byte.is_ascii_alphabetic() && !case_counts;
+    fn new(byte: u8, case_sensitive: bool) -> Role {
+        let has_other_case = byte.is_ascii_alphabetic() && !case_sensitive;
         Role { byte, other_case: if has_other_case { byte ^ 0x20 } else { byte } }
     }
 

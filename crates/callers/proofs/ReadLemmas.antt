@@ -9,60 +9,63 @@ use Rattle.std.proofs.lemmas.List.Elements.{filter_more, filter-append}
 use Rattle.std.specs.Int.Digits.{number_from_digits}
 use borrow.Author.Count.{below_more}
 use Rattle.lexical_util.specs.Layout as layout
-use Rattle.lexical_util.specs.Digits.{value, numeral}
+use Rattle.lexical_util.specs.Digits.{byte_value, numeral}
 use Rattle.lexical_util.specs.Outcomes.{held_index}
 use Rattle.lexical_util.specs.Record.{Record, raw}
 use Rattle.lexical_util.specs.Rules.{Lawful}
 use Rattle.lexical_util.specs.declared.error.Error.{Error}
 use Rattle.lexical_util.specs.declared.error.Error.TheVariants as errors
-use Rattle.callers.specs.Reading.{is_digit, is_read, is_skipped, byte_at, number_of}
+use Rattle.callers.specs.Reading.{is_mantissa_digit, is_read, is_skipped, byte_at, number_read}
 use Rattle.callers.specs.Reading.{IsNumeral, IsReadTo, IsRefusal}
 
 -- the number of one byte more, as a test says whether it is a digit
-number-more : (r : Record) (text : List ℕ) (i : ℕ) (test : Bool) → i < length text → is_digit r (byte_at text i) ≡ test
-    → number_of r (take (i + 1) text)
-    ≡ cond test (number_of r (take i text) * r.byte layout.mantissa_radix + value (byte_at text i)) (number_of r (take i text))
+number-more : (r : Record) (text : List ℕ) (i : ℕ) (test : Bool) → i < length text
+    → is_mantissa_digit r (byte_at text i) ≡ test
+    → number_read r (take (i + 1) text)
+    ≡ cond test (number_read r (take i text) * r.byte layout.mantissa_radix + byte_value (byte_at text i)) (number_read r (take i text))
 number-more r text i test inside is = ap (numeral (r.byte layout.mantissa_radix)) longer ∙ pushed test where
   front : List ℕ
-  front = filter (is_digit r) (take i text)
+  front = filter (is_mantissa_digit r) (take i text)
 
-  longer : filter (is_digit r) (take (i + 1) text) ≡ front ++ cond test (byte_at text i ∷ []) []
-  longer = filter_more (is_digit r) text i 0 inside ∙ ap (λ t. front ++ cond t (byte_at text i ∷ []) []) is
+  longer : filter (is_mantissa_digit r) (take (i + 1) text) ≡ front ++ cond test (byte_at text i ∷ []) []
+  longer = filter_more (is_mantissa_digit r) text i 0 inside ∙ ap (λ t. front ++ cond t (byte_at text i ∷ []) []) is
 
   pushed : (t : Bool) → numeral (r.byte layout.mantissa_radix) (front ++ cond t (byte_at text i ∷ []) [])
-      ≡ cond t (number_of r (take i text) * r.byte layout.mantissa_radix + value (byte_at text i)) (number_of r (take i text))
-  pushed true = ap (number_from_digits (r.byte layout.mantissa_radix)) (map_push value front (byte_at text i))
-      ∙ number_push (r.byte layout.mantissa_radix) (map value front) (value (byte_at text i))
+      ≡ cond t (number_read r (take i text) * r.byte layout.mantissa_radix + byte_value (byte_at text i)) (number_read r (take i text))
+  pushed true = ap (number_from_digits (r.byte layout.mantissa_radix)) (map_push byte_value front (byte_at text i))
+      ∙ number_push (r.byte layout.mantissa_radix) (map byte_value front) (byte_value (byte_at text i))
   pushed false = ap (numeral (r.byte layout.mantissa_radix)) (append-nil front)
 
 -- more bytes write no smaller number
 number-grows : (r : Record) (text : List ℕ) (i : ℕ) → 1 ≤ r.byte layout.mantissa_radix
-    → number_of r (take i text) ≤ number_of r text
+    → number_read r (take i text) ≤ number_read r text
 number-grows r text i some =
-    let kept = filter (is_digit r) in
-    let apart : map value (kept text) ≡ map value (kept (take i text)) ++ map value (kept (drop i text)) =
-    ap (λ t. map value (kept t)) (sym (take-append-drop i text))
-    ∙ ap (map value) (filter-append (is_digit r) (take i text) (drop i text))
-    ∙ map-append value (kept (take i text)) (kept (drop i text)) in
-    rw (apart, number_after_append) (number_after_ge (r.byte layout.mantissa_radix) (number_of r (take i text)) (map value (kept (drop i text))) some)
+    let kept = filter (is_mantissa_digit r) in
+    let apart : map byte_value (kept text)
+    ≡ map byte_value (kept (take i text)) ++ map byte_value (kept (drop i text)) =
+    ap (λ t. map byte_value (kept t)) (sym (take-append-drop i text))
+    ∙ ap (map byte_value) (filter-append (is_mantissa_digit r) (take i text) (drop i text))
+    ∙ map-append byte_value (kept (take i text)) (kept (drop i text)) in
+    rw (apart, number_after_append) (number_after_ge (r.byte layout.mantissa_radix) (number_read r (take i text)) (map byte_value (kept (drop i text))) some)
 
 number-within : (r : Record) (text : List ℕ) (i j : ℕ) → 1 ≤ r.byte layout.mantissa_radix → i ≤ j
-    → number_of r (take i text) ≤ number_of r (take j text)
+    → number_read r (take i text) ≤ number_read r (take j text)
 number-within r text i j some less =
-    subst (λ t. number_of r t ≤ number_of r (take j text)) (take-take i j text less)
+    subst (λ t. number_read r t ≤ number_read r (take j text)) (take-take i j text less)
     (number-grows r (take j text) i some)
 
 -- what is known before the byte at an index is looked at
 pub record HasRead (r : Record) (text : List ℕ) (i number : ℕ) : Type 0 where
-  pub sum : number ≡ number_of r (take i text)
+  pub sum : number ≡ number_read r (take i text)
   pub read : (k : ℕ) → k < i → IsTrue (is_read r text k)
-  pub fits : number_of r (take i text) < 2 ^ 64
+  pub fits : number_read r (take i text) < 2 ^ 64
 
 read_to : (r : Record) (text : List ℕ) (i number : ℕ) → i < length text → HasRead r text i number → IsReadTo r text i
 read_to r text i number inside before = record { inside = inside; read = before.read; fits = before.fits }
 
 -- a separator is skipped
-pub skipped : (r : Record) (text : List ℕ) (i number : ℕ) → i < length text → is_digit r (byte_at text i) ≡ false
+pub skipped : (r : Record) (text : List ℕ) (i number : ℕ) → i < length text
+    → is_mantissa_digit r (byte_at text i) ≡ false
     → IsTrue (is_skipped r text i) → HasRead r text i number → HasRead r text (i + 1) number
 skipped r text i number inside other here before =
     let same = number-more r text i false inside other in
@@ -73,14 +76,17 @@ skipped r text i number inside other here before =
     }
 
 -- the number with the digit at an index
-next : (r : Record) (text : List ℕ) (i number digit : ℕ) → i < length text → IsTrue (is_digit r (byte_at text i))
-    → digit ≡ value (byte_at text i) → HasRead r text i number
-    → number * r.byte layout.mantissa_radix + digit ≡ number_of r (take (i + 1) text)
+next : (r : Record) (text : List ℕ) (i number digit : ℕ) → i < length text
+    → IsTrue (is_mantissa_digit r (byte_at text i))
+    → digit ≡ byte_value (byte_at text i) → HasRead r text i number
+    → number * r.byte layout.mantissa_radix + digit ≡ number_read r (take (i + 1) text)
 next r text i number digit inside here is before = rw (is, before.sum) (sym (number-more r text i true inside here))
 
 -- a digit is read
-pub pushed : (r : Record) (text : List ℕ) (i number digit : ℕ) → i < length text → IsTrue (is_digit r (byte_at text i))
-    → digit ≡ value (byte_at text i) → HasRead r text i number → number * r.byte layout.mantissa_radix + digit < 2 ^ 64
+pub pushed : (r : Record) (text : List ℕ) (i number digit : ℕ) → i < length text
+    → IsTrue (is_mantissa_digit r (byte_at text i))
+    → digit ≡ byte_value (byte_at text i) → HasRead r text i number
+    → number * r.byte layout.mantissa_radix + digit < 2 ^ 64
     → HasRead r text (i + 1) (number * r.byte layout.mantissa_radix + digit)
 pushed r text i number digit inside here is before fits =
     let sum = next r text i number digit inside here is before in
@@ -92,7 +98,7 @@ pushed r text i number digit inside here is before fits =
 
 -- the number is too large with the digit at an index
 pub too_large : (r : Record) (text : List ℕ) (i number digit : ℕ) → i < length text
-    → IsTrue (is_digit r (byte_at text i)) → digit ≡ value (byte_at text i) → HasRead r text i number
+    → IsTrue (is_mantissa_digit r (byte_at text i)) → digit ≡ byte_value (byte_at text i) → HasRead r text i number
     → (number * r.byte layout.mantissa_radix + digit < 2 ^ 64 → ⊥) → IsRefusal r text (errors.Overflow i)
 too_large r text i number digit inside here is before large = (
   read_to r text i number inside before,
@@ -101,16 +107,17 @@ too_large r text i number digit inside here is before large = (
 )
 
 -- the byte at an index is no digit, and no separator that may stand there
-pub no_digit : (r : Record) (text : List ℕ) (i number : ℕ) → i < length text → is_digit r (byte_at text i) ≡ false
+pub no_digit : (r : Record) (text : List ℕ) (i number : ℕ) → i < length text
+    → is_mantissa_digit r (byte_at text i) ≡ false
     → is_skipped r text i ≡ false → HasRead r text i number → IsRefusal r text (errors.InvalidDigit i)
 no_digit r text i number inside other stays before =
     (read_to r text i number inside before, or_from (is_skipped r text i) _ stays other)
 
 -- the whole text is read
 pub whole : (r : Record) (text : List ℕ) (i number : ℕ) → length text ≤ i → 1 ≤ length text → HasRead r text i number
-    → IsNumeral r text × (number ≡ number_of r text)
+    → IsNumeral r text × (number ≡ number_read r text)
 whole r text i number end some before =
-    let all : number_of r (take i text) ≡ number_of r text = ap (number_of r) (take_all i text end) in (
+    let all : number_read r (take i text) ≡ number_read r text = ap (number_read r) (take_all i text end) in (
       record {
         some = some;
         read = λ k below. before.read k (omega arith);

@@ -5,7 +5,7 @@ use Rattle.lexical_util.specs.Record.{Record}
 use Rattle.lexical_util.specs.Roles.{AreDisjoint, Disjoint, seven_roles}
 use Rattle.callers.specs.declared.roles.Role.{Role}
 use Rattle.callers.specs.declared.roles.Role.TheVariants as roles
-use Rattle.callers.specs.Playing.{role_set}
+use Rattle.callers.specs.ByteRoles.{role_set}
 
 -- by the law of disjoint sets
 module _ (law : (A B : ByteSet)

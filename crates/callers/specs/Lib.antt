@@ -1,2 +1,2 @@
-pub mod Playing
+pub mod ByteRoles
 pub mod Reading

@@ -3,7 +3,7 @@
 ghost use Rattle.std.specs.Prelude.{codes, Some, None};
 ghost use Rattle.lexical_util.specs.Record.{raw};
 ghost use Rattle.lexical_util.specs.declared.error.Error.TheVariants as errors;
-ghost use Rattle.callers.specs.Playing.{IsRoleOf};
+ghost use Rattle.callers.specs.ByteRoles.{IsRoleOf};
 ghost use Rattle.callers.specs.Reading.{IsReadTo, IsRefusal};
 ghost use Rattle.callers.specs.declared.roles.Role.TheVariants as roles;
 

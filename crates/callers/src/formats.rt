@@ -8,10 +8,10 @@ ghost use Rattle.std.specs.Result.{OkIff};
 ghost use Rattle.lexical_util.specs.Layout as layout;
 ghost use Rattle.lexical_util.specs.Record.{raw};
 ghost use Rattle.lexical_util.specs.Rules.{Lawful};
-ghost use Rattle.lexical_util.specs.Options.{AreAccepted};
+ghost use Rattle.lexical_util.specs.Options.{OptionsFit};
 ghost use Rattle.lexical_util.specs.Writes.{write_byte, write_flag, write_flags};
 ghost use Rattle.lexical_util.specs.Edits.{edited};
-ghost use Rattle.callers.specs.Reading.{number_of, IsNumeral, IsRefusal};
+ghost use Rattle.callers.specs.Reading.{number_read, IsNumeral, IsRefusal};
 
 use crate::read::read_digits;
 use lexical_util::error::Error;
@@ -50,7 +50,7 @@ pub fn decimal_facts()
     ensures between_digits { (raw DECIMAL).flag layout.integer_internal_digit_separator ≡ true }
     ensures after_digits { (raw DECIMAL).flag layout.integer_trailing_digit_separator ≡ false }
     ensures lawful { Lawful DECIMAL }
-    ensures options { AreAccepted DECIMAL EXPONENT POINT }
+    ensures options { OptionsFit DECIMAL EXPONENT POINT }
 {}
 
 /// What is known of [`RUST_INTEGER`].
@@ -67,7 +67,7 @@ pub fn rust_integer_facts()
     ensures in_a_row { (raw RUST_INTEGER).flag layout.integer_consecutive_digit_separator ≡ true }
     ensures no_exponent { (raw RUST_INTEGER).flag layout.no_exponent_notation ≡ true }
     ensures lawful { Lawful RUST_INTEGER }
-    ensures options { AreAccepted RUST_INTEGER EXPONENT POINT }
+    ensures options { OptionsFit RUST_INTEGER EXPONENT POINT }
 {}
 
 /// What is known of [`HEXADECIMAL_FLOAT`].
@@ -83,7 +83,7 @@ pub fn hexadecimal_float_facts()
     ensures exponent { (raw HEXADECIMAL_FLOAT).flag layout.required_exponent_notation ≡ true }
     ensures no_separator { (raw HEXADECIMAL_FLOAT).byte layout.digit_separator ≡ 0 }
     ensures lawful { Lawful HEXADECIMAL_FLOAT }
-    ensures options { AreAccepted HEXADECIMAL_FLOAT HEXADECIMAL_EXPONENT POINT }
+    ensures options { OptionsFit HEXADECIMAL_FLOAT HEXADECIMAL_EXPONENT POINT }
 {}
 
 /// What is known of [`OCTAL`].
@@ -95,13 +95,13 @@ pub fn octal_facts()
     ensures both_cases { (raw OCTAL).flag layout.case_sensitive_base_suffix ≡ false }
     ensures no_separator { (raw OCTAL).byte layout.digit_separator ≡ 0 }
     ensures lawful { Lawful OCTAL }
-    ensures options { AreAccepted OCTAL EXPONENT POINT }
+    ensures options { OptionsFit OCTAL EXPONENT POINT }
 {}
 
 /// Reads a decimal number of 64 bits with `_` between digits, such as `1_000`. The error names the
 /// index of the first byte that may not stand there, as [`read_digits`] does.
 pub fn read_decimal(text: &[u8]) -> Result<u64, Error>
-    ensures number { OkIff result (IsNumeral (raw DECIMAL) text.now) (number_of (raw DECIMAL) text.now) }
+    ensures number { OkIff result (IsNumeral (raw DECIMAL) text.now) (number_read (raw DECIMAL) text.now) }
     ensures refusal { IfErr result (IsRefusal (raw DECIMAL) text.now) }
 {
     decimal_facts();

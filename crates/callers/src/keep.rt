@@ -4,7 +4,7 @@ ghost use Rattle.std.specs.Prelude.{◌≡◌, ◌≢◌, ◌↔◌, ℕ, Err, I
 ghost use Rattle.std.specs.Result.{OkIff};
 ghost use Rattle.lexical_util.specs.Record.{raw};
 ghost use Rattle.lexical_util.specs.Rules.{Lawful, IsErrorOf};
-ghost use Rattle.lexical_util.specs.Normal.{normal_form_of, SameFormat, IsNormal};
+ghost use Rattle.lexical_util.specs.NormalForm.{normal_form_of, SameFormat, IsNormal};
 
 use lexical_util::edits::migrate;
 use lexical_util::error::Error;

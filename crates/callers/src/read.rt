@@ -4,12 +4,12 @@ ghost use Rattle.std.specs.Prelude.{◌≡◌, ◌+◌, ◌*◌, ◌<◌, ◌^�
 ghost use Rattle.std.specs.Option.{SomeIff};
 ghost use Rattle.std.specs.Result.{OkIff};
 ghost use Rattle.lexical_util.specs.Layout as layout;
-ghost use Rattle.lexical_util.specs.Digits.{value};
+ghost use Rattle.lexical_util.specs.Digits.{byte_value};
 ghost use Rattle.lexical_util.specs.Record.{raw};
 ghost use Rattle.lexical_util.specs.Roles.{separator};
 ghost use Rattle.lexical_util.specs.Rules.{Lawful, IsErrorOf};
-ghost use Rattle.callers.specs.Reading.{byte_at, byte_before, is_digit, is_neighbour, is_skipped};
-ghost use Rattle.callers.specs.Reading.{may_stand, number_of, IsNumeral, IsRefusal};
+ghost use Rattle.callers.specs.Reading.{byte_at, byte_before, is_mantissa_digit, is_neighbour, is_skipped};
+ghost use Rattle.callers.specs.Reading.{may_stand, number_read, IsNumeral, IsRefusal};
 
 use lexical_util::digit::char_to_digit;
 use lexical_util::error::Error;
@@ -25,11 +25,11 @@ use lexical_util::format::{NumberFormat, check, mantissa_radix};
 /// `Empty(0)` if there is no byte.
 pub fn read_digits(format: u128, text: &[u8]) -> Result<u64, Error>
     requires { Lawful format }
-    ensures number { OkIff result (IsNumeral (raw format) text.now) (number_of (raw format) text.now) }
+    ensures number { OkIff result (IsNumeral (raw format) text.now) (number_read (raw format) text.now) }
     ensures refusal { IfErr result (IsRefusal (raw format) text.now) }
 
     // A text is refused for one reason alone.
-    ensures only { (error : Error) → IsRefusal (raw format) text.now error → result ≡ Err error }
+    ensures unique { (error : Error) → IsRefusal (raw format) text.now error → result ≡ Err error }
 {
     let mut number: u64 = 0;
     for (index, byte) in text.iter().enumerate() {
@@ -52,7 +52,8 @@ pub fn read_digits(format: u128, text: &[u8]) -> Result<u64, Error>
 /// Returns the whole number that `text` writes, as [`read_digits`], for any word. The error is that
 /// of the first rule which `format` breaks, if there is one.
 pub fn read_checked(format: u128, text: &[u8]) -> Result<u64, Error>
-    ensures number { OkIff result (Lawful format × IsNumeral (raw format) text.now) (number_of (raw format) text.now) }
+    ensures number { OkIff result (Lawful format × IsNumeral (raw format) text.now)
+        (number_read (raw format) text.now) }
     ensures refusal { IfErr result (λ error.
         IsErrorOf format error ⊎ (Lawful format × IsRefusal (raw format) text.now error)) }
 {
@@ -63,7 +64,7 @@ pub fn read_checked(format: u128, text: &[u8]) -> Result<u64, Error>
 /// Returns the value of `byte` as a digit of the mantissa, 0 to 35 in a lawful format; `None` if it
 /// is no such digit.
 pub fn digit_value(format: u128, byte: u8) -> Option<u32>
-    ensures { SomeIff result (IsTrue (is_digit (raw format) byte)) (value byte) }
+    ensures { SomeIff result (IsTrue (is_mantissa_digit (raw format) byte)) (byte_value byte) }
 {
     char_to_digit(byte, mantissa_radix(format))
 }

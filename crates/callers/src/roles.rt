@@ -4,8 +4,8 @@ ghost use Rattle.std.specs.Prelude.{◌≡◌, ◌↔◌, ◌⊎◌, IsTrue, IsO
 ghost use Rattle.lexical_util.specs.Record.{raw};
 ghost use Rattle.lexical_util.specs.Roles.{cased, exponent as exponent_set, prefix, signs, suffix};
 ghost use Rattle.lexical_util.specs.Rules.{Lawful, IsErrorOf};
-ghost use Rattle.lexical_util.specs.Options.{AreAccepted};
-ghost use Rattle.callers.specs.Playing.{IsRoleOf, role_set};
+ghost use Rattle.lexical_util.specs.Options.{OptionsFit};
+ghost use Rattle.callers.specs.ByteRoles.{IsRoleOf, role_set};
 ghost use Rattle.callers.specs.declared.roles.Role as roles;
 
 use crate::read::is_separator;
@@ -37,7 +37,7 @@ pub enum Role {
 /// that the format accepts; `None` if it has no role. No byte has two.
 pub fn role_of(format: u128, exponent: u8, decimal_point: u8, byte: u8) -> Option<Role>
     requires lawful { Lawful format }
-    requires accepted { AreAccepted format exponent decimal_point }
+    requires accepted { OptionsFit format exponent decimal_point }
     ensures { IsRoleOf format exponent decimal_point byte result }
 {
     one_role(format, exponent, decimal_point, byte);
@@ -69,7 +69,7 @@ pub fn checked_role_of(
     byte: u8,
 ) -> Result<Option<Role>, Error>
     ensures role { IfOk result (IsRoleOf format exponent decimal_point byte) }
-    ensures checked { IsOk result ↔ Lawful format × AreAccepted format exponent decimal_point }
+    ensures checked { IsOk result ↔ Lawful format × OptionsFit format exponent decimal_point }
     ensures rule { IfErr result (λ error. Lawful format ⊎ IsErrorOf format error) }
     ensures clash { Lawful format → IfErr result (λ error. error ≡ Error.InvalidPunctuation) }
 {
@@ -85,7 +85,7 @@ pub fn checked_role_of(
 #[inline(always)]
 fn one_role(format: u128, exponent: u8, decimal_point: u8, byte: u8)
     requires lawful { Lawful format }
-    requires accepted { AreAccepted format exponent decimal_point }
+    requires accepted { OptionsFit format exponent decimal_point }
     ensures { (role : roles.Role) → IsTrue (role_set (raw format) exponent decimal_point role byte)
         → IsRoleOf format exponent decimal_point byte (Some role) }
 {
@@ -123,11 +123,11 @@ fn is_exponent(format: u128, chosen: u8, byte: u8) -> bool
     is_byte(chosen, view.case_sensitive_exponent(), byte)
 }
 
-// Whether `byte` is `own`, or the same letter in the other case if `case_counts` is false. Nothing
+// Whether `byte` is `own`, or the same letter in the other case if `case_sensitive` is false. Nothing
 // is 0, which stands for none.
 #[tactic(auto, unfolding(lexical_util::specs::Unfoldable::cased))]
-fn is_byte(own: u8, case_counts: bool, byte: u8) -> bool
-    ensures { result ≡ cased case_counts own byte }
+fn is_byte(own: u8, case_sensitive: bool, byte: u8) -> bool
+    ensures { result ≡ cased case_sensitive own byte }
 {
-    own != 0 && (byte == own || !case_counts && byte.eq_ignore_ascii_case(&own))
+    own != 0 && (byte == own || !case_sensitive && byte.eq_ignore_ascii_case(&own))
 }

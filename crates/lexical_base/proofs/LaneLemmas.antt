@@ -9,7 +9,7 @@ use Rattle.std.proofs.lemmas.List.{length-map}
 use Rattle.std.proofs.lemmas.Nat.{and_le_l}
 use Rattle.std.proofs.lemmas.Simd.{mask_l-mod, tops_compared, zip2_splat_left}
 use Rattle.lexical_base.specs.Ascii.{between}
-use Rattle.lexical_base.specs.Private.{in_either, AreRanges}
+use Rattle.lexical_base.specs.Private.{in_two_ranges, AreTwoRanges}
 
 -- the operations on two lanes, as the compiler makes them: `-`, `+`, and the mask of `simd_lt`
 abbrev minus : ℕ → ℕ → ℕ
@@ -57,7 +57,7 @@ and_swap true false true q = refl
 and_swap true false false q = refl
 and_swap false c p q = refl
 
-module _ (first second : ℕ × ℕ) (ranges : AreRanges first second) where
+module _ (first second : ℕ × ℕ) (ranges : AreTwoRanges first second) where
   abbrev last : ℕ
   last = second.1 - second.0
 
@@ -101,15 +101,15 @@ module _ (first second : ℕ × ℕ) (ranges : AreRanges first second) where
 
   pub joined_lanes : (mask : ℕ) (largest bytes : List ℕ) → length largest ≡ length bytes → Each1 (Fits w8) bytes
       → list_all (λ lane. nat_le lane last) (maxima largest (distances (length bytes) mask bytes))
-      ≡ (list_all (λ lane. nat_le lane last) largest && list_all (in_either mask first second) bytes)
+      ≡ (list_all (λ lane. nat_le lane last) largest && list_all (in_two_ranges mask first second) bytes)
   joined_lanes mask [] [] same fits = refl
   joined_lanes mask [] (byte ∷ bytes) same fits = absurd (omega (arith, same))
   joined_lanes mask (lane ∷ largest) [] same fits = absurd (omega (arith, same))
   joined_lanes mask (lane ∷ largest) (byte ∷ bytes) same fits =
       ap₂ (λ p q. p && q) (joined_lane lane (bit_and byte mask) (omega (arith, and_le_l byte mask, fits.0.fits)))
       (joined_lanes mask largest bytes (omega (arith, same)) fits.1)
-      ∙ and_swap (nat_le lane last) (in_either mask first second byte) (list_all (λ lane. nat_le lane last) largest)
-      (list_all (in_either mask first second) bytes)
+      ∙ and_swap (nat_le lane last) (in_two_ranges mask first second byte) (list_all (λ lane. nat_le lane last) largest)
+      (list_all (in_two_ranges mask first second) bytes)
 
 -- before the first chunk no lane is above a number
 pub none_joined : (last n : ℕ) → list_all (λ lane. nat_le lane last) (replicate n 0) ≡ true

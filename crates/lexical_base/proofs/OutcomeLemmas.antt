@@ -30,6 +30,6 @@ tied a b is = (
 )
 
 -- the order is reversed if they change places
-pub turned : (a b : Error) {order : Ordering} → order ≡ compare_outcomes a b
+pub reversed : (a b : Error) {order : Ordering} → order ≡ compare_outcomes a b
     → compare_outcomes b a ≡ ordering_reverse order
-turned a b is = total.antisymm b a ∙ ap ordering_reverse (sym is)
+reversed a b is = total.antisymm b a ∙ ap ordering_reverse (sym is)

@@ -1,6 +1,6 @@
 -- What tables hold at an index: texts, and the values of bytes.
 use Rattle.std.proofs.Common.{◌≡◌, ℕ, zero, suc, ◌<◌, List, [], ◌∷◌, Bor, map, get_or, slice_index_or, refl}
-use Rattle.lexical_base.specs.Digits.{value}
+use Rattle.lexical_base.specs.Digits.{byte_value}
 use Rattle.lexical_base.specs.declared.digit.TheConstants.{VALUES}
 use Rattle.lexical_base.proofs.Finite.{same_at}
 
@@ -12,6 +12,6 @@ text_in_table (text ∷ table) zero default = refl
 text_in_table (text ∷ table) (suc index) default = text_in_table table index default
 
 -- the table holds the value of each byte at its index
-pub table_entry : (byte : ℕ) → byte < 256 → slice_index_or VALUES byte 0 ≡ value byte
-unfolding value
-table_entry byte below = same_at (λ b. slice_index_or VALUES b 0) value 256 byte refl below
+pub table_entry : (byte : ℕ) → byte < 256 → slice_index_or VALUES byte 0 ≡ byte_value byte
+unfolding byte_value
+table_entry byte below = same_at (λ b. slice_index_or VALUES b 0) byte_value 256 byte refl below

@@ -3,7 +3,7 @@ use Rattle.std.proofs.Common.{◌≡◌, ℕ, ◌+◌, ◌-◌, ◌%◌, ◌<◌
 use Rattle.std.proofs.Common.{if◌then◌else◌, IsTrue, IsSome, None, Some, slice_get, slice_index_or, refl, arith}
 use Rattle.std.proofs.lemmas.Option.{slice_get-get_or}
 use Rattle.std.proofs.lemmas.Bool.Decides.{nat_tests}
-use Rattle.lexical_base.specs.Digits.{value, digit_characters, digit_of, digits_of, is_lowercase}
+use Rattle.lexical_base.specs.Digits.{byte_value, digit_characters, digit_of, digits_of, is_lowercase}
 use Rattle.lexical_base.proofs.Finite.{passes_at, same_at}
 
 -- the value of a byte, by cases
@@ -14,14 +14,14 @@ value_by_range byte =
     else if nat_lt byte 97 then 255 else if nat_lt byte 123 then byte - 87 else 255
 
 -- the two agree on every byte
-pub value_is : (byte : ℕ) → byte < 256 → value byte ≡ value_by_range byte
-unfolding value
-value_is byte below = same_at value value_by_range 256 byte refl below
+pub value_is : (byte : ℕ) → byte < 256 → byte_value byte ≡ value_by_range byte
+unfolding byte_value
+value_is byte below = same_at byte_value value_by_range 256 byte refl below
 
 -- the value of a byte is below 36, or 255
-pub value-cases : (byte : ℕ) → byte < 256 → (value byte < 36) ⊎ (value byte ≡ 255)
-value-cases byte below =
-    let by_range : value byte ≡ value_by_range byte = value_is byte below in
+pub byte_value-cases : (byte : ℕ) → byte < 256 → (byte_value byte < 36) ⊎ (byte_value byte ≡ 255)
+byte_value-cases byte below =
+    let by_range : byte_value byte ≡ value_by_range byte = value_is byte below in
     grind (arith, nat_tests)
 
 IsSome-if : (b : Bool) (x : ℕ) → IsSome (if b then Some x else None) ↔ IsTrue b
@@ -32,24 +32,25 @@ IsSome-if false x = (λ h. h, λ h. h)
 pub digit_of-digits_of : (byte radix : ℕ) → byte < 256 → radix < 256 → IsSome (digit_of byte radix)
     ↔ IsTrue (digits_of radix byte)
 digit_of-digits_of byte radix fits radix_fits =
-    let cases : (value byte < 36) ⊎ (value byte ≡ 255) = value-cases byte fits in
-    let same : nat_lt (value byte) radix ≡ digits_of radix byte = grind (arith, nat_tests) in
-    rw (← same) (IsSome-if (nat_lt (value byte) radix) (value byte))
+    let cases : (byte_value byte < 36) ⊎ (byte_value byte ≡ 255) = byte_value-cases byte fits in
+    let same : nat_lt (byte_value byte) radix ≡ digits_of radix byte = grind (arith, nat_tests) in
+    rw (← same) (IsSome-if (nat_lt (byte_value byte) radix) (byte_value byte))
 
 -- the digits of two radixes together are those of the larger one
 pub digit_of-larger : (byte first second : ℕ) → byte < 256 → first < 256 → second < 256 →
     IsSome (digit_of byte (max first second)) ↔ IsTrue (digits_of first byte || digits_of second byte)
 digit_of-larger byte first second fits first_fits second_fits =
-    let cases : (value byte < 36) ⊎ (value byte ≡ 255) = value-cases byte fits in
-    let same : nat_lt (value byte) (max first second) ≡ (digits_of first byte || digits_of second byte) =
+    let cases : (byte_value byte < 36) ⊎ (byte_value byte ≡ 255) = byte_value-cases byte fits in
+    let same : nat_lt (byte_value byte) (max first second) ≡ (digits_of first byte || digits_of second byte) =
     grind (arith, nat_tests) in
-    rw (← same) (IsSome-if (nat_lt (value byte) (max first second)) (value byte))
+    rw (← same) (IsSome-if (nat_lt (byte_value byte) (max first second)) (byte_value byte))
 
 -- a byte minus 48, modulo 256, is its value if either is below a radix up to 10
 pub small_digit : (byte radix : ℕ) → byte < 256 → radix ≤ 10
-    → ((byte + 208) % 256 < radix → value byte ≡ (byte + 208) % 256) × (radix ≤ (byte + 208) % 256 → radix ≤ value byte)
+    → ((byte + 208) % 256 < radix → byte_value byte ≡ (byte + 208) % 256)
+    × (radix ≤ (byte + 208) % 256 → radix ≤ byte_value byte)
 small_digit byte radix fits small =
-    let by_range : value byte ≡ value_by_range byte = value_is byte fits in
+    let by_range : byte_value byte ≡ value_by_range byte = value_is byte fits in
     (λ below. grind (arith, nat_tests), λ above. grind (arith, nat_tests))
 
 -- the lemmas that `digit_to_char_const` needs about values
@@ -74,16 +75,16 @@ character_is_letter digit byte large below is =
     rw (digit_character-get digit below, letter, same) refl
 
 -- the value of the digit character at an index is the index
-pub value-digit_character : (digit : ℕ) → digit < 36 → value (slice_index_or digit_characters digit 0) ≡ digit
-unfolding value
-value-digit_character digit below = same_at (λ d. value (slice_index_or digit_characters d 0))
+pub byte_value-digit_character : (digit : ℕ) → digit < 36 → byte_value (slice_index_or digit_characters digit 0) ≡ digit
+unfolding byte_value
+byte_value-digit_character digit below = same_at (λ d. byte_value (slice_index_or digit_characters d 0))
     (λ d. d) 36 digit refl below
 
 -- every larger radix reads a digit character as its index
 pub digit_of-digit_character : (digit : ℕ) → digit < 36 → (radix : ℕ) → digit < radix
     → digit_of (slice_index_or digit_characters digit 0) radix ≡ Some digit
 digit_of-digit_character digit below radix in_radix =
-    let is : value (slice_index_or digit_characters digit 0) ≡ digit = value-digit_character digit below in
+    let is : byte_value (slice_index_or digit_characters digit 0) ≡ digit = byte_value-digit_character digit below in
     rw is (grind (arith, nat_tests))
 
 -- no digit character is a lowercase letter

@@ -1,18 +1,18 @@
 -- Sets of bytes.
 use Rattle.std.specs.Prelude.{ℕ, Bool, nat_le, ◌&&◌, ◌||◌}
 
--- a set of bytes, given by the test of its members
+-- A set of bytes, given by the test of its members.
 abbrev pub ByteSet : Type 0
 ByteSet = ℕ → Bool
 
--- the bytes from low to high, including both
+-- The bytes from `low` to `high`, including both.
 abbrev pub between : ℕ → ℕ → ByteSet
 between low high byte = nat_le low byte && nat_le byte high
 
--- the ASCII that a format may use: tab to carriage return, and space to tilde
+-- Allowed ASCII: tab to carriage return, and space to tilde.
 abbrev pub allowed_ascii : ByteSet
 allowed_ascii byte = between 9 13 byte || between 32 126 byte
 
--- the uppercase letters A to Z and the lowercase letters a to z
+-- The uppercase letters A to Z and the lowercase letters a to z.
 abbrev pub letters : ByteSet
 letters byte = between 65 90 byte || between 97 122 byte

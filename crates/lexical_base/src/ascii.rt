@@ -3,7 +3,7 @@
 ghost use Rattle.std.specs.Prelude.{◌≡◌, ◌↔◌, ◌-◌, ◌≤◌, ◌&&◌, nat_le, IsTrue};
 ghost use Rattle.std.specs.List.{AllPass, list_all};
 ghost use Rattle.lexical_base.specs.Ascii.{allowed_ascii, letters};
-ghost use Rattle.lexical_base.specs.Private.{in_either, AreRanges};
+ghost use Rattle.lexical_base.specs.Private.{in_two_ranges, AreTwoRanges};
 
 use std::simd::prelude::*;
 
@@ -22,7 +22,7 @@ pub const fn is_valid_ascii(c: u8) -> bool
 pub fn is_valid_ascii_slice(slc: &[u8]) -> bool
     ensures { IsTrue result ↔ AllPass allowed_ascii slc.now }
 {
-    all_in_either(slc, 0xff, (0x09, 0x0d), (0x20, 0x7e))
+    all_in_ranges(slc, 0xff, (0x09, 0x0d), (0x20, 0x7e))
 }
 
 /// Returns whether the byte `c` is an ASCII letter, uppercase or lowercase.
@@ -37,7 +37,7 @@ pub const fn is_valid_letter(c: u8) -> bool
 pub fn is_valid_letter_slice(slc: &[u8]) -> bool
     ensures { IsTrue result ↔ AllPass letters slc.now }
 {
-    all_in_either(slc, 0xdf, (b'A', b'Z'), (b'A', b'Z'))
+    all_in_ranges(slc, 0xdf, (b'A', b'Z'), (b'A', b'Z'))
 }
 
 // Whether every byte of `bytes` is in one of two ranges, each given by its lowest and highest byte,
@@ -45,12 +45,12 @@ pub fn is_valid_letter_slice(slc: &[u8]) -> bool
 //
 // It looks at 32 bytes at a time, and then at the rest, fewer than 32.
 #[inline(always)]
-fn all_in_either(bytes: &[u8], mask: u8, first: (u8, u8), second: (u8, u8)) -> bool
-    requires { AreRanges first second }
-    ensures { IsTrue result ↔ AllPass (in_either mask first second) bytes.now }
+fn all_in_ranges(bytes: &[u8], mask: u8, first: (u8, u8), second: (u8, u8)) -> bool
+    requires { AreTwoRanges first second }
+    ensures { IsTrue result ↔ AllPass (in_two_ranges mask first second) bytes.now }
 {
     let (chunks, rest) = bytes.as_chunks::<32>();
-    chunks_in_either(chunks, mask, first, second) & few_in_either(rest, mask, first, second)
+    chunks_in_ranges(chunks, mask, first, second) & rest_in_ranges(rest, mask, first, second)
 }
 
 // Whether every byte of chunks, few or many, is in one of the ranges.
@@ -58,35 +58,35 @@ fn all_in_either(bytes: &[u8], mask: u8, first: (u8, u8), second: (u8, u8)) -> b
 // It takes blocks of 16, one after another, and stops at the first that fails. A test after each chunk
 // would take as long as all else.
 #[inline(always)]
-fn chunks_in_either(chunks: &[[u8; 32]], mask: u8, first: (u8, u8), second: (u8, u8)) -> bool
-    requires { AreRanges first second }
-    ensures { result ≡ list_all (list_all (in_either mask first second)) chunks.now }
+fn chunks_in_ranges(chunks: &[[u8; 32]], mask: u8, first: (u8, u8), second: (u8, u8)) -> bool
+    requires { AreTwoRanges first second }
+    ensures { result ≡ list_all (list_all (in_two_ranges mask first second)) chunks.now }
 {
     let (blocks, rest) = chunks.as_chunks::<16>();
     for block in blocks {
-        if !block_in_either(block, mask, first, second) {
+        if !block_in_ranges(block, mask, first, second) {
             return false;
         }
     }
-    block_in_either(rest, mask, first, second)
+    block_in_ranges(rest, mask, first, second)
 }
 
 // Whether every byte of a few chunks of `N` bytes is in one of the ranges, with one test after the last.
 #[inline(always)]
-fn block_in_either<const N: usize>(
+fn block_in_ranges<const N: usize>(
     block: &[[u8; N]],
     mask: u8,
     first: (u8, u8),
     second: (u8, u8),
 ) -> bool
     requires narrow { N ≤ 64 }
-    requires ranges { AreRanges first second }
-    ensures { result ≡ list_all (list_all (in_either mask first second)) block.now }
+    requires ranges { AreTwoRanges first second }
+    ensures { result ≡ list_all (list_all (in_two_ranges mask first second)) block.now }
 {
     let last = second.1 - second.0;
     let mut largest = Simd::<u8, N>::splat(0);
     for chunk in block {
-        largest = joined(largest, Simd::from_array(*chunk), mask, first, second);
+        largest = max_distance(largest, Simd::from_array(*chunk), mask, first, second);
     }
     !largest.simd_gt(Simd::splat(last)).any()
 }
@@ -98,17 +98,17 @@ fn block_in_either<const N: usize>(
 // the highest. Distances from the first range are raised by what the second is longer, so that of the
 // two the smaller decides, and of all bytes the largest.
 #[inline(always)]
-fn joined<const N: usize>(
+fn max_distance<const N: usize>(
     largest: Simd<u8, N>,
     lanes: Simd<u8, N>,
     mask: u8,
     first: (u8, u8),
     second: (u8, u8),
 ) -> Simd<u8, N>
-    requires { AreRanges first second }
+    requires { AreTwoRanges first second }
     ensures { list_all (λ lane. nat_le lane (second.1 - second.0)) result
         ≡ (list_all (λ lane. nat_le lane (second.1 - second.0)) largest.entry
-        && list_all (in_either mask first second) lanes.entry) }
+        && list_all (in_two_ranges mask first second) lanes.entry) }
 {
     let longer = (second.1 - second.0) - (first.1 - first.0);
     let bytes = lanes & Simd::splat(mask);
@@ -120,19 +120,19 @@ fn joined<const N: usize>(
 // Whether every one of fewer than 32 bytes is in one of the ranges: 16 are tested at once, if there are
 // as many, and the others one by one.
 #[inline(always)]
-fn few_in_either(bytes: &[u8], mask: u8, first: (u8, u8), second: (u8, u8)) -> bool
-    requires { AreRanges first second }
-    ensures { result ≡ list_all (in_either mask first second) bytes.now }
+fn rest_in_ranges(bytes: &[u8], mask: u8, first: (u8, u8), second: (u8, u8)) -> bool
+    requires { AreTwoRanges first second }
+    ensures { result ≡ list_all (in_two_ranges mask first second) bytes.now }
 {
     let (halves, rest) = bytes.as_chunks::<16>();
-    block_in_either(halves, mask, first, second) & bytes_in_either(rest, mask, first, second)
+    block_in_ranges(halves, mask, first, second) & bytes_in_ranges(rest, mask, first, second)
 }
 
 // Whether every one of a few bytes is in one of the ranges. It looks at all of them, with one test
 // after the last.
 #[inline(always)]
-fn bytes_in_either(bytes: &[u8], mask: u8, first: (u8, u8), second: (u8, u8)) -> bool
-    ensures { result ≡ list_all (in_either mask first second) bytes.now }
+fn bytes_in_ranges(bytes: &[u8], mask: u8, first: (u8, u8), second: (u8, u8)) -> bool
+    ensures { result ≡ list_all (in_two_ranges mask first second) bytes.now }
 {
     let mut all = true;
     for byte in bytes {

@@ -7,7 +7,7 @@
 //! The `_const` functions are for a radix known at compile time: up to radix 10 they need no table.
 
 ghost use Rattle.std.specs.Prelude.{◌≡◌, ◌↔◌, ℕ, ◌+◌, ◌%◌, ◌<◌, ◌≤◌, ◌||◌, false, IsTrue, IsSome, IfSome, Some, nat_le, nat_lt, slice_get, if◌then◌else◌};
-ghost use Rattle.lexical_base.specs.Digits.{value, digit_of, digit_characters, is_lowercase};
+ghost use Rattle.lexical_base.specs.Digits.{byte_value, digit_of, digit_characters, is_lowercase};
 
 // The digit characters, each at the index of its value.
 const DIGIT_CHARACTERS: [u8; 36] = *b"0123456789ABCDEFGHIJKLMNOPQRSTUVWXYZ";
@@ -32,7 +32,7 @@ const VALUES: [u8; 256] = [
 // The value of `c`: 0 to 35 for a digit character, and 255 for any other byte.
 #[inline(always)]
 const fn byte_value(c: u8) -> u32
-    ensures { result ≡ value c }
+    ensures { result ≡ byte_value c }
 {
     VALUES[c as usize] as u32
 }
@@ -45,7 +45,7 @@ const fn byte_value(c: u8) -> u32
 #[inline(always)]
 pub const fn char_to_valid_digit_const(c: u8, radix: u32) -> u32
     ensures small { radix ≤ 10 → result ≡ (c + 208) % 256 }
-    ensures large { 10 < radix → result ≡ value c }
+    ensures large { 10 < radix → result ≡ byte_value c }
 {
     if radix <= 10 {
         c.wrapping_sub(b'0') as u32
@@ -94,7 +94,7 @@ pub const fn digit_to_char_const(digit: u32, radix: u32) -> u8
     ensures byte { result ≡ (if (nat_le radix 10) || (nat_lt digit 10) then 48 + digit else 55 + digit) }
     // below the radix it is the byte that `digit_to_char` returns
     ensures character { digit < radix → slice_get digit_characters digit ≡ Some result }
-    ensures back { digit < radix → value result ≡ digit }
+    ensures value { digit < radix → byte_value result ≡ digit }
     ensures uppercase { digit < radix → is_lowercase result ≡ false }
     ensures read_back { digit < radix → (larger : ℕ) → digit < larger → digit_of result larger ≡ Some digit }
 {
@@ -136,7 +136,7 @@ pub const fn char_is_digit(c: u8, radix: u32) -> bool
 pub const fn digit_to_char(digit: u32) -> u8
     requires { digit < 36 }
     ensures character { slice_get digit_characters digit ≡ Some result }
-    ensures back { value result ≡ digit }
+    ensures value { byte_value result ≡ digit }
     ensures uppercase { is_lowercase result ≡ false }
     ensures read_back { (radix : ℕ) → digit < radix → digit_of result radix ≡ Some digit }
 {

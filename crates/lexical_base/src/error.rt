@@ -18,11 +18,11 @@ ghost use Rattle.lexical_base.specs.OutcomeOrder.{compare_outcomes, same_outcome
 use std::cmp::Ordering;
 use std::fmt;
 
-mod sentence;
+mod short_text;
 mod sink;
 
-use sentence::put_decimal;
-pub use sentence::{NOTHING, Piece, Sentence};
+use short_text::put_decimal;
+pub use short_text::{EMPTY_PIECE, Piece, ShortText};
 pub use sink::Sink;
 
 /// What a parser or a checker found: one of 48 errors, or [`Error::Success`].
@@ -663,10 +663,10 @@ impl Error {
     /// The ranks are those of [`Error::rank`].
     #[inline(always)]
     pub const fn from_rank(rank: u8, index: usize) -> Option<Error>
-        ensures some { IsSome result ↔ (rank < 49) }
+        ensures defined { IsSome result ↔ (rank < 49) }
         ensures rank { IfSome result (λ error. rank_of error ≡ rank) }
         ensures index { IfSome result (IsAt index) }
-        ensures back { (error : Error) → rank_of error ≡ rank → IsAt index error → result ≡ Some error }
+        ensures round_trip { (error : Error) → rank_of error ≡ rank → IsAt index error → result ≡ Some error }
     {
         match rank {
             0 => Some(Error::Overflow(index)),
@@ -805,7 +805,7 @@ impl Ord for Error {
     fn cmp(&self, other: &Error) -> Ordering
         ensures value { result ≡ compare_outcomes self.now other.now }
         ensures equal { (result ≡ Ordering.Equal) ↔ (self.now ≡ other.now) }
-        ensures turned { compare_outcomes other.now self.now ≡ ordering_reverse result }
+        ensures reversed { compare_outcomes other.now self.now ≡ ordering_reverse result }
     {
         match self.rank().cmp(&other.rank()) {
             Ordering::Equal => self.held_index().cmp(&other.held_index()),

@@ -3,7 +3,7 @@
 
 ghost use Rattle.std.specs.Prelude.{◌≡◌, ◌↔◌, ◌⊎◌, ℕ, ◌<◌, max, IsSome, IsTrue, ◌||◌};
 ghost use Rattle.std.specs.Prelude.{Some, None, codes};
-ghost use Rattle.lexical_base.specs.Digits.{value, digit_of, digits_of};
+ghost use Rattle.lexical_base.specs.Digits.{byte_value, digit_of, digits_of};
 ghost use Rattle.lexical_base.specs.Outcomes.{printed_text};
 ghost use Rattle.lexical_base.specs.declared.error.Error.TheVariants as errors;
 
@@ -11,7 +11,7 @@ ghost use Rattle.lexical_base.specs.declared.error.Error.TheVariants as errors;
 #[inline(always)]
 pub const fn digit_facts()
     // The value of a byte is below 36, or 255.
-    ensures values { (byte : ℕ) → byte < 256 → (value byte < 36) ⊎ (value byte ≡ 255) }
+    ensures values { (byte : ℕ) → byte < 256 → (byte_value byte < 36) ⊎ (byte_value byte ≡ 255) }
     // The digits of a radix are the bytes that have a digit in it.
     ensures digits { (byte radix : ℕ) → byte < 256 → radix < 256 → IsSome (digit_of byte radix) ↔ IsTrue (digits_of radix byte) }
     // The digits of two radixes together are those of the larger one.
@@ -20,7 +20,7 @@ pub const fn digit_facts()
 {}
 
 /// Examples of the values of bytes.
-#[tactic(auto, unfolding(crate::specs::Digits::value))]
+#[tactic(auto, unfolding(crate::specs::Digits::byte_value))]
 pub fn value_examples()
     ensures uppercase { digit_of 0x41 16 ≡ Some 10 }
     ensures lowercase { digit_of 0x7A 36 ≡ Some 35 }

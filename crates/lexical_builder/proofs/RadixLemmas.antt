@@ -26,9 +26,9 @@ radix-demands : (radix : ℕ) → IsRadix radix → (rule : Rule) → Demands ru
 unfolding on_literals
 radix-demands radix h rules.ExponentBaseInRange = grind (arith, nat_tests)
 radix-demands radix h rules.ExponentRadixInRange = grind (arith, nat_tests)
-radix-demands radix h rules.DigitSeparatorIsFree = inl refl
-radix-demands radix h rules.BasePrefixIsFree = inl refl
-radix-demands radix h rules.BaseSuffixIsFree = inl refl
+radix-demands radix h rules.DigitSeparatorIsPunctuation = inl refl
+radix-demands radix h rules.BasePrefixIsPunctuation = inl refl
+radix-demands radix h rules.BaseSuffixIsPunctuation = inl refl
 radix-demands radix h _ = search
 
 radix-kept : (radix : ℕ) → radix < 256 → IsRadix radix → (rule : Rule) → Holds rule (pack (radix_record radix))

@@ -10,9 +10,10 @@ use Rattle.lexical_flags.specs.Layout.{Flag, Byte, part, bit, shift, flags}
 use Rattle.lexical_flags.specs.Layout as layout
 use Rattle.lexical_flags.specs.Record.{Record, HasBytes}
 use Rattle.lexical_flags.proofs.RecordLemmas.{record_same}
-use Rattle.lexical_builder.specs.Writes.{Write, write_flag, write_byte, IsLegal, new_record, flag_in, byte_in, after}
+use Rattle.lexical_builder.specs.Writes.{Write, write_flag, write_byte, IsLegal, new_record, flag_written, byte_written}
+use Rattle.lexical_builder.specs.Writes.{after}
 use Rattle.lexical_builder.specs.Writes.{SameWrites, write_flags, last_byte}
-use Rattle.lexical_builder.specs.BuilderBits.{index_of, record_of_parts}
+use Rattle.lexical_builder.specs.BuilderBits.{byte_index, builder_record_of_parts}
 use Rattle.lexical_builder.specs.Private.{flags_with}
 
 -- the value that writes leave in a field that began with d, if h says what one write gives it
@@ -43,17 +44,17 @@ left_by-append h (x ∷ first) second d =
 
 -- what the flags that a test picks are given, as a flag sees it
 written : (p : Flag → Bool) (value : Bool) (f : Flag) (d : Bool) (fs : List Flag)
-    → left_by (λ x. flag_in x f) (write_flags (filter p fs) value) d
+    → left_by (λ x. flag_written x f) (write_flags (filter p fs) value) d
     ≡ (if list_any (λ g. (bit g == bit f) && p g) fs then value else d)
 written p value f d [] = refl
 written p value f d (g ∷ fs) =
-    on_first (p g) (filter p fs) ∙ written p value f (if p g then unwrap_or (flag_in (write_flag g value) f) d else d) fs
+    on_first (p g) (filter p fs) ∙ written p value f (if p g then unwrap_or (flag_written (write_flag g value) f) d else d) fs
     ∙ picked (bit g == bit f) (p g) (list_any (λ g. (bit g == bit f) && p g) fs) where
       on_first : (c : Bool) (gs : List Flag)
-          → left_by (λ x. flag_in x f) (write_flags (if c then g ∷ gs else gs) value) d
-          ≡ left_by (λ x. flag_in x f) (write_flags gs value)
-          (if c then unwrap_or (flag_in (write_flag g value) f) d else d)
-      on_first true gs = left_by-cons (λ x. flag_in x f) (write_flag g value) (write_flags gs value) d
+          → left_by (λ x. flag_written x f) (write_flags (if c then g ∷ gs else gs) value) d
+          ≡ left_by (λ x. flag_written x f) (write_flags gs value)
+          (if c then unwrap_or (flag_written (write_flag g value) f) d else d)
+      on_first true gs = left_by-cons (λ x. flag_written x f) (write_flag g value) (write_flags gs value) d
       on_first false gs = refl
 
       picked : (e c rest : Bool)
@@ -87,12 +88,12 @@ after-mask_byte r fs value b = ap (λ o. unwrap_or o (r.byte b)) (none fs) where
 
 -- one byte is written, found by its index
 pub after-byte : (r : Record) (c : Byte) (value : ℕ) (b : Byte)
-    → (after r (write_byte c value ∷ [])).byte b ≡ (if index_of b == index_of c then value else r.byte b)
+    → (after r (write_byte c value ∷ [])).byte b ≡ (if byte_index b == byte_index c then value else r.byte b)
 unfolding after
 after-byte r c value b =
-    left_by-cons (λ x. byte_in x b) (write_byte c value) [] (r.byte b) ∙ ap (λ e. unwrap_or (if e then Some value else None) (r.byte b)) (same b c)
-    ∙ chosen (index_of b == index_of c) where
-      same : (b c : Byte) → (shift c == shift b) ≡ (index_of b == index_of c)
+    left_by-cons (λ x. byte_written x b) (write_byte c value) [] (r.byte b) ∙ ap (λ e. unwrap_or (if e then Some value else None) (r.byte b)) (same b c)
+    ∙ chosen (byte_index b == byte_index c) where
+      same : (b c : Byte) → (shift c == shift b) ≡ (byte_index b == byte_index c)
       same layout.digit_separator layout.digit_separator = refl
       same layout.base_prefix layout.digit_separator = refl
       same layout.base_suffix layout.digit_separator = refl
@@ -106,13 +107,13 @@ after-byte r c value b =
       chosen false = refl
 
 -- the parts of a new builder
-pub new_parts : record_of_parts 0xC (0 ∷ 0 ∷ 0 ∷ 10 ∷ 0 ∷ 0 ∷ []) ≡ new_record
+pub new_parts : builder_record_of_parts 0xC (0 ∷ 0 ∷ 0 ∷ 10 ∷ 0 ∷ 0 ∷ []) ≡ new_record
 new_parts = record_same _ _ on_flag on_byte where
-  on_flag : (f : Flag) → (record_of_parts 0xC (0 ∷ 0 ∷ 0 ∷ 10 ∷ 0 ∷ 0 ∷ [])).flag f ≡ new_record.flag f
+  on_flag : (f : Flag) → (builder_record_of_parts 0xC (0 ∷ 0 ∷ 0 ∷ 10 ∷ 0 ∷ 0 ∷ [])).flag f ≡ new_record.flag f
   on_flag layout.required_integer_digits = refl
   on_flag _ = refl
 
-  on_byte : (b : Byte) → (record_of_parts 0xC (0 ∷ 0 ∷ 0 ∷ 10 ∷ 0 ∷ 0 ∷ [])).byte b ≡ new_record.byte b
+  on_byte : (b : Byte) → (builder_record_of_parts 0xC (0 ∷ 0 ∷ 0 ∷ 10 ∷ 0 ∷ 0 ∷ [])).byte b ≡ new_record.byte b
   on_byte layout.digit_separator = refl
   on_byte _ = refl
 
@@ -125,8 +126,8 @@ after_none r = refl
 pub after-append : (r : Record) (first second : List Write) → after (after r first) second ≡ after r (first ++ second)
 unfolding after
 after-append r first second = record_same _ _
-    (λ f. sym (left_by-append (λ x. flag_in x f) first second (r.flag f)))
-    (λ b. sym (left_by-append (λ x. byte_in x b) first second (r.byte b)))
+    (λ f. sym (left_by-append (λ x. flag_written x f) first second (r.flag f)))
+    (λ b. sym (left_by-append (λ x. byte_written x b) first second (r.byte b)))
 
 -- only the last write of each field counts
 pub after-same : (r : Record) (writes others : List Write) → SameWrites writes others → after r writes ≡ after r others
@@ -134,17 +135,18 @@ unfolding after
 after-same r writes others same = record_same _ _ (λ f. ap (λ o. unwrap_or o (r.flag f)) (same.same_flags f))
     (λ b. ap (λ o. unwrap_or o (r.byte b)) (same.same_bytes b))
 
-byte_in-fits : (x : Write) (b : Byte) (d : ℕ) → IsLegal x → d < 256 → unwrap_or (byte_in x b) d < 256
-byte_in-fits (write_flag f v) b d legal fits = fits
-byte_in-fits (write_byte c v) b d legal fits = cond_both (shift c == shift b) (Some v) None (λ o. unwrap_or o d < 256)
+byte_written-fits : (x : Write) (b : Byte) (d : ℕ) → IsLegal x → d < 256 → unwrap_or (byte_written x b) d < 256
+byte_written-fits (write_flag f v) b d legal fits = fits
+byte_written-fits (write_byte c v) b d legal fits =
+    cond_both (shift c == shift b) (Some v) None (λ o. unwrap_or o d < 256)
     (λ _. legal) (λ _. fits)
 
 left_by-fits : (writes : List Write) (b : Byte) (d : ℕ) → All IsLegal writes → d < 256
-    → left_by (λ x. byte_in x b) writes d < 256
+    → left_by (λ x. byte_written x b) writes d < 256
 left_by-fits [] b d legal fits = fits
-left_by-fits (x ∷ writes) b d legal fits = subst (λ n. n < 256) (sym (left_by-cons (λ y. byte_in y b) x writes d))
-    (left_by-fits writes b (unwrap_or (byte_in x b) d) (All-tail IsLegal x writes legal)
-    (byte_in-fits x b d (All-head IsLegal x writes legal) fits))
+left_by-fits (x ∷ writes) b d legal fits = subst (λ n. n < 256) (sym (left_by-cons (λ y. byte_written y b) x writes d))
+    (left_by-fits writes b (unwrap_or (byte_written x b) d) (All-tail IsLegal x writes legal)
+    (byte_written-fits x b d (All-head IsLegal x writes legal) fits))
 
 -- legal writes leave bytes
 pub HasBytes-after : (r : Record) (writes : List Write) → HasBytes r → All IsLegal writes → HasBytes (after r writes)

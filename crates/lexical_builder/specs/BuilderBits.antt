@@ -11,19 +11,19 @@ abbrev pub builder_bit : Flag → ℕ
 builder_bit f = if nat_lt (bit f) 32 then bit f else bit f - 32 + length base_flags
 
 -- the index of a byte in a builder
-abbrev pub index_of : Byte → ℕ
-index_of layout.digit_separator = 0
-index_of layout.base_prefix = 1
-index_of layout.base_suffix = 2
-index_of layout.mantissa_radix = 3
-index_of layout.exponent_base = 4
-index_of layout.exponent_radix = 5
+abbrev pub byte_index : Byte → ℕ
+byte_index layout.digit_separator = 0
+byte_index layout.base_prefix = 1
+byte_index layout.base_suffix = 2
+byte_index layout.mantissa_radix = 3
+byte_index layout.exponent_base = 4
+byte_index layout.exponent_radix = 5
 
 -- the record with the flags at these bits, and these six bytes
-abbrev pub record_of_parts : ℕ → List ℕ → Record
-record_of_parts flags bytes =
-    record { flag = λ f. part flags (builder_bit f) 1 == 1; byte = λ b. slice_index bytes (index_of b) }
+abbrev pub builder_record_of_parts : ℕ → List ℕ → Record
+builder_record_of_parts flags bytes =
+    record { flag = λ f. part flags (builder_bit f) 1 == 1; byte = λ b. slice_index bytes (byte_index b) }
 
 -- the record that a builder stands for
-abbrev pub record_of : Inside → Record
-record_of inside = record_of_parts inside.flags inside.bytes
+abbrev pub builder_record : Inside → Record
+builder_record inside = builder_record_of_parts inside.flags inside.bytes

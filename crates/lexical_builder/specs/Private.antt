@@ -2,7 +2,7 @@
 use Rattle.std.specs.Prelude.{ℕ, ◌+◌, ◌*◌, ◌^◌, ◌<◌, ◌==◌, List, filter, find, unwrap_or, length}
 use Rattle.lexical_flags.specs.Layout.{part, Flag, Byte, bit, flags, bytes, base_flags, digit_separator_flags}
 use Rattle.lexical_flags.specs.Layout as layout
-use Rattle.lexical_builder.specs.BuilderBits.{index_of}
+use Rattle.lexical_builder.specs.BuilderBits.{byte_index}
 use Rattle.lexical_builder.specs.declared.format_builder.NumberFormatBuilder.TheInside.{Inside}
 
 -- the flags of a word, at the bits of a builder
@@ -19,7 +19,7 @@ flags_with mask = filter (λ f. part mask (bit f) 1 == 1) flags
 
 -- the byte at this index
 abbrev pub byte_at : ℕ → Byte
-byte_at index = unwrap_or (find (λ b. index_of b == index) bytes) layout.digit_separator
+byte_at index = unwrap_or (find (λ b. byte_index b == index) bytes) layout.digit_separator
 
 -- the bits that no flag has are 0
 abbrev pub HasClearTop : Inside → Type 0

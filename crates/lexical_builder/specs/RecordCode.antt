@@ -5,7 +5,7 @@ use Rattle.std.specs.Coded.{Coded, code_by, coded×, coded_bool, coded_list, cod
 use Rattle.lexical_flags.specs.Layout.{Flag, Byte, flags, bytes}
 use Rattle.lexical_flags.specs.Layout as layout
 use Rattle.lexical_flags.specs.Record.{Record}
-use Rattle.lexical_builder.specs.BuilderBits.{builder_bit, index_of}
+use Rattle.lexical_builder.specs.BuilderBits.{builder_bit, byte_index}
 
 -- its flags and its bytes
 abbrev to_lists : Record → List Bool × List ℕ
@@ -15,7 +15,7 @@ to_lists r = (map r.flag flags, map r.byte bytes)
 abbrev from_lists : List Bool × List ℕ → Record
 from_lists p = record {
   flag = λ f. slice_index_or p.0 (builder_bit f) false;
-  byte = λ b. slice_index_or p.1 (index_of b) 0;
+  byte = λ b. slice_index_or p.1 (byte_index b) 0;
 }
 
 pub from_lists-to_lists : (r : Record) → from_lists (to_lists r) ≡ r
@@ -24,7 +24,7 @@ from_lists-to_lists r = λ i. record { flag = λ f. on_flag f i; byte = λ b. on
   on_flag layout.required_integer_digits = refl
   on_flag _ = refl
 
-  on_byte : (b : Byte) → slice_index_or (map r.byte bytes) (index_of b) 0 ≡ r.byte b
+  on_byte : (b : Byte) → slice_index_or (map r.byte bytes) (byte_index b) 0 ≡ r.byte b
   on_byte layout.digit_separator = refl
   on_byte _ = refl
 

@@ -21,23 +21,23 @@ IsLegal (write_byte b value) = value < 256
 abbrev pub write_flags : List Flag → Bool → List Write
 write_flags fs value = map (λ f. write_flag f value) fs
 
--- `flag_in write f` is `Some value` if `write` writes `value` to the flag `f`, and `None` otherwise.
-abbrev pub flag_in : Write → Flag → Option Bool
-flag_in (write_flag g value) f = if bit g == bit f then Some value else None
-flag_in (write_byte b value) f = None
+-- `flag_written write f` is `Some value` if `write` writes `value` to the flag `f`, and `None` otherwise.
+abbrev pub flag_written : Write → Flag → Option Bool
+flag_written (write_flag g value) f = if bit g == bit f then Some value else None
+flag_written (write_byte b value) f = None
 
--- `byte_in write b` is `Some value` if `write` writes `value` to the byte `b`, and `None` otherwise.
-abbrev pub byte_in : Write → Byte → Option ℕ
-byte_in (write_flag f value) b = None
-byte_in (write_byte c value) b = if shift c == shift b then Some value else None
+-- `byte_written write b` is `Some value` if `write` writes `value` to the byte `b`, and `None` otherwise.
+abbrev pub byte_written : Write → Byte → Option ℕ
+byte_written (write_flag f value) b = None
+byte_written (write_byte c value) b = if shift c == shift b then Some value else None
 
 -- The last value that some writes give a flag, or `None` if they do not write it.
 abbrev pub last_flag : List Write → Flag → Option Bool
-last_flag writes f = last_or None (filter_map (λ x. flag_in x f) writes)
+last_flag writes f = last_or None (filter_map (λ x. flag_written x f) writes)
 
 -- The last value that some writes give a byte, or `None` if they do not write it.
 abbrev pub last_byte : List Write → Byte → Option ℕ
-last_byte writes b = last_or None (filter_map (λ x. byte_in x b) writes)
+last_byte writes b = last_or None (filter_map (λ x. byte_written x b) writes)
 
 -- `after r writes` is the record in which each field has the value of the last write to it, or else its value in `r`.
 unfoldable pub after : Record → List Write → Record

@@ -4,10 +4,10 @@ ghost use Rattle.std.specs.Prelude.{◌≡◌, ◌≢◌, ◌↔◌, ◌<◌, �
 ghost use Rattle.std.specs.Result.{OkIff};
 ghost use Rattle.lexical_flags.specs.Layout as layout;
 ghost use Rattle.lexical_flags.specs.Layout.{IsClean, bit, part};
-ghost use Rattle.lexical_flags.specs.Record.{Record, HasBytes, raw, fill, trim, pack, effective, separator_on};
+ghost use Rattle.lexical_flags.specs.Record.{Record, HasBytes, raw, fill, trim, pack, effective, separator_allowed};
 ghost use Rattle.lexical_flags.specs.Rules.{IsErrorOf, IsRadix, Lawful};
 ghost use Rattle.lexical_builder.specs.OptionByte.{byte_of_option};
-ghost use Rattle.lexical_builder.specs.BuilderBits.{builder_bit, index_of, record_of_parts};
+ghost use Rattle.lexical_builder.specs.BuilderBits.{builder_bit, byte_index, builder_record_of_parts};
 ghost use Rattle.lexical_builder.specs.Private.{flags_in, byte_at, flag_with, flags_with};
 ghost use Rattle.lexical_builder.specs.Writes.{new_record, radix_record, after, write_flags, write_byte};
 
@@ -95,10 +95,10 @@ impl Model for NumberFormatBuilder {
 
     ghost coded = { record_code };
 
-    ghost use Rattle.lexical_builder.specs.BuilderBits.{record_of};
+    ghost use Rattle.lexical_builder.specs.BuilderBits.{builder_record};
     ghost use Rattle.lexical_builder.specs.Private.{HasClearTop};
 
-    ghost view = { record_of };
+    ghost view = { builder_record };
 
     ghost invariant = { HasClearTop };
 }
@@ -257,8 +257,8 @@ impl NumberFormatBuilder {
     {
         let high = (format >> 64) as u64;
         let radix = ((high >> MANTISSA_SHIFT) % 256) as u8;
-        let exponent_base = own_or(((high >> BASE_SHIFT) % 256) as u8, radix);
-        let exponent_radix = own_or((high >> RADIX_SHIFT) as u8, radix);
+        let exponent_base = byte_or_radix(((high >> BASE_SHIFT) % 256) as u8, radix);
+        let exponent_radix = byte_or_radix((high >> RADIX_SHIFT) as u8, radix);
         NumberFormatBuilder {
             flags: builder_flags(format),
             bytes: [
@@ -278,7 +278,7 @@ impl NumberFormatBuilder {
     /// above the flags are ignored.
     #[inline(always)]
     pub const fn from_parts(flags: u32, bytes: [u8; 6]) -> Self
-        ensures { result ≡ record_of_parts (flags % 2 ^ length layout.flags) bytes }
+        ensures { result ≡ builder_record_of_parts (flags % 2 ^ length layout.flags) bytes }
     {
         NumberFormatBuilder {
             flags: flags & (LOW_FLAGS | SEPARATOR_FLAGS),
@@ -290,7 +290,7 @@ impl NumberFormatBuilder {
     /// mantissa radix, exponent base and exponent radix, each 0 if it is absent.
     #[inline(always)]
     pub const fn to_parts(&self) -> (u32, [u8; 6])
-        ensures fields { record_of_parts result.0 result.1 ≡ self.now }
+        ensures fields { builder_record_of_parts result.0 result.1 ≡ self.now }
         ensures flags { result.0 < 2 ^ length layout.flags }
     {
         (self.flags, self.bytes)
@@ -318,7 +318,7 @@ impl NumberFormatBuilder {
     #[inline(always)]
     const fn with_byte(mut self, index: usize, value: u8) -> Self
         requires below { index < 6 }
-        requires byte { index_of (byte_at index) ≡ index }
+        requires byte { byte_index (byte_at index) ≡ index }
         ensures { result ≡ after self (write_byte (byte_at index) value ∷ []) }
     {
         self.bytes[index] = value;
@@ -328,10 +328,10 @@ impl NumberFormatBuilder {
 
 // An exponent byte of a format word, or the mantissa radix if that is 0.
 #[inline(always)]
-const fn own_or(own: u8, mantissa_radix: u8) -> u8
-    ensures { result ≡ effective own mantissa_radix }
+const fn byte_or_radix(byte: u8, mantissa_radix: u8) -> u8
+    ensures { result ≡ effective byte mantissa_radix }
 {
-    if own == 0 { mantissa_radix } else { own }
+    if byte == 0 { mantissa_radix } else { byte }
 }
 
 // The flags of a format word, at the bits of a builder.
@@ -375,7 +375,7 @@ const fn bits_if(condition: bool, bits: u32) -> u32
 // The digit separator, or 0 if none of these flags of a format word allows one.
 #[inline(always)]
 const fn used_separator(flags: u128, separator: u8) -> u8
-    ensures { result ≡ (if separator_on (raw flags) then separator else 0) }
+    ensures { result ≡ (if separator_allowed (raw flags) then separator else 0) }
 {
     if flags & flags::DIGIT_SEPARATOR_FLAG_MASK != 0 {
         separator

@@ -10,11 +10,11 @@ use Rattle.lexical_util.specs.Writes.{Write, after}
 use Rattle.lexical_util.specs.Edits.{all_writes, writes_of}
 use Rattle.lexical_util.specs.declared.edits.Edit.{Edit}
 use Rattle.lexical_c.specs.declared.words.NumberedEdit.{NumberedEdit}
-use Rattle.lexical_c.specs.Edits.{numbered, edit_of, HasSetter, known}
+use Rattle.lexical_c.specs.Edits.{encode_edit, decode_edit, HasSetter, decoded_edits}
 
 -- the first i of them have setters, and are applied to a record
 pub record HaveApplied (R : Record) (numbers : List NumberedEdit) (i : ℕ) (b : Record) : Type 0 where
-  pub fields : b ≡ after R (all_writes (known (take i numbers)))
+  pub fields : b ≡ after R (all_writes (decoded_edits (take i numbers)))
   pub each : All HasSetter (take i numbers)
 
 -- before the first
@@ -23,41 +23,42 @@ pub none_applied : (none : (r : Record) → after r [] ≡ r) (R : Record) (numb
 none_applied none R numbers = record { fields = sym (none R); each = λ k d h. absurd (omega arith) }
 
 -- two numbers that stand for an edit have a setter
-has_setter : (c : NumberedEdit) (e : Edit) → edit_of c ≡ Some e → HasSetter c
+has_setter : (c : NumberedEdit) (e : Edit) → decode_edit c ≡ Some e → HasSetter c
 has_setter c e is = subst IsSome (sym is) (search rules)
 
 -- its edit comes last
-known_push : (front : List NumberedEdit) (c : NumberedEdit) (e : Edit) → edit_of c ≡ Some e
-    → known (front ++ c ∷ []) ≡ known front ++ e ∷ []
-known_push front c e is = filter_map-append edit_of front (c ∷ []) ∙ ap (λ o. known front ++ cons_option o []) is
+known_push : (front : List NumberedEdit) (c : NumberedEdit) (e : Edit) → decode_edit c ≡ Some e
+    → decoded_edits (front ++ c ∷ []) ≡ decoded_edits front ++ e ∷ []
+known_push front c e is =
+    filter_map-append decode_edit front (c ∷ []) ∙ ap (λ o. decoded_edits front ++ cons_option o []) is
 
 -- one more
 pub more_applied : {R : Record} {numbers : List NumberedEdit} {i : ℕ} {b next : Record} {e : Edit}
     → (append : (r : Record) (first second : List Write) → after (after r first) second ≡ after r (first ++ second))
     → (d : NumberedEdit) → HaveApplied R numbers i b → i < length numbers
-    → edit_of (get_or numbers i d) ≡ Some e → next ≡ after b (writes_of e)
+    → decode_edit (get_or numbers i d) ≡ Some e → next ≡ after b (writes_of e)
     → HaveApplied R numbers (i + 1) next
 more_applied {R} {numbers} {i} {b} {next} {e} append d h inside edit applied =
     let front = take i numbers in
-    let edits : known (take (i + 1) numbers) ≡ known front ++ e ∷ [] =
-    ap known (take_more numbers i d inside) ∙ known_push front (get_or numbers i d) e edit in
+    let edits : decoded_edits (take (i + 1) numbers) ≡ decoded_edits front ++ e ∷ [] =
+    ap decoded_edits (take_more numbers i d inside) ∙ known_push front (get_or numbers i d) e edit in
     record {
       fields = applied ∙ ap (λ S. after S (writes_of e)) h.fields
-          ∙ append R (all_writes (known front)) (writes_of e)
-          ∙ ap (after R) (flat_map_more writes_of [] (known front) e ∙ ap all_writes (sym edits));
+          ∙ append R (all_writes (decoded_edits front)) (writes_of e)
+          ∙ ap (after R) (flat_map_more writes_of [] (decoded_edits front) e ∙ ap all_writes (sym edits));
       each = All-more HasSetter numbers i d inside h.each (has_setter (get_or numbers i d) e edit);
     }
 
 -- as many pairs of numbers as edits, the first i of which are the first i edits
 pub record AreNumbered (numbers : List NumberedEdit) (edits : List Edit) (i : ℕ) : Type 0 where
   pub count : length numbers ≡ length edits
-  pub are : take i numbers ≡ map numbered (take i edits)
-  pub stand : known (take i numbers) ≡ take i edits
+  pub are : take i numbers ≡ map encode_edit (take i edits)
+  pub stand : decoded_edits (take i numbers) ≡ take i edits
   pub each : All HasSetter (take i numbers)
 
 -- one more
 pub more_numbered : {numbers : List NumberedEdit} {edits : List Edit} {i : ℕ} (c : NumberedEdit) (e : Edit)
-    → AreNumbered numbers edits i → i < length edits → c ≡ numbered (get_or edits i e) → edit_of c ≡ Some (get_or edits i e)
+    → AreNumbered numbers edits i → i < length edits → c ≡ encode_edit (get_or edits i e) → decode_edit c ≡ Some (get_or edits i e)
     → AreNumbered (set numbers i c) edits (i + 1)
 more_numbered {numbers} {edits} {i} c e h some is stands =
     let front = take i numbers in
@@ -67,18 +68,18 @@ more_numbered {numbers} {edits} {i} c e h some is stands =
     record {
       count = length-set numbers i c ∙ h.count;
       are = taken ∙ ap₂ (λ xs x. xs ++ x ∷ []) h.are is
-          ∙ sym (ap (map numbered) more ∙ map-append numbered (take i edits) (edit ∷ []));
-      stand = ap known taken ∙ known_push front c edit stands ∙ ap (λ xs. xs ++ edit ∷ []) h.stand ∙ sym more;
+          ∙ sym (ap (map encode_edit) more ∙ map-append encode_edit (take i edits) (edit ∷ []));
+      stand = ap decoded_edits taken ∙ known_push front c edit stands ∙ ap (λ xs. xs ++ edit ∷ []) h.stand ∙ sym more;
       each = All-same HasSetter _ _ taken (All-push HasSetter front c h.each (has_setter c edit stands));
     }
 
 -- after the last all are
 pub all_numbered : {numbers : List NumberedEdit} {edits : List Edit} {i : ℕ} → AreNumbered numbers edits i
-    → length edits ≤ i → (numbers ≡ map numbered edits) × (known numbers ≡ edits) × All HasSetter numbers
+    → length edits ≤ i → (numbers ≡ map encode_edit edits) × (decoded_edits numbers ≡ edits) × All HasSetter numbers
 all_numbered {numbers} {edits} {i} h ends =
     let all : take i numbers ≡ numbers = take_all i numbers (omega (arith, h.count)) in
     let whole : take i edits ≡ edits = take_all i edits ends in (
-      sym all ∙ h.are ∙ ap (map numbered) whole,
-      ap known (sym all) ∙ h.stand ∙ whole,
+      sym all ∙ h.are ∙ ap (map encode_edit) whole,
+      ap decoded_edits (sym all) ∙ h.stand ∙ whole,
       All-same HasSetter _ _ (sym all) h.each,
     )

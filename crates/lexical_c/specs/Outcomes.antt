@@ -18,14 +18,14 @@ abbrev pub SUCCESS : ℕ
 SUCCESS = error_number outcomes.Success
 
 -- the number of an outcome with a property
-pub record IsNumberOfOne (P : Error → Type 0) (number : ℕ) : Type 0 where
+pub record IsCodeOfSome (P : Error → Type 0) (number : ℕ) : Type 0 where
   pub outcome : Error
   pub holds : P outcome
   pub number_is : error_number outcome ≡ number
 
 -- a word was written if it is lawful, and nothing if not, and the number of its error was returned
 pub record IsWrittenIfLawful (word returned old new : ℕ) : Type 0 where
-  pub error : IsNumberOfOne (IsErrorOf word) returned
+  pub error : IsCodeOfSome (IsErrorOf word) returned
   pub lawful : (returned ≡ SUCCESS) ↔ Lawful word
   pub written : returned ≡ SUCCESS → new ≡ word
   pub unchanged : (returned ≡ SUCCESS → ⊥) → new ≡ old

@@ -1,15 +1,15 @@
 -- The numbers and records that the structs which cross to C stand for.
 use Rattle.std.specs.Prelude.{ℕ, ◌+◌, ◌*◌, ◌^◌, ◌%◌, length}
 use Rattle.lexical_util.specs.Layout.{flags}
-use Rattle.lexical_util.specs.BuilderBits.{record_of_parts}
+use Rattle.lexical_util.specs.BuilderBits.{builder_record_of_parts}
 use Rattle.lexical_util.specs.Record.{Record}
 use Rattle.lexical_c.specs.declared.words.Word.TheInside as word
 use Rattle.lexical_c.specs.declared.words.Fields as fields
 
 -- the number that two halves make
-abbrev pub number_of : word.Inside → ℕ
-number_of w = w.low + w.high * 2 ^ 64
+abbrev pub word_value : word.Inside → ℕ
+word_value w = w.low + w.high * 2 ^ 64
 
 -- the record of fields that cross; the bits above the flags are ignored
 abbrev pub fields_of : fields.Fields → Record
-fields_of f = record_of_parts (f.flags % 2 ^ length flags) f.bytes
+fields_of f = builder_record_of_parts (f.flags % 2 ^ length flags) f.bytes

@@ -4,7 +4,7 @@ ghost use Rattle.std.specs.Prelude.{◌≡◌, ◌↔◌, ℕ, ◌<◌, ◌≤�
 ghost use Rattle.std.specs.Prelude.{slice_get, nat_le, nat_lt, if◌then◌else◌};
 ghost use Rattle.std.specs.List.{AllPass};
 ghost use Rattle.lexical_util.specs.Ascii.{allowed_ascii, letters};
-ghost use Rattle.lexical_util.specs.Digits.{value, digit_of, digit_characters};
+ghost use Rattle.lexical_util.specs.Digits.{byte_value, digit_of, digit_characters};
 
 use lexical_util::{ascii, digit};
 
@@ -81,7 +81,7 @@ pub extern "C" fn peltzivar_char_to_digit_const(byte: u8, radix: u32) -> u32
 #[unsafe(no_mangle)]
 pub extern "C" fn peltzivar_char_to_valid_digit_const(byte: u8, radix: u32) -> u32
     ensures small { radix ≤ 10 → result ≡ (byte + 208) % 256 }
-    ensures large { 10 < radix → result ≡ value byte }
+    ensures large { 10 < radix → result ≡ byte_value byte }
 {
     digit::char_to_valid_digit_const(byte, radix)
 }

@@ -6,16 +6,16 @@ ghost use Rattle.lexical_util.specs.Record.{raw, fill, trim, pack, IsBuilt};
 ghost use Rattle.lexical_util.specs.Edits.{all_writes, edited};
 ghost use Rattle.lexical_util.specs.Listing.{IsBuiltByWrites};
 ghost use Rattle.lexical_util.specs.Additions.FieldEdits.{needed_edits, other_edits};
-ghost use Rattle.lexical_util.specs.Normal.{normal_form_of, SameFormat, IsNormal};
+ghost use Rattle.lexical_util.specs.NormalForm.{normal_form_of, SameFormat, IsNormal};
 ghost use Rattle.lexical_util.specs.Writes.{Write, IsLegal, new_record, after};
 ghost use Rattle.lexical_c.specs.Words.{fields_of};
-ghost use Rattle.lexical_c.specs.Edits.{HasSetter, known, numbered};
+ghost use Rattle.lexical_c.specs.Edits.{HasSetter, decoded_edits, encode_edit};
 ghost use Rattle.lexical_c.specs.Outcomes.{IsWrittenIfLawful};
 
 use crate::outcomes::{ErrorNumber, write_if_lawful};
 use crate::words::{Fields, NumberedEdit, Word};
 use lexical_util::edits;
-use lexical_util::edits::{Edit, FIELDS, apply, edits_of};
+use lexical_util::edits::{Edit, FIELD_COUNT, apply, edits_of};
 use lexical_util::format_builder::NumberFormatBuilder;
 use lexical_util::laws::write_facts;
 
@@ -25,8 +25,8 @@ pub fn apply_edits(
     mut builder: NumberFormatBuilder,
     edits: &[NumberedEdit],
 ) -> Option<NumberFormatBuilder>
-    ensures known { IsSome result ↔ All HasSetter edits.now }
-    ensures fields { IfSome result (λ applied. applied ≡ after builder (all_writes (known edits.now))) }
+    ensures accepted { IsSome result ↔ All HasSetter edits.now }
+    ensures fields { IfSome result (λ applied. applied ≡ after builder (all_writes (decoded_edits edits.now))) }
 {
     write_facts();
     for edit in edits {
@@ -50,9 +50,9 @@ pub extern "C" fn peltzivar_fields_of(format: Word) -> Fields
 /// Applies the edits to the fields and clears the bits above the flags, or returns `false`: one has no setter.
 #[unsafe(no_mangle)]
 pub extern "C" fn peltzivar_edit_fields(fields: &mut Fields, edits: &[NumberedEdit]) -> bool
-    ensures known { IsTrue result ↔ All HasSetter edits.now }
+    ensures accepted { IsTrue result ↔ All HasSetter edits.now }
     ensures fields { IsTrue result → fields_of fields.new
-        ≡ after (fields_of fields.old) (all_writes (known edits.now)) }
+        ≡ after (fields_of fields.old) (all_writes (decoded_edits edits.now)) }
     ensures clear { IsTrue result → fields.new.flags < 2 ^ length flags }
     ensures unchanged { IsFalse result → fields.new ≡ fields.old }
 {
@@ -76,8 +76,9 @@ pub extern "C" fn peltzivar_pack(fields: &Fields) -> Word
 /// Writes the word of the edited fields, or returns `false`: an edit has no setter.
 #[unsafe(no_mangle)]
 pub extern "C" fn peltzivar_build(fields: &Fields, edits: &[NumberedEdit], out: &mut Word) -> bool
-    ensures known { IsTrue result ↔ All HasSetter edits.now }
-    ensures word { IsTrue result → out.new ≡ pack (after (fields_of fields.now) (all_writes (known edits.now))) }
+    ensures accepted { IsTrue result ↔ All HasSetter edits.now }
+    ensures word { IsTrue result
+        → out.new ≡ pack (after (fields_of fields.now) (all_writes (decoded_edits edits.now))) }
     ensures clean { IsTrue result → IsClean out.new }
     ensures unchanged { IsFalse result → out.new ≡ out.old }
 {
@@ -99,9 +100,10 @@ pub extern "C" fn peltzivar_build_strict(fields: &Fields, out: &mut Word) -> Err
 /// Writes the edited word, or returns `false`: an edit has no setter.
 #[unsafe(no_mangle)]
 pub extern "C" fn peltzivar_edit_word(format: Word, edits: &[NumberedEdit], out: &mut Word) -> bool
-    ensures known { IsTrue result ↔ All HasSetter edits.now }
-    ensures word { IsTrue result → out.new ≡ edited format (all_writes (known edits.now)) }
-    ensures fields { IsTrue result → raw out.new ≡ trim (after (fill (raw format)) (all_writes (known edits.now))) }
+    ensures accepted { IsTrue result ↔ All HasSetter edits.now }
+    ensures word { IsTrue result → out.new ≡ edited format (all_writes (decoded_edits edits.now)) }
+    ensures fields { IsTrue result
+        → raw out.new ≡ trim (after (fill (raw format)) (all_writes (decoded_edits edits.now))) }
     ensures clean { IsTrue result → IsClean out.new }
     ensures unchanged { IsFalse result → out.new ≡ out.old }
 {
@@ -152,14 +154,14 @@ pub extern "C" fn peltzivar_is_built(format: Word) -> bool
 
 /// Writes one edit for each field, those first that change a new builder, and returns how many these are.
 #[unsafe(no_mangle)]
-pub extern "C" fn peltzivar_edits_of(format: Word, edits: &mut [NumberedEdit; FIELDS]) -> usize
-    ensures numbers { edits.new ≡ map numbered (needed_edits (raw format) ++ other_edits (raw format)) }
+pub extern "C" fn peltzivar_edits_of(format: Word, edits: &mut [NumberedEdit; FIELD_COUNT]) -> usize
+    ensures numbers { edits.new ≡ map encode_edit (needed_edits (raw format) ++ other_edits (raw format)) }
     ensures each { All HasSetter edits.new }
-    ensures list { known edits.new ≡ needed_edits (raw format) ++ other_edits (raw format) }
+    ensures list { decoded_edits edits.new ≡ needed_edits (raw format) ++ other_edits (raw format) }
     ensures number { result ≡ length (needed_edits (raw format)) }
-    ensures legal { All IsLegal (all_writes (known edits.new)) }
-    ensures first { after new_record (all_writes (take result (known edits.new))) ≡ raw format }
-    ensures whole { after new_record (all_writes (known edits.new)) ≡ raw format }
+    ensures legal { All IsLegal (all_writes (decoded_edits edits.new)) }
+    ensures first { after new_record (all_writes (take result (decoded_edits edits.new))) ≡ raw format }
+    ensures whole { after new_record (all_writes (decoded_edits edits.new)) ≡ raw format }
     ensures fewest { (writes : List Write) → All IsLegal writes
         → pack (after new_record writes) ≡ format → result ≤ length writes }
 {

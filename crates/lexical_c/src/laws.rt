@@ -2,16 +2,16 @@
 
 ghost use Rattle.std.specs.Prelude.{◌≡◌, [], ◌∷◌};
 ghost use Rattle.lexical_util.specs.declared.error.Error.TheVariants as errors;
-ghost use Rattle.lexical_c.specs.Outcomes.{IsNumberOfOne};
+ghost use Rattle.lexical_c.specs.Outcomes.{IsCodeOfSome};
 ghost use Rattle.lexical_c.specs.Texts.{IsWritten};
 
 /// The number of an outcome with a property, and a text with its length, as they are returned.
 pub fn returned_examples()
-    ensures success { IsNumberOfOne (λ error. error ≡ errors.Success) 0 }
-    ensures first { IsNumberOfOne (λ error. error ≡ errors.Overflow 7) 1 }
-    ensures last { IsNumberOfOne (λ error. error ≡ errors.InvalidPositiveExponentBreak) 48 }
-    ensures other_number { IsNumberOfOne (λ error. error ≡ errors.Success) 48 → ⊥ }
-    ensures no_outcome { IsNumberOfOne (λ error. ⊥) 0 → ⊥ }
+    ensures success { IsCodeOfSome (λ error. error ≡ errors.Success) 0 }
+    ensures first { IsCodeOfSome (λ error. error ≡ errors.Overflow 7) 1 }
+    ensures last { IsCodeOfSome (λ error. error ≡ errors.InvalidPositiveExponentBreak) 48 }
+    ensures other_number { IsCodeOfSome (λ error. error ≡ errors.Success) 48 → ⊥ }
+    ensures no_outcome { IsCodeOfSome (λ error. ⊥) 0 → ⊥ }
 
     // The front of a longer text, a shorter one whole, and one that has no room.
     ensures front { IsWritten (1 ∷ 2 ∷ []) 2 (9 ∷ 9 ∷ []) (1 ∷ 0 ∷ []) }

@@ -4,7 +4,7 @@ ghost use Rattle.std.specs.Prelude.{◌≡◌, ◌≢◌, ◌↔◌, ◌<◌, �
 ghost use Rattle.std.specs.Result.{OkIff};
 ghost use Rattle.lexical_util.specs.Outcomes.{IsAt, description_of, printed_text};
 ghost use Rattle.lexical_util.specs.Rules.{Lawful, IsErrorOf};
-ghost use Rattle.lexical_c.specs.Outcomes.{outcome_count, error_number, SUCCESS, IsNumberOfOne, IsWrittenIfLawful};
+ghost use Rattle.lexical_c.specs.Outcomes.{outcome_count, error_number, SUCCESS, IsCodeOfSome, IsWrittenIfLawful};
 ghost use Rattle.lexical_c.specs.Texts.{IsWritten};
 
 use crate::texts::{write_error, write_nothing, write_text};
@@ -48,7 +48,7 @@ pub fn write_if_lawful(word: Result<u128, Error>, out: &mut Word) -> ErrorNumber
 #[unsafe(no_mangle)]
 pub extern "C" fn peltzivar_description(error: ErrorNumber, text: &mut [u8]) -> usize
     ensures text { error < outcome_count
-        → IsNumberOfOne (λ outcome. IsWritten (description_of outcome) result text.old text.new) error }
+        → IsCodeOfSome (λ outcome. IsWritten (description_of outcome) result text.old text.new) error }
     ensures unknown { (error < outcome_count → ⊥) → IsWritten [] result text.old text.new }
 {
     match outcome(error, 0) {
@@ -60,7 +60,7 @@ pub extern "C" fn peltzivar_description(error: ErrorNumber, text: &mut [u8]) -> 
 /// Writes the text that `Display` prints of an outcome, found at `index` if it is an error of parsing.
 #[unsafe(no_mangle)]
 pub extern "C" fn peltzivar_text(error: ErrorNumber, index: usize, text: &mut [u8]) -> usize
-    ensures text { error < outcome_count → IsNumberOfOne (λ outcome. IsAt index outcome
+    ensures text { error < outcome_count → IsCodeOfSome (λ outcome. IsAt index outcome
         × IsWritten (printed_text outcome) result text.old text.new) error }
     ensures unknown { (error < outcome_count → ⊥) → IsWritten [] result text.old text.new }
 {
@@ -72,7 +72,7 @@ pub extern "C" fn peltzivar_text(error: ErrorNumber, index: usize, text: &mut [u
 
 // The outcome of a number, at `index` if it is an error of parsing, or `None` if there is no such number.
 fn outcome(number: ErrorNumber, index: usize) -> Option<Error>
-    ensures some { IsSome result ↔ (number < outcome_count) }
+    ensures defined { IsSome result ↔ (number < outcome_count) }
     ensures number { IfSome result (λ error. error_number error ≡ number) }
     ensures index { IfSome result (IsAt index) }
 {

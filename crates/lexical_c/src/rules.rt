@@ -8,8 +8,8 @@ ghost use Rattle.lexical_util.specs.Rules.{Lawful, IsErrorOf, IsRadix, IsFirstEr
 ghost use Rattle.lexical_util.specs.declared.format_flags.Rule.TheVariants as rules;
 ghost use Rattle.lexical_util.specs.Record.{raw, effective};
 ghost use Rattle.lexical_util.specs.Common.{common};
-ghost use Rattle.lexical_util.specs.Options.{AreAccepted, HaveOneRole, LeavesRoom, IsOptionsError};
-ghost use Rattle.lexical_c.specs.Outcomes.{IsNumberOfOne, SUCCESS, error_number};
+ghost use Rattle.lexical_util.specs.Options.{OptionsFit, OptionsHaveOneRole, SomeOptionsFit, IsOptionsError};
+ghost use Rattle.lexical_c.specs.Outcomes.{IsCodeOfSome, SUCCESS, error_number};
 ghost use Rattle.lexical_c.specs.RuleNumbers.{rule_of, reason_at, unused_at};
 ghost use Rattle.lexical_c.specs.Texts.{IsWritten};
 ghost use Rattle.lexical_c.specs.Words.{fields_of};
@@ -17,7 +17,7 @@ ghost use Rattle.lexical_util.specs.BrokenRules.{mask_read};
 ghost use Rattle.lexical_util.specs.Additions.ReasonText.{reason_text, unused_text};
 
 use crate::outcomes::{ErrorNumber, error_number};
-use crate::texts::{write_nothing, write_sentence};
+use crate::texts::{write_nothing, write_short_text};
 use crate::words::{Fields, Word};
 use lexical_util::format::format_error;
 use lexical_util::format_flags as flags;
@@ -27,7 +27,7 @@ use lexical_util::reasons::{Unused, reasons_of, unused_fields};
 /// Returns the number of the error of the first rule that a word breaks, or 0 if it is lawful.
 #[unsafe(no_mangle)]
 pub extern "C" fn peltzivar_format_error(format: Word) -> ErrorNumber
-    ensures first { IsNumberOfOne (IsErrorOf format) result }
+    ensures first { IsCodeOfSome (IsErrorOf format) result }
     ensures lawful { (result ≡ SUCCESS) ↔ Lawful format }
 {
     error_number(format_error(format.number()))
@@ -36,7 +36,7 @@ pub extern "C" fn peltzivar_format_error(format: Word) -> ErrorNumber
 /// Returns the number of the error of the first of the three radixes that is not 2 to 36, or 0.
 #[unsafe(no_mangle)]
 pub extern "C" fn peltzivar_radix_error(format: Word) -> ErrorNumber
-    ensures { IsNumberOfOne (IsFirstError radix_rules format) result }
+    ensures { IsCodeOfSome (IsFirstError radix_rules format) result }
 {
     error_number(flags::radix_error_impl(format.number()))
 }
@@ -60,7 +60,7 @@ pub extern "C" fn peltzivar_is_valid_exponent_flags(format: Word) -> bool
 /// Returns whether the digit separator is absent, or allowed ASCII that is no sign and no digit.
 #[unsafe(no_mangle)]
 pub extern "C" fn peltzivar_is_valid_digit_separator(format: Word) -> bool
-    ensures { IsTrue result ↔ Holds rules.DigitSeparatorIsFree format }
+    ensures { IsTrue result ↔ Holds rules.DigitSeparatorIsPunctuation format }
 {
     flags::is_valid_digit_separator(format.number())
 }
@@ -68,7 +68,7 @@ pub extern "C" fn peltzivar_is_valid_digit_separator(format: Word) -> bool
 /// Returns whether the base prefix is absent, or allowed ASCII that is no sign and no digit.
 #[unsafe(no_mangle)]
 pub extern "C" fn peltzivar_is_valid_base_prefix(format: Word) -> bool
-    ensures { IsTrue result ↔ Holds rules.BasePrefixIsFree format }
+    ensures { IsTrue result ↔ Holds rules.BasePrefixIsPunctuation format }
 {
     flags::is_valid_base_prefix(format.number())
 }
@@ -76,7 +76,7 @@ pub extern "C" fn peltzivar_is_valid_base_prefix(format: Word) -> bool
 /// Returns whether the base suffix is absent, or allowed ASCII that is no sign and no digit.
 #[unsafe(no_mangle)]
 pub extern "C" fn peltzivar_is_valid_base_suffix(format: Word) -> bool
-    ensures { IsTrue result ↔ Holds rules.BaseSuffixIsFree format }
+    ensures { IsTrue result ↔ Holds rules.BaseSuffixIsPunctuation format }
 {
     flags::is_valid_base_suffix(format.number())
 }
@@ -96,9 +96,9 @@ pub extern "C" fn peltzivar_is_valid_options_punctuation(
     exponent: u8,
     decimal_point: u8,
 ) -> bool
-    ensures accepted { IsTrue result ↔ AreAccepted format exponent decimal_point }
-    ensures roles { Lawful format → (IsTrue result ↔ HaveOneRole format exponent decimal_point) }
-    ensures some { Lawful format → LeavesRoom format }
+    ensures accepted { IsTrue result ↔ OptionsFit format exponent decimal_point }
+    ensures roles { Lawful format → (IsTrue result ↔ OptionsHaveOneRole format exponent decimal_point) }
+    ensures exists { Lawful format → SomeOptionsFit format }
 {
     flags::is_valid_options_punctuation(format.number(), exponent, decimal_point)
 }
@@ -110,8 +110,8 @@ pub extern "C" fn peltzivar_options_error(
     exponent: u8,
     decimal_point: u8,
 ) -> ErrorNumber
-    ensures first { IsNumberOfOne (IsOptionsError format exponent decimal_point) result }
-    ensures accepted { (result ≡ SUCCESS) ↔ AreAccepted format exponent decimal_point }
+    ensures first { IsCodeOfSome (IsOptionsError format exponent decimal_point) result }
+    ensures accepted { (result ≡ SUCCESS) ↔ OptionsFit format exponent decimal_point }
 {
     error_number(flags::options_error(format.number(), exponent, decimal_point))
 }
@@ -163,7 +163,7 @@ pub extern "C" fn peltzivar_reason(format: Word, rule: u8, index: u8, text: &mut
         return write_nothing(text);
     };
     match reasons_of(rule, format.number()).get(index as usize) {
-        Some(Some(reason)) => write_sentence(&reason.sentence(), text),
+        Some(Some(reason)) => write_short_text(&reason.text(), text),
         _ => write_nothing(text),
     }
 }
@@ -176,7 +176,7 @@ pub extern "C" fn peltzivar_unused(fields: &Fields, index: u8, text: &mut [u8]) 
     ensures none { unused_at (fields_of fields.now) index ≡ None → IsWritten [] result text.old text.new }
 {
     match unused_at(fields, index as usize) {
-        Some(setting) => write_sentence(&setting.sentence(), text),
+        Some(setting) => write_short_text(&setting.text(), text),
         None => write_nothing(text),
     }
 }

@@ -2,30 +2,30 @@
 
 ghost use Rattle.std.specs.Prelude.{◌≡◌, ◌<◌, ℕ, [], None, IfSome, IfOk, IfErr};
 ghost use Rattle.std.specs.Str.{IsUtf8};
-ghost use Rattle.lexical_util.specs.Additions.SettingNumbers.{name_of_setter, setter_count, mask_of_edit};
+ghost use Rattle.lexical_util.specs.Additions.SettingNumbers.{setter_name_of_number, setter_count, mask_of_edit};
 ghost use Rattle.lexical_util.specs.Additions.SettingText.{edit_or_error_in, setting_text};
-ghost use Rattle.lexical_c.specs.Edits.{edit_of, numbered, error_code};
+ghost use Rattle.lexical_c.specs.Edits.{decode_edit, encode_edit, error_code};
 ghost use Rattle.lexical_c.specs.Texts.{IsWritten};
 
-use crate::texts::{write_nothing, write_sentence, write_text};
+use crate::texts::{write_nothing, write_short_text, write_text};
 use crate::words::{NumberedEdit, Word};
-use lexical_util::edits::{Edit, SETTER_NAMES, name_of_number, number_of_name};
+use lexical_util::edits::{Edit, SETTER_NAMES, number_of_name, setter_name_of_number};
 
 /// Writes a setter's name.
 #[unsafe(no_mangle)]
 pub extern "C" fn peltzivar_setter_name(setter: u8, text: &mut [u8]) -> usize
-    ensures text { setter < setter_count → IsWritten (name_of_setter setter) result text.old text.new }
+    ensures text { setter < setter_count → IsWritten (setter_name_of_number setter) result text.old text.new }
     ensures unknown { (setter < setter_count → ⊥) → IsWritten [] result text.old text.new }
 {
-    write_text(name_of_number(setter).as_bytes(), text)
+    write_text(setter_name_of_number(setter).as_bytes(), text)
 }
 
 /// Returns the number of the setter of this name, or 255 if there is none.
 #[unsafe(no_mangle)]
 pub extern "C" fn peltzivar_setter_of_name(name: &[u8]) -> u8
-    ensures named { result < setter_count → name_of_setter result ≡ name.now }
+    ensures named { result < setter_count → setter_name_of_number result ≡ name.now }
     ensures none { (result < setter_count → ⊥) → (result ≡ 255)
-        × ((setter : ℕ) → setter < setter_count → name_of_setter setter ≡ name.now → ⊥) }
+        × ((setter : ℕ) → setter < setter_count → setter_name_of_number setter ≡ name.now → ⊥) }
 {
     let setter = number_of_name(name);
     if (setter as usize) < SETTER_NAMES.len() {
@@ -39,7 +39,7 @@ pub extern "C" fn peltzivar_setter_of_name(name: &[u8]) -> u8
 #[unsafe(no_mangle)]
 pub extern "C" fn peltzivar_edit_of_text(text: &[u8], out: &mut NumberedEdit) -> u32
     ensures edit { IsUtf8 text.now → IfOk (edit_or_error_in text.now)
-        (λ edit. (result ≡ 0) × (out.new ≡ numbered edit)) }
+        (λ edit. (result ≡ 0) × (out.new ≡ encode_edit edit)) }
     ensures none { IsUtf8 text.now → IfErr (edit_or_error_in text.now)
         (λ error. (result ≡ error_code error) × (out.new ≡ out.old)) }
     ensures no_text { (IsUtf8 text.now → ⊥) → (result ≡ 1) × (out.new ≡ out.old) }
@@ -59,8 +59,8 @@ pub extern "C" fn peltzivar_edit_of_text(text: &[u8], out: &mut NumberedEdit) ->
 /// Returns the bits of a word that an edit writes, or 0 if it has no setter.
 #[unsafe(no_mangle)]
 pub extern "C" fn peltzivar_edit_mask(edit: NumberedEdit) -> Word
-    ensures mask { IfSome (edit_of edit) (λ known. result ≡ mask_of_edit known) }
-    ensures unknown { edit_of edit ≡ None → result ≡ 0 }
+    ensures mask { IfSome (decode_edit edit) (λ known. result ≡ mask_of_edit known) }
+    ensures unknown { decode_edit edit ≡ None → result ≡ 0 }
 {
     match edit.edit() {
         Some(edit) => Word::new(edit.mask()),
@@ -71,11 +71,11 @@ pub extern "C" fn peltzivar_edit_mask(edit: NumberedEdit) -> Word
 /// Writes an edit as `NAME=VALUE`.
 #[unsafe(no_mangle)]
 pub extern "C" fn peltzivar_text_of_edit(edit: NumberedEdit, text: &mut [u8]) -> usize
-    ensures text { IfSome (edit_of edit) (λ known. IsWritten (setting_text known) result text.old text.new) }
-    ensures unknown { edit_of edit ≡ None → IsWritten [] result text.old text.new }
+    ensures text { IfSome (decode_edit edit) (λ known. IsWritten (setting_text known) result text.old text.new) }
+    ensures unknown { decode_edit edit ≡ None → IsWritten [] result text.old text.new }
 {
     match edit.edit() {
-        Some(edit) => write_sentence(&edit.sentence(), text),
+        Some(edit) => write_short_text(&edit.text(), text),
         None => write_nothing(text),
     }
 }

@@ -4,7 +4,7 @@ ghost use Rattle.std.specs.Prelude.{◌≡◌, ◌+◌, ◌≤◌, ◌++◌, Lis
 ghost use Rattle.lexical_util.specs.Outcomes.{printed_text};
 ghost use Rattle.lexical_c.specs.Texts.{IsWritten};
 
-use lexical_util::error::{Error, Sentence, Sink};
+use lexical_util::error::{Error, ShortText, Sink};
 use std::fmt;
 use std::marker::Model;
 
@@ -29,7 +29,7 @@ pub fn write_nothing(out: &mut [u8]) -> usize
 }
 
 /// Writes a sentence as [`write_text`] does.
-pub fn write_sentence(sentence: &Sentence, out: &mut [u8]) -> usize
+pub fn write_short_text(sentence: &ShortText, out: &mut [u8]) -> usize
     ensures { IsWritten sentence.now result out.old out.new }
 {
     let mut whole = Text::new();

@@ -3,7 +3,7 @@
 ghost use Rattle.std.specs.Prelude.{◌≡◌, ◌<◌, ◌^◌, Some, length};
 ghost use Rattle.lexical_util.specs.Layout.{flags};
 ghost use Rattle.lexical_c.specs.Words.{fields_of};
-ghost use Rattle.lexical_c.specs.Edits.{numbered, edit_of};
+ghost use Rattle.lexical_c.specs.Edits.{encode_edit, decode_edit};
 
 use lexical_util::edits::Edit;
 use lexical_util::format_builder::NumberFormatBuilder;
@@ -22,9 +22,9 @@ impl Model for Word {
 
     ghost Value = { ℕ };
 
-    ghost use Rattle.lexical_c.specs.Words.{number_of};
+    ghost use Rattle.lexical_c.specs.Words.{word_value};
 
-    ghost view = { number_of };
+    ghost view = { word_value };
 
     ghost use Rattle.std.specs.Prelude.{◌%◌, ◌/◌, ◌^◌, ◌<◌};
 
@@ -65,11 +65,11 @@ pub struct NumberedEdit {
 impl NumberedEdit {
     /// Returns the numbers of an edit.
     pub fn new(edit: &Edit) -> NumberedEdit
-        ensures numbers { result ≡ numbered edit.now }
-        ensures read_back { edit_of result ≡ Some edit.now }
+        ensures numbers { result ≡ encode_edit edit.now }
+        ensures read_back { decode_edit result ≡ Some edit.now }
     {
         NumberedEdit {
-            setter: edit.number(),
+            setter: edit.setter_number(),
             value: edit.byte(),
         }
     }
@@ -77,7 +77,7 @@ impl NumberedEdit {
     /// Returns the edit, or `None` if it has no setter.
     #[inline(always)]
     pub fn edit(self) -> Option<Edit>
-        ensures { result ≡ edit_of self }
+        ensures { result ≡ decode_edit self }
     {
         Edit::from_number(self.setter, self.value)
     }

@@ -5,10 +5,10 @@ use Rattle.std.specs.Prelude.{position, unwrap_or}
 use Rattle.std.proofs.lemmas.Bool.{false≢true, or_parts, agree_below_at}
 use Rattle.std.proofs.lemmas.Bool.Decides.{nat_tests}
 use Rattle.lexical_base.specs.Ascii.{letters}
-use Rattle.lexical_base.specs.Digits.{value, digit_characters, uppercase}
+use Rattle.lexical_base.specs.Digits.{byte_value, digit_characters, uppercase}
 use Rattle.lexical_flags.specs.Layout as layout
 use Rattle.lexical_flags.specs.Record.{Record, effective_exponent_radix}
-use Rattle.lexical_flags.specs.Roles.{Disjoint, AreDisjoint, cased, other_case, digits, signs, own_roles}
+use Rattle.lexical_flags.specs.Roles.{Disjoint, AreDisjoint, cased, other_case, digits, signs, format_roles}
 use Rattle.lexical_flags.proofs.DisjointLemmas.{Disjoint-at, Disjoint-from}
 
 -- the other case of a letter has the bit 32 flipped
@@ -84,7 +84,7 @@ pub own_roles_apart : (r : Record) {a b c : ℕ} {ab ac bc : Bool}
     → (IsTrue ab ↔ ((a ≢ 0) × (bit_or a 32 ≡ bit_or b 32)))
     → (IsTrue ac ↔ ((a ≢ 0) × (bit_or a 32 ≡ bit_or c 32)))
     → (IsTrue bc ↔ ((b ≢ 0) × (bit_or b 32 ≡ bit_or c 32)))
-    → ((ab || ac) || bc) ≡ false → AreDisjoint (own_roles r)
+    → ((ab || ac) || bc) ≡ false → AreDisjoint (format_roles r)
 own_roles_apart r {a} {b} {c} {ab} {ac} {bc} a_is b_is c_is a_fits b_fits ab_told ac_told bc_told none =
     let prefix = r.flag layout.case_sensitive_base_prefix in
     let suffix = r.flag layout.case_sensitive_base_suffix in
@@ -132,16 +132,16 @@ cases_apart a false b b_counts differ letter other = (
 uppercase-other_case : (byte : ℕ) → uppercase (other_case byte) ≡ uppercase byte
 uppercase-other_case byte = grind (arith, nat_tests)
 
-value-other_case : (byte : ℕ) → value (other_case byte) ≡ value byte
-unfolding value
-value-other_case byte = ap (λ k. unwrap_or (position (λ character. character == k) digit_characters) 255)
+byte_value-other_case : (byte : ℕ) → byte_value (other_case byte) ≡ byte_value byte
+unfolding byte_value
+byte_value-other_case byte = ap (λ k. unwrap_or (position (λ character. character == k) digit_characters) 255)
     (uppercase-other_case byte)
 
 -- a letter is a digit in both cases or in none
 pub digits-other_case : (r : Record) (byte : ℕ) → IsTrue (digits r (other_case byte)) → IsTrue (digits r byte)
 digits-other_case r byte inside =
     subst (λ v. IsTrue (nat_lt v (min (r.byte layout.mantissa_radix) 36) || nat_lt v (min (effective_exponent_radix r) 36)))
-    (value-other_case byte) inside
+    (byte_value-other_case byte) inside
 
 -- no sign is a letter
 pub signs-other_case : (byte : ℕ) → IsTrue (signs (other_case byte)) → IsTrue (signs byte)

@@ -10,7 +10,7 @@ use Rattle.std.proofs.lemmas.Bool.{cases_lt, ne_eqb, eq-eqb}
 use Rattle.std.proofs.lemmas.Bool.Decides.{nat_tests}
 use Rattle.lexical_flags.specs.Layout.{part, Flag, bit, shift, flags, bytes, digit_separator_flags}
 use Rattle.lexical_flags.specs.Record.{Record, raw, word_of, flag_bits, byte_bits}
-use Rattle.lexical_flags.specs.Record.{separator_on, HasBytes}
+use Rattle.lexical_flags.specs.Record.{separator_allowed, HasBytes}
 use Rattle.lexical_flags.specs.Additions.Masks.{mask_of}
 use Rattle.lexical_flags.specs.declared.format_flags.TheConstants.{DIGIT_SEPARATOR_FLAG_MASK}
 use Rattle.lexical_flags.proofs.Packing.{high, bit_value, bit_value-lt, flag_bits-value, raw-word_of, HasBytes-by_name}
@@ -67,10 +67,11 @@ pub mask_test : (fs : List Flag) (word : ℕ) → ascends bit 1 0 fs ≡ true
 mask_test fs word up = ap (λ n. not (n == 0)) (and_all bit fs word up) ∙ sum_by-set fs word
 
 -- whether some flag allows a digit separator, as the code tests it
-pub separator_flag_set : (word : ℕ) → bit_and word DIGIT_SEPARATOR_FLAG_MASK ≢ 0 → separator_on (raw word) ≡ true
+pub separator_flag_set : (word : ℕ) → bit_and word DIGIT_SEPARATOR_FLAG_MASK ≢ 0 → separator_allowed (raw word) ≡ true
 separator_flag_set word some = sym (mask_test digit_separator_flags word refl) ∙ ap not (ne_eqb _ _ some)
 
-pub no_separator_flag_set : (word : ℕ) → bit_and word DIGIT_SEPARATOR_FLAG_MASK ≡ 0 → separator_on (raw word) ≡ false
+pub no_separator_flag_set : (word : ℕ) → bit_and word DIGIT_SEPARATOR_FLAG_MASK ≡ 0
+    → separator_allowed (raw word) ≡ false
 no_separator_flag_set word none = sym (mask_test digit_separator_flags word refl) ∙ ap not (eq-eqb _ _ none)
 
 -- the flags of a record joined by `|`
@@ -105,8 +106,9 @@ unfolding word_of
 word_of-flags_only r = omega arith
 
 -- the flags alone tell whether a digit separator is allowed
-pub separator_on-flags : (r : Record) → separator_on (raw (sum_by (flag_bits r) flags)) ≡ separator_on r
-separator_on-flags r =
+pub separator_allowed-flags : (r : Record) → separator_allowed (raw (sum_by (flag_bits r) flags)) ≡ separator_allowed r
+separator_allowed-flags r =
     let none : HasBytes (flags_only r) = HasBytes-by_name (flags_only r) (omega arith) (omega arith) (omega arith)
     (omega arith) (omega arith) (omega arith) in
-    ap (λ word. separator_on (raw word)) (word_of-flags_only r) ∙ ap separator_on (raw-word_of (flags_only r) none)
+    ap (λ word. separator_allowed (raw word)) (word_of-flags_only r)
+    ∙ ap separator_allowed (raw-word_of (flags_only r) none)

@@ -10,7 +10,7 @@ mod RuleFieldLemmas
 mod NormalRules
 mod DisjointLemmas
 mod CaseLemmas
-mod FreeBytes
+mod PunctuationBytes
 pub mod RoleLemmas
 mod OptionLemmas
 pub mod ReservedBits

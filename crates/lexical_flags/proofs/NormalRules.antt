@@ -7,12 +7,13 @@ use Rattle.lexical_base.specs.Ascii.{ByteSet, allowed_ascii}
 use Rattle.lexical_base.specs.declared.error.Error.{Error}
 use Rattle.lexical_flags.specs.Layout as layout
 use Rattle.lexical_flags.specs.Layout.{IsClean}
-use Rattle.lexical_flags.specs.Record.{Record, raw, fill, trim, set_byte, effective, separator_on, SeparatorIsUsed}
+use Rattle.lexical_flags.specs.Record.{Record, raw, fill, trim, set_byte, effective, separator_allowed}
+use Rattle.lexical_flags.specs.Record.{SeparatorAllowedOrAbsent}
 use Rattle.lexical_flags.specs.Roles.{Disjoint, cased, signs, prefix, suffix}
 use Rattle.lexical_base.specs.Digits.{digits_of}
 use Rattle.lexical_flags.specs.declared.format_flags.all_rules.Rule.{Rule}
 use Rattle.lexical_flags.specs.declared.format_flags.all_rules.Rule.TheVariants as rules
-use Rattle.lexical_flags.specs.Rules.{IsRadix, IsFree, IsPunctuation, Demands, Holds, IsErrorOf, Lawful}
+use Rattle.lexical_flags.specs.Rules.{IsRadix, IsAbsentOrPunctuation, IsPunctuation, Demands, Holds, IsErrorOf, Lawful}
 use Rattle.lexical_flags.proofs.DisjointLemmas.{Disjoint-from}
 use Rattle.lexical_flags.proofs.Packing.{trim-same}
 use Rattle.lexical_flags.proofs.RuleLemmas.{Holds-from_lawful, Lawful-from_all, IsErrorOf-same}
@@ -21,9 +22,10 @@ use Rattle.lexical_flags.proofs.RuleLemmas.{Holds-from_lawful, Lawful-from_all, 
 pub fill_once : (own radix : ℕ) → effective (effective own radix) radix ≡ effective own radix
 fill_once own radix = grind (arith, nat_tests)
 
-IsFree-fill : (r : Record) (byte : ℕ) → IsFree (fill r) byte ≡ IsFree r byte
+IsAbsentOrPunctuation-fill : (r : Record) (byte : ℕ)
+    → IsAbsentOrPunctuation (fill r) byte ≡ IsAbsentOrPunctuation r byte
 unfolding IsPunctuation
-IsFree-fill r byte =
+IsAbsentOrPunctuation-fill r byte =
     ap (λ radix. (byte ≡ 0) ⊎ (IsTrue (allowed_ascii byte)
     × (IsTrue (digits_of (r.byte layout.mantissa_radix) byte || digits_of radix byte) → ⊥) × (IsTrue (signs byte) → ⊥)))
     (fill_once (r.byte layout.exponent_radix) (r.byte layout.mantissa_radix))
@@ -33,9 +35,9 @@ Demands-fill : (rule : Rule) (r : Record) → Demands rule (fill r) ≡ Demands 
 Demands-fill rules.MantissaRadixInRange r = refl
 Demands-fill rules.ExponentBaseInRange r = ap IsRadix (fill_once (r.byte layout.exponent_base) (r.byte layout.mantissa_radix))
 Demands-fill rules.ExponentRadixInRange r = ap IsRadix (fill_once (r.byte layout.exponent_radix) (r.byte layout.mantissa_radix))
-Demands-fill rules.DigitSeparatorIsFree r = IsFree-fill r (r.byte layout.digit_separator)
-Demands-fill rules.BasePrefixIsFree r = IsFree-fill r (r.byte layout.base_prefix)
-Demands-fill rules.BaseSuffixIsFree r = IsFree-fill r (r.byte layout.base_suffix)
+Demands-fill rules.DigitSeparatorIsPunctuation r = IsAbsentOrPunctuation-fill r (r.byte layout.digit_separator)
+Demands-fill rules.BasePrefixIsPunctuation r = IsAbsentOrPunctuation-fill r (r.byte layout.base_prefix)
+Demands-fill rules.BaseSuffixIsPunctuation r = IsAbsentOrPunctuation-fill r (r.byte layout.base_suffix)
 Demands-fill _ r = refl
 
 Disjoint-nothing : (A : ByteSet) → Disjoint (cased true 0) A
@@ -46,16 +48,16 @@ Disjoint-nothing A = Disjoint-from _ _ (λ byte below is_zero in_a. absurd (fals
 Demands-bare : (rule : Rule) (r : Record) → Demands rule r → Demands rule (set_byte r layout.digit_separator 0)
 unfolding IsPunctuation
 Demands-bare rules.MantissaRadixInRange r h = h
-Demands-bare rules.DigitSeparatorIsFree r h = inl refl
+Demands-bare rules.DigitSeparatorIsPunctuation r h = inl refl
 Demands-bare rules.PunctuationDiffers r h = ((Disjoint-nothing (prefix r), (Disjoint-nothing (suffix r), tt)), h.1)
 Demands-bare _ r h = h
 
 Demands-trim : (rule : Rule) (r : Record) → Demands rule r → Demands rule (trim r)
 Demands-trim rule r h =
-    elim (cases_Bool (separator_on r)) [
+    elim (cases_Bool (separator_allowed r)) [
       | inl on ↦ subst (Demands rule) (sym (trim-same r (inl on))) h
       | inr off ↦ subst (λ n. Demands rule (set_byte r layout.digit_separator n))
-          (sym (cond-false (separator_on r) (r.byte layout.digit_separator) 0 off)) (Demands-bare rule r h)
+          (sym (cond-false (separator_allowed r) (r.byte layout.digit_separator) 0 off)) (Demands-bare rule r h)
     ]
 
 -- what fields meet they meet when filled and trimmed
@@ -63,7 +65,8 @@ pub Demands-kept : (rule : Rule) (r : Record) → Demands rule r → Demands rul
 Demands-kept rule r h = Demands-trim rule (fill r) (subst (λ X. X) (sym (Demands-fill rule r)) h)
 
 -- and if nothing is trimmed, nothing else
-pub Demands-same : (rule : Rule) (r : Record) → SeparatorIsUsed r → Demands rule r ↔ Demands rule (trim (fill r))
+pub Demands-same : (rule : Rule) (r : Record) → SeparatorAllowedOrAbsent r → Demands rule r
+    ↔ Demands rule (trim (fill r))
 Demands-same rule r used = (
   Demands-kept rule r,
   λ h. subst (λ X. X) (Demands-fill rule r) (subst (Demands rule) (trim-same (fill r) used) h),
@@ -82,12 +85,12 @@ module _ (word normal : ℕ) (clean : IsClean normal) (fields : raw normal ≡ t
   Lawful-kept h = Lawful-from_all normal (λ rule. Holds-kept rule (Holds-from_lawful rule word h))
 
   -- if nothing was dropped, it keeps no other
-  Holds-back : IsClean word → SeparatorIsUsed (raw word) → (rule : Rule) → Holds rule normal → Holds rule word
+  Holds-back : IsClean word → SeparatorAllowedOrAbsent (raw word) → (rule : Rule) → Holds rule normal → Holds rule word
   unfolding Holds
   Holds-back whole used rules.ReservedBitsAreZero h = whole
   Holds-back whole used rule h = (Demands-same rule (raw word) used).1 (subst (Demands rule) fields h)
 
   -- so it has the same error
-  pub IsErrorOf-kept : IsClean word → SeparatorIsUsed (raw word)
+  pub IsErrorOf-kept : IsClean word → SeparatorAllowedOrAbsent (raw word)
       → (error : Error) → IsErrorOf word error ↔ IsErrorOf normal error
   IsErrorOf-kept whole used = IsErrorOf-same word normal (λ rule. (Holds-kept rule, Holds-back whole used rule))

@@ -6,14 +6,14 @@ use Rattle.std.proofs.lemmas.Bool.Decides.{nat_tests}
 use Rattle.lexical_base.specs.Ascii.{ByteSet, allowed_ascii}
 use Rattle.lexical_flags.specs.Layout as layout
 use Rattle.lexical_flags.specs.Record.{Record, raw}
-use Rattle.lexical_flags.specs.Roles.{Disjoint, cased, digits, signs, exponent, point, own_roles, five_roles}
+use Rattle.lexical_flags.specs.Roles.{Disjoint, cased, digits, signs, exponent, point, format_roles, five_roles}
 use Rattle.lexical_flags.specs.Rules.{IsPunctuation, Lawful}
 use Rattle.lexical_base.specs.declared.error.Error.{Error}
 use Rattle.lexical_base.specs.declared.error.Error.TheVariants.{Success}
-use Rattle.lexical_flags.specs.Options.{AreAccepted, HaveOneRole, LeavesRoom, IsOptionsError}
+use Rattle.lexical_flags.specs.Options.{OptionsFit, OptionsHaveOneRole, SomeOptionsFit, IsOptionsError}
 use Rattle.lexical_flags.proofs.DisjointLemmas.{Disjoint-from, Disjoint-sym}
 use Rattle.lexical_flags.proofs.RoleLemmas.{Disjoint-digits-cased, Disjoint-signs-cased, not_in, no_digit}
-use Rattle.lexical_flags.proofs.RuleLemmas.{OrElse-unique}
+use Rattle.lexical_flags.proofs.RuleLemmas.{ErrorUnless-unique}
 
 -- 0 is no text
 text-positive : (byte : ℕ) → IsTrue (allowed_ascii byte) → byte ≢ 0
@@ -30,12 +30,12 @@ IsPunctuation-from_apart r counts b text (digits_apart, (signs_apart, own)) =
 
 -- and it is not one that the format names
 own_from_five : (r : Record) (A : ByteSet) → AllByRecursion (Disjoint A) (five_roles r)
-    → AllByRecursion (Disjoint A) (own_roles r)
+    → AllByRecursion (Disjoint A) (format_roles r)
 own_from_five r A (digits_apart, (signs_apart, own)) = own
 
 -- and the other way round
 five_from_own : (r : Record) (counts : Bool) (b : ℕ) → IsPunctuation r b
-    → AllByRecursion (Disjoint (cased counts b)) (own_roles r) → AllByRecursion (Disjoint (cased counts b)) (five_roles r)
+    → AllByRecursion (Disjoint (cased counts b)) (format_roles r) → AllByRecursion (Disjoint (cased counts b)) (five_roles r)
 unfolding IsPunctuation
 five_from_own r counts b free own = (
   Disjoint-sym _ _ (Disjoint-digits-cased r counts b (λ _. free.1)),
@@ -43,7 +43,7 @@ five_from_own r counts b free own = (
 )
 
 -- bytes that keep each to one role are accepted
-accepted_from_roles : (word e p : ℕ) → HaveOneRole word e p → AreAccepted word e p
+accepted_from_roles : (word e p : ℕ) → OptionsHaveOneRole word e p → OptionsFit word e p
 accepted_from_roles word e p h =
     let r : Record = raw word in
     let pairs = h.roles in
@@ -58,7 +58,7 @@ accepted_from_roles word e p h =
     }
 
 -- and in a lawful word those that are accepted keep each to one role
-roles_from_accepted : (word e p : ℕ) → Lawful word → AreAccepted word e p → HaveOneRole word e p
+roles_from_accepted : (word e p : ℕ) → Lawful word → OptionsFit word e p → OptionsHaveOneRole word e p
 unfolding IsPunctuation Lawful
 roles_from_accepted word e p lawful h =
     let r : Record = raw word in
@@ -71,7 +71,7 @@ roles_from_accepted word e p lawful h =
       );
     }
 
-pub accepted_roles : (word e p : ℕ) → Lawful word → AreAccepted word e p ↔ HaveOneRole word e p
+pub accepted_roles : (word e p : ℕ) → Lawful word → OptionsFit word e p ↔ OptionsHaveOneRole word e p
 accepted_roles word e p lawful = (roles_from_accepted word e p lawful, accepted_from_roles word e p)
 
 -- the first of four bytes in a row that is none of three
@@ -112,7 +112,7 @@ Disjoint-mark a a_counts b b_counts low high differ = Disjoint-from _ _ (λ byte
 -- such a byte that differs from the three of a format has none of their roles
 is_new : (r : Record) (byte : ℕ) (counts : Bool) → 33 ≤ byte → byte ≤ 40
     → byte ≢ r.byte layout.digit_separator → byte ≢ r.byte layout.base_prefix → byte ≢ r.byte layout.base_suffix
-    → AllByRecursion (Disjoint (cased counts byte)) (own_roles r)
+    → AllByRecursion (Disjoint (cased counts byte)) (format_roles r)
 is_new r byte counts low high separator prefix suffix = (
   Disjoint-mark byte counts _ true low high separator,
   (
@@ -122,14 +122,14 @@ is_new r byte counts low high separator prefix suffix = (
 )
 
 -- of each four such bytes one is left
-pub room_from_lawful : (word : ℕ) → Lawful word → LeavesRoom word
+pub room_from_lawful : (word : ℕ) → Lawful word → SomeOptionsFit word
 room_from_lawful word lawful =
     let r : Record = raw word in
     let e : ℕ = free_from 33 (r.byte layout.digit_separator) (r.byte layout.base_prefix) (r.byte layout.base_suffix) in
     let p : ℕ = free_from 37 (r.byte layout.digit_separator) (r.byte layout.base_prefix) (r.byte layout.base_suffix) in
     let e_free = free_from-is 33 (r.byte layout.digit_separator) (r.byte layout.base_prefix) (r.byte layout.base_suffix) in
     let p_free = free_from-is 37 (r.byte layout.digit_separator) (r.byte layout.base_prefix) (r.byte layout.base_suffix) in
-    let accepted : AreAccepted word e p = record {
+    let accepted : OptionsFit word e p = record {
       exponent_is_punctuation = IsPunctuation-mark r e e_free.0 (omega arith);
       point_is_punctuation = IsPunctuation-mark r p (omega arith) p_free.1;
       apart = Disjoint-mark e (r.flag layout.case_sensitive_exponent) p true e_free.0 (omega arith) (omega arith);
@@ -140,11 +140,11 @@ room_from_lawful word lawful =
 
 -- an exponent character and a decimal point have one error
 pub one_options_error : (word e p : ℕ) (a b : Error) → IsOptionsError word e p a → IsOptionsError word e p b → a ≡ b
-one_options_error word e p = OrElse-unique (OrElse-unique (OrElse-unique (λ a b h k. h ∙ sym k)))
+one_options_error word e p = ErrorUnless-unique (ErrorUnless-unique (ErrorUnless-unique (λ a b h k. h ∙ sym k)))
 
 -- it is Success exactly if they are accepted
 pub options_success : (word e p : ℕ) (error : Error) → IsOptionsError word e p error
-    → (error ≡ Success) ↔ AreAccepted word e p
+    → (error ≡ Success) ↔ OptionsFit word e p
 options_success word e p error (inl h) = (λ same. cc, λ accepted. absurd (h.0 accepted.exponent_is_punctuation))
 options_success word e p error (inr (_, inl h)) = (λ same. cc, λ accepted. absurd (h.0 accepted.point_is_punctuation))
 options_success word e p error (inr (_, inr (_, inl h))) = (λ same. cc, λ accepted. absurd (h.0 accepted))

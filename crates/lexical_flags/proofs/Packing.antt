@@ -10,7 +10,7 @@ use Rattle.lexical_flags.specs.Layout.{part, Flag, Byte, bit, flags, bytes, base
 use Rattle.lexical_flags.specs.Layout.{IsClean}
 use Rattle.lexical_flags.specs.Layout as layout
 use Rattle.lexical_flags.specs.Record.{Record, raw, fill, trim, pack, word_of, byte_bits}
-use Rattle.lexical_flags.specs.Record.{effective, separator_on, HasBytes, IsBuilt}
+use Rattle.lexical_flags.specs.Record.{effective, separator_allowed, HasBytes, IsBuilt}
 use Rattle.lexical_flags.proofs.RecordLemmas.{record_same}
 use Rattle.lexical_flags.proofs.Segments.{joined, segments, segments-joined, joined-segments, joined-below, Fit}
 
@@ -162,7 +162,7 @@ HasBytes-fill r h = record { each = fits } where
 pub HasBytes-trim : (r : Record) → HasBytes r → HasBytes (trim r)
 HasBytes-trim r h = record { each = fits } where
   fits : (b : Byte) → (trim r).byte b < 256
-  fits layout.digit_separator = cond_both (separator_on r) (r.byte layout.digit_separator) 0 (λ n. n < 256)
+  fits layout.digit_separator = cond_both (separator_allowed r) (r.byte layout.digit_separator) 0 (λ n. n < 256)
       (λ _. h.each layout.digit_separator) (λ _. omega arith)
   fits layout.base_prefix = h.each layout.base_prefix
   fits b = h.each b
@@ -185,10 +185,10 @@ kept_same false n (inl on) = cc
 kept_same false n (inr absent) = sym absent
 
 -- if the separator is allowed, or absent, nothing is trimmed
-pub trim-same : (r : Record) → IsTrue (separator_on r) ⊎ (r.byte layout.digit_separator ≡ 0) → trim r ≡ r
+pub trim-same : (r : Record) → IsTrue (separator_allowed r) ⊎ (r.byte layout.digit_separator ≡ 0) → trim r ≡ r
 trim-same r h = record_same _ _ (λ f. refl) on_byte where
   on_byte : (b : Byte) → (trim r).byte b ≡ r.byte b
-  on_byte layout.digit_separator = kept_same (separator_on r) (r.byte layout.digit_separator) h
+  on_byte layout.digit_separator = kept_same (separator_allowed r) (r.byte layout.digit_separator) h
   on_byte _ = refl
 
 trimmed_unused : (b : Bool) (n : ℕ) → n ≡ (if b then n else 0) → IsTrue b ⊎ (n ≡ 0)
@@ -202,7 +202,7 @@ pack-raw w l = (
       let trimmed : raw w ≡ trim (raw w) = ap raw (sym e) ∙ raw-pack (raw w) (HasBytes-raw w) in
       record {
         clean = subst IsClean e (pack-clean (raw w) (HasBytes-raw w));
-        separator_used = trimmed_unused (separator_on (raw w)) ((raw w).byte layout.digit_separator)
+        separator_used = trimmed_unused (separator_allowed (raw w)) ((raw w).byte layout.digit_separator)
             (ap (λ (r : Record). r.byte layout.digit_separator) trimmed);
       },
   λ built. ap word_of (trim-same (raw w) built.separator_used) ∙ word_of-raw w l built.clean,

@@ -2,7 +2,7 @@
 use Rattle.std.proofs.Common.{ℕ, ◌≡◌, ◌≢◌, ◌<◌, inl, inr, min, nat_lt, ◌||◌, Bool, IsTrue, subst, ◌∙◌, arith}
 use Rattle.std.proofs.lemmas.Bool.Decides.{nat_tests}
 use Rattle.lexical_base.specs.Ascii.{ByteSet}
-use Rattle.lexical_base.specs.Digits.{value}
+use Rattle.lexical_base.specs.Digits.{byte_value}
 use Rattle.lexical_base.proofs.ValueLemmas.{value_is}
 use Rattle.lexical_flags.specs.Layout as layout
 use Rattle.lexical_flags.specs.Record.{Record, effective_exponent_radix}
@@ -36,7 +36,7 @@ pub Disjoint-signs-cased : (counts : Bool) (own : ℕ) → (own ≢ 0 → IsTrue
 Disjoint-signs-cased = Disjoint-cased signs signs-other_case
 
 -- a byte below the character 0 has the value of no digit
-no_value : (byte : ℕ) → byte < 48 → value byte ≡ 255
+no_value : (byte : ℕ) → byte < 48 → byte_value byte ≡ 255
 no_value byte before = value_is byte (omega arith) ∙ grind (arith, nat_tests)
 
 below_neither : (v m e : ℕ) → v ≡ 255 → IsTrue (nat_lt v (min m 36) || nat_lt v (min e 36)) → ⊥
@@ -44,7 +44,7 @@ below_neither v m e none inside = grind (arith, nat_tests)
 
 -- so it is no digit
 pub no_digit : (r : Record) (byte : ℕ) → byte < 48 → IsTrue (digits r byte) → ⊥
-no_digit r byte before = below_neither (value byte) (r.byte layout.mantissa_radix) (effective_exponent_radix r) (no_value byte before)
+no_digit r byte before = below_neither (byte_value byte) (r.byte layout.mantissa_radix) (effective_exponent_radix r) (no_value byte before)
 
 -- and no sign is one
 pub Disjoint-digits-signs : (r : Record) → Disjoint (digits r) signs

@@ -8,7 +8,7 @@ use Rattle.lexical_flags.specs.Layout as layout
 use Rattle.lexical_flags.specs.Layout.{Flag, Byte, part, bit, shift, IsClean}
 use Rattle.lexical_flags.specs.Record.{raw, effective}
 use Rattle.lexical_flags.specs.Roles.{AreDisjoint, cased, signs}
-use Rattle.lexical_flags.specs.Rules.{IsRadix, IsPunctuation, Demands, Holds, has_no_place}
+use Rattle.lexical_flags.specs.Rules.{IsRadix, IsPunctuation, Demands, Holds, lacks_position}
 use Rattle.lexical_flags.specs.Additions.BrokenRules.{mask_read}
 use Rattle.lexical_flags.specs.declared.format_flags.all_rules.Rule.{Rule}
 use Rattle.lexical_flags.specs.declared.format_flags.all_rules.Rule.TheVariants as rules
@@ -37,10 +37,10 @@ module _ (v w mask : ℕ) (same : bit_and v mask ≡ bit_and w mask) where
       ∙ masked_part w (shift b) 8
 
 -- a byte that is free
-IsFree-same : (v w : ℕ) (b c : ℕ) → b ≡ c → part v 104 8 ≡ part w 104 8 → part v 120 8 ≡ part w 120 8
+IsAbsentOrPunctuation-same : (v w : ℕ) (b c : ℕ) → b ≡ c → part v 104 8 ≡ part w 104 8 → part v 120 8 ≡ part w 120 8
     → ((b ≡ 0) ⊎ IsPunctuation (raw v) b) ≡ ((c ≡ 0) ⊎ IsPunctuation (raw w) c)
 unfolding IsPunctuation
-IsFree-same v w b c is m e i =
+IsAbsentOrPunctuation-same v w b c is m e i =
     (is i ≡ 0) ⊎ (IsTrue (allowed_ascii (is i))
     × (IsTrue (digits_of (m i) (is i) || digits_of (effective (e i) (m i)) (is i)) → ⊥) × (IsTrue (signs (is i)) → ⊥))
 
@@ -52,14 +52,17 @@ Demands-same rules.ExponentBaseInRange v w same = λ i.
     IsRadix (effective (byte v w _ same layout.exponent_base refl i) (byte v w _ same layout.mantissa_radix refl i))
 Demands-same rules.ExponentRadixInRange v w same = λ i.
     IsRadix (effective (byte v w _ same layout.exponent_radix refl i) (byte v w _ same layout.mantissa_radix refl i))
-Demands-same rules.DigitSeparatorIsFree v w same =
-    IsFree-same v w _ _ (byte v w _ same layout.digit_separator refl) (byte v w _ same layout.mantissa_radix refl)
+Demands-same rules.DigitSeparatorIsPunctuation v w same =
+    IsAbsentOrPunctuation-same v w _ _ (byte v w _ same layout.digit_separator refl)
+    (byte v w _ same layout.mantissa_radix refl)
     (byte v w _ same layout.exponent_radix refl)
-Demands-same rules.BasePrefixIsFree v w same =
-    IsFree-same v w _ _ (byte v w _ same layout.base_prefix refl) (byte v w _ same layout.mantissa_radix refl)
+Demands-same rules.BasePrefixIsPunctuation v w same =
+    IsAbsentOrPunctuation-same v w _ _ (byte v w _ same layout.base_prefix refl)
+    (byte v w _ same layout.mantissa_radix refl)
     (byte v w _ same layout.exponent_radix refl)
-Demands-same rules.BaseSuffixIsFree v w same =
-    IsFree-same v w _ _ (byte v w _ same layout.base_suffix refl) (byte v w _ same layout.mantissa_radix refl)
+Demands-same rules.BaseSuffixIsPunctuation v w same =
+    IsAbsentOrPunctuation-same v w _ _ (byte v w _ same layout.base_suffix refl)
+    (byte v w _ same layout.mantissa_radix refl)
     (byte v w _ same layout.exponent_radix refl)
 Demands-same rules.PunctuationDiffers v w same = λ i.
     AreDisjoint (cased true (byte v w _ same layout.digit_separator refl i)
@@ -77,17 +80,17 @@ Demands-same rules.SpecialCaseFlagsAgree v w same = λ i.
 Demands-same rules.SpecialSeparatorFlagsAgree v w same = λ i.
     IsFalse (flag v w _ same layout.no_special refl i && flag v w _ same layout.special_digit_separator refl i)
 Demands-same rules.IntegerConsecutiveIsAllowed v w same = λ i.
-    IsFalse (has_no_place (flag v w _ same layout.integer_consecutive_digit_separator refl i)
+    IsFalse (lacks_position (flag v w _ same layout.integer_consecutive_digit_separator refl i)
     (flag v w _ same layout.integer_internal_digit_separator refl i)
     (flag v w _ same layout.integer_leading_digit_separator refl i)
     (flag v w _ same layout.integer_trailing_digit_separator refl i))
 Demands-same rules.FractionConsecutiveIsAllowed v w same = λ i.
-    IsFalse (has_no_place (flag v w _ same layout.fraction_consecutive_digit_separator refl i)
+    IsFalse (lacks_position (flag v w _ same layout.fraction_consecutive_digit_separator refl i)
     (flag v w _ same layout.fraction_internal_digit_separator refl i)
     (flag v w _ same layout.fraction_leading_digit_separator refl i)
     (flag v w _ same layout.fraction_trailing_digit_separator refl i))
 Demands-same rules.ExponentConsecutiveIsAllowed v w same = λ i.
-    IsFalse (has_no_place (flag v w _ same layout.exponent_consecutive_digit_separator refl i)
+    IsFalse (lacks_position (flag v w _ same layout.exponent_consecutive_digit_separator refl i)
     (flag v w _ same layout.exponent_internal_digit_separator refl i)
     (flag v w _ same layout.exponent_leading_digit_separator refl i)
     (flag v w _ same layout.exponent_trailing_digit_separator refl i))

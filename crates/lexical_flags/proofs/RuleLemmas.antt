@@ -10,35 +10,37 @@ use Rattle.lexical_base.specs.declared.error.Error.TheVariants.{InvalidFlags, Su
 use Rattle.lexical_flags.specs.Layout as layout
 use Rattle.lexical_flags.specs.Layout.{IsClean}
 use Rattle.lexical_flags.specs.Record.{Record, raw, effective}
-use Rattle.lexical_flags.specs.Roles.{Disjoint, AreDisjoint, cased, digits, signs, own_roles, five_roles}
+use Rattle.lexical_flags.specs.Roles.{Disjoint, AreDisjoint, cased, digits, signs, format_roles, five_roles}
 use Rattle.lexical_flags.specs.declared.format_flags.all_rules.Rule.{Rule}
 use Rattle.lexical_flags.specs.declared.format_flags.all_rules.Rule.TheVariants as rules
-use Rattle.lexical_flags.specs.Rules.{IsRadix, IsFree, IsTextOrNone, IsPunctuation, Holds, IsFirstError}
+use Rattle.lexical_flags.specs.Rules.{IsRadix, IsAbsentOrPunctuation, IsTextOrNone, IsPunctuation, Holds, IsFirstError}
 use Rattle.lexical_flags.specs.Rules.{IsErrorOf, Lawful, error_of, flag_rules, rules_in_order}
-use Rattle.lexical_flags.specs.Rules.{OrElse}
-use Rattle.lexical_flags.specs.Additions.BrokenRules.{IsIfBroken, first_error}
+use Rattle.lexical_flags.specs.Rules.{ErrorUnless}
+use Rattle.lexical_flags.specs.Additions.BrokenRules.{ReportsRule, first_error}
 use Rattle.lexical_flags.proofs.RoleLemmas.{Disjoint-digits-cased, Disjoint-signs-cased, Disjoint-digits-signs, not_in}
 
 -- what a free byte is
-IsFree-digit : (r : Record) (byte : ℕ) → IsFree r byte → byte ≢ 0 → IsTrue (digits r byte) → ⊥
+IsAbsentOrPunctuation-digit : (r : Record) (byte : ℕ) → IsAbsentOrPunctuation r byte → byte ≢ 0 → IsTrue (digits r byte)
+    → ⊥
 unfolding IsPunctuation
-IsFree-digit r byte (inl none) positive is_digit = positive none
-IsFree-digit r byte (inr free) positive is_digit = free.1 is_digit
+IsAbsentOrPunctuation-digit r byte (inl none) positive is_digit = positive none
+IsAbsentOrPunctuation-digit r byte (inr free) positive is_digit = free.1 is_digit
 
-IsFree-sign : (r : Record) (byte : ℕ) → IsFree r byte → byte ≢ 0 → IsTrue (signs byte) → ⊥
+IsAbsentOrPunctuation-sign : (r : Record) (byte : ℕ) → IsAbsentOrPunctuation r byte → byte ≢ 0 → IsTrue (signs byte) → ⊥
 unfolding IsPunctuation
-IsFree-sign r byte (inl none) positive is_sign = positive none
-IsFree-sign r byte (inr free) positive is_sign = free.2 is_sign
+IsAbsentOrPunctuation-sign r byte (inl none) positive is_sign = positive none
+IsAbsentOrPunctuation-sign r byte (inr free) positive is_sign = free.2 is_sign
 
-IsFree-text : (r : Record) (byte : ℕ) → IsFree r byte → IsTextOrNone byte
+IsAbsentOrPunctuation-text : (r : Record) (byte : ℕ) → IsAbsentOrPunctuation r byte → IsTextOrNone byte
 unfolding IsPunctuation
-IsFree-text r byte (inl none) = inl none
-IsFree-text r byte (inr free) = inr free.0
+IsAbsentOrPunctuation-text r byte (inl none) = inl none
+IsAbsentOrPunctuation-text r byte (inr free) = inr free.0
 
-IsFree-from : (r : Record) (counts : Bool) (byte : ℕ) → IsTextOrNone byte → Disjoint (digits r) (cased counts byte)
-    → Disjoint signs (cased counts byte) → IsFree r byte
+IsAbsentOrPunctuation-from : (r : Record) (counts : Bool) (byte : ℕ) → IsTextOrNone byte
+    → Disjoint (digits r) (cased counts byte)
+    → Disjoint signs (cased counts byte) → IsAbsentOrPunctuation r byte
 unfolding IsPunctuation
-IsFree-from r counts byte text digits_apart signs_apart =
+IsAbsentOrPunctuation-from r counts byte text digits_apart signs_apart =
     elim (cases_eq byte 0) [
       | inl none ↦ inl none
       | inr positive ↦ elim text [
@@ -57,15 +59,15 @@ unfolding Holds Lawful
 Holds-from_lawful rules.MantissaRadixInRange word h = h.mantissa_radix
 Holds-from_lawful rules.ExponentBaseInRange word h = h.exponent_base
 Holds-from_lawful rules.ExponentRadixInRange word h = h.exponent_radix
-Holds-from_lawful rules.DigitSeparatorIsFree word h =
+Holds-from_lawful rules.DigitSeparatorIsPunctuation word h =
     let pairs = h.roles in
-    IsFree-from (raw word) true _ h.digit_separator (assumption pairs) (assumption pairs)
-Holds-from_lawful rules.BasePrefixIsFree word h =
+    IsAbsentOrPunctuation-from (raw word) true _ h.digit_separator (assumption pairs) (assumption pairs)
+Holds-from_lawful rules.BasePrefixIsPunctuation word h =
     let pairs = h.roles in
-    IsFree-from (raw word) ((raw word).flag layout.case_sensitive_base_prefix) _ h.base_prefix (assumption pairs) (assumption pairs)
-Holds-from_lawful rules.BaseSuffixIsFree word h =
+    IsAbsentOrPunctuation-from (raw word) ((raw word).flag layout.case_sensitive_base_prefix) _ h.base_prefix (assumption pairs) (assumption pairs)
+Holds-from_lawful rules.BaseSuffixIsPunctuation word h =
     let pairs = h.roles in
-    IsFree-from (raw word) ((raw word).flag layout.case_sensitive_base_suffix) _ h.base_suffix (assumption pairs) (assumption pairs)
+    IsAbsentOrPunctuation-from (raw word) ((raw word).flag layout.case_sensitive_base_suffix) _ h.base_suffix (assumption pairs) (assumption pairs)
 Holds-from_lawful rules.PunctuationDiffers word h = let pairs = h.roles in let others = pairs.1 in others.1
 Holds-from_lawful rules.ReservedBitsAreZero word h = h.clean
 Holds-from_lawful _ word h = let flags = h.flags in assumption flags
@@ -87,15 +89,16 @@ unfolding Lawful
 Lawful-exponent_radix word h some = own_radix _ ((raw word).byte layout.mantissa_radix) some h.exponent_radix
 
 -- the five roles, if the bytes are free and differ
-five_apart : (r : Record) → IsFree r (r.byte layout.digit_separator) → IsFree r (r.byte layout.base_prefix) → IsFree r (r.byte layout.base_suffix)
-    → AreDisjoint (own_roles r) → AreDisjoint (five_roles r)
+five_apart : (r : Record) → IsAbsentOrPunctuation r (r.byte layout.digit_separator)
+    → IsAbsentOrPunctuation r (r.byte layout.base_prefix) → IsAbsentOrPunctuation r (r.byte layout.base_suffix)
+    → AreDisjoint (format_roles r) → AreDisjoint (five_roles r)
 five_apart r separator prefix suffix own =
-    let digits_apart : (counts : Bool) (byte : ℕ) → IsFree r byte
+    let digits_apart : (counts : Bool) (byte : ℕ) → IsAbsentOrPunctuation r byte
     → Disjoint (digits r) (cased counts byte) = λ counts byte free. Disjoint-digits-cased r counts byte
-    (IsFree-digit r byte free) in
-    let signs_apart : (counts : Bool) (byte : ℕ) → IsFree r byte
+    (IsAbsentOrPunctuation-digit r byte free) in
+    let signs_apart : (counts : Bool) (byte : ℕ) → IsAbsentOrPunctuation r byte
     → Disjoint signs (cased counts byte) = λ counts byte free. Disjoint-signs-cased counts byte
-    (IsFree-sign r byte free) in (
+    (IsAbsentOrPunctuation-sign r byte free) in (
       (
         Disjoint-digits-signs r,
         (
@@ -111,17 +114,17 @@ pub Lawful-from_all : (word : ℕ) → ((rule : Rule) → Holds rule word) → L
 unfolding Holds Lawful
 Lawful-from_all word h =
     let r : Record = raw word in
-    let separator : IsFree r (r.byte layout.digit_separator) = h rules.DigitSeparatorIsFree in
-    let prefix : IsFree r (r.byte layout.base_prefix) = h rules.BasePrefixIsFree in
-    let suffix : IsFree r (r.byte layout.base_suffix) = h rules.BaseSuffixIsFree in
+    let separator : IsAbsentOrPunctuation r (r.byte layout.digit_separator) = h rules.DigitSeparatorIsPunctuation in
+    let prefix : IsAbsentOrPunctuation r (r.byte layout.base_prefix) = h rules.BasePrefixIsPunctuation in
+    let suffix : IsAbsentOrPunctuation r (r.byte layout.base_suffix) = h rules.BaseSuffixIsPunctuation in
     record {
       mantissa_radix = h rules.MantissaRadixInRange;
       exponent_base = h rules.ExponentBaseInRange;
       exponent_radix = h rules.ExponentRadixInRange;
       flags = recursion_from_All (λ rule. Holds rule word) flag_rules (λ i d inside. h _);
-      digit_separator = IsFree-text r _ separator;
-      base_prefix = IsFree-text r _ prefix;
-      base_suffix = IsFree-text r _ suffix;
+      digit_separator = IsAbsentOrPunctuation-text r _ separator;
+      base_prefix = IsAbsentOrPunctuation-text r _ prefix;
+      base_suffix = IsAbsentOrPunctuation-text r _ suffix;
       roles = five_apart r separator prefix suffix (h rules.PunctuationDiffers);
       clean = h rules.ReservedBitsAreZero;
     }
@@ -146,17 +149,18 @@ success_from_all word error all (rule ∷ rules) (inl broken) = absurd (broken.0
 success_from_all word error all (rule ∷ rules) (inr kept) = success_from_all word error all rules kept.1
 
 -- there is one error
-pub OrElse-unique : {demand : Type 0} {own : Error} {next : Error → Type 0} → ((a b : Error) → next a → next b → a ≡ b)
-    → (a b : Error) → OrElse demand own next a → OrElse demand own next b → a ≡ b
-OrElse-unique one a b (inl h) (inl k) = h.1 ∙ sym k.1
-OrElse-unique one a b (inl h) (inr k) = absurd (h.0 k.0)
-OrElse-unique one a b (inr h) (inl k) = absurd (k.0 h.0)
-OrElse-unique one a b (inr h) (inr k) = one a b h.1 k.1
+pub ErrorUnless-unique : {demand : Type 0} {own : Error} {next : Error → Type 0}
+    → ((a b : Error) → next a → next b → a ≡ b)
+    → (a b : Error) → ErrorUnless demand own next a → ErrorUnless demand own next b → a ≡ b
+ErrorUnless-unique one a b (inl h) (inl k) = h.1 ∙ sym k.1
+ErrorUnless-unique one a b (inl h) (inr k) = absurd (h.0 k.0)
+ErrorUnless-unique one a b (inr h) (inl k) = absurd (k.0 h.0)
+ErrorUnless-unique one a b (inr h) (inr k) = one a b h.1 k.1
 
 pub IsFirstError-unique : (word : ℕ) (rules : List Rule) (a b : Error) → IsFirstError rules word a
     → IsFirstError rules word b → a ≡ b
 IsFirstError-unique word [] a b h k = h ∙ sym k
-IsFirstError-unique word (rule ∷ rules) a b h k = OrElse-unique (IsFirstError-unique word rules) a b h k
+IsFirstError-unique word (rule ∷ rules) a b h k = ErrorUnless-unique (IsFirstError-unique word rules) a b h k
 
 pub IsErrorOf-unique : (word : ℕ) (a b : Error) → IsErrorOf word a → IsErrorOf word b → a ≡ b
 unfolding IsErrorOf
@@ -223,7 +227,7 @@ Success-lawful word error h = (
 )
 
 -- the error of the first rule that is broken, if each is in a list or not
-first_of_list : (word : ℕ) (rules : List Rule) (broken : List (Option Rule)) → AllZip (IsIfBroken word) rules broken
+first_of_list : (word : ℕ) (rules : List Rule) (broken : List (Option Rule)) → AllZip (ReportsRule word) rules broken
     → IsFirstError rules word (first_error broken)
 first_of_list word [] [] h = refl
 first_of_list word [] (one ∷ more) h = absurd h
@@ -232,7 +236,7 @@ first_of_list word (rule ∷ rules) (one ∷ more) (inl breaks, others) = inl (b
 first_of_list word (rule ∷ rules) (one ∷ more) (inr keeps, others) =
     inr (keeps.0, subst (λ b. IsFirstError rules word (first_error (b ∷ more))) (sym keeps.1) (first_of_list word rules more others))
 
-pub first_of_broken : (word : ℕ) (broken : List (Option Rule)) → AllZip (IsIfBroken word) rules_in_order broken
+pub first_of_broken : (word : ℕ) (broken : List (Option Rule)) → AllZip (ReportsRule word) rules_in_order broken
     → IsErrorOf word (first_error broken)
 unfolding IsErrorOf
 first_of_broken word broken = first_of_list word rules_in_order broken

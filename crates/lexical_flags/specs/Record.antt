@@ -19,7 +19,7 @@ raw word = record { flag = λ f. part word (bit f) 1 == 1; byte = λ b. part wor
 
 -- `effective own mantissa_radix` is the exponent byte `own`, or the mantissa radix if `own` is 0.
 abbrev pub effective : ℕ → ℕ → ℕ
-effective own mantissa_radix = if own == 0 then mantissa_radix else own
+effective byte mantissa_radix = if byte == 0 then mantissa_radix else byte
 
 -- The effective exponent base.
 abbrev pub effective_exponent_base : Record → ℕ
@@ -34,17 +34,17 @@ abbrev pub fill : Record → Record
 fill r =
     set_byte (set_byte r layout.exponent_base (effective_exponent_base r)) layout.exponent_radix (effective_exponent_radix r)
 
--- `separator_on r` is true if some flag of `r` allows a digit separator.
-abbrev pub separator_on : Record → Bool
-separator_on r = list_any r.flag digit_separator_flags
+-- `separator_allowed r` is true if some flag of `r` allows a digit separator.
+abbrev pub separator_allowed : Record → Bool
+separator_allowed r = list_any r.flag digit_separator_flags
 
--- `SeparatorIsUsed r` holds if some flag of `r` allows a digit separator, or `r` has none.
-abbrev pub SeparatorIsUsed : Record → Type 0
-SeparatorIsUsed r = IsTrue (separator_on r) ⊎ (r.byte layout.digit_separator ≡ 0)
+-- `SeparatorAllowedOrAbsent r` holds if some flag of `r` allows a digit separator, or `r` has none.
+abbrev pub SeparatorAllowedOrAbsent : Record → Type 0
+SeparatorAllowedOrAbsent r = IsTrue (separator_allowed r) ⊎ (r.byte layout.digit_separator ≡ 0)
 
 -- `trim r` is `r` with its digit separator set to 0 if no flag of `r` allows one.
 abbrev pub trim : Record → Record
-trim r = set_byte r layout.digit_separator (if separator_on r then r.byte layout.digit_separator else 0)
+trim r = set_byte r layout.digit_separator (if separator_allowed r then r.byte layout.digit_separator else 0)
 
 -- What a flag adds to a word.
 abbrev pub flag_bits : Record → Flag → ℕ
@@ -65,7 +65,7 @@ pack r = word_of (trim r)
 -- `IsBuilt word` holds if the reserved bits of `word` are 0, and it has no digit separator unless a flag allows one.
 pub record IsBuilt (word : ℕ) : Type 0 where
   pub clean : IsClean word
-  pub separator_used : SeparatorIsUsed (raw word)
+  pub separator_used : SeparatorAllowedOrAbsent (raw word)
 
 -- `HasBytes r` holds if each byte of `r` is between 0 and 255.
 pub record HasBytes (r : Record) : Type 0 where

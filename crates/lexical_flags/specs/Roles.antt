@@ -23,10 +23,10 @@ AreDisjoint sets = ArePairwise Disjoint sets
 abbrev pub other_case : ℕ → ℕ
 other_case byte = if between 65 90 byte then byte + 32 else if between 97 122 byte then byte - 32 else byte
 
--- `cased case_counts own` is the set with `own` and, unless its case counts, the other case of `own`. It is empty if `own`
--- is 0, which means absent.
+-- `cased case_sensitive byte` is the set with `byte` and, unless it is case-sensitive, the other case of `byte`. It is empty
+-- if `byte` is 0, which means absent.
 unfoldable pub cased : Bool → ℕ → ByteSet
-cased case_counts own byte = not (own == 0) && ((byte == own) || (not case_counts && (byte == other_case own)))
+cased case_sensitive byte c = not (byte == 0) && ((c == byte) || (not case_sensitive && (c == other_case byte)))
 
 -- The digits of the mantissa and of the exponent.
 abbrev pub digits : Record → ByteSet
@@ -57,12 +57,12 @@ abbrev pub point : ℕ → ByteSet
 point chosen = cased true chosen
 
 -- The roles of the bytes that a format names.
-abbrev pub own_roles : Record → List ByteSet
-own_roles r = separator r ∷ prefix r ∷ suffix r ∷ []
+abbrev pub format_roles : Record → List ByteSet
+format_roles r = separator r ∷ prefix r ∷ suffix r ∷ []
 
 -- The five roles of a format.
 abbrev pub five_roles : Record → List ByteSet
-five_roles r = digits r ∷ signs ∷ own_roles r
+five_roles r = digits r ∷ signs ∷ format_roles r
 
 -- The five roles of a format, the exponent character and the decimal point.
 abbrev pub seven_roles : Record → ℕ → ℕ → List ByteSet

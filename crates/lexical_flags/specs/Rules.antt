@@ -4,12 +4,21 @@ use Rattle.std.specs.List.{AllByRecursion}
 use Rattle.lexical_base.specs.Ascii.{allowed_ascii}
 use Rattle.lexical_base.specs.declared.error.Error.{Error}
 use Rattle.lexical_base.specs.declared.error.Error.TheVariants as errors
+use Rattle.lexical_flags.specs.Layout.{no_exponent_notation, required_exponent_notation, no_positive_mantissa_sign}
+use Rattle.lexical_flags.specs.Layout.{required_mantissa_sign, no_positive_exponent_sign, required_exponent_sign}
+use Rattle.lexical_flags.specs.Layout.{no_special, case_sensitive_special, special_digit_separator}
+use Rattle.lexical_flags.specs.Layout.{integer_consecutive_digit_separator, integer_internal_digit_separator}
+use Rattle.lexical_flags.specs.Layout.{integer_leading_digit_separator, integer_trailing_digit_separator}
+use Rattle.lexical_flags.specs.Layout.{fraction_consecutive_digit_separator, fraction_internal_digit_separator}
+use Rattle.lexical_flags.specs.Layout.{fraction_leading_digit_separator, fraction_trailing_digit_separator}
+use Rattle.lexical_flags.specs.Layout.{exponent_consecutive_digit_separator, exponent_internal_digit_separator}
+use Rattle.lexical_flags.specs.Layout.{exponent_leading_digit_separator, exponent_trailing_digit_separator}
 use Rattle.lexical_flags.specs.Layout as layout
 use Rattle.lexical_flags.specs.declared.format_flags.all_rules.Rule.{Rule}
 use Rattle.lexical_flags.specs.declared.format_flags.all_rules.Rule.TheVariants as rules
 use Rattle.lexical_flags.specs.Layout.{IsClean}
 use Rattle.lexical_flags.specs.Record.{Record, raw, effective_exponent_base, effective_exponent_radix}
-use Rattle.lexical_flags.specs.Roles.{AreDisjoint, digits, signs, own_roles, five_roles}
+use Rattle.lexical_flags.specs.Roles.{AreDisjoint, digits, signs, format_roles, five_roles}
 
 -- `IsRadix radix` holds if numbers can be written in `radix`.
 abbrev pub IsRadix : ℕ → Type 0
@@ -19,34 +28,34 @@ IsRadix radix = (2 ≤ radix) × (radix ≤ 36)
 unfoldable pub IsPunctuation : Record → ℕ → Type 0
 IsPunctuation r byte = IsTrue (allowed_ascii byte) × (IsTrue (digits r byte) → ⊥) × (IsTrue (signs byte) → ⊥)
 
--- `IsFree r byte` holds if `byte` is absent or punctuation.
-abbrev pub IsFree : Record → ℕ → Type 0
-IsFree r byte = (byte ≡ 0) ⊎ IsPunctuation r byte
+-- `IsAbsentOrPunctuation r byte` holds if `byte` is absent or punctuation.
+abbrev pub IsAbsentOrPunctuation : Record → ℕ → Type 0
+IsAbsentOrPunctuation r byte = (byte ≡ 0) ⊎ IsPunctuation r byte
 
 -- `IsTextOrNone byte` holds if `byte` is absent or allowed ASCII.
 abbrev pub IsTextOrNone : ℕ → Type 0
 IsTextOrNone byte = (byte ≡ 0) ⊎ IsTrue (allowed_ascii byte)
 
 -- True if separators in a row are allowed, but none between, before or after digits.
-abbrev pub has_no_place : Bool → Bool → Bool → Bool → Bool
-has_no_place consecutive internal leading trailing = consecutive && not (internal || leading || trailing)
+abbrev pub lacks_position : Bool → Bool → Bool → Bool → Bool
+lacks_position consecutive internal leading trailing = consecutive && not (internal || leading || trailing)
 
 -- `contradict rule r` is true if the flags of `r` that `rule` reads contradict each other.
 abbrev pub contradict : Rule → Record → Bool
-contradict rules.ExponentFlagsAgree r = r.flag layout.no_exponent_notation && r.flag layout.required_exponent_notation
-contradict rules.MantissaSignFlagsAgree r = r.flag layout.no_positive_mantissa_sign && r.flag layout.required_mantissa_sign
-contradict rules.ExponentSignFlagsAgree r = r.flag layout.no_positive_exponent_sign && r.flag layout.required_exponent_sign
-contradict rules.SpecialCaseFlagsAgree r = r.flag layout.no_special && r.flag layout.case_sensitive_special
-contradict rules.SpecialSeparatorFlagsAgree r = r.flag layout.no_special && r.flag layout.special_digit_separator
+contradict rules.ExponentFlagsAgree r = r.flag no_exponent_notation && r.flag required_exponent_notation
+contradict rules.MantissaSignFlagsAgree r = r.flag no_positive_mantissa_sign && r.flag required_mantissa_sign
+contradict rules.ExponentSignFlagsAgree r = r.flag no_positive_exponent_sign && r.flag required_exponent_sign
+contradict rules.SpecialCaseFlagsAgree r = r.flag no_special && r.flag case_sensitive_special
+contradict rules.SpecialSeparatorFlagsAgree r = r.flag no_special && r.flag special_digit_separator
 contradict rules.IntegerConsecutiveIsAllowed r =
-    has_no_place (r.flag layout.integer_consecutive_digit_separator) (r.flag layout.integer_internal_digit_separator)
-    (r.flag layout.integer_leading_digit_separator) (r.flag layout.integer_trailing_digit_separator)
+    lacks_position (r.flag integer_consecutive_digit_separator) (r.flag integer_internal_digit_separator)
+    (r.flag integer_leading_digit_separator) (r.flag integer_trailing_digit_separator)
 contradict rules.FractionConsecutiveIsAllowed r =
-    has_no_place (r.flag layout.fraction_consecutive_digit_separator) (r.flag layout.fraction_internal_digit_separator)
-    (r.flag layout.fraction_leading_digit_separator) (r.flag layout.fraction_trailing_digit_separator)
+    lacks_position (r.flag fraction_consecutive_digit_separator) (r.flag fraction_internal_digit_separator)
+    (r.flag fraction_leading_digit_separator) (r.flag fraction_trailing_digit_separator)
 contradict rules.ExponentConsecutiveIsAllowed r =
-    has_no_place (r.flag layout.exponent_consecutive_digit_separator) (r.flag layout.exponent_internal_digit_separator)
-    (r.flag layout.exponent_leading_digit_separator) (r.flag layout.exponent_trailing_digit_separator)
+    lacks_position (r.flag exponent_consecutive_digit_separator) (r.flag exponent_internal_digit_separator)
+    (r.flag exponent_leading_digit_separator) (r.flag exponent_trailing_digit_separator)
 contradict _ r = false
 
 -- What a rule demands of the fields of a word. The rule of the reserved bits demands nothing of them.
@@ -54,10 +63,10 @@ abbrev pub Demands : Rule → Record → Type 0
 Demands rules.MantissaRadixInRange r = IsRadix (r.byte layout.mantissa_radix)
 Demands rules.ExponentBaseInRange r = IsRadix (effective_exponent_base r)
 Demands rules.ExponentRadixInRange r = IsRadix (effective_exponent_radix r)
-Demands rules.DigitSeparatorIsFree r = IsFree r (r.byte layout.digit_separator)
-Demands rules.BasePrefixIsFree r = IsFree r (r.byte layout.base_prefix)
-Demands rules.BaseSuffixIsFree r = IsFree r (r.byte layout.base_suffix)
-Demands rules.PunctuationDiffers r = AreDisjoint (own_roles r)
+Demands rules.DigitSeparatorIsPunctuation r = IsAbsentOrPunctuation r (r.byte layout.digit_separator)
+Demands rules.BasePrefixIsPunctuation r = IsAbsentOrPunctuation r (r.byte layout.base_prefix)
+Demands rules.BaseSuffixIsPunctuation r = IsAbsentOrPunctuation r (r.byte layout.base_suffix)
+Demands rules.PunctuationDiffers r = AreDisjoint (format_roles r)
 Demands rule r = IsFalse (contradict rule r)
 
 -- `Holds rule word` holds if `word` keeps `rule`.
@@ -70,9 +79,9 @@ abbrev pub error_of : Rule → Error
 error_of rules.MantissaRadixInRange = errors.InvalidMantissaRadix
 error_of rules.ExponentBaseInRange = errors.InvalidExponentBase
 error_of rules.ExponentRadixInRange = errors.InvalidExponentRadix
-error_of rules.DigitSeparatorIsFree = errors.InvalidDigitSeparator
-error_of rules.BasePrefixIsFree = errors.InvalidBasePrefix
-error_of rules.BaseSuffixIsFree = errors.InvalidBaseSuffix
+error_of rules.DigitSeparatorIsPunctuation = errors.InvalidDigitSeparator
+error_of rules.BasePrefixIsPunctuation = errors.InvalidBasePrefix
+error_of rules.BaseSuffixIsPunctuation = errors.InvalidBaseSuffix
 error_of rules.PunctuationDiffers = errors.InvalidPunctuation
 error_of rules.ExponentFlagsAgree = errors.InvalidExponentFlags
 error_of rules.MantissaSignFlagsAgree = errors.InvalidMantissaSign
@@ -91,7 +100,7 @@ radix_rules = rules.MantissaRadixInRange ∷ rules.ExponentBaseInRange ∷ rules
 -- The punctuation rules, in their order.
 abbrev pub punctuation_rules : List Rule
 punctuation_rules =
-    rules.DigitSeparatorIsFree ∷ rules.BasePrefixIsFree ∷ rules.BaseSuffixIsFree ∷ rules.PunctuationDiffers ∷ []
+    rules.DigitSeparatorIsPunctuation ∷ rules.BasePrefixIsPunctuation ∷ rules.BaseSuffixIsPunctuation ∷ rules.PunctuationDiffers ∷ []
 
 -- The flag rules, in their order.
 abbrev pub flag_rules : List Rule
@@ -105,14 +114,14 @@ flag_rules =
 abbrev pub rules_in_order : List Rule
 rules_in_order = radix_rules ++ punctuation_rules ++ flag_rules ++ rules.ReservedBitsAreZero ∷ []
 
--- `OrElse demand own next error` holds if `demand` fails and `error` is `own`, or if `demand` holds and `next error` does.
-abbrev pub OrElse : Type 0 → Error → (Error → Type 0) → Error → Type 0
-OrElse demand own next error = ((demand → ⊥) × (error ≡ own)) ⊎ (demand × next error)
+-- `ErrorUnless demand own next error` holds if `demand` fails and `error` is `own`, or if `demand` holds and `next error` does.
+abbrev pub ErrorUnless : Type 0 → Error → (Error → Type 0) → Error → Type 0
+ErrorUnless demand own next error = ((demand → ⊥) × (error ≡ own)) ⊎ (demand × next error)
 
 -- `IsFirstError rules word error` holds if `error` is the error of the first of `rules` that `word` breaks, or `Success`.
 abbrev pub IsFirstError : List Rule → ℕ → Error → Type 0
 IsFirstError [] word error = error ≡ errors.Success
-IsFirstError (rule ∷ rules) word error = OrElse (Holds rule word) (error_of rule) (IsFirstError rules word) error
+IsFirstError (rule ∷ rules) word error = ErrorUnless (Holds rule word) (error_of rule) (IsFirstError rules word) error
 
 -- `IsErrorOf word error` holds if `error` is the error of the first rule that `word` breaks, or `Success`.
 unfoldable pub IsErrorOf : ℕ → Error → Type 0

@@ -6,14 +6,15 @@ ghost use Rattle.lexical_base.specs.declared.error.Error.{Error};
 ghost use Rattle.lexical_base.specs.Ascii.{ByteSet};
 ghost use Rattle.lexical_flags.specs.Layout as layout;
 ghost use Rattle.lexical_flags.specs.Layout.{Flag, Byte, bit, shift, IsClean};
-ghost use Rattle.lexical_flags.specs.Record.{Record, raw, fill, trim, pack, HasBytes, IsBuilt, SeparatorIsUsed};
-ghost use Rattle.lexical_flags.specs.Record.{effective_exponent_base, effective_exponent_radix, separator_on};
+ghost use Rattle.lexical_flags.specs.Record.{Record, raw, fill, trim, pack, HasBytes, IsBuilt};
+ghost use Rattle.lexical_flags.specs.Record.{SeparatorAllowedOrAbsent};
+ghost use Rattle.lexical_flags.specs.Record.{effective_exponent_base, effective_exponent_radix, separator_allowed};
 ghost use Rattle.lexical_flags.specs.Pairs.{ArePairwise};
 ghost use Rattle.lexical_flags.specs.Roles.{Disjoint, digits};
 ghost use Rattle.lexical_flags.specs.Rules.{Demands, Holds, Lawful, IsErrorOf};
 ghost use Rattle.lexical_flags.specs.Additions.BrokenRules.{mask_read};
 ghost use Rattle.lexical_flags.specs.declared.format_flags.all_rules.Rule.{Rule};
-ghost use Rattle.lexical_flags.specs.Options.{AreAccepted, HaveOneRole};
+ghost use Rattle.lexical_flags.specs.Options.{OptionsFit, OptionsHaveOneRole};
 ghost use Rattle.lexical_flags.specs.Constants.{flag_constant, byte_constant, byte_shift, doublings, ShareNoBit};
 ghost use Rattle.lexical_flags.specs.Additions.Masks.{interface_flags, exponent_flags};
 ghost use Rattle.lexical_flags.specs.Additions.Masks.{mask_of};
@@ -79,7 +80,7 @@ pub fn packing_facts()
     ensures built { (w : ℕ) → w < 2 ^ 128 → (pack (raw w) ≡ w) ↔ IsBuilt w }
 
     // No two words without reserved bits have the same fields.
-    ensures only { (v w : ℕ) → v < 2 ^ 128 → w < 2 ^ 128 → IsClean v → IsClean w → raw v ≡ raw w → v ≡ w }
+    ensures unique { (v w : ℕ) → v < 2 ^ 128 → w < 2 ^ 128 → IsClean v → IsClean w → raw v ≡ raw w → v ≡ w }
 {}
 
 /// What the rules demand of a normal form: of fields whose exponent bytes are filled in, and whose
@@ -90,7 +91,7 @@ pub const fn rule_facts()
     ensures kept { (rule : Rule) → (r : Record) → Demands rule r → Demands rule (trim (fill r)) }
 
     // If no separator is dropped, the normal form keeps no other.
-    ensures same { (rule : Rule) → (r : Record) → SeparatorIsUsed r
+    ensures same { (rule : Rule) → (r : Record) → SeparatorAllowedOrAbsent r
         → Demands rule r ↔ Demands rule (trim (fill r)) }
 
     // So a word without reserved bits that has these fields is lawful if the word is; and if no
@@ -98,7 +99,7 @@ pub const fn rule_facts()
     ensures kept_lawful { (word normal : ℕ) → IsClean normal → raw normal ≡ trim (fill (raw word))
         → Lawful word → Lawful normal }
     ensures same_error { (word normal : ℕ) → IsClean normal → raw normal ≡ trim (fill (raw word))
-        → IsClean word → SeparatorIsUsed (raw word)
+        → IsClean word → SeparatorAllowedOrAbsent (raw word)
         → (error : Error) → IsErrorOf word error ↔ IsErrorOf normal error }
 
     // A word is lawful exactly if it keeps every rule.
@@ -120,8 +121,8 @@ pub fn role_facts()
         → Disjoint A B ↔ ((byte : ℕ) → byte < 256 → IsTrue (A byte) → IsTrue (B byte) → ⊥) }
 
     // In a lawful format with accepted options a byte plays at most one role.
-    ensures lawful { (word exponent_byte point_byte : ℕ) → Lawful word → AreAccepted word exponent_byte point_byte
-        → HaveOneRole word exponent_byte point_byte }
+    ensures lawful { (word exponent_byte point_byte : ℕ) → Lawful word → OptionsFit word exponent_byte point_byte
+        → OptionsHaveOneRole word exponent_byte point_byte }
 {}
 
 /// Examples of the fields of words.
@@ -144,8 +145,8 @@ pub fn field_examples()
     ensures filled_radix { effective_exponent_radix (raw 0x000A0200_00000000_00000000_0000000C) ≡ 2 }
 
     // Bit 44 alone allows a separator; all the others below 64 do not.
-    ensures allowed { separator_on (raw 0x00000A00_0000005F_00001000_0000000C) ≡ true }
-    ensures not_allowed { separator_on
+    ensures allowed { separator_allowed (raw 0x00000A00_0000005F_00001000_0000000C) ≡ true }
+    ensures not_allowed { separator_allowed
         (raw (0x00000A00_0000005F_FFFFFFFF_FFFFFFFF - DIGIT_SEPARATOR_FLAG_MASK)) ≡ false }
 
     // The standard format and two words of its builder, packed; a separator that no flag allows is dropped.
@@ -159,7 +160,7 @@ pub fn field_examples()
 {}
 
 /// Examples of the digits of a format.
-#[tactic(auto, unfolding(lexical_base::specs::Digits::value))]
+#[tactic(auto, unfolding(lexical_base::specs::Digits::byte_value))]
 pub fn digit_examples()
     ensures nine { digits (raw 0x00000A00_00000000_00000000_0000000C) 0x39 ≡ true }
     ensures letter { digits (raw 0x00000A00_00000000_00000000_0000000C) 0x61 ≡ false }

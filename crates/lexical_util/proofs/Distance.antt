@@ -9,8 +9,9 @@ use Rattle.std.proofs.lemmas.List.Sums.{sum_by-cons, length-filter}
 use Rattle.std.proofs.lemmas.Bool.Decides.{nat_tests}
 use Rattle.lexical_flags.specs.Layout.{flags, bytes}
 use Rattle.lexical_flags.specs.Layout as layout
-use Rattle.lexical_flags.specs.Record.{Record, set_byte, trim, separator_on}
-use Rattle.lexical_builder.specs.Writes.{Write, write_flag, write_byte, new_record, flag_in, byte_in, after, changes}
+use Rattle.lexical_flags.specs.Record.{Record, set_byte, trim, separator_allowed}
+use Rattle.lexical_builder.specs.Writes.{Write, write_flag, write_byte, new_record, flag_written, byte_written, after}
+use Rattle.lexical_builder.specs.Writes.{changes}
 use Rattle.lexical_builder.proofs.WriteLemmas.{after_none, after-append}
 use Rattle.lexical_util.proofs.FieldWrites.{Leaves, Leaves-field_writes, flag_after, byte_after}
 use Rattle.lexical_util.specs.Listing.{field_writes}
@@ -26,8 +27,8 @@ distance-is r s = length-filter (changes r) (field_writes s)
 
 -- whether a write is to the field of another
 abbrev overwrites : Write → Write → Bool
-overwrites x (write_flag f v) = is_some (flag_in x f)
-overwrites x (write_byte b v) = is_some (byte_in x b)
+overwrites x (write_flag f v) = is_some (flag_written x f)
+overwrites x (write_byte b v) = is_some (byte_written x b)
 
 -- it is to one field
 overwrites_one : (x : Write) (s : Record) → count_by (overwrites x) (field_writes s) ≡ 1
@@ -44,8 +45,8 @@ one_more p (Some v) d = grind (arith, nat_tests)
 
 write_one : (r : Record) (x y : Write) → (if changes r y then 1 else 0) ≤
     (if changes (after r (x ∷ [])) y then 1 else 0) + (if overwrites x y then 1 else 0)
-write_one r x (write_flag f v) = rw (flag_after r x f) (one_more (λ d. not (beq d v)) (flag_in x f) (r.flag f))
-write_one r x (write_byte b v) = rw (byte_after r x b) (one_more (λ d. not (d == v)) (byte_in x b) (r.byte b))
+write_one r x (write_flag f v) = rw (flag_after r x f) (one_more (λ d. not (beq d v)) (flag_written x f) (r.flag f))
+write_one r x (write_byte b v) = rw (byte_after r x b) (one_more (λ d. not (d == v)) (byte_written x b) (r.byte b))
 
 count_one : (r : Record) (x : Write) (writes : List Write)
     → count_by (changes r) writes ≤ count_by (changes (after r (x ∷ []))) writes + count_by (overwrites x) writes
@@ -111,7 +112,7 @@ count_fewer p (z ∷ xs) ys x y e = omega (
 -- a separator that is dropped becomes that of a new builder
 pub distance-trim : (r : Record) → distance new_record (trim r) ≤ distance new_record r
 unfolding distance
-distance-trim r = by_use (separator_on r) where
+distance-trim r = by_use (separator_allowed r) where
   by_use : (on : Bool) → count_by (changes new_record)
       (field_writes (set_byte r layout.digit_separator (if on then r.byte layout.digit_separator else 0)))
       ≤ count_by (changes new_record) (field_writes r)

@@ -10,7 +10,8 @@ use Rattle.lexical_flags.specs.Layout.{Flag, Byte, bit, shift, flags, bytes}
 use Rattle.lexical_flags.specs.Layout as layout
 use Rattle.lexical_flags.specs.Record.{Record, HasBytes}
 use Rattle.lexical_flags.proofs.RecordLemmas.{record_same}
-use Rattle.lexical_builder.specs.Writes.{Write, write_flag, write_byte, IsLegal, flag_in, byte_in, after, changes}
+use Rattle.lexical_builder.specs.Writes.{Write, write_flag, write_byte, IsLegal, flag_written, byte_written, after}
+use Rattle.lexical_builder.specs.Writes.{changes}
 use Rattle.lexical_builder.proofs.WriteLemmas.{left_by, left_by-cons, after_none}
 use Rattle.lexical_builder.proofs.WriteLemmas.{after-append}
 use Rattle.lexical_util.specs.Listing.{field_writes}
@@ -20,11 +21,11 @@ pub after-field_writes : (s r : Record) → after s (field_writes r) ≡ r
 unfolding after
 after-field_writes s r =
     record_same _ _ on_flag on_byte where
-      on_flag : (f : Flag) → left_by (λ x. flag_in x f) (field_writes r) (s.flag f) ≡ r.flag f
+      on_flag : (f : Flag) → left_by (λ x. flag_written x f) (field_writes r) (s.flag f) ≡ r.flag f
       on_flag layout.required_integer_digits = refl
       on_flag _ = refl
 
-      on_byte : (b : Byte) → left_by (λ x. byte_in x b) (field_writes r) (s.byte b) ≡ r.byte b
+      on_byte : (b : Byte) → left_by (λ x. byte_written x b) (field_writes r) (s.byte b) ≡ r.byte b
       on_byte layout.digit_separator = refl
       on_byte _ = refl
 
@@ -71,10 +72,10 @@ module _ {K : Type 0} (number : K → ℕ) (keys : List K)
   ]
 
 -- a write that does not change r gives each field r's value, or none
-flag_in-same : (r : Record) (x : Write) (f : Flag) → Leaves r x
-    → (flag_in x f ≡ None) ⊎ (flag_in x f ≡ Some (r.flag f))
-flag_in-same r (write_byte c v) f e = inl refl
-flag_in-same r (write_flag g v) f e = own_or_none bit flags found r.flag g f v (same (r.flag g) v e) where
+flag_written-same : (r : Record) (x : Write) (f : Flag) → Leaves r x
+    → (flag_written x f ≡ None) ⊎ (flag_written x f ≡ Some (r.flag f))
+flag_written-same r (write_byte c v) f e = inl refl
+flag_written-same r (write_flag g v) f e = own_or_none bit flags found r.flag g f v (same (r.flag g) v e) where
   found : (f : Flag) → find (λ x. bit x == bit f) flags ≡ Some f
   found layout.required_integer_digits = refl
   found _ = refl
@@ -85,10 +86,10 @@ flag_in-same r (write_flag g v) f e = own_or_none bit flags found r.flag g f v (
   same false true e = sym e
   same false false e = refl
 
-byte_in-same : (r : Record) (x : Write) (b : Byte) → Leaves r x
-    → (byte_in x b ≡ None) ⊎ (byte_in x b ≡ Some (r.byte b))
-byte_in-same r (write_flag g v) b e = inl refl
-byte_in-same r (write_byte c v) b e = own_or_none shift bytes found r.byte c b v
+byte_written-same : (r : Record) (x : Write) (b : Byte) → Leaves r x
+    → (byte_written x b ≡ None) ⊎ (byte_written x b ≡ Some (r.byte b))
+byte_written-same r (write_flag g v) b e = inl refl
+byte_written-same r (write_byte c v) b e = own_or_none shift bytes found r.byte c b v
     (eqb-true (r.byte c) v (not-false _ e)) where
       found : (b : Byte) → find (λ x. shift x == shift b) bytes ≡ Some b
       found layout.digit_separator = refl
@@ -96,14 +97,14 @@ byte_in-same r (write_byte c v) b e = own_or_none shift bytes found r.byte c b v
 
 -- the fields after one write
 pub flag_after : (r : Record) (x : Write) (f : Flag)
-    → (after r (x ∷ [])).flag f ≡ unwrap_or (flag_in x f) (r.flag f)
+    → (after r (x ∷ [])).flag f ≡ unwrap_or (flag_written x f) (r.flag f)
 unfolding after
-flag_after r x f = left_by-cons (λ y. flag_in y f) x [] (r.flag f)
+flag_after r x f = left_by-cons (λ y. flag_written y f) x [] (r.flag f)
 
 pub byte_after : (r : Record) (x : Write) (b : Byte)
-    → (after r (x ∷ [])).byte b ≡ unwrap_or (byte_in x b) (r.byte b)
+    → (after r (x ∷ [])).byte b ≡ unwrap_or (byte_written x b) (r.byte b)
 unfolding after
-byte_after r x b = left_by-cons (λ y. byte_in y b) x [] (r.byte b)
+byte_after r x b = left_by-cons (λ y. byte_written y b) x [] (r.byte b)
 
 -- what holds of a value and of what may be written over it holds afterwards
 either_way : {T : Type 0} (P : T → Type 0) (o : Option T) (d v : T) → (o ≡ None) ⊎ (o ≡ Some v) → P d → P v
@@ -114,15 +115,15 @@ either_way P o d v (inr some) on_d on_v = subst (λ p. P (unwrap_or p d)) (sym s
 -- a write that does not change r, into any record, keeps each field that is r's
 still_leaves : (r s : Record) (x y : Write) → Leaves r x → Leaves r y → Leaves s y → Leaves (after s (x ∷ [])) y
 still_leaves r s x (write_flag f u) leaves on_r on_s = subst (λ d. not (beq d u) ≡ false) (sym (flag_after s x f))
-    (either_way (λ d. not (beq d u) ≡ false) _ _ (r.flag f) (flag_in-same r x f leaves) on_s on_r)
+    (either_way (λ d. not (beq d u) ≡ false) _ _ (r.flag f) (flag_written-same r x f leaves) on_s on_r)
 still_leaves r s x (write_byte b u) leaves on_r on_s = subst (λ d. not (d == u) ≡ false) (sym (byte_after s x b))
-    (either_way (λ d. not (d == u) ≡ false) _ _ (r.byte b) (byte_in-same r x b leaves) on_s on_r)
+    (either_way (λ d. not (d == u) ≡ false) _ _ (r.byte b) (byte_written-same r x b leaves) on_s on_r)
 
 -- a write that does not change the record leaves it as it was, and so does a list of them
 after_one : (r : Record) (x : Write) → Leaves r x → after r (x ∷ []) ≡ r
 after_one r x e = record_same _ _
-    (λ f. flag_after r x f ∙ either_way (λ d. d ≡ r.flag f) _ _ _ (flag_in-same r x f e) refl refl)
-    (λ b. byte_after r x b ∙ either_way (λ d. d ≡ r.byte b) _ _ _ (byte_in-same r x b e) refl refl)
+    (λ f. flag_after r x f ∙ either_way (λ d. d ≡ r.flag f) _ _ _ (flag_written-same r x f e) refl refl)
+    (λ b. byte_after r x b ∙ either_way (λ d. d ≡ r.byte b) _ _ _ (byte_written-same r x b e) refl refl)
 
 pub after-leaves : (r : Record) (writes : List Write) → All (Leaves r) writes → after r writes ≡ r
 after-leaves r [] all = after_none r

@@ -2,7 +2,7 @@
 use Rattle.std.proofs.Common.{◌≡◌, ℕ, ◌<◌, ◌≤◌, ◌^◌, ◌↔◌, ◌⊎◌, inl, inr, Bool, true, false, if◌then◌else◌, IsTrue}
 use Rattle.std.proofs.Common.{length, List, refl, sym, ap, ◌∙◌, subst, All, le_trans}
 use Rattle.lexical_flags.specs.Layout as layout
-use Rattle.lexical_flags.specs.Record.{Record, raw, trim, pack, separator_on, HasBytes, IsBuilt}
+use Rattle.lexical_flags.specs.Record.{Record, raw, trim, pack, separator_allowed, HasBytes, IsBuilt}
 use Rattle.lexical_flags.proofs.Packing.{raw-pack, pack-clean, pack-raw, HasBytes-raw}
 use Rattle.lexical_builder.specs.Writes.{Write, IsLegal, new_record, after}
 use Rattle.lexical_builder.proofs.WriteLemmas.{HasBytes-after, HasBytes-new}
@@ -27,8 +27,8 @@ used_or_none false n = inr refl
 IsBuilt-pack : (R : Record) → HasBytes R → IsBuilt (pack R)
 IsBuilt-pack R bytes = record {
   clean = pack-clean R bytes;
-  separator_used = subst (λ (S : Record). IsTrue (separator_on S) ⊎ (S.byte layout.digit_separator ≡ 0)) (sym (raw-pack R bytes))
-      (used_or_none (separator_on R) (R.byte layout.digit_separator));
+  separator_used = subst (λ (S : Record). IsTrue (separator_allowed S) ⊎ (S.byte layout.digit_separator ≡ 0)) (sym (raw-pack R bytes))
+      (used_or_none (separator_allowed R) (R.byte layout.digit_separator));
 }
 
 -- packing gives back the words that some legal writes build: those that write each field, for one

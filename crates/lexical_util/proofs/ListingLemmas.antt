@@ -48,16 +48,16 @@ filter-edits p q agree (x ∷ writes) =
       either true es same = ap (λ es. edit_of_write x ∷ es) same
       either false es same = same
 
-changes_new-edit : (x : Write) → differs_from_new (edit_of_write x) ≡ changes new_record x
-changes_new-edit x = ap (list_any (changes new_record)) (writes_of-edit x) ∙ or-false (changes new_record x)
+differs_from_new-edit : (x : Write) → differs_from_new (edit_of_write x) ≡ changes new_record x
+differs_from_new-edit x = ap (list_any (changes new_record)) (writes_of-edit x) ∙ or-false (changes new_record x)
 
 -- to keep the edits that change a new record, or the others, is to keep their writes
 pub needed_edits-is : (R : Record) → filter differs_from_new (field_edits R) ≡ needed_edits R
-needed_edits-is R = filter-edits differs_from_new (changes new_record) changes_new-edit (field_writes R)
+needed_edits-is R = filter-edits differs_from_new (changes new_record) differs_from_new-edit (field_writes R)
 
 pub other_edits-is : (R : Record) → filter (λ e. not (differs_from_new e)) (field_edits R) ≡ other_edits R
 other_edits-is R = filter-edits (λ e. not (differs_from_new e)) (λ x. not (changes new_record x))
-    (λ x. ap not (changes_new-edit x)) (field_writes R)
+    (λ x. ap not (differs_from_new-edit x)) (field_writes R)
 
 all_writes-both : (R : Record) → all_writes (needed_edits R ++ other_edits R) ≡ needed_writes R ++ other_writes R
 all_writes-both R = flat_map-append writes_of (needed_edits R) (other_edits R)

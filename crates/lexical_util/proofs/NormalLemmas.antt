@@ -8,7 +8,7 @@ use Rattle.std.proofs.lemmas.List.Elements.{All-nil}
 use Rattle.lexical_flags.specs.Layout.{Flag, Byte, bit, digit_separator_flags, IsClean}
 use Rattle.lexical_flags.specs.Layout as layout
 use Rattle.lexical_flags.specs.Record.{Record, raw, trim, fill, pack, word_of, effective}
-use Rattle.lexical_flags.specs.Record.{separator_on, SeparatorIsUsed}
+use Rattle.lexical_flags.specs.Record.{separator_allowed, SeparatorAllowedOrAbsent}
 use Rattle.lexical_flags.proofs.RecordLemmas.{record_same}
 use Rattle.lexical_flags.proofs.Packing.{raw-injective}
 use Rattle.lexical_builder.specs.Writes.{Write, IsLegal, after}
@@ -16,7 +16,7 @@ use Rattle.lexical_builder.proofs.WriteLemmas.{after_none}
 use Rattle.lexical_util.proofs.EditLemmas.{edited-fields, edited-clean, edited-fits}
 use Rattle.lexical_util.specs.Edits.{edited}
 use Rattle.lexical_util.specs.Groups.{any_flag, bits_of}
-use Rattle.lexical_util.specs.Normal.{normal_form_of, SameFormat, IsNormal}
+use Rattle.lexical_util.specs.NormalForm.{normal_form_of, SameFormat, IsNormal}
 
 -- a test of some flags depends on them alone
 pub list_any_same : (p q : Flag → Bool) (fs : List Flag) → ((f : Flag) → p f ≡ q f) → list_any p fs ≡ list_any q fs
@@ -34,7 +34,7 @@ used_same p q x y e h t = grind (arith, nat_tests)
 pub trim-same_format : (R S : Record) → SameFormat R S → trim (fill R) ≡ trim (fill S)
 trim-same_format R S s = record_same _ _ s.flags on_byte where
   on_byte : (b : Byte) → (trim (fill R)).byte b ≡ (trim (fill S)).byte b
-  on_byte layout.digit_separator = use_same (separator_on R) (separator_on S) (R.byte layout.digit_separator) (S.byte layout.digit_separator)
+  on_byte layout.digit_separator = use_same (separator_allowed R) (separator_allowed S) (R.byte layout.digit_separator) (S.byte layout.digit_separator)
       (list_any_same R.flag S.flag digit_separator_flags s.flags) s.digit_separator
   on_byte layout.base_prefix = s.base_prefix
   on_byte layout.base_suffix = s.base_suffix
@@ -53,7 +53,7 @@ SameFormat-from_trim R S e =
       mantissa_radix = ap (λ (T : Record). T.byte layout.mantissa_radix) e;
       exponent_base = ap (λ (T : Record). T.byte layout.exponent_base) e;
       exponent_radix = ap (λ (T : Record). T.byte layout.exponent_radix) e;
-      digit_separator = used_same (separator_on R) (separator_on S) (R.byte layout.digit_separator) (S.byte layout.digit_separator)
+      digit_separator = used_same (separator_allowed R) (separator_allowed S) (R.byte layout.digit_separator) (S.byte layout.digit_separator)
           (list_any_same R.flag S.flag digit_separator_flags flags_agree)
           (ap (λ (T : Record). T.byte layout.digit_separator) e);
     }
@@ -105,7 +105,7 @@ SameFormat-normal R = record {
   mantissa_radix = refl;
   exponent_base = effective_again (R.byte layout.exponent_base) (R.byte layout.mantissa_radix);
   exponent_radix = effective_again (R.byte layout.exponent_radix) (R.byte layout.mantissa_radix);
-  digit_separator = λ t. sym (cond-true (separator_on R) (R.byte layout.digit_separator) 0 t);
+  digit_separator = λ t. sym (cond-true (separator_allowed R) (R.byte layout.digit_separator) 0 t);
 }
 
 module _ (w : ℕ) where
@@ -132,7 +132,7 @@ module _ (w : ℕ) where
       let fields : trim (fill R) ≡ R = sym (raw_normal w) ∙ ap raw e in
       record {
         clean = subst IsClean e clean_normal;
-        separator_used = unused (separator_on R) (R.byte layout.digit_separator) (ap (λ (S : Record). S.byte layout.digit_separator) fields);
+        separator_used = unused (separator_allowed R) (R.byte layout.digit_separator) (ap (λ (S : Record). S.byte layout.digit_separator) fields);
         exponent_base = unfilled (R.byte layout.exponent_base) (R.byte layout.mantissa_radix) (ap (λ (S : Record). S.byte layout.exponent_base) fields);
         exponent_radix = unfilled (R.byte layout.exponent_radix) (R.byte layout.mantissa_radix) (ap (λ (S : Record). S.byte layout.exponent_radix) fields);
       }
@@ -141,7 +141,7 @@ module _ (w : ℕ) where
   fixed_from_normal fits n = raw-injective (normal_form_of w) w normal_fits fits clean_normal n.clean
       (raw_normal w ∙ record_same (trim (fill (raw w))) (raw w) (λ f. refl) on_byte) where
         on_byte : (b : Byte) → (trim (fill (raw w))).byte b ≡ (raw w).byte b
-        on_byte layout.digit_separator = kept (separator_on (raw w)) ((raw w).byte layout.digit_separator) n.separator_used
+        on_byte layout.digit_separator = kept (separator_allowed (raw w)) ((raw w).byte layout.digit_separator) n.separator_used
         on_byte layout.exponent_base = full ((raw w).byte layout.exponent_base) ((raw w).byte layout.mantissa_radix) n.exponent_base
         on_byte layout.exponent_radix = full ((raw w).byte layout.exponent_radix) ((raw w).byte layout.mantissa_radix) n.exponent_radix
         on_byte _ = refl
@@ -155,15 +155,16 @@ module _ (w : ℕ) where
   flags_normal fs = λ i. sum_by (λ f. if normal_keeps.flags f i then 2 ^ bit f else 0) fs
 
 -- If the separator of a record is used, then filling and trimming the record changes nothing that filling once has not.
-filled_again : (R : Record) → SeparatorIsUsed R → fill (trim (fill R)) ≡ fill R
+filled_again : (R : Record) → SeparatorAllowedOrAbsent R → fill (trim (fill R)) ≡ fill R
 filled_again R used = record_same _ _ (λ f. refl) on_byte where
   on_byte : (b : Byte) → (fill (trim (fill R))).byte b ≡ (fill R).byte b
-  on_byte layout.digit_separator = kept (separator_on R) (R.byte layout.digit_separator) used
+  on_byte layout.digit_separator = kept (separator_allowed R) (R.byte layout.digit_separator) used
   on_byte layout.exponent_base = sym (effective_again (R.byte layout.exponent_base) (R.byte layout.mantissa_radix))
   on_byte layout.exponent_radix = sym (effective_again (R.byte layout.exponent_radix) (R.byte layout.mantissa_radix))
   on_byte _ = refl
 
 -- If the separator of a word is used, then editing its normal form is editing the word.
-pub edited-normal : (w : ℕ) (L : List Write) → SeparatorIsUsed (raw w) → edited (normal_form_of w) L ≡ edited w L
+pub edited-normal : (w : ℕ) (L : List Write) → SeparatorAllowedOrAbsent (raw w)
+    → edited (normal_form_of w) L ≡ edited w L
 edited-normal w L used = ap (λ S. pack (after (fill S) L)) (raw_normal w)
     ∙ ap (λ S. pack (after S L)) (filled_again (raw w) used)

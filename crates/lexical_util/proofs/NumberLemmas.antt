@@ -5,8 +5,8 @@ use Rattle.std.proofs.lemmas.Bool.Decides.{Decides-ltb}
 use Rattle.lexical_flags.specs.Record as record_of
 use Rattle.lexical_builder.specs.Writes as writes
 use Rattle.lexical_util.specs.Edits.{edited, all_writes}
-use Rattle.lexical_util.specs.Additions.SettingNumbers.{number_of, number_of_name, name_of}
-use Rattle.lexical_util.specs.Additions.SettingNumbers.{mask_of_edit, setter_names, setter_count, edit_of_numbers, byte_of}
+use Rattle.lexical_util.specs.Additions.SettingNumbers.{setter_number, number_of_name, name_of}
+use Rattle.lexical_util.specs.Additions.SettingNumbers.{mask_of_edit, setter_names, setter_count, edit_of_numbers, argument_byte}
 use Rattle.lexical_util.specs.Additions.SetterNames.{setter_name}
 use Rattle.lexical_util.specs.contracts.edits.FlagSetter.{the_type}
 use Rattle.lexical_util.specs.declared.edits.FlagSetter.{FlagSetter}
@@ -16,11 +16,11 @@ use denote.Enum.Declared.{tag_of}
 use Rattle.lexical_util.specs.declared.edits.Edit.TheVariants as edits
 
 -- the number of an edit's name is its number: each case is computed
-number_of_flag : (setter : FlagSetter) → number_of_name (name_of (edits.Flag setter true)) ≡ number_of (edits.Flag setter true)
+number_of_flag : (setter : FlagSetter) → number_of_name (name_of (edits.Flag setter true)) ≡ setter_number (edits.Flag setter true)
 number_of_flag setters.RequiredIntegerDigits = refl
 number_of_flag _ = refl
 
-pub number_of_its_name : (edit : Edit) → number_of_name (name_of edit) ≡ number_of edit
+pub number_of_its_name : (edit : Edit) → number_of_name (name_of edit) ≡ setter_number edit
 number_of_its_name (edits.Flag setter value) = number_of_flag setter
 number_of_its_name (edits.DigitSeparator byte) = refl
 number_of_its_name _ = refl
@@ -50,7 +50,8 @@ pub variant_below : (setter : FlagSetter) → tag_of the_type setter < setter_co
 variant_below setter = (Decides-ltb _ _).0 (variant_below-test setter)
 
 pub variant_edit : (setter : FlagSetter) (value : Bool)
-    → edit_of_numbers (tag_of the_type setter) (byte_of (edits.Flag setter value)) ≡ Some (edits.Flag setter value)
+    → edit_of_numbers (tag_of the_type setter) (argument_byte (edits.Flag setter value))
+    ≡ Some (edits.Flag setter value)
 variant_edit setters.RequiredIntegerDigits true = refl
 variant_edit setters.RequiredIntegerDigits false = refl
 variant_edit _ true = refl

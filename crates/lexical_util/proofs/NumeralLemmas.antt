@@ -11,24 +11,24 @@ use Rattle.std.proofs.lemmas.List.{length-map, length-take, map_more, take_all}
 use Rattle.std.proofs.lemmas.List.Elements.{All-map, All-more, recursion_from_All}
 use Rattle.std.proofs.lemmas.List.Sums.{AllPass-from_list_all, list_all-from_AllPass}
 use Rattle.std.proofs.lemmas.Option.{cond_some}
-use Rattle.lexical_base.specs.Digits.{value, digit_of, numeral}
-use Rattle.lexical_util.specs.Additions.Numeral.{is_digit, is_numeral}
+use Rattle.lexical_base.specs.Digits.{byte_value, digit_of, numeral}
+use Rattle.lexical_util.specs.Additions.Numeral.{is_digit_of_radix, is_numeral}
 
 -- the parts of a numeral
 pub record NumeralParts (radix most : ℕ) (digits : List ℕ) : Type 0 where
   pub some : 1 ≤ length digits
   pub few : length digits ≤ most
-  pub all_digits : AllPass (is_digit radix) digits
+  pub all_digits : AllPass (is_digit_of_radix radix) digits
 
 pub numeral_parts : (radix most : ℕ) (digits : List ℕ) → IsTrue (is_numeral radix most digits)
     → NumeralParts radix most digits
 numeral_parts radix most digits test =
     let first = and_parts (nat_le 1 (length digits)) _ test in
-    let rest = and_parts (nat_le (length digits) most) (list_all (is_digit radix) digits) first.1 in
+    let rest = and_parts (nat_le (length digits) most) (list_all (is_digit_of_radix radix) digits) first.1 in
     record {
       some = leb-true _ _ first.0;
       few = leb-true _ _ rest.0;
-      all_digits = AllPass-from_list_all (is_digit radix) digits rest.1;
+      all_digits = AllPass-from_list_all (is_digit_of_radix radix) digits rest.1;
     }
 
 pub numeral_from : (radix most : ℕ) (digits : List ℕ) → NumeralParts radix most digits
@@ -36,22 +36,23 @@ pub numeral_from : (radix most : ℕ) (digits : List ℕ) → NumeralParts radix
 numeral_from radix most digits parts =
     and_from (nat_le 1 (length digits)) _ (le-leb _ _ parts.some)
     (and_from (nat_le (length digits) most) _ (le-leb _ _ parts.few)
-    (list_all-from_AllPass (is_digit radix) digits parts.all_digits))
+    (list_all-from_AllPass (is_digit_of_radix radix) digits parts.all_digits))
 
 -- what the first digits of a numeral give
 pub record HasRead (radix : ℕ) (digits : List ℕ) (count number : ℕ) : Type 0 where
   pub sum : number ≡ numeral radix (take count digits)
-  pub all_digits : AllPass (is_digit radix) (take count digits)
+  pub all_digits : AllPass (is_digit_of_radix radix) (take count digits)
 
 -- up to 32 digits of a radix up to 16 fit 128 bits
 pub HasRead-fits : (radix : ℕ) (digits : List ℕ) (count number : ℕ) → HasRead radix digits count number → radix ≤ 16
     → count ≤ 32 → number < 2 ^ 128
 HasRead-fits radix digits count number read low few =
-    let values = map value (take count digits) in
+    let values = map byte_value (take count digits) in
     let below : numeral radix (take count digits) < radix ^ length values =
-    number_lt radix values (recursion_from_All (λ d. d < radix) values (All-map (λ d. d < radix) value
+    number_lt radix values (recursion_from_All (λ d. d < radix) values (All-map (λ d. d < radix) byte_value
     (take count digits) (λ k d inside. ltb-true _ _ (read.all_digits k d inside)))) in
-    let short : length values ≤ 32 = omega (arith, length-map (take count digits) value, length-take count digits) in
+    let short : length values ≤ 32 =
+    omega (arith, length-map (take count digits) byte_value, length-take count digits) in
     let power : 16 ^ length values ≤ 16 ^ 32 = pow-le-pow_right (omega arith) short in
     omega (arith, read.sum, below, pow-le-pow_left low (length values), power)
 
@@ -61,12 +62,12 @@ pub HasRead-next : (radix : ℕ) (digits : List ℕ) (count number digit : ℕ) 
     → Some digit ≡ digit_of (get_or digits count 0) radix → HasRead radix digits (count + 1) (number * radix + digit)
 HasRead-next radix digits count number digit before inside read =
     let byte = get_or digits count 0 in
-    let is : (nat_lt (value byte) radix ≡ true) × (value byte ≡ digit) =
-    cond_some (nat_lt (value byte) radix) (value byte) digit (sym read) in
+    let is : (nat_lt (byte_value byte) radix ≡ true) × (byte_value byte ≡ digit) =
+    cond_some (nat_lt (byte_value byte) radix) (byte_value byte) digit (sym read) in
     record {
-      sum = rw (before.sum, ← is.1) (sym (ap (number_from_digits radix) (map_more value digits count 0 inside)
-          ∙ number_push radix (map value (take count digits)) (value byte)));
-      all_digits = All-more (λ b. is_digit radix b ≡ true) digits count 0 inside before.all_digits is.0;
+      sum = rw (before.sum, ← is.1) (sym (ap (number_from_digits radix) (map_more byte_value digits count 0 inside)
+          ∙ number_push radix (map byte_value (take count digits)) (byte_value byte)));
+      all_digits = All-more (λ b. is_digit_of_radix radix b ≡ true) digits count 0 inside before.all_digits is.0;
     }
 
 -- all digits are read
@@ -80,9 +81,9 @@ HasRead-whole radix most digits count number read done some few =
     )
 
 -- a byte that has a digit is one
-pub digit_passes : (radix byte : ℕ) → is_some (digit_of byte radix) ≡ true → is_digit radix byte ≡ true
-digit_passes radix byte some = of_test (nat_lt (value byte) radix) some
+pub digit_passes : (radix byte : ℕ) → is_some (digit_of byte radix) ≡ true → is_digit_of_radix radix byte ≡ true
+digit_passes radix byte some = of_test (nat_lt (byte_value byte) radix) some
   where
-    of_test : (test : Bool) → is_some (cond test (Some (value byte)) None) ≡ true → test ≡ true
+    of_test : (test : Bool) → is_some (cond test (Some (byte_value byte)) None) ≡ true → test ≡ true
     of_test true some = refl
     of_test false some = some

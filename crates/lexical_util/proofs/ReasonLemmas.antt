@@ -7,14 +7,14 @@ use Rattle.std.specs.List.{AllByRecursion, filter_map}
 use Rattle.std.specs.Bool.{⊤, IsFalse, then_some}
 use Rattle.std.proofs.lemmas.Bool.{false≢true, true≢false, cond-false, cases_eq, not-false, not_from_true}
 use Rattle.std.proofs.lemmas.Bool.Decides.{nat_tests}
-use Rattle.lexical_flags.specs.Record.{Record, set_byte, raw, fill, pack, word_of, separator_on}
-use Rattle.lexical_flags.specs.Roles.{digits, are_disjoint, Disjoint, AreDisjoint, cased, separator, prefix, suffix, exponent, point, own_roles}
-use Rattle.lexical_flags.specs.Rules.{IsRadix, IsFree, IsPunctuation, Demands, Holds}
+use Rattle.lexical_flags.specs.Record.{Record, set_byte, raw, fill, pack, word_of, separator_allowed}
+use Rattle.lexical_flags.specs.Roles.{digits, are_disjoint, Disjoint, AreDisjoint, cased, separator, prefix, suffix, exponent, point, format_roles}
+use Rattle.lexical_flags.specs.Rules.{IsRadix, IsAbsentOrPunctuation, IsPunctuation, Demands, Holds}
 use Rattle.lexical_flags.specs.declared.format_flags.all_rules.Rule.{Rule}
 use Rattle.lexical_flags.specs.declared.format_flags.all_rules.Rule.TheVariants as rules
-use Rattle.lexical_flags.specs.Options.{AreAccepted}
+use Rattle.lexical_flags.specs.Options.{OptionsFit}
 use Rattle.lexical_builder.specs.Writes.{after}
-use Rattle.lexical_util.specs.Normal.{normal_form_of}
+use Rattle.lexical_util.specs.NormalForm.{normal_form_of}
 use Rattle.lexical_flags.specs.Additions.BrokenRules.{mask_read}
 use Rattle.lexical_flags.proofs.ReservedBits.{reserved_bits}
 use Rattle.lexical_flags.proofs.RoleLemmas.{no_digit}
@@ -34,7 +34,7 @@ record AreAlike (r s : Record) : Type 1 where
   demands : (rule : Rule) → Demands rule r ≡ Demands rule s
   punctuation : IsPunctuation r ≡ IsPunctuation s
   exponents : exponent r ≡ exponent s
-  own : own_roles r ≡ own_roles s
+  own : format_roles r ≡ format_roles s
 
 -- the rules of a record in which the case of an absent prefix does not count
 Demands-prefix : (r : Record) → prefix r ≡ prefix (without_prefix_case r) → (rule : Rule)
@@ -81,13 +81,13 @@ Holds-alike s v w alike like rule =
     (λ h. subst (λ X. X) same h, λ h. subst (λ X. X) (sym same) h)
 
 -- and the same options fit it
-AreAccepted-alike : (v w e p : ℕ) → IsPunctuation (raw v) ≡ IsPunctuation (raw w) → exponent (raw v) ≡ exponent (raw w)
-    → own_roles (raw v) ≡ own_roles (raw w) → AreAccepted v e p → AreAccepted w e p
-AreAccepted-alike v w e p punctuation exponents own h = record {
+OptionsFit-alike : (v w e p : ℕ) → IsPunctuation (raw v) ≡ IsPunctuation (raw w) → exponent (raw v) ≡ exponent (raw w)
+    → format_roles (raw v) ≡ format_roles (raw w) → OptionsFit v e p → OptionsFit w e p
+OptionsFit-alike v w e p punctuation exponents own h = record {
   exponent_is_punctuation = subst (λ P. P e) punctuation h.exponent_is_punctuation;
   point_is_punctuation = subst (λ P. P p) punctuation h.point_is_punctuation;
   apart = subst (λ E. Disjoint (E e) (point p)) exponents h.apart;
-  exponent_is_new = subst (λ E. AllByRecursion (Disjoint (E e)) (own_roles (raw w))) exponents
+  exponent_is_new = subst (λ E. AllByRecursion (Disjoint (E e)) (format_roles (raw w))) exponents
       (subst (AllByRecursion (Disjoint (exponent (raw v) e))) own h.exponent_is_new);
   point_is_new = subst (AllByRecursion (Disjoint (point p))) own h.point_is_new;
 }
@@ -97,12 +97,12 @@ SameRules-alike s v w alike like =
     let back : s ≡ raw w = sym like.fields_are in
     let punctuation = alike.punctuation ∙ ap IsPunctuation back in
     let exponents = alike.exponents ∙ ap exponent back in
-    let own = alike.own ∙ ap own_roles back in
+    let own = alike.own ∙ ap format_roles back in
     record {
       rules = Holds-alike s v w alike like;
       options = λ e p. (
-        AreAccepted-alike v w e p punctuation exponents own,
-        AreAccepted-alike w v e p (sym punctuation) (sym exponents) (sym own),
+        OptionsFit-alike v w e p punctuation exponents own,
+        OptionsFit-alike w v e p (sym punctuation) (sym exponents) (sym own),
       );
     }
 
@@ -114,13 +114,13 @@ pub without_suffix : (v w : ℕ) → (raw v).byte layout.base_suffix ≡ 0 → I
 without_suffix v w none = SameRules-alike _ v w (AreAlike-suffix (raw v) none)
 
 -- and a separator that no flag allows none on the normal form
-pub normal_without_separator : (v w : ℕ) → separator_on (raw v) ≡ false → raw w ≡ without_separator (raw v)
+pub normal_without_separator : (v w : ℕ) → separator_allowed (raw v) ≡ false → raw w ≡ without_separator (raw v)
     → normal_form_of w ≡ normal_form_of v
 unfolding after word_of
 normal_without_separator v w off fields =
     ap (λ r. pack (fill r)) fields
     ∙ ap (λ n. word_of (set_byte (fill (raw v)) layout.digit_separator n))
-    (cond-false (separator_on (raw v)) 0 0 off ∙ sym (cond-false (separator_on (raw v)) _ 0 off))
+    (cond-false (separator_allowed (raw v)) 0 0 off ∙ sym (cond-false (separator_allowed (raw v)) _ 0 off))
 
 -- nothing is said exactly if no case holds
 none_said : (cases : List (Case Reason)) → (filter_map said cases ≡ []) ↔ AllByRecursion (λ c. IsFalse c.0) cases
@@ -143,7 +143,7 @@ zero_is_free : (r : Record) → digits r 0 ≡ false
 zero_is_free r = not_true (digits r 0) (no_digit r 0 (omega arith))
 
 -- a byte is free exactly if none of the three cases holds
-free_byte : (r : Record) (byte : ℕ) (edit : Edit) → IsFree r byte ↔ AllByRecursion (λ c. IsFalse c.0) (not_free r byte edit)
+free_byte : (r : Record) (byte : ℕ) (edit : Edit) → IsAbsentOrPunctuation r byte ↔ AllByRecursion (λ c. IsFalse c.0) (not_free r byte edit)
 unfolding IsPunctuation
 free_byte r byte edit = elim (cases_eq byte 0) [
   | inl none ↦ grind (arith, nat_tests, zero_is_free)
@@ -170,9 +170,9 @@ unfolding Holds
 no_case rules.MantissaRadixInRange word = in_range _
 no_case rules.ExponentBaseInRange word = in_range _
 no_case rules.ExponentRadixInRange word = in_range _
-no_case rules.DigitSeparatorIsFree word = free_byte (raw word) _ (separator_edit (raw word))
-no_case rules.BasePrefixIsFree word = free_byte (raw word) _ (prefix_edit (raw word))
-no_case rules.BaseSuffixIsFree word = free_byte (raw word) _ (suffix_edit (raw word))
+no_case rules.DigitSeparatorIsPunctuation word = free_byte (raw word) _ (separator_edit (raw word))
+no_case rules.BasePrefixIsPunctuation word = free_byte (raw word) _ (prefix_edit (raw word))
+no_case rules.BaseSuffixIsPunctuation word = free_byte (raw word) _ (suffix_edit (raw word))
 no_case rules.PunctuationDiffers word =
     let r = raw word in
     let first = disjoint_pair (separator r) (prefix r) in
@@ -204,17 +204,17 @@ only_case false false reason same = absurd (false≢true (same.1 refl))
 
 -- that of a rule of flags, or of reserved bits, by whether a word keeps it
 pub flag_case : (rule : Rule) (word : ℕ) (kept : Bool) → rule ≢ rules.MantissaRadixInRange
-    → rule ≢ rules.ExponentBaseInRange → rule ≢ rules.ExponentRadixInRange → rule ≢ rules.DigitSeparatorIsFree
-    → rule ≢ rules.BasePrefixIsFree → rule ≢ rules.BaseSuffixIsFree → rule ≢ rules.PunctuationDiffers
+    → rule ≢ rules.ExponentBaseInRange → rule ≢ rules.ExponentRadixInRange → rule ≢ rules.DigitSeparatorIsPunctuation
+    → rule ≢ rules.BasePrefixIsPunctuation → rule ≢ rules.BaseSuffixIsPunctuation → rule ≢ rules.PunctuationDiffers
     → (IsTrue kept ↔ Holds rule word)
     → then_some (not kept) (flag_reason rule) ∷ None ∷ None ∷ [] ≡ padded (cases_of rule word)
 unfolding Holds
 flag_case rules.MantissaRadixInRange word kept a b c d e f g same = absurd (a refl)
 flag_case rules.ExponentBaseInRange word kept a b c d e f g same = absurd (b refl)
 flag_case rules.ExponentRadixInRange word kept a b c d e f g same = absurd (c refl)
-flag_case rules.DigitSeparatorIsFree word kept a b c d e f g same = absurd (d refl)
-flag_case rules.BasePrefixIsFree word kept a b c d e f g same = absurd (e refl)
-flag_case rules.BaseSuffixIsFree word kept a b c d e f g same = absurd (f refl)
+flag_case rules.DigitSeparatorIsPunctuation word kept a b c d e f g same = absurd (d refl)
+flag_case rules.BasePrefixIsPunctuation word kept a b c d e f g same = absurd (e refl)
+flag_case rules.BaseSuffixIsPunctuation word kept a b c d e f g same = absurd (f refl)
 flag_case rules.PunctuationDiffers word kept a b c d e f g same = absurd (g refl)
 flag_case rules.ReservedBitsAreZero word kept a b c d e f g same =
     let clean = clean_word word in

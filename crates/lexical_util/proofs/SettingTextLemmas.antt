@@ -4,7 +4,7 @@ use Rattle.std.proofs.Common.{Option, None, Some, Result, Ok, Err}
 use Rattle.std.specs.Fmt.{digits}
 use Rattle.std.specs.Option.{ok_or}
 use Rattle.std.proofs.lemmas.Bool.{agree_below_at, eqb-true, cond-false}
-use Rattle.lexical_base.specs.Digits.{value}
+use Rattle.lexical_base.specs.Digits.{byte_value}
 use Rattle.lexical_builder.specs.OptionByte.{option_of_byte}
 use Rattle.lexical_util.specs.declared.edits.Edit.{Edit}
 use Rattle.lexical_util.specs.declared.edits.Edit.TheVariants as edits
@@ -12,7 +12,7 @@ use Rattle.lexical_util.specs.declared.edits.FlagSetter.{FlagSetter}
 use Rattle.lexical_util.specs.declared.edits.FlagSetter.TheVariants as setters
 use Rattle.lexical_util.specs.declared.edits.text.SettingError.{SettingError}
 use Rattle.lexical_util.specs.declared.edits.text.SettingError.TheVariants.{UnknownName}
-use Rattle.lexical_util.specs.Additions.SettingText.{HasByte, byte_in, optional_byte_in, map_ok, edit_or_error_in, setting_text}
+use Rattle.lexical_util.specs.Additions.SettingText.{HasByte, byte_from_text, optional_byte_from_text, map_ok, edit_or_error_in, setting_text}
 
 -- whether a byte was read
 abbrev is_read : Result ℕ SettingError → ℕ → Bool
@@ -24,10 +24,10 @@ read_byte (Ok other) byte held = ap Ok (eqb-true other byte held)
 read_byte (Err error) byte held = cc
 
 -- the digits of a byte are read as that byte: each of them is computed
-byte_back : (byte : ℕ) → byte < 256 → byte_in (decimal byte) ≡ Ok byte
-unfolding value digits
+byte_back : (byte : ℕ) → byte < 256 → byte_from_text (decimal byte) ≡ Ok byte
+unfolding byte_value digits
 byte_back byte small =
-    read_byte _ byte (agree_below_at (λ b. is_read (byte_in (decimal b)) b) (λ _. true) 256 byte refl small)
+    read_byte _ byte (agree_below_at (λ b. is_read (byte_from_text (decimal b)) b) (λ _. true) 256 byte refl small)
 
 -- they are not `none`
 not_none : (byte : ℕ) → byte < 256 → bytes_eq (decimal byte) (codes "none") ≡ false
@@ -35,7 +35,7 @@ unfolding digits
 not_none byte small = agree_below_at (λ b. bytes_eq (decimal b) (codes "none")) (λ _. false) 256 byte refl small
 
 -- so they are read as a byte that may be absent
-option_back : (byte : ℕ) → byte < 256 → optional_byte_in (decimal byte) ≡ Ok (option_of_byte byte)
+option_back : (byte : ℕ) → byte < 256 → optional_byte_from_text (decimal byte) ≡ Ok (option_of_byte byte)
 option_back byte small =
     cond-false (bytes_eq (decimal byte) (codes "none")) _ _ (not_none byte small)
     ∙ ap (map_ok option_of_byte) (byte_back byte small)

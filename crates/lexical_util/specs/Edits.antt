@@ -10,7 +10,7 @@ use Rattle.lexical_util.specs.declared.edits.FlagSetter.TheVariants as setters
 use Rattle.lexical_util.specs.declared.edits.Edit.{Edit}
 use Rattle.lexical_util.specs.declared.edits.Edit.TheVariants as edits
 
--- the flags that a setter writes
+-- The flags that a setter writes.
 abbrev pub flags_of : FlagSetter → List Flag
 flags_of setters.RequiredIntegerDigits = layout.required_integer_digits ∷ []
 flags_of setters.RequiredFractionDigits = layout.required_fraction_digits ∷ []
@@ -53,7 +53,7 @@ flags_of setters.IntegerDigitSeparatorFlags = layout.integer_digit_separator_fla
 flags_of setters.FractionDigitSeparatorFlags = layout.fraction_digit_separator_flags
 flags_of setters.ExponentDigitSeparatorFlags = layout.exponent_digit_separator_flags
 
--- the writes of a setter call
+-- The writes of an edit.
 abbrev pub writes_of : Edit → List Write
 writes_of (edits.Flag setter value) = write_flags (flags_of setter) value
 writes_of (edits.DigitSeparator byte) = write_byte layout.digit_separator (byte_of_option byte) ∷ []
@@ -64,11 +64,10 @@ writes_of (edits.Radix radix) = write_byte layout.mantissa_radix radix ∷ []
 writes_of (edits.ExponentBase base) = write_byte layout.exponent_base (byte_of_option base) ∷ []
 writes_of (edits.ExponentRadix radix) = write_byte layout.exponent_radix (byte_of_option radix) ∷ []
 
--- the writes of all edits, in their order
+-- The writes of some edits, in order.
 abbrev pub all_writes : List Edit → List Write
 all_writes list = flat_map writes_of list
 
--- the word that writes make of a word: its empty exponent bytes are filled, then the fields are written, then they are
--- packed
+-- `edited word writes` is the word that results if the fields of `word` are filled, written in order, and packed.
 abbrev pub edited : ℕ → List Write → ℕ
 edited word writes = pack (after (fill (raw word)) writes)

@@ -1,5 +1,5 @@
 pub mod Edits
-pub mod Normal
+pub mod NormalForm
 pub mod Groups
 pub mod Listing
 pub mod Private

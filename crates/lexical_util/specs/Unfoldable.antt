@@ -3,7 +3,7 @@
 use Rattle.std.specs.Prelude.{⊤}
 use Rattle.lexical_flags.specs.Literals.{on_literals as flags_on_literals}
 use Rattle.lexical_util.specs.Groups.{any_flag, bits_of}
-unfoldable pub use Rattle.lexical_base.specs.Digits.{value}
+unfoldable pub use Rattle.lexical_base.specs.Digits.{byte_value}
 unfoldable pub use Rattle.lexical_flags.specs.Record.{word_of}
 unfoldable pub use Rattle.lexical_flags.specs.Common.{common}
 unfoldable pub use Rattle.lexical_flags.specs.Roles.{Disjoint, cased}

@@ -5,11 +5,11 @@ ghost use Rattle.std.specs.Result.{OkIff};
 ghost use Rattle.lexical_base.specs.declared.error.Error.{Error};
 ghost use Rattle.lexical_flags.specs.Layout as layout;
 ghost use Rattle.lexical_flags.specs.Layout.{Flag, IsClean};
-ghost use Rattle.lexical_flags.specs.Record.{raw, fill, trim, SeparatorIsUsed};
+ghost use Rattle.lexical_flags.specs.Record.{raw, fill, trim, SeparatorAllowedOrAbsent};
 ghost use Rattle.lexical_flags.specs.Rules.{Lawful, IsErrorOf};
 ghost use Rattle.lexical_builder.specs.Writes.{Write, IsLegal, write_flags, after, SameWrites};
 ghost use Rattle.lexical_util.specs.Edits.{flags_of, writes_of, all_writes, edited};
-ghost use Rattle.lexical_util.specs.Normal.{normal_form_of, SameFormat, IsNormal};
+ghost use Rattle.lexical_util.specs.NormalForm.{normal_form_of, SameFormat, IsNormal};
 ghost use Rattle.lexical_util.specs.Groups.{any_flag, bits_of};
 
 use lexical_base::error::Error;
@@ -76,7 +76,7 @@ mod numbers;
 mod text;
 
 pub use listing::{edits_of, field_edits_of, is_built};
-pub use numbers::{SETTER_NAMES, name_of_number, number_of_name};
+pub use numbers::{SETTER_NAMES, number_of_name, setter_name_of_number};
 pub use text::{SettingError, byte_from_text};
 
 /// A builder setter that takes a `bool`: one for each flag, and one for each of the nine groups of
@@ -196,7 +196,7 @@ macro_rules! variants {
 const FLAGS: usize = u128::count_ones(FLAG_MASK) as usize;
 
 /// How many fields a word has: the flags and six bytes.
-pub const FIELDS: usize = FLAGS + 6;
+pub const FIELD_COUNT: usize = FLAGS + 6;
 
 /// All setters, in the order of the variants: those of the flags, and those of nine groups.
 pub const SETTERS: [FlagSetter; FLAGS + 9] = with_setters!(variants());
@@ -288,7 +288,7 @@ pub const fn edit_word(format: u128, edits: &[Edit]) -> u128
     ensures clean { IsClean result }
 
     // No other word has these fields.
-    ensures only { (other : ℕ) → other < 2 ^ 128 → IsClean other
+    ensures unique { (other : ℕ) → other < 2 ^ 128 → IsClean other
         → raw other ≡ trim (after (fill (raw format)) (all_writes edits.now)) → other ≡ result }
 
     // Only the last write of each field counts: setters of different fields may change places,
@@ -312,11 +312,11 @@ pub const fn normal_form(format: u128) -> u128
     ensures clean { IsClean result }
 
     // No other word has these fields.
-    ensures only { (other : ℕ) → other < 2 ^ 128 → IsClean other
+    ensures unique { (other : ℕ) → other < 2 ^ 128 → IsClean other
         → raw other ≡ trim (fill (raw format)) → other ≡ result }
 
     // A normal form is its own normal form.
-    ensures again { normal_form_of result ≡ result }
+    ensures idempotent { normal_form_of result ≡ result }
     ensures unchanged { (result ≡ format) ↔ IsNormal format }
 
     // It means the same: all fields agree, except a separator that no flag allows, and so do all
@@ -328,11 +328,11 @@ pub const fn normal_form(format: u128) -> u128
     // That of a lawful word is lawful. If no reserved bit and no separator is dropped, both words
     // break the same rule first, or none.
     ensures lawful { Lawful format → Lawful result }
-    ensures error { IsClean format → SeparatorIsUsed (raw format)
+    ensures error { IsClean format → SeparatorAllowedOrAbsent (raw format)
         → (error : Error) → IsErrorOf format error ↔ IsErrorOf result error }
 
     // If no separator is dropped, it does not matter which of the two is edited.
-    ensures edits { SeparatorIsUsed (raw format) → (writes : List Write) → All IsLegal writes
+    ensures edits { SeparatorAllowedOrAbsent (raw format) → (writes : List Write) → All IsLegal writes
         → edited result writes ≡ edited format writes }
     ensures normal { IsNormal result }
 {

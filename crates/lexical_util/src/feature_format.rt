@@ -47,7 +47,7 @@ impl Default for NumberFormat {
     ghost use Rattle.lexical_flags.specs.Record.{pack};
     ghost use Rattle.lexical_flags.specs.Rules.{Lawful};
     ghost use Rattle.lexical_builder.specs.Writes.{new_record};
-    ghost use Rattle.lexical_util.specs.Normal.{normal_form_of};
+    ghost use Rattle.lexical_util.specs.NormalForm.{normal_form_of};
     ghost use Rattle.lexical_util.specs.declared.format.TheConstants.{STANDARD};
 
     ghost is_default = { λ view. view ≡ STANDARD };
@@ -103,7 +103,7 @@ impl NumberFormat {
     pub const fn error(&self) -> Error
         ensures first { IsErrorOf self.now result }
         ensures lawful { (result ≡ Error.Success) ↔ Lawful self.now }
-        ensures only { (other : Error) → IsErrorOf self.now other → other ≡ result }
+        ensures unique { (other : Error) → IsErrorOf self.now other → other ≡ result }
     {
         format_error_impl(self.format)
     }
@@ -122,7 +122,7 @@ impl NumberFormat {
     #[inline(always)]
     pub const fn error_radix(&self) -> Error
         ensures first { IsFirstError radix_rules self.now result }
-        ensures only { (other : Error) → IsFirstError radix_rules self.now other → other ≡ result }
+        ensures unique { (other : Error) → IsFirstError radix_rules self.now other → other ≡ result }
     {
         radix_error_impl(self.format)
     }

@@ -55,7 +55,7 @@ pub const fn format_is_valid(format: u128) -> bool
 pub const fn format_error(format: u128) -> Error
     ensures first { IsErrorOf format result }
     ensures lawful { (result ≡ Error.Success) ↔ Lawful format }
-    ensures only { (other : Error) → IsErrorOf format other → other ≡ result }
+    ensures unique { (other : Error) → IsErrorOf format other → other ≡ result }
 {
     NumberFormat::new(format).error()
 }

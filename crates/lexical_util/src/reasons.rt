@@ -3,13 +3,13 @@
 ghost use Rattle.std.specs.Prelude.{◌≡◌, ◌↔◌, ℕ, false, ◌++◌, [], ◌∷◌, None, map, take};
 ghost use Rattle.std.specs.Bool.{then_some};
 ghost use Rattle.lexical_flags.specs.Layout as layout;
-ghost use Rattle.lexical_flags.specs.Record.{raw, set_byte, separator_on};
+ghost use Rattle.lexical_flags.specs.Record.{raw, set_byte, separator_allowed};
 ghost use Rattle.lexical_flags.specs.Rules.{Holds};
 ghost use Rattle.lexical_flags.specs.declared.format_flags.all_rules.Rule.TheVariants as rules;
 ghost use Rattle.lexical_util.specs.Additions.Reasons.{said, padded, cases_of, reasons_of, out_of_range, not_free, flag_reason, unused_cases};
 ghost use Rattle.lexical_util.specs.Additions.Reasons.{radix_of_digit, separator_edit, prefix_edit, suffix_edit};
 ghost use Rattle.lexical_util.specs.Additions.Reasons.{without_separator, without_prefix_case, without_suffix_case, IsWith, SameRules};
-ghost use Rattle.lexical_util.specs.Normal.{normal_form_of};
+ghost use Rattle.lexical_util.specs.NormalForm.{normal_form_of};
 
 use crate::edits::{Edit, FlagSetter};
 use crate::feature_format::NumberFormat;
@@ -84,16 +84,16 @@ pub const fn reasons_of(rule: Rule, format: u128) -> [Option<Reason>; REASONS]
             let radix = flags::exponent_radix(format);
             out_of_range(radix, Edit::ExponentRadix(NonZeroU8::new(radix as u8)))
         }
-        Rule::DigitSeparatorIsFree => {
+        Rule::DigitSeparatorIsPunctuation => {
             let byte = flags::digit_separator(format);
             not_free(format, byte, &separator_edit(format))
         }
-        Rule::BasePrefixIsFree => not_free(
+        Rule::BasePrefixIsPunctuation => not_free(
             format,
             flags::base_prefix(format),
             &prefix_edit(format),
         ),
-        Rule::BaseSuffixIsFree => not_free(
+        Rule::BaseSuffixIsPunctuation => not_free(
             format,
             flags::base_suffix(format),
             &suffix_edit(format),
@@ -210,7 +210,8 @@ pub const fn unused_settings(format: u128) -> [Option<Unused>; UNUSED]
     ensures each { result ≡ map said (unused_cases (raw format)) }
 
     // A separator that no flag allows can be cleared: the normal form is the same.
-    ensures separator { separator_on (raw format) ≡ false → (other : ℕ) → raw other ≡ without_separator (raw format)
+    ensures separator { separator_allowed (raw format) ≡ false → (other : ℕ)
+        → raw other ≡ without_separator (raw format)
         → normal_form_of other ≡ normal_form_of format }
 
     // The flag of a byte that is absent can be cleared: no rule and no choice of options is affected.

@@ -9,7 +9,7 @@ use Rattle.std.proofs.lemmas.List.Elements.{filter_map-append}
 use Rattle.std.proofs.lemmas.List.Folds.{list_all_at, list_all_more}
 use Rattle.lexical_util.specs.declared.edits.Edit.{Edit}
 use Rattle.lexical_util.specs.Additions.SettingText.{edit_in}
-use Rattle.numfmt.specs.EditText.{edits_in}
+use Rattle.numfmt.specs.EditText.{edits_from_texts}
 
 -- whether a text writes an edit
 abbrev writes_edit : List ℕ → Bool
@@ -35,8 +35,8 @@ HaveRead-next texts i read edit before inside room is =
     }
 
 -- a text writes no edit
-pub edits_in-none : (texts : List (List ℕ)) (i : ℕ) → i < length texts → edit_in (get_or texts i []) ≡ None
-    → edits_in texts ≡ None
-edits_in-none texts i inside none =
+pub edits_from_texts-none : (texts : List (List ℕ)) (i : ℕ) → i < length texts → edit_in (get_or texts i []) ≡ None
+    → edits_from_texts texts ≡ None
+edits_from_texts-none texts i inside none =
     ap (λ truth. then_some truth (filter_map edit_in texts))
     (list_all_at writes_edit texts i [] inside (ap is_some none))

@@ -15,50 +15,50 @@ use Rattle.std.proofs.lemmas.Slice.Eq.{bytes_eq-Decides}
 use Rattle.std.proofs.lemmas.List.{drop-set, take-set-le, length-set, take-append-drop}
 use Rattle.std.proofs.lemmas.List.Sums.{AllPass-from_list_all, list_all-from_AllPass, passes_at_first}
 use Rattle.std.proofs.lemmas.List.Elements.{All-cons, All-head, All-nil, All-tail, All-weaker}
-use Rattle.lexical_util.specs.Digits.{digit_characters, is_lowercase, uppercase, value}
-use Rattle.lexical_util.specs.Additions.Numeral.{is_digit}
+use Rattle.lexical_util.specs.Digits.{digit_characters, is_lowercase, uppercase, byte_value}
+use Rattle.lexical_util.specs.Additions.Numeral.{is_digit_of_radix}
 use Rattle.numfmt.specs.WordText.{hex, hex_digits, IsPrintedForm, digit_at, last_digits, printed}
 use Rattle.lexical_util.proofs.NumeralLemmas.{numeral_from, numeral_parts}
 
 -- whether a byte is a hexadecimal digit and no lowercase letter
 abbrev is_printed_digit : ℕ → Bool
-is_printed_digit byte = is_digit 16 byte && not (is_lowercase byte)
+is_printed_digit byte = is_digit_of_radix 16 byte && not (is_lowercase byte)
 
 -- a byte is one of the sixteen
 abbrev IsUppercase : ℕ → Type 0
 IsUppercase byte = IsTrue (is_printed_digit byte)
 
-is_digit-uppercase : (byte : ℕ) → IsUppercase byte → is_digit 16 byte ≡ true
-is_digit-uppercase byte printed = (and_parts (is_digit 16 byte) (not (is_lowercase byte)) printed).0
+is_digit_of_radix-uppercase : (byte : ℕ) → IsUppercase byte → is_digit_of_radix 16 byte ≡ true
+is_digit_of_radix-uppercase byte printed = (and_parts (is_digit_of_radix 16 byte) (not (is_lowercase byte)) printed).0
 
 not_lowercase : (byte : ℕ) → IsUppercase byte → not (is_lowercase byte) ≡ true
-not_lowercase byte printed = (and_parts (is_digit 16 byte) (not (is_lowercase byte)) printed).1
+not_lowercase byte printed = (and_parts (is_digit_of_radix 16 byte) (not (is_lowercase byte)) printed).1
 
 -- such a digit is the digit character of its value
-digit_character-value : (byte : ℕ) → IsUppercase byte → slice_index_or digit_characters (value byte) 0 ≡ byte
-unfolding value
-digit_character-value byte printed =
+digit_character-byte_value : (byte : ℕ) → IsUppercase byte → slice_index_or digit_characters (byte_value byte) 0 ≡ byte
+unfolding byte_value
+digit_character-byte_value byte printed =
     let test : ℕ → Bool = λ character. character == uppercase byte in
     let i = position_or_len test digit_characters in
     let same : uppercase byte ≡ byte = cond-false _ _ _ (not-true _ (not_lowercase byte printed)) in
     elim (cases_Bool (nat_lt i 36)) [
       | inl found ↦
-          let is : value byte ≡ i = ap (λ truth. unwrap_or (cond truth (Some i) None) 255) found in
+          let is : byte_value byte ≡ i = ap (λ truth. unwrap_or (cond truth (Some i) None) 255) found in
           rw is (eqb-true _ _ (passes_at_first test digit_characters 0 (ltb-true _ _ found)) ∙ same)
       | inr missing ↦
-          let is : value byte ≡ 255 = ap (λ truth. unwrap_or (cond truth (Some i) None) 255) missing in
-          absurd (omega (arith, is, ltb-true _ _ (is_digit-uppercase byte printed)))
+          let is : byte_value byte ≡ 255 = ap (λ truth. unwrap_or (cond truth (Some i) None) 255) missing in
+          absurd (omega (arith, is, ltb-true _ _ (is_digit_of_radix-uppercase byte printed)))
     ]
 
 -- the digit character of a value has this value
-value-digit_character : (digit : ℕ) → digit < 16 → value (slice_index_or digit_characters digit 0) ≡ digit
-unfolding value
-value-digit_character digit small = eqb-true _ _
-    (agree_below_at (λ d. value (slice_index_or digit_characters d 0) == d) (λ _. true) 16 digit refl small)
+byte_value-digit_character : (digit : ℕ) → digit < 16 → byte_value (slice_index_or digit_characters digit 0) ≡ digit
+unfolding byte_value
+byte_value-digit_character digit small = eqb-true _ _
+    (agree_below_at (λ d. byte_value (slice_index_or digit_characters d 0) == d) (λ _. true) 16 digit refl small)
 
 -- and is one of the sixteen
 IsUppercase-digit_character : (digit : ℕ) → digit < 16 → IsUppercase (slice_index_or digit_characters digit 0)
-unfolding value
+unfolding byte_value
 IsUppercase-digit_character digit small =
     agree_below_at (λ d. is_printed_digit (slice_index_or digit_characters d 0)) (λ _. true) 16 digit refl small
 
@@ -110,16 +110,16 @@ last_digits-uppercase (suc count) number = All-cons IsUppercase (digit_at number
 
 -- the last digits write the number, after what is left of it
 last_digits-numeral : (count number : ℕ)
-    → number_from_digits_after 16 (number / 16 ^ count) (map value (last_digits count number)) ≡ number
+    → number_from_digits_after 16 (number / 16 ^ count) (map byte_value (last_digits count number)) ≡ number
 unfolding last_digits
 last_digits-numeral zero number = omega arith
 last_digits-numeral (suc count) number =
     let left : number / 16 ^ count / 16 ≡ number / (16 ^ count * 16) = div-div-eq-div-mul number (16 ^ count) 16 in
-    let digit : value (digit_at number count) ≡ number / 16 ^ count % 16 =
-    value-digit_character (number / 16 ^ count % 16) (omega arith) in
-    let front : number / 16 ^ suc count * 16 + value (digit_at number count) ≡ number / 16 ^ count =
+    let digit : byte_value (digit_at number count) ≡ number / 16 ^ count % 16 =
+    byte_value-digit_character (number / 16 ^ count % 16) (omega arith) in
+    let front : number / 16 ^ suc count * 16 + byte_value (digit_at number count) ≡ number / 16 ^ count =
     rw (pow-suc 16 count, digit, ← left) (omega arith) in
-    subst (λ n. number_from_digits_after 16 n (map value (last_digits count number)) ≡ number) (sym front)
+    subst (λ n. number_from_digits_after 16 n (map byte_value (last_digits count number)) ≡ number) (sym front)
     (last_digits-numeral count number)
 
 -- what is printed of a word has the printed form
@@ -131,7 +131,8 @@ IsPrintedForm-printed word =
       word = numeral_from 16 32 (last_digits 32 word) (record {
         some = omega (arith, full);
         few = omega (arith, full);
-        all_digits = All-weaker IsUppercase (λ byte. is_digit 16 byte ≡ true) is_digit-uppercase _ all;
+        all_digits = All-weaker IsUppercase
+            (λ byte. is_digit_of_radix 16 byte ≡ true) is_digit_of_radix-uppercase _ all;
       });
       full = full;
       uppercase = list_all-from_AllPass _ (last_digits 32 word)
@@ -142,24 +143,26 @@ IsPrintedForm-printed word =
 pub hex-printed : (word : ℕ) → word < 2 ^ 128 → hex (printed word) ≡ word
 hex-printed word fits =
     let none : word / 16 ^ 32 ≡ 0 = omega (arith, fits) in
-    subst (λ n. number_from_digits_after 16 n (map value (last_digits 32 word)) ≡ word) none
+    subst (λ n. number_from_digits_after 16 n (map byte_value (last_digits 32 word)) ≡ word) none
     (last_digits-numeral 32 word)
 
 -- uppercase digits of the same length after two numbers write the same number only if they are the same
 numeral-injective : (xs ys : List ℕ) (m n : ℕ) → length xs ≡ length ys → All IsUppercase xs → All IsUppercase ys
-    → number_from_digits_after 16 m (map value xs) ≡ number_from_digits_after 16 n (map value ys) → (m ≡ n) × (xs ≡ ys)
+    → number_from_digits_after 16 m (map byte_value xs) ≡ number_from_digits_after 16 n (map byte_value ys)
+    → (m ≡ n) × (xs ≡ ys)
 numeral-injective [] [] m n long all all' same = (same, refl)
 numeral-injective [] (y ∷ ys) m n long all all' same = absurd (omega arith)
 numeral-injective (x ∷ xs) [] m n long all all' same = absurd (omega arith)
 numeral-injective (x ∷ xs) (y ∷ ys) m n long all all' same =
     let first = All-head IsUppercase x xs all in
     let first' = All-head IsUppercase y ys all' in
-    let rest = numeral-injective xs ys (m * 16 + value x) (n * 16 + value y) (omega arith)
+    let rest = numeral-injective xs ys (m * 16 + byte_value x) (n * 16 + byte_value y) (omega arith)
     (All-tail IsUppercase x xs all) (All-tail IsUppercase y ys all') same in
-    let parts = same_from_place m (value x) n (value y) 16 (ltb-true _ _ (is_digit-uppercase x first))
-    (ltb-true _ _ (is_digit-uppercase y first')) rest.0 in
-    let here : x ≡ y = sym (digit_character-value x first)
-    ∙ ap (λ v. slice_index_or digit_characters v 0) parts.1 ∙ digit_character-value y first' in
+    let parts = same_from_place m (byte_value x) n (byte_value y) 16
+    (ltb-true _ _ (is_digit_of_radix-uppercase x first))
+    (ltb-true _ _ (is_digit_of_radix-uppercase y first')) rest.0 in
+    let here : x ≡ y = sym (digit_character-byte_value x first)
+    ∙ ap (λ v. slice_index_or digit_characters v 0) parts.1 ∙ digit_character-byte_value y first' in
     (parts.0, λ i. here i ∷ rest.1 i)
 
 -- its prefix and its digits

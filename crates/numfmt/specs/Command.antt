@@ -4,20 +4,20 @@ use Rattle.std.specs.Prelude.{Option, None, Some, Result, Ok, Err}
 use Rattle.std.specs.Result.{IsOkAnd, MatchResult, result_ok}
 use Rattle.lexical_util.specs.Record.{IsBuilt}
 use Rattle.lexical_util.specs.Rules.{IsErrorOf, Lawful}
-use Rattle.lexical_util.specs.Options.{AreAccepted}
+use Rattle.lexical_util.specs.Options.{OptionsFit}
 use Rattle.lexical_util.specs.declared.edits.Edit.{Edit}
 use Rattle.lexical_util.specs.declared.format.TheConstants.{STANDARD}
 use Rattle.lexical_util.specs.Edits.{edited, all_writes}
-use Rattle.lexical_util.specs.Normal.{normal_form_of}
+use Rattle.lexical_util.specs.NormalForm.{normal_form_of}
 use Rattle.lexical_util.specs.Additions.Reasons.{unused_of}
 use Rattle.numfmt.specs.declared.response.Answer.{Answer}
 use Rattle.numfmt.specs.declared.response.Answer.TheVariants as answers
 use Rattle.numfmt.specs.declared.response.Refusal.{Refusal}
 use Rattle.numfmt.specs.declared.response.Refusal.TheVariants.{UnknownCommand, WrongNumberOfArguments, TooManyEdits}
 use Rattle.numfmt.specs.declared.response.Refusal.TheVariants.{BadWord, BadEdit, BadByte}
-use Rattle.numfmt.specs.WordText.{word_in}
-use Rattle.lexical_util.specs.Additions.SettingText.{byte_in}
-use Rattle.numfmt.specs.EditText.{edits_in}
+use Rattle.numfmt.specs.WordText.{word_from_text}
+use Rattle.lexical_util.specs.Additions.SettingText.{byte_from_text}
+use Rattle.numfmt.specs.EditText.{edits_from_texts}
 use Rattle.numfmt.specs.Response.{Response}
 
 -- a command, with what its arguments write
@@ -37,7 +37,7 @@ Answers (show word) answer = answer ≡ answers.Fields word
 Answers (edit word list) answer = answer ≡ answers.Word (edited word (all_writes list))
 Answers (check word) (answers.Outcome error) = IsErrorOf word error
 Answers (same a b) (answers.Sameness truth) = IsTrue truth ↔ (normal_form_of a ≡ normal_form_of b)
-Answers (options word e p) (answers.Acceptance truth) = IsTrue truth ↔ AreAccepted word e p
+Answers (options word e p) (answers.Acceptance truth) = IsTrue truth ↔ OptionsFit word e p
 Answers (migrate word) (answers.Word normal) = Lawful (normal_form_of word) × (normal ≡ normal_form_of word)
 Answers (migrate word) (answers.Outcome error) =
     (¬ Lawful (normal_form_of word)) × IsErrorOf (normal_form_of word) error
@@ -51,26 +51,26 @@ abbrev pub Request : Type 0
 Request = Result Command Refusal
 
 -- what is asked for with a value, unless it could not be read
-abbrev pub with_value : {T : Type 0} → Option T → Refusal → (T → Request) → Request
-with_value None refusal ask = Err refusal
-with_value (Some value) refusal ask = ask value
+abbrev pub request_if_some : {T : Type 0} → Option T → Refusal → (T → Request) → Request
+request_if_some None refusal ask = Err refusal
+request_if_some (Some value) refusal ask = ask value
 
 -- one word
 abbrev pub one_word : (ℕ → Command) → List (List ℕ) → Request
-one_word ask (word ∷ []) = with_value (word_in word) BadWord (λ word. Ok (ask word))
+one_word ask (word ∷ []) = request_if_some (word_from_text word) BadWord (λ word. Ok (ask word))
 one_word ask _ = Err WrongNumberOfArguments
 
 -- two words
 abbrev pub two_words : (ℕ → ℕ → Command) → List (List ℕ) → Request
 two_words ask (a ∷ b ∷ []) =
-    with_value (word_in a) BadWord (λ a. with_value (word_in b) BadWord (λ b. Ok (ask a b)))
+    request_if_some (word_from_text a) BadWord (λ a. request_if_some (word_from_text b) BadWord (λ b. Ok (ask a b)))
 two_words ask _ = Err WrongNumberOfArguments
 
 -- a word and two bytes
 abbrev pub word_and_bytes : (ℕ → ℕ → ℕ → Command) → List (List ℕ) → Request
 word_and_bytes ask (word ∷ e ∷ p ∷ []) =
-    with_value (word_in word) BadWord (λ word. with_value (result_ok (byte_in e)) BadByte
-    (λ e. with_value (result_ok (byte_in p)) BadByte (λ p. Ok (ask word e p))))
+    request_if_some (word_from_text word) BadWord (λ word. request_if_some (result_ok (byte_from_text e)) BadByte
+    (λ e. request_if_some (result_ok (byte_from_text p)) BadByte (λ p. Ok (ask word e p))))
 word_and_bytes ask _ = Err WrongNumberOfArguments
 
 -- a word and at most 64 edits
@@ -78,7 +78,8 @@ abbrev pub word_and_edits : (ℕ → List Edit → Command) → List (List ℕ) 
 word_and_edits ask [] = Err WrongNumberOfArguments
 word_and_edits ask (word ∷ texts) =
     if nat_le (length texts) 64 then
-    with_value (word_in word) BadWord (λ word. with_value (edits_in texts) BadEdit (λ list. Ok (ask word list)))
+    request_if_some (word_from_text word) BadWord
+    (λ word. request_if_some (edits_from_texts texts) BadEdit (λ list. Ok (ask word list)))
     else Err TooManyEdits
 
 -- the commands by name, each with the arguments that it takes
@@ -98,7 +99,7 @@ commands =
 abbrev pub request_of : List (List ℕ) → Request
 request_of [] = Ok (show STANDARD)
 request_of (name ∷ args) =
-    with_value (find (λ command. bytes_eq name command.0) commands) UnknownCommand (λ command. command.1 args)
+    request_if_some (find (λ command. bytes_eq name command.0) commands) UnknownCommand (λ command. command.1 args)
 
 -- the response to what is asked for
 abbrev pub Responds : Request → Response → Type 0

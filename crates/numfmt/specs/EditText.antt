@@ -6,5 +6,5 @@ use Rattle.lexical_util.specs.Additions.SettingText.{edit_in}
 use Rattle.lexical_util.specs.declared.edits.Edit.{Edit}
 
 -- the edits that the texts write, if each of them writes one
-abbrev pub edits_in : List (List ℕ) → Option (List Edit)
-edits_in texts = then_some (list_all (λ text. is_some (edit_in text)) texts) (filter_map edit_in texts)
+abbrev pub edits_from_texts : List (List ℕ) → Option (List Edit)
+edits_from_texts texts = then_some (list_all (λ text. is_some (edit_in text)) texts) (filter_map edit_in texts)

@@ -20,27 +20,28 @@ abbrev pub Response : Type 0
 Response = Result Answer Refusal
 
 -- a name, a space and a value
-abbrev pub field : List ℕ → List ℕ → List ℕ
-field name value = name ++ 32 ∷ value
+abbrev pub field_text : List ℕ → List ℕ → List ℕ
+field_text name value = name ++ 32 ∷ value
 
 -- the bytes of a format word, with their names
-abbrev pub bytes : ℕ → List (List ℕ)
-bytes word =
-    field (codes "digit_separator") (decimal ((raw word).byte layout.digit_separator))
-    ∷ field (codes "base_prefix") (decimal ((raw word).byte layout.base_prefix))
-    ∷ field (codes "base_suffix") (decimal ((raw word).byte layout.base_suffix))
-    ∷ field (codes "mantissa_radix") (decimal ((raw word).byte layout.mantissa_radix))
-    ∷ field (codes "exponent_base") (decimal (effective_exponent_base (raw word)))
-    ∷ field (codes "exponent_radix") (decimal (effective_exponent_radix (raw word)))
+abbrev pub byte_fields : ℕ → List (List ℕ)
+byte_fields word =
+    field_text (codes "digit_separator") (decimal ((raw word).byte layout.digit_separator))
+    ∷ field_text (codes "base_prefix") (decimal ((raw word).byte layout.base_prefix))
+    ∷ field_text (codes "base_suffix") (decimal ((raw word).byte layout.base_suffix))
+    ∷ field_text (codes "mantissa_radix") (decimal ((raw word).byte layout.mantissa_radix))
+    ∷ field_text (codes "exponent_base") (decimal (effective_exponent_base (raw word)))
+    ∷ field_text (codes "exponent_radix") (decimal (effective_exponent_radix (raw word)))
     ∷ []
 
 -- the fields of a format word, one a line
-abbrev pub fields : ℕ → List ℕ
-fields word = flat_map line (field (codes "flags") (printed (bit_and word (mask_of flags))) ∷ bytes word)
+abbrev pub fields_text : ℕ → List ℕ
+fields_text word =
+    flat_map line (field_text (codes "flags") (printed (bit_and word (mask_of flags))) ∷ byte_fields word)
 
 -- the text of an answer
 abbrev pub answer_text : Answer → List ℕ
-answer_text (answers.Fields word) = fields word
+answer_text (answers.Fields word) = fields_text word
 answer_text (answers.Word word) = line (printed word)
 answer_text (answers.Sameness true) = line (codes "same")
 answer_text (answers.Sameness false) = line (codes "different")
@@ -48,21 +49,21 @@ answer_text (answers.Outcome error) = line (printed_text error)
 answer_text (answers.Acceptance true) = line (codes "accepted")
 answer_text (answers.Acceptance false) = line (codes "refused")
 answer_text (answers.Source word is_built) = line (source_text word)
-answer_text (answers.Explanation word is_silent) = explanation word
+answer_text (answers.Explanation word has_nothing_to_explain) = explanation word
 
 -- the reason as a refusal states it
-abbrev pub reason_text : Refusal → List ℕ
-reason_text refusals.UnknownCommand = codes "unknown command"
-reason_text refusals.WrongNumberOfArguments = codes "wrong number of arguments"
-reason_text refusals.TooManyEdits = codes "too many edits"
-reason_text refusals.BadWord = codes "bad word"
-reason_text refusals.BadEdit = codes "bad edit"
-reason_text refusals.BadByte = codes "bad byte"
+abbrev pub refusal_text : Refusal → List ℕ
+refusal_text refusals.UnknownCommand = codes "unknown command"
+refusal_text refusals.WrongNumberOfArguments = codes "wrong number of arguments"
+refusal_text refusals.TooManyEdits = codes "too many edits"
+refusal_text refusals.BadWord = codes "bad word"
+refusal_text refusals.BadEdit = codes "bad edit"
+refusal_text refusals.BadByte = codes "bad byte"
 
 -- what the program prints
 abbrev pub text_of : Response → List ℕ
 text_of (Ok answer) = answer_text answer
-text_of (Err refusal) = line (codes "numfmt: " ++ reason_text refusal)
+text_of (Err refusal) = line (codes "numfmt: " ++ refusal_text refusal)
 
 -- the exit status: 0, or 1 if the answer is no, or 2 for a refusal
 abbrev pub status_of : Response → ℕ

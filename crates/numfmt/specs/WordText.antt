@@ -19,8 +19,8 @@ abbrev pub is_word_text : List ℕ → Bool
 is_word_text text = bytes_eq (take 2 text) (codes "0x") && is_numeral 16 32 (hex_digits text)
 
 -- the word that a text writes
-abbrev pub word_in : List ℕ → Option ℕ
-word_in text = then_some (is_word_text text) (hex text)
+abbrev pub word_from_text : List ℕ → Option ℕ
+word_from_text text = then_some (is_word_text text) (hex text)
 
 -- a text that writes a word
 abbrev pub IsWordText : List ℕ → Type 0

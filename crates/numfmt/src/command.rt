@@ -2,13 +2,13 @@
 
 ghost use Rattle.std.specs.Prelude.{◌≡◌, IfErr, map, string_bytes};
 ghost use Rattle.std.specs.Result.{result_ok};
-ghost use Rattle.numfmt.specs.WordText.{word_in};
-ghost use Rattle.lexical_util.specs.Additions.SettingText.{byte_in};
+ghost use Rattle.numfmt.specs.WordText.{word_from_text};
+ghost use Rattle.lexical_util.specs.Additions.SettingText.{byte_from_text};
 ghost use Rattle.numfmt.specs.Command.{Responds, request_of, one_word, two_words, word_and_bytes, word_and_edits};
 ghost use Rattle.numfmt.specs.Command as commands;
 
 use crate::edit::read_edits;
-use crate::explanation::is_silent;
+use crate::explanation::has_nothing_to_explain;
 use crate::response::{Answer, Refusal};
 use crate::word::read_word;
 use lexical_util::edits::{Edit, byte_from_text, edit_word, is_built, migrate, same_format};
@@ -135,7 +135,7 @@ fn explain(args: &[String]) -> Result<Answer, Refusal>
     match args {
         [word] => {
             let word = parse_word(word)?;
-            Ok(Answer::Explanation(word, is_silent(word)))
+            Ok(Answer::Explanation(word, has_nothing_to_explain(word)))
         }
         _ => Err(Refusal::WrongNumberOfArguments),
     }
@@ -143,7 +143,7 @@ fn explain(args: &[String]) -> Result<Answer, Refusal>
 
 // Parses an argument as a format word, or refuses it.
 fn parse_word(text: &String) -> Result<u128, Refusal>
-    ensures word { result_ok result ≡ word_in (string_bytes text.now) }
+    ensures word { result_ok result ≡ word_from_text (string_bytes text.now) }
     ensures refusal { IfErr result (λ refusal. refusal ≡ Refusal.BadWord) }
 {
     read_word(text.as_str()).ok_or(Refusal::BadWord)
@@ -151,7 +151,7 @@ fn parse_word(text: &String) -> Result<u128, Refusal>
 
 // Parses an argument as a byte, or refuses it.
 fn parse_byte(text: &String) -> Result<u8, Refusal>
-    ensures byte { result_ok result ≡ result_ok (byte_in (string_bytes text.now)) }
+    ensures byte { result_ok result ≡ result_ok (byte_from_text (string_bytes text.now)) }
     ensures refusal { IfErr result (λ refusal. refusal ≡ Refusal.BadByte) }
 {
     byte_from_text(text.as_str()).ok().ok_or(Refusal::BadByte)

@@ -2,7 +2,7 @@
 
 ghost use Rattle.std.specs.Prelude.{◌≡◌, ◌≤◌, length, take, map, string_bytes};
 ghost use Rattle.std.specs.Option.{option_map};
-ghost use Rattle.numfmt.specs.EditText.{edits_in};
+ghost use Rattle.numfmt.specs.EditText.{edits_from_texts};
 
 use lexical_util::edits::Edit;
 
@@ -10,7 +10,8 @@ use lexical_util::edits::Edit;
 /// long; `None` if any of them is not an edit.
 pub(crate) fn read_edits(texts: &[String], edits: &mut [Edit]) -> Option<()>
     requires { length texts.now ≤ length edits.old }
-    ensures { edits_in (map string_bytes texts.now) ≡ option_map (λ _. take (length texts.now) edits.new) result }
+    ensures { edits_from_texts (map string_bytes texts.now)
+        ≡ option_map (λ _. take (length texts.now) edits.new) result }
 {
     for (i, text) in texts.iter().enumerate() {
         edits[i] = Edit::from_text(text.as_str()).ok()?;

@@ -17,11 +17,11 @@ use std::io;
 
 /// Returns whether there is nothing to say of `word`: it is lawful, and each of its settings has an effect.
 #[tactic(auto, using(crate::proofs::ExplanationLemmas::nothing_said))]
-pub fn is_silent(word: u128) -> bool
+pub fn has_nothing_to_explain(word: u128) -> bool
     ensures lawful { IsTrue result ↔ (Lawful word × (unused_of word ≡ [])) }
 
     // Exactly then `write_explanation` writes nothing.
-    ensures silent { IsTrue result ↔ (explanation word ≡ []) }
+    ensures no_output { IsTrue result ↔ (explanation word ≡ []) }
 {
     laws::flags::rule_facts();
     format_is_valid(word) && matches!(unused_settings(word), [None, None, None, None])

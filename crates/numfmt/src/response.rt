@@ -4,7 +4,7 @@ ghost use Rattle.std.specs.Prelude.{◌≡◌, IsErr, OnOk};
 ghost use Rattle.std.specs.Io.KnownBytes.{Appends};
 ghost use Rattle.numfmt.specs.WordText.{printed};
 ghost use Rattle.numfmt.specs.Explanation.{line};
-ghost use Rattle.numfmt.specs.Response.{answer_text, fields, reason_text, status_of, text_of};
+ghost use Rattle.numfmt.specs.Response.{answer_text, fields_text, refusal_text, status_of, text_of};
 
 use crate::explanation::write_explanation;
 use crate::output::Output;
@@ -79,7 +79,7 @@ pub fn print<W: Output>(response: Result<Answer, Refusal>, out: &mut W) -> io::R
 impl Refusal {
     // The message after `numfmt: `.
     fn reason(self) -> &'static str
-        ensures { result.now ≡ reason_text self }
+        ensures { result.now ≡ refusal_text self }
     {
         match self {
             Refusal::UnknownCommand => "unknown command",
@@ -115,7 +115,7 @@ impl Answer {
 }
 
 fn print_fields<W: Output>(format: u128, out: &mut W) -> io::Result<()>
-    ensures text { OnOk result (Appends (W.contents out.old) (W.contents out.new) (fields format)) }
+    ensures text { OnOk result (Appends (W.contents out.old) (W.contents out.new) (fields_text format)) }
     ensures failed { IsErr result → W.has_failed out.new }
 {
     out.write_all(b"flags ")?;

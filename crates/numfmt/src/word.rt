@@ -27,7 +27,7 @@ pub fn word_text(word: u128) -> [u8; 34]
     ensures read_back { IsWordText result }
 
     // No other text has this form and this number.
-    ensures only { (text : List ℕ) → IsPrintedForm text → hex text ≡ word → text ≡ result }
+    ensures unique { (text : List ℕ) → IsPrintedForm text → hex text ≡ word → text ≡ result }
 {
     let mut text = [b'0'; 34];
     text[1] = b'x';

@@ -5,9 +5,9 @@ ghost use Rattle.lexical_util.specs.Ascii.{allowed_ascii, letters};
 ghost use Rattle.lexical_util.specs.Digits.{digit_of};
 ghost use Rattle.lexical_util.specs.Outcomes.{printed_text};
 ghost use Rattle.lexical_util.specs.Rules.{IsErrorOf};
-ghost use Rattle.lexical_util.specs.Options.{AreAccepted};
+ghost use Rattle.lexical_util.specs.Options.{OptionsFit};
 ghost use Rattle.lexical_util.specs.Edits.{edited, all_writes};
-ghost use Rattle.recorded.specs.Facts.{IsKept, HasFields, IsBuiltBy};
+ghost use Rattle.recorded.specs.RecordedFacts.{MatchesDefinitions, HasFields, IsBuiltBy};
 
 use lexical_util::ascii::{is_valid_ascii, is_valid_letter};
 use lexical_util::digit::{char_to_digit, char_to_digit_const};
@@ -54,8 +54,8 @@ pub struct Fields {
 
 impl Fact<'_> {
     /// Whether the library returns what is recorded.
-    pub fn is_kept(&self, alloc: Global) -> Result<bool, AllocError>
-        ensures { IfOk result (λ kept. IsTrue kept ↔ IsKept self.now) }
+    pub fn matches_definitions(&self, alloc: Global) -> Result<bool, AllocError>
+        ensures { IfOk result (λ kept. IsTrue kept ↔ MatchesDefinitions self.now) }
     {
         Ok(match self {
             Fact::Byte(byte, allowed, letter) => is_byte(*byte, *allowed, *letter),
@@ -114,7 +114,7 @@ fn is_error(word: u128, error: Error) -> bool
 }
 
 fn is_choice(word: u128, exponent: u8, decimal_point: u8, accepted: bool) -> bool
-    ensures { IsTrue result ↔ (IsTrue accepted ↔ AreAccepted word exponent decimal_point) }
+    ensures { IsTrue result ↔ (IsTrue accepted ↔ OptionsFit word exponent decimal_point) }
 {
     is_valid_options_punctuation(word, exponent, decimal_point) == accepted
 }

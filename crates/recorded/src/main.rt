@@ -30,7 +30,7 @@ fn replay_file(rt: &HostRuntime) -> io::Result<bool> {
 fn replay(results: &str, rt: &HostRuntime) -> io::Result<bool> {
     let (mut lines, mut on_purpose) = (0u64, 0u64);
     for line in results.lines() {
-        if !is_kept(line, rt.alloc())? {
+        if !matches_definitions(line, rt.alloc())? {
             println!(rt; "differs: {line}")?;
             return Ok(false);
         }
@@ -44,11 +44,11 @@ fn replay(results: &str, rt: &HostRuntime) -> io::Result<bool> {
 }
 
 // Whether a line can be read and the library returns what it records.
-fn is_kept(line: &str, alloc: Global) -> Result<bool, AllocError> {
+fn matches_definitions(line: &str, alloc: Global) -> Result<bool, AllocError> {
     let mut parts = Parts::of(line);
     let fact = parts.fact(alloc)?;
     if parts.are_read() {
-        fact.is_kept(alloc)
+        fact.matches_definitions(alloc)
     } else {
         Ok(false)
     }

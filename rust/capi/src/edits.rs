@@ -5,7 +5,7 @@
 use crate::outcomes::{write_if_lawful, ErrorNumber};
 use crate::words::{Fields, NumberedEdit, Word};
 use peltzivar::edits;
-use peltzivar::edits::{apply, edits_of, Edit, FIELDS};
+use peltzivar::edits::{apply, edits_of, Edit, FIELD_COUNT};
 use peltzivar::format_builder::NumberFormatBuilder;
 
 /// Applies the edits to a builder in order. Returns `None` if one of them has no setter.
@@ -119,7 +119,10 @@ pub extern "C" fn peltzivar_is_built(format: Word) -> bool {
 
 /// Writes one edit for each field, those first that change a new builder, and returns how many these are.
 #[unsafe(no_mangle)]
-pub extern "C" fn peltzivar_edits_of(format: Word, edits: &mut [NumberedEdit; FIELDS]) -> usize {
+pub extern "C" fn peltzivar_edits_of(
+    format: Word,
+    edits: &mut [NumberedEdit; FIELD_COUNT],
+) -> usize {
     let (list, count) = edits_of(format.number());
     for index in 0..list.len() {
         edits[index] = NumberedEdit::new(&list[index]);

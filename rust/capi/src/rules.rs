@@ -3,7 +3,7 @@
 //! The rules of words.
 
 use crate::outcomes::{error_number, ErrorNumber};
-use crate::texts::{write_nothing, write_sentence};
+use crate::texts::{write_nothing, write_short_text};
 use crate::words::{Fields, Word};
 use peltzivar::format_flags as flags;
 use peltzivar::format_flags::{Rule, RULES};
@@ -124,7 +124,7 @@ pub unsafe extern "C" fn peltzivar_reason(
         return write_nothing(text);
     };
     match reasons_of(rule, format.number()).get(index as usize) {
-        Some(Some(reason)) => write_sentence(&reason.sentence(), text),
+        Some(Some(reason)) => write_short_text(&reason.text(), text),
         _ => write_nothing(text),
     }
 }
@@ -140,7 +140,7 @@ pub unsafe extern "C" fn peltzivar_unused(
     // SAFETY: c/peltzivar.h asks this of its callers.
     let text = unsafe { crate::slices::of_mut(text, text_len) };
     match unused_at(fields, index as usize) {
-        Some(setting) => write_sentence(&setting.sentence(), text),
+        Some(setting) => write_short_text(&setting.text(), text),
         None => write_nothing(text),
     }
 }

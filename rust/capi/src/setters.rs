@@ -2,9 +2,9 @@
 
 //! The names of setters, and settings as text. A setter crosses as its number.
 
-use crate::texts::{write_nothing, write_sentence, write_text};
+use crate::texts::{write_nothing, write_short_text, write_text};
 use crate::words::{NumberedEdit, Word};
-use peltzivar::edits::{name_of_number, number_of_name, Edit, SETTER_NAMES};
+use peltzivar::edits::{number_of_name, setter_name_of_number, Edit, SETTER_NAMES};
 
 /// Writes a setter's name.
 #[unsafe(no_mangle)]
@@ -15,7 +15,7 @@ pub unsafe extern "C" fn peltzivar_setter_name(
 ) -> usize {
     // SAFETY: c/peltzivar.h asks this of its callers.
     let text = unsafe { crate::slices::of_mut(text, text_len) };
-    write_text(name_of_number(setter).as_bytes(), text)
+    write_text(setter_name_of_number(setter).as_bytes(), text)
 }
 
 /// Returns the number of the setter of this name, or 255 if there is none.
@@ -71,7 +71,7 @@ pub unsafe extern "C" fn peltzivar_text_of_edit(
     // SAFETY: c/peltzivar.h asks this of its callers.
     let text = unsafe { crate::slices::of_mut(text, text_len) };
     match edit.edit() {
-        Some(edit) => write_sentence(&edit.sentence(), text),
+        Some(edit) => write_short_text(&edit.text(), text),
         None => write_nothing(text),
     }
 }

@@ -3,7 +3,7 @@
 //! Texts that are written into a buffer with a 0 at their end.
 
 use core::fmt;
-use peltzivar::error::{Error, Sentence, Sink};
+use peltzivar::error::{Error, ShortText, Sink};
 
 /// Writes a text and a final 0 from the start of a buffer on, of the text as much as leaves room for the 0, and
 /// returns the length of the whole text.
@@ -25,7 +25,7 @@ pub fn write_nothing(out: &mut [u8]) -> usize {
 
 /// Writes a sentence as [`write_text`] does.
 #[must_use]
-pub fn write_sentence(sentence: &Sentence, out: &mut [u8]) -> usize {
+pub fn write_short_text(sentence: &ShortText, out: &mut [u8]) -> usize {
     let mut whole = Text::new();
     let _ = sentence.put_into(&mut whole);
     whole.write_to(out)

@@ -45,7 +45,7 @@ impl NumberedEdit {
     #[must_use]
     pub fn new(edit: &Edit) -> NumberedEdit {
         NumberedEdit {
-            setter: edit.number(),
+            setter: edit.setter_number(),
             value: edit.byte(),
         }
     }

@@ -3,7 +3,7 @@
 //! The commands: what the program's arguments ask for, and the response to it.
 
 use crate::edit::read_edits;
-use crate::explanation::is_silent;
+use crate::explanation::has_nothing_to_explain;
 use crate::response::{Answer, Refusal};
 use crate::word::read_word;
 use peltzivar::edits::{byte_from_text, edit_word, is_built, migrate, same_format, Edit};
@@ -117,7 +117,7 @@ fn explain(args: &[String]) -> Result<Answer, Refusal> {
     match args {
         [word] => {
             let word = parse_word(word)?;
-            Ok(Answer::Explanation(word, is_silent(word)))
+            Ok(Answer::Explanation(word, has_nothing_to_explain(word)))
         }
         _ => Err(Refusal::WrongNumberOfArguments),
     }

@@ -12,7 +12,7 @@ use std::io;
 
 /// Returns whether there is nothing to say of `word`: it is lawful, and each of its settings has an effect.
 #[must_use]
-pub fn is_silent(word: u128) -> bool {
+pub fn has_nothing_to_explain(word: u128) -> bool {
     format_is_valid(word) && matches!(unused_settings(word), [None, None, None, None])
 }
 

@@ -4,7 +4,7 @@
 
 use crate::output::Output;
 use peltzivar::edits::{edits_of, Edit};
-use peltzivar::error::{Piece, Sentence, NOTHING};
+use peltzivar::error::{Piece, ShortText, EMPTY_PIECE};
 use std::io;
 
 /// Writes `word` as Rust code: a new builder, a setter call for each field in which the word differs from
@@ -22,25 +22,32 @@ pub fn write_source<W: Output>(word: u128, out: &mut W) -> io::Result<()> {
 }
 
 // The argument of the setter call that an edit stands for.
-const fn argument(edit: Edit) -> Sentence {
+const fn argument(edit: Edit) -> ShortText {
     match edit {
-        Edit::Flag(_, true) => Sentence(NOTHING, NOTHING, NOTHING, Piece::Words("true")),
-        Edit::Flag(_, false) => Sentence(NOTHING, NOTHING, NOTHING, Piece::Words("false")),
-        Edit::MantissaRadix(radix) | Edit::Radix(radix) => {
-            Sentence(NOTHING, NOTHING, NOTHING, Piece::Number(radix as usize))
+        Edit::Flag(_, true) => {
+            ShortText(EMPTY_PIECE, EMPTY_PIECE, EMPTY_PIECE, Piece::Words("true"))
         }
+        Edit::Flag(_, false) => {
+            ShortText(EMPTY_PIECE, EMPTY_PIECE, EMPTY_PIECE, Piece::Words("false"))
+        }
+        Edit::MantissaRadix(radix) | Edit::Radix(radix) => ShortText(
+            EMPTY_PIECE,
+            EMPTY_PIECE,
+            EMPTY_PIECE,
+            Piece::Number(radix as usize),
+        ),
         Edit::DigitSeparator(byte)
         | Edit::BasePrefix(byte)
         | Edit::BaseSuffix(byte)
         | Edit::ExponentBase(byte)
         | Edit::ExponentRadix(byte) => match byte {
-            Some(byte) => Sentence(
-                NOTHING,
+            Some(byte) => ShortText(
+                EMPTY_PIECE,
                 Piece::Words("NonZeroU8::new("),
                 Piece::Number(byte.get() as usize),
                 Piece::Words(")"),
             ),
-            None => Sentence(NOTHING, NOTHING, NOTHING, Piece::Words("None")),
+            None => ShortText(EMPTY_PIECE, EMPTY_PIECE, EMPTY_PIECE, Piece::Words("None")),
         },
     }
 }

@@ -2,7 +2,7 @@
 
 //! Which words a builder packs, and the setter calls that make a word.
 
-use crate::edits::{Edit, FlagSetter, FIELDS};
+use crate::edits::{Edit, FlagSetter, FIELD_COUNT};
 use crate::format_builder::NonZeroU8;
 use crate::format_flags as flags;
 use crate::view::FormatView;
@@ -22,11 +22,11 @@ use crate::view::FormatView;
 /// ```
 #[must_use]
 pub const fn is_built(format: u128) -> bool {
-    flags::is_clean(format) && is_separator_used(format)
+    flags::is_clean(format) && is_separator_allowed_or_absent(format)
 }
 
 // Whether there is no digit separator, or a flag that allows one.
-const fn is_separator_used(format: u128) -> bool {
+const fn is_separator_allowed_or_absent(format: u128) -> bool {
     flags::digit_separator(format) == 0 || flags::is_separator_allowed(format)
 }
 
@@ -66,7 +66,7 @@ const fn is_separator_used(format: u128) -> bool {
 ///     → pack (after new_record writes) ≡ format → result.1 ≤ length writes }
 /// ```
 #[must_use]
-pub fn edits_of(format: u128) -> ([Edit; FIELDS], usize) {
+pub fn edits_of(format: u128) -> ([Edit; FIELD_COUNT], usize) {
     // The first array has the needed edits in front, and then takes the others from the second.
     let mut edits = field_edits_of(format);
     let mut others = field_edits_of(format);
@@ -79,7 +79,7 @@ pub fn edits_of(format: u128) -> ([Edit; FIELDS], usize) {
 
 /// Returns the edits that write all fields of `format` with their values, in the order of their bits.
 #[must_use]
-pub const fn field_edits_of(format: u128) -> [Edit; FIELDS] {
+pub const fn field_edits_of(format: u128) -> [Edit; FIELD_COUNT] {
     macro_rules! edits_of_fields {
         (($view:ident, $base:ident, $radix:ident)
             { $($Flag:ident $flag:ident;)* } $groups:tt) => {
@@ -113,7 +113,7 @@ const fn raw_exponent_radix(format: u128) -> u8 {
 }
 
 // Whether an edit changes a new builder.
-const fn is_change(edit: Edit) -> bool {
+const fn differs_from_new(edit: Edit) -> bool {
     match edit {
         Edit::Flag(setter, flag) => match setter {
             FlagSetter::RequiredDigits => true,
@@ -134,7 +134,7 @@ const fn is_change(edit: Edit) -> bool {
 fn move_to_front(edits: &mut [Edit], changed: bool) -> usize {
     let mut count = 0;
     for index in 0..edits.len() {
-        if is_change(edits[index]) == changed {
+        if differs_from_new(edits[index]) == changed {
             edits.swap(count, index);
             count += 1;
         }

@@ -55,7 +55,7 @@ impl FlagSetter {
 impl Edit {
     /// Returns the number of the setter: its index in [`SETTER_NAMES`].
     #[must_use]
-    pub const fn number(self) -> u8 {
+    pub const fn setter_number(self) -> u8 {
         match self {
             Edit::Flag(setter, _) => setter as u8,
             Edit::DigitSeparator(_) => FIRST_BYTE,
@@ -71,7 +71,7 @@ impl Edit {
     /// Returns the name of the setter.
     #[must_use]
     pub const fn name(self) -> &'static str {
-        name_of_number(self.number())
+        setter_name_of_number(self.setter_number())
     }
 
     /// Returns the argument as a byte: for a flag 1 if it is `true` and 0 if not, and 0 for `None`.
@@ -137,7 +137,7 @@ impl Edit {
 
 /// Returns the name of the setter of this number, or an empty text if there is none.
 #[must_use]
-pub const fn name_of_number(number: u8) -> &'static str {
+pub const fn setter_name_of_number(number: u8) -> &'static str {
     if number < SETTER_COUNT {
         SETTER_NAMES[number as usize]
     } else {
@@ -149,7 +149,7 @@ pub const fn name_of_number(number: u8) -> &'static str {
 #[must_use]
 pub fn number_of_name(name: &[u8]) -> u8 {
     for number in 0..SETTER_COUNT {
-        if name_of_number(number).as_bytes() == name {
+        if setter_name_of_number(number).as_bytes() == name {
             return number;
         }
     }

@@ -4,7 +4,7 @@
 
 use crate::digit::char_to_digit;
 use crate::edits::Edit;
-use crate::error::{Piece, Sentence, NOTHING};
+use crate::error::{Piece, ShortText, EMPTY_PIECE};
 use crate::format_builder::{NonZeroU8, OptionU8};
 use crate::numeral::read_numeral;
 use core::fmt;
@@ -59,9 +59,9 @@ impl Edit {
 impl Edit {
     /// Returns `NAME=VALUE`, such as `mantissa_radix=16`, `no_special=true` or `digit_separator=none`.
     #[must_use]
-    pub const fn sentence(&self) -> Sentence {
-        Sentence(
-            NOTHING,
+    pub const fn text(&self) -> ShortText {
+        ShortText(
+            EMPTY_PIECE,
             Piece::Words(self.name()),
             Piece::Words("="),
             value(self),
@@ -69,10 +69,10 @@ impl Edit {
     }
 }
 
-/// Prints what [`Edit::sentence`] is.
+/// Prints what [`Edit::text`] is.
 impl fmt::Display for Edit {
     fn fmt(&self, f: &mut fmt::Formatter<'_>) -> fmt::Result {
-        fmt::Display::fmt(&self.sentence(), f)
+        fmt::Display::fmt(&self.text(), f)
     }
 }
 

@@ -49,7 +49,7 @@ pub const fn is_digit(format: u128, byte: u8) -> bool {
 
 // Whether a byte is absent, or text that is no digit and no sign.
 #[inline(always)]
-const fn is_free(format: u128, byte: u8) -> bool {
+const fn is_absent_or_punctuation(format: u128, byte: u8) -> bool {
     let radix = larger(mantissa_radix(format), exponent_radix(format));
     radix < LIMITS[byte as usize] as u32
 }
@@ -57,51 +57,51 @@ const fn is_free(format: u128, byte: u8) -> bool {
 // Whether a byte is such text.
 #[inline(always)]
 const fn is_punctuation(format: u128, byte: u8) -> bool {
-    byte != 0 && is_free(format, byte)
+    byte != 0 && is_absent_or_punctuation(format, byte)
 }
 
 // Whether two bytes are the two cases of one letter.
 #[inline(always)]
-const fn are_cases(a: u8, b: u8) -> bool {
+const fn is_case_pair(a: u8, b: u8) -> bool {
     a ^ 0x20 == b && is_valid_letter(a)
 }
 
 // Whether no byte plays both of two roles. A role that is not case-sensitive is played by both
 // cases of its letter. A byte of 0 is absent: no byte plays its role.
 #[inline(always)]
-const fn are_disjoint(a: u8, a_case_counts: bool, b: u8, b_case_counts: bool) -> bool {
-    a == 0 || (a != b && (!are_cases(a, b) || (a_case_counts & b_case_counts)))
+const fn roles_disjoint(a: u8, a_case_sensitive: bool, b: u8, b_case_sensitive: bool) -> bool {
+    a == 0 || (a != b && (!is_case_pair(a, b) || (a_case_sensitive & b_case_sensitive)))
 }
 
-// Returns what `are_disjoint` returns. Two bytes that differ in a bit other than 0x20, as most do, are
+// Returns what `roles_disjoint` returns. Two bytes that differ in a bit other than 0x20, as most do, are
 // settled by one comparison.
 #[inline(always)]
-const fn are_apart(a: u8, a_case_counts: bool, b: u8, b_case_counts: bool) -> bool {
-    (a | 0x20) != (b | 0x20) || are_disjoint(a, a_case_counts, b, b_case_counts)
+const fn roles_disjoint_fast(a: u8, a_case_sensitive: bool, b: u8, b_case_sensitive: bool) -> bool {
+    (a | 0x20) != (b | 0x20) || roles_disjoint(a, a_case_sensitive, b, b_case_sensitive)
 }
 
 // Whether two bytes, of which the first is there, have all bits but 0x20 in common. If not, their roles are
 // disjoint, whether case counts or not.
 #[inline(always)]
-const fn are_near(a: u8, b: u8) -> bool {
+const fn may_clash(a: u8, b: u8) -> bool {
     (a != 0) & (a | 0x20 == b | 0x20)
 }
 
 // Whether the base prefix is case-sensitive.
 #[inline(always)]
-const fn prefix_case_counts(format: u128) -> bool {
+const fn prefix_is_case_sensitive(format: u128) -> bool {
     format & CASE_SENSITIVE_BASE_PREFIX != 0
 }
 
 // Whether the base suffix is case-sensitive.
 #[inline(always)]
-const fn suffix_case_counts(format: u128) -> bool {
+const fn suffix_is_case_sensitive(format: u128) -> bool {
     format & CASE_SENSITIVE_BASE_SUFFIX != 0
 }
 
 // Whether the exponent character is case-sensitive.
 #[inline(always)]
-const fn exponent_case_counts(format: u128) -> bool {
+const fn exponent_is_case_sensitive(format: u128) -> bool {
     format & CASE_SENSITIVE_EXPONENT != 0
 }
 
@@ -142,7 +142,7 @@ pub(crate) const fn is_valid_exponent_radix(format: u128) -> bool {
 #[must_use]
 #[inline(always)]
 pub const fn is_valid_digit_separator(format: u128) -> bool {
-    is_free(format, digit_separator(format))
+    is_absent_or_punctuation(format, digit_separator(format))
 }
 
 /// Returns whether the base prefix is 0, or allowed ASCII that is no sign and no digit of the
@@ -150,7 +150,7 @@ pub const fn is_valid_digit_separator(format: u128) -> bool {
 #[must_use]
 #[inline(always)]
 pub const fn is_valid_base_prefix(format: u128) -> bool {
-    is_free(format, base_prefix(format))
+    is_absent_or_punctuation(format, base_prefix(format))
 }
 
 /// Returns whether the base suffix is 0, or allowed ASCII that is no sign and no digit of the
@@ -158,7 +158,7 @@ pub const fn is_valid_base_prefix(format: u128) -> bool {
 #[must_use]
 #[inline(always)]
 pub const fn is_valid_base_suffix(format: u128) -> bool {
-    is_free(format, base_suffix(format))
+    is_absent_or_punctuation(format, base_suffix(format))
 }
 
 /// Returns whether digit separator, base prefix and base suffix differ from each other.
@@ -174,14 +174,14 @@ pub const fn is_valid_punctuation(format: u128) -> bool {
     let separator = digit_separator(format);
     let prefix = base_prefix(format);
     let suffix = base_suffix(format);
-    let prefix_case = prefix_case_counts(format);
-    let suffix_case = suffix_case_counts(format);
+    let prefix_case = prefix_is_case_sensitive(format);
+    let suffix_case = suffix_is_case_sensitive(format);
     let is_near =
-        are_near(separator, prefix) | are_near(separator, suffix) | are_near(prefix, suffix);
+        may_clash(separator, prefix) | may_clash(separator, suffix) | may_clash(prefix, suffix);
     !is_near
-        || (are_disjoint(separator, true, prefix, prefix_case)
-            && are_disjoint(separator, true, suffix, suffix_case)
-            && are_disjoint(prefix, prefix_case, suffix, suffix_case))
+        || (roles_disjoint(separator, true, prefix, prefix_case)
+            && roles_disjoint(separator, true, suffix, suffix_case)
+            && roles_disjoint(prefix, prefix_case, suffix, suffix_case))
 }
 
 /// Returns which of digit separator, base prefix and base suffix share a byte: separator and prefix,
@@ -191,23 +191,23 @@ pub const fn clashes(format: u128) -> [bool; 3] {
     let separator = digit_separator(format);
     let prefix = base_prefix(format);
     let suffix = base_suffix(format);
-    let prefix_case = prefix_case_counts(format);
-    let suffix_case = suffix_case_counts(format);
+    let prefix_case = prefix_is_case_sensitive(format);
+    let suffix_case = suffix_is_case_sensitive(format);
     [
-        !are_disjoint(separator, true, prefix, prefix_case),
-        !are_disjoint(separator, true, suffix, suffix_case),
-        !are_disjoint(prefix, prefix_case, suffix, suffix_case),
+        !roles_disjoint(separator, true, prefix, prefix_case),
+        !roles_disjoint(separator, true, suffix, suffix_case),
+        !roles_disjoint(prefix, prefix_case, suffix, suffix_case),
     ]
 }
 
 // Whether a byte clashes with none of digit separator, base prefix and base suffix.
 #[inline(always)]
-const fn is_apart_from_own(format: u128, byte: u8, case_counts: bool) -> bool {
-    let prefix_case = prefix_case_counts(format);
-    let suffix_case = suffix_case_counts(format);
-    are_apart(byte, case_counts, digit_separator(format), true)
-        && are_apart(byte, case_counts, base_prefix(format), prefix_case)
-        && are_apart(byte, case_counts, base_suffix(format), suffix_case)
+const fn is_disjoint_from_format_roles(format: u128, byte: u8, case_sensitive: bool) -> bool {
+    let prefix_case = prefix_is_case_sensitive(format);
+    let suffix_case = suffix_is_case_sensitive(format);
+    roles_disjoint_fast(byte, case_sensitive, digit_separator(format), true)
+        && roles_disjoint_fast(byte, case_sensitive, base_prefix(format), prefix_case)
+        && roles_disjoint_fast(byte, case_sensitive, base_suffix(format), suffix_case)
 }
 
 /// Returns whether `exponent` can be the exponent character and `decimal_point` the decimal point in
@@ -236,20 +236,20 @@ const fn is_apart_from_own(format: u128, byte: u8, case_counts: bool) -> bool {
 /// For all arguments; [`definitions`](crate::definitions) has the words.
 ///
 /// ```text
-/// ensures accepted { IsTrue result ↔ AreAccepted format exponent decimal_point }
+/// ensures accepted { IsTrue result ↔ OptionsFit format exponent decimal_point }
 /// // In a lawful format this is all that it takes for each byte to play at most one role.
-/// ensures roles { Lawful format → (IsTrue result ↔ HaveOneRole format exponent decimal_point) }
-/// ensures some { Lawful format → LeavesRoom format }
+/// ensures roles { Lawful format → (IsTrue result ↔ OptionsHaveOneRole format exponent decimal_point) }
+/// ensures exists { Lawful format → SomeOptionsFit format }
 /// ```
 #[must_use]
 #[inline(always)]
 pub const fn is_valid_options_punctuation(format: u128, exponent: u8, decimal_point: u8) -> bool {
-    let exponent_case = exponent_case_counts(format);
-    are_apart(exponent, exponent_case, decimal_point, true)
+    let exponent_case = exponent_is_case_sensitive(format);
+    roles_disjoint_fast(exponent, exponent_case, decimal_point, true)
         && is_punctuation(format, decimal_point)
         && is_punctuation(format, exponent)
-        && is_apart_from_own(format, decimal_point, true)
-        && is_apart_from_own(format, exponent, exponent_case)
+        && is_disjoint_from_format_roles(format, decimal_point, true)
+        && is_disjoint_from_format_roles(format, exponent, exponent_case)
 }
 
 /// Returns what is wrong with an exponent character and a decimal point in numbers of this format, and
@@ -260,12 +260,12 @@ pub const fn is_valid_options_punctuation(format: u128, exponent: u8, decimal_po
 /// function.
 #[must_use]
 pub const fn options_error(format: u128, exponent: u8, decimal_point: u8) -> Error {
-    first_unfit(format, exponent, decimal_point)
+    first_options_error(format, exponent, decimal_point)
 }
 
 // The error of the first demand that is not met.
 #[inline(always)]
-const fn first_unfit(format: u128, exponent: u8, decimal_point: u8) -> Error {
+const fn first_options_error(format: u128, exponent: u8, decimal_point: u8) -> Error {
     if !is_punctuation(format, exponent) {
         Error::InvalidExponentSymbol
     } else if !is_punctuation(format, decimal_point) {
@@ -486,7 +486,7 @@ pub const fn radix_error_impl(format: u128) -> Error {
 /// ```text
 /// ensures first { IsErrorOf format result }
 /// ensures lawful { (result ≡ Error.Success) ↔ Lawful format }
-/// ensures only { (other : Error) → IsErrorOf format other → other ≡ result }
+/// ensures unique { (other : Error) → IsErrorOf format other → other ≡ result }
 ///
 /// // The error of reserved bits needs one that is set.
 /// ensures clean { IsClean format → result ≢ Error.InvalidFlags }

@@ -3,34 +3,34 @@
 //! The sentences of reasons and of settings without effect.
 
 use crate::edits::{Edit, FlagSetter};
-use crate::error::{Piece, Sentence, NOTHING};
+use crate::error::{Piece, ShortText, EMPTY_PIECE};
 use crate::reasons::{Reason, Unused};
 use core::fmt;
 
 impl Reason {
     /// Returns one sentence without a stop, such as `the base prefix 'b' is a digit of radix 16`.
     #[must_use]
-    pub const fn sentence(&self) -> Sentence {
+    pub const fn text(&self) -> ShortText {
         match self {
             Reason::OutOfRange(edit) => followed(
-                Piece::Numbered(words(*edit), edit.byte()),
+                Piece::NumberedByte(words(*edit), edit.byte()),
                 " is not 2 to 36",
             ),
             Reason::NotText(edit) => followed(described(edit), " is not a character of ASCII text"),
             Reason::IsSign(edit) => followed(described(edit), " is a sign"),
-            Reason::IsDigit(edit, radix) => Sentence(
-                NOTHING,
+            Reason::IsDigit(edit, radix) => ShortText(
+                EMPTY_PIECE,
                 described(edit),
                 Piece::Words(" is a digit of radix "),
                 Piece::Number(*radix as usize),
             ),
-            Reason::AreSame(a, b) => Sentence(
+            Reason::AreSame(a, b) => ShortText(
                 described(a),
                 Piece::Words(" and "),
                 described(b),
                 Piece::Words(sameness(*a, *b)),
             ),
-            Reason::Contradict(a, b) => Sentence(
+            Reason::Contradict(a, b) => ShortText(
                 named(*a),
                 Piece::Words(" and "),
                 named(*b),
@@ -40,7 +40,7 @@ impl Reason {
                 named(*flag),
                 " needs the internal, leading or trailing flag of the same part",
             ),
-            Reason::ReservedBits => followed(NOTHING, "a reserved bit is set"),
+            Reason::ReservedBits => followed(EMPTY_PIECE, "a reserved bit is set"),
         }
     }
 }
@@ -48,17 +48,17 @@ impl Reason {
 impl Unused {
     /// Returns one sentence without a stop, such as `the digit separator '_' has no effect: no flag allows one`.
     #[must_use]
-    pub const fn sentence(&self) -> Sentence {
+    pub const fn text(&self) -> ShortText {
         match self {
             Unused::NotAllowed(edit) => {
                 followed(described(edit), " has no effect: no flag allows one")
             }
             Unused::NoSeparator => followed(
-                NOTHING,
+                EMPTY_PIECE,
                 "the digit separator flags have no effect: there is no digit separator",
             ),
-            Unused::NoByte(flag, byte) => Sentence(
-                NOTHING,
+            Unused::NoByte(flag, byte) => ShortText(
+                EMPTY_PIECE,
                 named(*flag),
                 Piece::Words(" has no effect: there is no "),
                 Piece::Words(words(*byte)),
@@ -69,24 +69,24 @@ impl Unused {
 
 impl fmt::Display for Reason {
     fn fmt(&self, f: &mut fmt::Formatter<'_>) -> fmt::Result {
-        fmt::Display::fmt(&self.sentence(), f)
+        fmt::Display::fmt(&self.text(), f)
     }
 }
 
 impl fmt::Display for Unused {
     fn fmt(&self, f: &mut fmt::Formatter<'_>) -> fmt::Result {
-        fmt::Display::fmt(&self.sentence(), f)
+        fmt::Display::fmt(&self.text(), f)
     }
 }
 
 // What it is about, and the words after it.
-const fn followed(piece: Piece, end: &'static str) -> Sentence {
-    Sentence(NOTHING, NOTHING, piece, Piece::Words(end))
+const fn followed(piece: Piece, end: &'static str) -> ShortText {
+    ShortText(EMPTY_PIECE, EMPTY_PIECE, piece, Piece::Words(end))
 }
 
 // An edit of a byte: the setting and the byte.
 const fn described(edit: &Edit) -> Piece {
-    Piece::Shown(words(*edit), edit.byte())
+    Piece::QuotedByte(words(*edit), edit.byte())
 }
 
 // The name of a flag.

@@ -2,7 +2,7 @@
 
 use peltzivar::edits::{
     apply_all, edit_word, edits_of, is_built, migrate, normal_form, same_format, Edit, FlagSetter,
-    FIELDS,
+    FIELD_COUNT,
 };
 use peltzivar::error::Error;
 use peltzivar::format_builder::{NonZeroU8, NumberFormatBuilder};
@@ -158,7 +158,7 @@ fn a_word_is_listed_as_edits() {
         Edit::MantissaRadix(16),
     ];
     assert_eq!(edits[..count], needed);
-    assert_eq!((edits.len(), FIELDS), (37, 37));
+    assert_eq!((edits.len(), FIELD_COUNT), (37, 37));
     assert_eq!(edits[count], Edit::Flag(RequiredIntegerDigits, false));
     assert_eq!(edits[36], Edit::ExponentRadix(None));
     for list in [&edits[..], &edits[..count]] {
@@ -175,7 +175,11 @@ fn a_word_is_listed_as_edits() {
         (UNUSED_SEPARATOR, NORMAL, 3),
         (0, 0, 3),
         // All fields but the two flags of a new builder.
-        (u128::MAX, 0xFFFFFFFF_FF0000FF << 64 | FLAG_MASK, FIELDS - 2),
+        (
+            u128::MAX,
+            0xFFFFFFFF_FF0000FF << 64 | FLAG_MASK,
+            FIELD_COUNT - 2,
+        ),
     ] {
         let (edits, needed) = edits_of(word);
         assert_eq!(needed, count, "{word:034X}");

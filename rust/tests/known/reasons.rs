@@ -41,9 +41,9 @@ fn each_reason_has_its_sentence() {
         (0, &[Rule::MantissaRadixInRange, Rule::ExponentBaseInRange, Rule::ExponentRadixInRange], &[text("the mantissa radix 0 is not 2 to 36"), text("the exponent base 0 is not 2 to 36"), text("the exponent radix 0 is not 2 to 36")]),
         (0x00010200000000000000000000000000, &[Rule::ExponentBaseInRange], &[text("the exponent base 1 is not 2 to 36")]),
         (0x01000200000000000000000000000000, &[Rule::ExponentRadixInRange], &[text("the exponent radix 1 is not 2 to 36")]),
-        (0x00000200000000010000000000000000, &[Rule::DigitSeparatorIsFree], &[text("the digit separator 1 is not a character of ASCII text"), text("the digit separator 1 has no effect: no flag allows one")]),
-        (0x00000200010000000000000000000000, &[Rule::BasePrefixIsFree], &[text("the base prefix 1 is not a character of ASCII text")]),
-        (0x00000201000000000000000000000000, &[Rule::BaseSuffixIsFree], &[text("the base suffix 1 is not a character of ASCII text")]),
+        (0x00000200000000010000000000000000, &[Rule::DigitSeparatorIsPunctuation], &[text("the digit separator 1 is not a character of ASCII text"), text("the digit separator 1 has no effect: no flag allows one")]),
+        (0x00000200010000000000000000000000, &[Rule::BasePrefixIsPunctuation], &[text("the base prefix 1 is not a character of ASCII text")]),
+        (0x00000201000000000000000000000000, &[Rule::BaseSuffixIsPunctuation], &[text("the base suffix 1 is not a character of ASCII text")]),
         (0x00000200090000090000000000000000, &[Rule::PunctuationDiffers], &[text("the digit separator 9 and the base prefix 9 are the same"), text("the digit separator 9 has no effect: no flag allows one")]),
         (0x00000200000000000000000000004040, &[Rule::ExponentFlagsAgree], &[exclude("no_exponent_notation", "required_exponent_notation")]),
         (0x00000200000000000000000000000030, &[Rule::MantissaSignFlagsAgree], &[exclude("no_positive_mantissa_sign", "required_mantissa_sign")]),
@@ -54,9 +54,9 @@ fn each_reason_has_its_sentence() {
         (0x00000200000000000000040000000000, &[Rule::FractionConsecutiveIsAllowed], &[flags("fraction_consecutive_digit_separator"), no_separator.clone()]),
         (0x00000200000000000000080000000000, &[Rule::ExponentConsecutiveIsAllowed], &[flags("exponent_consecutive_digit_separator"), no_separator.clone()]),
         (0x00000200000000000000000080000000, &[Rule::ReservedBitsAreZero], &[text("a reserved bit is set")]),
-        (0x00000A002B000000000000000000000C, &[Rule::BasePrefixIsFree], &[text("the base prefix '+' is a sign")]),
-        (0x0A0A100062000000000000000000000C, &[Rule::BasePrefixIsFree], &[text("the base prefix 'b' is a digit of radix 16")]),
-        (0x100A0A6600000000000000000000000C, &[Rule::BaseSuffixIsFree], &[text("the base suffix 'f' is a digit of radix 16")]),
+        (0x00000A002B000000000000000000000C, &[Rule::BasePrefixIsPunctuation], &[text("the base prefix '+' is a sign")]),
+        (0x0A0A100062000000000000000000000C, &[Rule::BasePrefixIsPunctuation], &[text("the base prefix 'b' is a digit of radix 16")]),
+        (0x100A0A6600000000000000000000000C, &[Rule::BaseSuffixIsPunctuation], &[text("the base suffix 'f' is a digit of radix 16")]),
         (0x0A0A0A4868000000000000000000000C, &[Rule::PunctuationDiffers], &[text("the base prefix 'h' and the base suffix 'H' differ only in case, which counts only if both are case-sensitive")]),
         (0x0A0A0A4868000000000000000003000C, &[], &[]),
         (0x0A0A0A0000000000000000000003000C, &[], &[none("case_sensitive_base_prefix", "base prefix"), none("case_sensitive_base_suffix", "base suffix")]),
@@ -83,7 +83,10 @@ fn each_reason_has_its_sentence() {
 #[test]
 fn a_reason_is_a_value() {
     let edit = Edit::BasePrefix(NonZeroU8::new(b'b'));
-    let reasons = reasons_of(Rule::BasePrefixIsFree, 0x0A0A100062000000000000000000000C);
+    let reasons = reasons_of(
+        Rule::BasePrefixIsPunctuation,
+        0x0A0A100062000000000000000000000C,
+    );
     assert_eq!(reasons, [None, None, Some(Reason::IsDigit(edit, 16))]);
 }
 
@@ -95,7 +98,7 @@ fn a_rule_reads_its_fields() {
         0x000000FF_FF0000FF_00000000_00030000
     );
     assert_eq!(
-        Rule::BasePrefixIsFree.mask(),
+        Rule::BasePrefixIsPunctuation.mask(),
         0xFF00FF00_FF000000_00000000_00000000
     );
     assert_eq!(Rule::SpecialSeparatorFlagsAgree.mask(), 0x00001000_00000400);

@@ -32,7 +32,7 @@ fn edits_are_read_back() {
         let name = SETTER_NAMES[usize::from(number)];
         for byte in 0..=255 {
             let edit = Edit::from_number(number, byte).unwrap();
-            assert_eq!((edit.number(), edit.name()), (number, name));
+            assert_eq!((edit.setter_number(), edit.name()), (number, name));
             assert_eq!(edit.byte(), if number < 40 { byte.min(1) } else { byte });
             assert_eq!(Edit::from_name(name, byte), Some(edit));
             assert_eq!(edit.to_string().parse(), Ok(edit));

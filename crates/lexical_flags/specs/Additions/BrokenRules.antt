@@ -31,9 +31,10 @@ abbrev pub bytes_read : Rule → List Byte
 bytes_read rules.MantissaRadixInRange = layout.mantissa_radix ∷ []
 bytes_read rules.ExponentBaseInRange = layout.exponent_base ∷ layout.mantissa_radix ∷ []
 bytes_read rules.ExponentRadixInRange = layout.exponent_radix ∷ layout.mantissa_radix ∷ []
-bytes_read rules.DigitSeparatorIsFree = layout.digit_separator ∷ layout.mantissa_radix ∷ layout.exponent_radix ∷ []
-bytes_read rules.BasePrefixIsFree = layout.base_prefix ∷ layout.mantissa_radix ∷ layout.exponent_radix ∷ []
-bytes_read rules.BaseSuffixIsFree = layout.base_suffix ∷ layout.mantissa_radix ∷ layout.exponent_radix ∷ []
+bytes_read rules.DigitSeparatorIsPunctuation =
+    layout.digit_separator ∷ layout.mantissa_radix ∷ layout.exponent_radix ∷ []
+bytes_read rules.BasePrefixIsPunctuation = layout.base_prefix ∷ layout.mantissa_radix ∷ layout.exponent_radix ∷ []
+bytes_read rules.BaseSuffixIsPunctuation = layout.base_suffix ∷ layout.mantissa_radix ∷ layout.exponent_radix ∷ []
 bytes_read rules.PunctuationDiffers = layout.digit_separator ∷ layout.base_prefix ∷ layout.base_suffix ∷ []
 bytes_read _ = []
 
@@ -42,9 +43,9 @@ abbrev pub mask_read : Rule → ℕ
 mask_read rules.ReservedBitsAreZero = reserved_mask
 mask_read rule = mask_of (flags_read rule) + sum_by byte_mask (bytes_read rule)
 
--- `IsIfBroken word rule broken` holds if `broken` is `Some rule` and `word` breaks `rule`, or `None` and it keeps `rule`.
-abbrev pub IsIfBroken : ℕ → Rule → Option Rule → Type 0
-IsIfBroken word rule broken =
+-- `ReportsRule word rule broken` holds if `broken` is `Some rule` and `word` breaks `rule`, or `None` and it keeps `rule`.
+abbrev pub ReportsRule : ℕ → Rule → Option Rule → Type 0
+ReportsRule word rule broken =
     ((Holds rule word → ⊥) × (broken ≡ Some rule)) ⊎ (Holds rule word × (broken ≡ None))
 
 -- The error of the first of some broken rules, and `Success` if there is none.

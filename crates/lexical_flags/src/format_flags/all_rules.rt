@@ -4,7 +4,7 @@ ghost use Rattle.std.specs.Prelude.{◌≡◌, ◌↔◌, IsTrue};
 ghost use Rattle.std.specs.List.{AllZip};
 ghost use Rattle.lexical_flags.specs.Additions.BrokenRules.{mask_read};
 ghost use Rattle.lexical_flags.specs.Rules.{Holds, IsErrorOf, error_of, rules_in_order};
-ghost use Rattle.lexical_flags.specs.Additions.BrokenRules.{IsIfBroken, first_error};
+ghost use Rattle.lexical_flags.specs.Additions.BrokenRules.{ReportsRule, first_error};
 
 use crate::format_flags::rules::*;
 use crate::format_flags::*;
@@ -23,11 +23,11 @@ pub enum Rule {
     /// The exponent radix, or the mantissa radix if that is 0, is 2 to 36.
     ExponentRadixInRange,
     /// The digit separator is free.
-    DigitSeparatorIsFree,
+    DigitSeparatorIsPunctuation,
     /// The base prefix is free.
-    BasePrefixIsFree,
+    BasePrefixIsPunctuation,
     /// The base suffix is free.
-    BaseSuffixIsFree,
+    BaseSuffixIsPunctuation,
     /// No byte is two of digit separator, base prefix and base suffix.
     PunctuationDiffers,
     /// Exponents are not both forbidden and required.
@@ -55,9 +55,9 @@ pub const RULES: [Rule; 16] = [
     Rule::MantissaRadixInRange,
     Rule::ExponentBaseInRange,
     Rule::ExponentRadixInRange,
-    Rule::DigitSeparatorIsFree,
-    Rule::BasePrefixIsFree,
-    Rule::BaseSuffixIsFree,
+    Rule::DigitSeparatorIsPunctuation,
+    Rule::BasePrefixIsPunctuation,
+    Rule::BaseSuffixIsPunctuation,
     Rule::PunctuationDiffers,
     Rule::ExponentFlagsAgree,
     Rule::MantissaSignFlagsAgree,
@@ -82,9 +82,9 @@ impl Rule {
             Rule::MantissaRadixInRange => Error::InvalidMantissaRadix,
             Rule::ExponentBaseInRange => Error::InvalidExponentBase,
             Rule::ExponentRadixInRange => Error::InvalidExponentRadix,
-            Rule::DigitSeparatorIsFree => Error::InvalidDigitSeparator,
-            Rule::BasePrefixIsFree => Error::InvalidBasePrefix,
-            Rule::BaseSuffixIsFree => Error::InvalidBaseSuffix,
+            Rule::DigitSeparatorIsPunctuation => Error::InvalidDigitSeparator,
+            Rule::BasePrefixIsPunctuation => Error::InvalidBasePrefix,
+            Rule::BaseSuffixIsPunctuation => Error::InvalidBaseSuffix,
             Rule::PunctuationDiffers => Error::InvalidPunctuation,
             Rule::ExponentFlagsAgree => Error::InvalidExponentFlags,
             Rule::MantissaSignFlagsAgree => Error::InvalidMantissaSign,
@@ -105,9 +105,9 @@ impl Rule {
             Rule::MantissaRadixInRange => is_valid_mantissa_radix(format),
             Rule::ExponentBaseInRange => is_valid_exponent_base(format),
             Rule::ExponentRadixInRange => is_valid_exponent_radix(format),
-            Rule::DigitSeparatorIsFree => is_valid_digit_separator(format),
-            Rule::BasePrefixIsFree => is_valid_base_prefix(format),
-            Rule::BaseSuffixIsFree => is_valid_base_suffix(format),
+            Rule::DigitSeparatorIsPunctuation => is_valid_digit_separator(format),
+            Rule::BasePrefixIsPunctuation => is_valid_base_prefix(format),
+            Rule::BaseSuffixIsPunctuation => is_valid_base_suffix(format),
             Rule::PunctuationDiffers => is_valid_punctuation(format),
             Rule::ExponentFlagsAgree => is_valid_exponent_flags(format),
             Rule::MantissaSignFlagsAgree => is_valid_mantissa_sign_flags(format),
@@ -123,7 +123,7 @@ impl Rule {
 
     /// Returns this rule if a word breaks it, and `None` if it keeps it.
     pub const fn if_broken(self, format: u128) -> Option<Rule>
-        ensures { IsIfBroken format self result }
+        ensures { ReportsRule format self result }
     {
         if self.is_kept(format) {
             None
@@ -142,9 +142,9 @@ impl Rule {
             Rule::MantissaRadixInRange => MANTISSA_RADIX,
             Rule::ExponentBaseInRange => EXPONENT_BASE | MANTISSA_RADIX,
             Rule::ExponentRadixInRange => DIGIT_RADIXES,
-            Rule::DigitSeparatorIsFree => DIGIT_SEPARATOR | DIGIT_RADIXES,
-            Rule::BasePrefixIsFree => BASE_PREFIX | DIGIT_RADIXES,
-            Rule::BaseSuffixIsFree => BASE_SUFFIX | DIGIT_RADIXES,
+            Rule::DigitSeparatorIsPunctuation => DIGIT_SEPARATOR | DIGIT_RADIXES,
+            Rule::BasePrefixIsPunctuation => BASE_PREFIX | DIGIT_RADIXES,
+            Rule::BaseSuffixIsPunctuation => BASE_SUFFIX | DIGIT_RADIXES,
             Rule::PunctuationDiffers => {
                 DIGIT_SEPARATOR
                     | BASE_PREFIX
@@ -171,16 +171,16 @@ impl Rule {
 /// In plain Rust `broken_rules(format).into_iter().flatten()` goes through them. The error of the first is
 /// that of [`format_error_impl`].
 pub const fn broken_rules(format: u128) -> [Option<Rule>; RULES.len()]
-    ensures broken { AllZip (IsIfBroken format) rules_in_order result }
+    ensures broken { AllZip (ReportsRule format) rules_in_order result }
     ensures first { IsErrorOf format (first_error result) }
 {
     [
         Rule::MantissaRadixInRange.if_broken(format),
         Rule::ExponentBaseInRange.if_broken(format),
         Rule::ExponentRadixInRange.if_broken(format),
-        Rule::DigitSeparatorIsFree.if_broken(format),
-        Rule::BasePrefixIsFree.if_broken(format),
-        Rule::BaseSuffixIsFree.if_broken(format),
+        Rule::DigitSeparatorIsPunctuation.if_broken(format),
+        Rule::BasePrefixIsPunctuation.if_broken(format),
+        Rule::BaseSuffixIsPunctuation.if_broken(format),
         Rule::PunctuationDiffers.if_broken(format),
         Rule::ExponentFlagsAgree.if_broken(format),
         Rule::MantissaSignFlagsAgree.if_broken(format),

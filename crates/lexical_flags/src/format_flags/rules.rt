@@ -9,11 +9,12 @@ ghost use Rattle.std.specs.Result.{OkIff};
 ghost use Rattle.lexical_base.specs.Ascii.{letters};
 ghost use Rattle.lexical_flags.specs.Layout as layout;
 ghost use Rattle.lexical_flags.specs.Layout.{IsClean};
-ghost use Rattle.lexical_flags.specs.Record.{raw, separator_on};
-ghost use Rattle.lexical_flags.specs.Roles.{Disjoint, are_disjoint, cased, other_case, digits, own_roles};
+ghost use Rattle.lexical_flags.specs.Record.{raw, separator_allowed};
+ghost use Rattle.lexical_flags.specs.Roles.{Disjoint, are_disjoint, cased, other_case, digits, format_roles};
 ghost use Rattle.lexical_flags.specs.Additions.BrokenRules.{clashes};
-ghost use Rattle.lexical_flags.specs.Options.{AreAccepted, IsOptionsError, HaveOneRole, LeavesRoom};
-ghost use Rattle.lexical_flags.specs.Rules.{IsRadix, IsFree, IsPunctuation, Holds, IsFirstError, IsErrorOf, Lawful};
+ghost use Rattle.lexical_flags.specs.Options.{OptionsFit, IsOptionsError, OptionsHaveOneRole, SomeOptionsFit};
+ghost use Rattle.lexical_flags.specs.Rules.{IsRadix, IsAbsentOrPunctuation, IsPunctuation, Holds, IsFirstError};
+ghost use Rattle.lexical_flags.specs.Rules.{IsErrorOf, Lawful};
 ghost use Rattle.lexical_flags.specs.Rules.{radix_rules, punctuation_rules, flag_rules};
 ghost use Rattle.lexical_flags.specs.declared.format_flags.all_rules.Rule.TheVariants as rules;
 
@@ -64,8 +65,8 @@ pub const fn is_digit(format: u128, byte: u8) -> bool
 // Whether a byte is absent, or text that is no digit and no sign.
 #[inline(always)]
 #[tactic(auto)]
-const fn is_free(format: u128, byte: u8) -> bool
-    ensures { IsTrue result ↔ IsFree (raw format) byte }
+const fn is_absent_or_punctuation(format: u128, byte: u8) -> bool
+    ensures { IsTrue result ↔ IsAbsentOrPunctuation (raw format) byte }
 {
     let radix = larger(mantissa_radix(format), exponent_radix(format));
     radix < LIMITS[byte as usize] as u32
@@ -76,13 +77,13 @@ const fn is_free(format: u128, byte: u8) -> bool
 const fn is_punctuation(format: u128, byte: u8) -> bool
     ensures { IsTrue result ↔ IsPunctuation (raw format) byte }
 {
-    byte != 0 && is_free(format, byte)
+    byte != 0 && is_absent_or_punctuation(format, byte)
 }
 
 // Whether two bytes are the two cases of one letter.
 #[inline(always)]
 #[tactic(auto)]
-const fn are_cases(a: u8, b: u8) -> bool
+const fn is_case_pair(a: u8, b: u8) -> bool
     ensures { IsTrue result ↔ (IsTrue (letters a) × (b ≡ other_case a)) }
 {
     a ^ 0x20 == b && is_valid_letter(a)
@@ -92,26 +93,26 @@ const fn are_cases(a: u8, b: u8) -> bool
 // cases of its letter. A byte of 0 is absent: no byte plays its role.
 #[inline(always)]
 #[tactic(auto, using(crate::proofs::CaseLemmas::same_clash, crate::proofs::CaseLemmas::differ_apart))]
-const fn are_disjoint(a: u8, a_case_counts: bool, b: u8, b_case_counts: bool) -> bool
-    ensures { IsTrue result ↔ Disjoint (cased a_case_counts a) (cased b_case_counts b) }
+const fn roles_disjoint(a: u8, a_case_sensitive: bool, b: u8, b_case_sensitive: bool) -> bool
+    ensures { IsTrue result ↔ Disjoint (cased a_case_sensitive a) (cased b_case_sensitive b) }
 {
-    a == 0 || (a != b && (!are_cases(a, b) || (a_case_counts & b_case_counts)))
+    a == 0 || (a != b && (!is_case_pair(a, b) || (a_case_sensitive & b_case_sensitive)))
 }
 
-// Returns what `are_disjoint` returns. Two bytes that differ in a bit other than 0x20, as most do, are
+// Returns what `roles_disjoint` returns. Two bytes that differ in a bit other than 0x20, as most do, are
 // settled by one comparison.
 #[inline(always)]
 #[tactic(auto, using(crate::proofs::CaseLemmas::other_bits_apart))]
-const fn are_apart(a: u8, a_case_counts: bool, b: u8, b_case_counts: bool) -> bool
-    ensures { IsTrue result ↔ Disjoint (cased a_case_counts a) (cased b_case_counts b) }
+const fn roles_disjoint_fast(a: u8, a_case_sensitive: bool, b: u8, b_case_sensitive: bool) -> bool
+    ensures { IsTrue result ↔ Disjoint (cased a_case_sensitive a) (cased b_case_sensitive b) }
 {
-    (a | 0x20) != (b | 0x20) || are_disjoint(a, a_case_counts, b, b_case_counts)
+    (a | 0x20) != (b | 0x20) || roles_disjoint(a, a_case_sensitive, b, b_case_sensitive)
 }
 
 // Whether two bytes, of which the first is there, have all bits but 0x20 in common. If not, their roles are
 // disjoint, whether case counts or not.
 #[inline(always)]
-const fn are_near(a: u8, b: u8) -> bool
+const fn may_clash(a: u8, b: u8) -> bool
     ensures { IsTrue result ↔ ((a ≢ 0) × (bit_or a 32 ≡ bit_or b 32)) }
 {
     (a != 0) & (a | 0x20 == b | 0x20)
@@ -119,7 +120,7 @@ const fn are_near(a: u8, b: u8) -> bool
 
 // Whether the base prefix is case-sensitive.
 #[inline(always)]
-const fn prefix_case_counts(format: u128) -> bool
+const fn prefix_is_case_sensitive(format: u128) -> bool
     ensures { result ≡ (raw format).flag layout.case_sensitive_base_prefix }
 {
     format & CASE_SENSITIVE_BASE_PREFIX != 0
@@ -127,7 +128,7 @@ const fn prefix_case_counts(format: u128) -> bool
 
 // Whether the base suffix is case-sensitive.
 #[inline(always)]
-const fn suffix_case_counts(format: u128) -> bool
+const fn suffix_is_case_sensitive(format: u128) -> bool
     ensures { result ≡ (raw format).flag layout.case_sensitive_base_suffix }
 {
     format & CASE_SENSITIVE_BASE_SUFFIX != 0
@@ -135,7 +136,7 @@ const fn suffix_case_counts(format: u128) -> bool
 
 // Whether the exponent character is case-sensitive.
 #[inline(always)]
-const fn exponent_case_counts(format: u128) -> bool
+const fn exponent_is_case_sensitive(format: u128) -> bool
     ensures { result ≡ (raw format).flag layout.case_sensitive_exponent }
 {
     format & CASE_SENSITIVE_EXPONENT != 0
@@ -184,27 +185,27 @@ pub(crate) const fn is_valid_exponent_radix(format: u128) -> bool
 /// even if one does.
 #[inline(always)]
 pub const fn is_valid_digit_separator(format: u128) -> bool
-    ensures { IsTrue result ↔ Holds rules.DigitSeparatorIsFree format }
+    ensures { IsTrue result ↔ Holds rules.DigitSeparatorIsPunctuation format }
 {
-    is_free(format, digit_separator(format))
+    is_absent_or_punctuation(format, digit_separator(format))
 }
 
 /// Returns whether the base prefix is 0, or allowed ASCII that is no sign and no digit of the
 /// mantissa or of the exponent.
 #[inline(always)]
 pub const fn is_valid_base_prefix(format: u128) -> bool
-    ensures { IsTrue result ↔ Holds rules.BasePrefixIsFree format }
+    ensures { IsTrue result ↔ Holds rules.BasePrefixIsPunctuation format }
 {
-    is_free(format, base_prefix(format))
+    is_absent_or_punctuation(format, base_prefix(format))
 }
 
 /// Returns whether the base suffix is 0, or allowed ASCII that is no sign and no digit of the
 /// mantissa or of the exponent.
 #[inline(always)]
 pub const fn is_valid_base_suffix(format: u128) -> bool
-    ensures { IsTrue result ↔ Holds rules.BaseSuffixIsFree format }
+    ensures { IsTrue result ↔ Holds rules.BaseSuffixIsPunctuation format }
 {
-    is_free(format, base_suffix(format))
+    is_absent_or_punctuation(format, base_suffix(format))
 }
 
 /// Returns whether digit separator, base prefix and base suffix differ from each other.
@@ -221,15 +222,15 @@ pub const fn is_valid_punctuation(format: u128) -> bool
     let separator = digit_separator(format);
     let prefix = base_prefix(format);
     let suffix = base_suffix(format);
-    let prefix_case = prefix_case_counts(format);
-    let suffix_case = suffix_case_counts(format);
-    let is_near = are_near(separator, prefix)
-        | are_near(separator, suffix)
-        | are_near(prefix, suffix);
+    let prefix_case = prefix_is_case_sensitive(format);
+    let suffix_case = suffix_is_case_sensitive(format);
+    let is_near = may_clash(separator, prefix)
+        | may_clash(separator, suffix)
+        | may_clash(prefix, suffix);
     !is_near
-        || (are_disjoint(separator, true, prefix, prefix_case)
-            && are_disjoint(separator, true, suffix, suffix_case)
-            && are_disjoint(prefix, prefix_case, suffix, suffix_case))
+        || (roles_disjoint(separator, true, prefix, prefix_case)
+            && roles_disjoint(separator, true, suffix, suffix_case)
+            && roles_disjoint(prefix, prefix_case, suffix, suffix_case))
 }
 
 /// Returns which of digit separator, base prefix and base suffix share a byte: separator and prefix,
@@ -241,25 +242,25 @@ pub const fn clashes(format: u128) -> [bool; 3]
     let separator = digit_separator(format);
     let prefix = base_prefix(format);
     let suffix = base_suffix(format);
-    let prefix_case = prefix_case_counts(format);
-    let suffix_case = suffix_case_counts(format);
+    let prefix_case = prefix_is_case_sensitive(format);
+    let suffix_case = suffix_is_case_sensitive(format);
     [
-        !are_disjoint(separator, true, prefix, prefix_case),
-        !are_disjoint(separator, true, suffix, suffix_case),
-        !are_disjoint(prefix, prefix_case, suffix, suffix_case),
+        !roles_disjoint(separator, true, prefix, prefix_case),
+        !roles_disjoint(separator, true, suffix, suffix_case),
+        !roles_disjoint(prefix, prefix_case, suffix, suffix_case),
     ]
 }
 
 // Whether a byte clashes with none of digit separator, base prefix and base suffix.
 #[inline(always)]
-const fn is_apart_from_own(format: u128, byte: u8, case_counts: bool) -> bool
-    ensures { IsTrue result ↔ AllByRecursion (Disjoint (cased case_counts byte)) (own_roles (raw format)) }
+const fn is_disjoint_from_format_roles(format: u128, byte: u8, case_sensitive: bool) -> bool
+    ensures { IsTrue result ↔ AllByRecursion (Disjoint (cased case_sensitive byte)) (format_roles (raw format)) }
 {
-    let prefix_case = prefix_case_counts(format);
-    let suffix_case = suffix_case_counts(format);
-    are_apart(byte, case_counts, digit_separator(format), true)
-        && are_apart(byte, case_counts, base_prefix(format), prefix_case)
-        && are_apart(byte, case_counts, base_suffix(format), suffix_case)
+    let prefix_case = prefix_is_case_sensitive(format);
+    let suffix_case = suffix_is_case_sensitive(format);
+    roles_disjoint_fast(byte, case_sensitive, digit_separator(format), true)
+        && roles_disjoint_fast(byte, case_sensitive, base_prefix(format), prefix_case)
+        && roles_disjoint_fast(byte, case_sensitive, base_suffix(format), suffix_case)
 }
 
 /// Returns whether `exponent` can be the exponent character and `decimal_point` the decimal point in
@@ -285,17 +286,17 @@ const fn is_apart_from_own(format: u128, byte: u8, case_counts: bool) -> bool
 #[inline(always)]
 #[tactic(auto)]
 pub const fn is_valid_options_punctuation(format: u128, exponent: u8, decimal_point: u8) -> bool
-    ensures accepted { IsTrue result ↔ AreAccepted format exponent decimal_point }
+    ensures accepted { IsTrue result ↔ OptionsFit format exponent decimal_point }
     // In a lawful format this is all that it takes for each byte to play at most one role.
-    ensures roles { Lawful format → (IsTrue result ↔ HaveOneRole format exponent decimal_point) }
-    ensures some { Lawful format → LeavesRoom format }
+    ensures roles { Lawful format → (IsTrue result ↔ OptionsHaveOneRole format exponent decimal_point) }
+    ensures exists { Lawful format → SomeOptionsFit format }
 {
-    let exponent_case = exponent_case_counts(format);
-    are_apart(exponent, exponent_case, decimal_point, true)
+    let exponent_case = exponent_is_case_sensitive(format);
+    roles_disjoint_fast(exponent, exponent_case, decimal_point, true)
         && is_punctuation(format, decimal_point)
         && is_punctuation(format, exponent)
-        && is_apart_from_own(format, decimal_point, true)
-        && is_apart_from_own(format, exponent, exponent_case)
+        && is_disjoint_from_format_roles(format, decimal_point, true)
+        && is_disjoint_from_format_roles(format, exponent, exponent_case)
 }
 
 /// Returns what is wrong with an exponent character and a decimal point in numbers of this format, and
@@ -306,15 +307,15 @@ pub const fn is_valid_options_punctuation(format: u128, exponent: u8, decimal_po
 /// function.
 pub const fn options_error(format: u128, exponent: u8, decimal_point: u8) -> Error
     ensures first { IsOptionsError format exponent decimal_point result }
-    ensures accepted { (result ≡ Error.Success) ↔ AreAccepted format exponent decimal_point }
-    ensures only { (other : Error) → IsOptionsError format exponent decimal_point other → other ≡ result }
+    ensures accepted { (result ≡ Error.Success) ↔ OptionsFit format exponent decimal_point }
+    ensures unique { (other : Error) → IsOptionsError format exponent decimal_point other → other ≡ result }
 {
-    first_unfit(format, exponent, decimal_point)
+    first_options_error(format, exponent, decimal_point)
 }
 
 // The error of the first demand that is not met.
 #[inline(always)]
-const fn first_unfit(format: u128, exponent: u8, decimal_point: u8) -> Error
+const fn first_options_error(format: u128, exponent: u8, decimal_point: u8) -> Error
     ensures { IsOptionsError format exponent decimal_point result }
 {
     if !is_punctuation(format, exponent) {
@@ -407,7 +408,7 @@ pub const fn is_clean(format: u128) -> bool
 #[inline(always)]
 #[tactic(auto, using(crate::proofs::FlagBits::separator_flag_set, crate::proofs::FlagBits::no_separator_flag_set))]
 pub const fn is_separator_allowed(format: u128) -> bool
-    ensures { result ≡ separator_on (raw format) }
+    ensures { result ≡ separator_allowed (raw format) }
 {
     format & DIGIT_SEPARATOR_FLAG_MASK != 0
 }
@@ -528,7 +529,7 @@ const fn first_broken(format: u128) -> Error
 #[tactic(auto)]
 pub const fn radix_error_impl(format: u128) -> Error
     ensures first { IsFirstError radix_rules format result }
-    ensures only { (other : Error) → IsFirstError radix_rules format other → other ≡ result }
+    ensures unique { (other : Error) → IsFirstError radix_rules format other → other ≡ result }
 {
     if !is_valid_mantissa_radix(format) {
         Error::InvalidMantissaRadix
@@ -570,7 +571,7 @@ pub const fn radix_error_impl(format: u128) -> Error
 pub const fn format_error_impl(format: u128) -> Error
     ensures first { IsErrorOf format result }
     ensures lawful { (result ≡ Error.Success) ↔ Lawful format }
-    ensures only { (other : Error) → IsErrorOf format other → other ≡ result }
+    ensures unique { (other : Error) → IsErrorOf format other → other ≡ result }
 
     // The error of reserved bits needs one that is set.
     ensures clean { IsClean format → result ≢ Error.InvalidFlags }

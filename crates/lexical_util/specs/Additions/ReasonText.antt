@@ -1,8 +1,8 @@
--- For `sentence` of reasons: why a rule is broken, and what has no effect, in words.
+-- For `text` of reasons: why a rule is broken, and what has no effect, in words.
 use Rattle.std.specs.Prelude.{ℕ, ◌==◌, if◌then◌else◌, List, ◌++◌, codes, decimal}
-use Rattle.lexical_base.specs.Additions.Sentences.{numbered, shown}
+use Rattle.lexical_base.specs.Additions.ShortTexts.{numbered_byte, quoted_byte}
 use Rattle.lexical_util.specs.Additions.SetterNames.{setter_name}
-use Rattle.lexical_util.specs.Additions.SettingNumbers.{byte_of}
+use Rattle.lexical_util.specs.Additions.SettingNumbers.{argument_byte}
 use Rattle.lexical_util.specs.declared.edits.Edit.{Edit}
 use Rattle.lexical_util.specs.declared.edits.Edit.TheVariants as edits
 use Rattle.lexical_util.specs.declared.reasons.Reason.{Reason}
@@ -23,16 +23,16 @@ words_of (edits.ExponentRadix radix) = codes "exponent radix"
 
 -- a setting with its byte as a number
 abbrev pub numbered_text : Edit → List ℕ
-numbered_text edit = numbered (words_of edit) (byte_of edit)
+numbered_text edit = numbered_byte (words_of edit) (argument_byte edit)
 
 -- a setting with its byte as a character between quotes, or as a number if the character cannot be seen
 abbrev pub described : Edit → List ℕ
-described edit = shown (words_of edit) (byte_of edit)
+described edit = quoted_byte (words_of edit) (argument_byte edit)
 
 -- what is said of two bytes that are the same, or differ only in case
 abbrev pub sameness : Edit → Edit → List ℕ
 sameness a b =
-    if byte_of a == byte_of b then codes " are the same"
+    if argument_byte a == argument_byte b then codes " are the same"
     else codes " differ only in case, which counts only if both are case-sensitive"
 
 -- the sentence of a reason

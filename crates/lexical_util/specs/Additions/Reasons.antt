@@ -7,10 +7,10 @@ use Rattle.lexical_base.specs.Ascii.{ByteSet, between, allowed_ascii}
 use Rattle.lexical_base.specs.Digits.{digits_of}
 use Rattle.lexical_flags.specs.Layout as layout
 use Rattle.lexical_flags.specs.Layout.{IsClean}
-use Rattle.lexical_flags.specs.Record.{Record, set_byte, raw, separator_on, effective_exponent_base, effective_exponent_radix}
+use Rattle.lexical_flags.specs.Record.{Record, set_byte, raw, separator_allowed, effective_exponent_base, effective_exponent_radix}
 use Rattle.lexical_flags.specs.Roles.{are_disjoint, digits, signs, separator, prefix, suffix}
 use Rattle.lexical_flags.specs.Rules.{contradict, Holds}
-use Rattle.lexical_flags.specs.Options.{AreAccepted}
+use Rattle.lexical_flags.specs.Options.{OptionsFit}
 use Rattle.lexical_flags.specs.Additions.BrokenRules.{mask_read}
 use Rattle.lexical_flags.specs.declared.format_flags.all_rules.Rule.{Rule}
 use Rattle.lexical_flags.specs.declared.format_flags.all_rules.Rule.TheVariants as rules
@@ -88,10 +88,10 @@ cases_of rules.ExponentBaseInRange word =
     let base = effective_exponent_base (raw word) in out_of_range base (edits.ExponentBase (option_of_byte base))
 cases_of rules.ExponentRadixInRange word =
     let radix = effective_exponent_radix (raw word) in out_of_range radix (edits.ExponentRadix (option_of_byte radix))
-cases_of rules.DigitSeparatorIsFree word =
+cases_of rules.DigitSeparatorIsPunctuation word =
     let r = raw word in not_free r (r.byte layout.digit_separator) (separator_edit r)
-cases_of rules.BasePrefixIsFree word = let r = raw word in not_free r (r.byte layout.base_prefix) (prefix_edit r)
-cases_of rules.BaseSuffixIsFree word = let r = raw word in not_free r (r.byte layout.base_suffix) (suffix_edit r)
+cases_of rules.BasePrefixIsPunctuation word = let r = raw word in not_free r (r.byte layout.base_prefix) (prefix_edit r)
+cases_of rules.BaseSuffixIsPunctuation word = let r = raw word in not_free r (r.byte layout.base_suffix) (suffix_edit r)
 cases_of rules.PunctuationDiffers word =
     let r = raw word in
     share (separator r) (prefix r) (separator_edit r) (prefix_edit r)
@@ -110,8 +110,8 @@ reasons_of rule word = filter_map said (cases_of rule word)
 -- byte that is absent
 abbrev pub unused_cases : Record → List (Case Unused)
 unused_cases r =
-    (not (separator_on r) && not (r.byte layout.digit_separator == 0), unused.NotAllowed (separator_edit r))
-    ∷ (separator_on r && (r.byte layout.digit_separator == 0), unused.NoSeparator)
+    (not (separator_allowed r) && not (r.byte layout.digit_separator == 0), unused.NotAllowed (separator_edit r))
+    ∷ (separator_allowed r && (r.byte layout.digit_separator == 0), unused.NoSeparator)
     ∷ (r.flag layout.case_sensitive_base_prefix && (r.byte layout.base_prefix == 0), unused.NoByte setters.CaseSensitiveBasePrefix (edits.BasePrefix None))
     ∷ (r.flag layout.case_sensitive_base_suffix && (r.byte layout.base_suffix == 0), unused.NoByte setters.CaseSensitiveBaseSuffix (edits.BaseSuffix None))
     ∷ []
@@ -142,4 +142,4 @@ pub record IsWith (fields : Record) (word other : ℕ) : Type 0 where
 -- words that keep the same rules, and to which the same options fit
 pub record SameRules (v w : ℕ) : Type 0 where
   pub rules : (rule : Rule) → Holds rule v ↔ Holds rule w
-  pub options : (exponent_byte point_byte : ℕ) → AreAccepted v exponent_byte point_byte ↔ AreAccepted w exponent_byte point_byte
+  pub options : (exponent_byte point_byte : ℕ) → OptionsFit v exponent_byte point_byte ↔ OptionsFit w exponent_byte point_byte

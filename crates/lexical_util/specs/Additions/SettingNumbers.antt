@@ -29,39 +29,39 @@ abbrev pub setter_count : ℕ
 setter_count = first_byte + 7
 
 -- the name of a setter's number
-abbrev pub name_of_setter : ℕ → List ℕ
-name_of_setter setter = get_or setter_names setter []
+abbrev pub setter_name_of_number : ℕ → List ℕ
+setter_name_of_number setter = get_or setter_names setter []
 
 -- the number of a name; of any other text it is that count
 abbrev pub number_of_name : List ℕ → ℕ
 number_of_name name = position_or_len (λ other. bytes_eq other name) setter_names
 
 -- the number of an edit's setter
-abbrev pub number_of : Edit → ℕ
-number_of (edits.Flag setter value) = number_of_name (setter_name setter)
-number_of (edits.DigitSeparator byte) = first_byte
-number_of (edits.BasePrefix byte) = first_byte + 1
-number_of (edits.BaseSuffix byte) = first_byte + 2
-number_of (edits.MantissaRadix radix) = first_byte + 3
-number_of (edits.Radix radix) = first_byte + 4
-number_of (edits.ExponentBase base) = first_byte + 5
-number_of (edits.ExponentRadix radix) = first_byte + 6
+abbrev pub setter_number : Edit → ℕ
+setter_number (edits.Flag setter value) = number_of_name (setter_name setter)
+setter_number (edits.DigitSeparator byte) = first_byte
+setter_number (edits.BasePrefix byte) = first_byte + 1
+setter_number (edits.BaseSuffix byte) = first_byte + 2
+setter_number (edits.MantissaRadix radix) = first_byte + 3
+setter_number (edits.Radix radix) = first_byte + 4
+setter_number (edits.ExponentBase base) = first_byte + 5
+setter_number (edits.ExponentRadix radix) = first_byte + 6
 
 -- the name of an edit's setter
 abbrev pub name_of : Edit → List ℕ
-name_of edit = name_of_setter (number_of edit)
+name_of edit = setter_name_of_number (setter_number edit)
 
 -- the argument of an edit as a byte
-abbrev pub byte_of : Edit → ℕ
-byte_of (edits.Flag setter true) = 1
-byte_of (edits.Flag setter false) = 0
-byte_of (edits.DigitSeparator byte) = byte_of_option byte
-byte_of (edits.BasePrefix byte) = byte_of_option byte
-byte_of (edits.BaseSuffix byte) = byte_of_option byte
-byte_of (edits.MantissaRadix radix) = radix
-byte_of (edits.Radix radix) = radix
-byte_of (edits.ExponentBase base) = byte_of_option base
-byte_of (edits.ExponentRadix radix) = byte_of_option radix
+abbrev pub argument_byte : Edit → ℕ
+argument_byte (edits.Flag setter true) = 1
+argument_byte (edits.Flag setter false) = 0
+argument_byte (edits.DigitSeparator byte) = byte_of_option byte
+argument_byte (edits.BasePrefix byte) = byte_of_option byte
+argument_byte (edits.BaseSuffix byte) = byte_of_option byte
+argument_byte (edits.MantissaRadix radix) = radix
+argument_byte (edits.Radix radix) = radix
+argument_byte (edits.ExponentBase base) = byte_of_option base
+argument_byte (edits.ExponentRadix radix) = byte_of_option radix
 
 -- the setter of flags with a number below that of the bytes
 abbrev pub flag_setter : ℕ → FlagSetter

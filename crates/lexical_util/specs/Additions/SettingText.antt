@@ -6,7 +6,7 @@ use Rattle.std.specs.Result.{result_ok}
 use Rattle.lexical_base.specs.Digits.{numeral}
 use Rattle.lexical_builder.specs.OptionByte.{option_of_byte}
 use Rattle.lexical_util.specs.Additions.Numeral.{is_numeral}
-use Rattle.lexical_util.specs.Additions.SettingNumbers.{name_of, byte_of, edit_of_name}
+use Rattle.lexical_util.specs.Additions.SettingNumbers.{name_of, argument_byte, edit_of_name}
 use Rattle.lexical_util.specs.declared.edits.Edit.{Edit}
 use Rattle.lexical_util.specs.declared.edits.Edit.TheVariants as edits
 use Rattle.lexical_util.specs.declared.edits.text.SettingError.{SettingError}
@@ -26,12 +26,13 @@ abbrev pub byte_error : List ℕ → SettingError
 byte_error text = if is_numeral 10 (length text) text then errors.OutOfRange else errors.BadValue
 
 -- the byte that a text writes
-abbrev pub byte_in : List ℕ → Result ℕ SettingError
-byte_in text = if is_byte_text text then Ok (numeral 10 text) else Err (byte_error text)
+abbrev pub byte_from_text : List ℕ → Result ℕ SettingError
+byte_from_text text = if is_byte_text text then Ok (numeral 10 text) else Err (byte_error text)
 
 -- the byte, or its absence, that a text writes; `none` and 0 mean that it is absent
-abbrev pub optional_byte_in : List ℕ → Result (Option ℕ) SettingError
-optional_byte_in text = if bytes_eq text (codes "none") then Ok None else map_ok option_of_byte (byte_in text)
+abbrev pub optional_byte_from_text : List ℕ → Result (Option ℕ) SettingError
+optional_byte_from_text text =
+    if bytes_eq text (codes "none") then Ok None else map_ok option_of_byte (byte_from_text text)
 
 -- the text of a `bool`
 abbrev pub truth_text : Bool → List ℕ
@@ -46,13 +47,13 @@ truth_in text = if bytes_eq text (truth_text true) then Ok true else if bytes_eq
 -- the edit of the same setter as another, with the value that a text writes
 abbrev pub with_value : Edit → List ℕ → Result Edit SettingError
 with_value (edits.Flag setter other) text = map_ok (edits.Flag setter) (truth_in text)
-with_value (edits.DigitSeparator other) text = map_ok edits.DigitSeparator (optional_byte_in text)
-with_value (edits.BasePrefix other) text = map_ok edits.BasePrefix (optional_byte_in text)
-with_value (edits.BaseSuffix other) text = map_ok edits.BaseSuffix (optional_byte_in text)
-with_value (edits.MantissaRadix other) text = map_ok edits.MantissaRadix (byte_in text)
-with_value (edits.Radix other) text = map_ok edits.Radix (byte_in text)
-with_value (edits.ExponentBase other) text = map_ok edits.ExponentBase (optional_byte_in text)
-with_value (edits.ExponentRadix other) text = map_ok edits.ExponentRadix (optional_byte_in text)
+with_value (edits.DigitSeparator other) text = map_ok edits.DigitSeparator (optional_byte_from_text text)
+with_value (edits.BasePrefix other) text = map_ok edits.BasePrefix (optional_byte_from_text text)
+with_value (edits.BaseSuffix other) text = map_ok edits.BaseSuffix (optional_byte_from_text text)
+with_value (edits.MantissaRadix other) text = map_ok edits.MantissaRadix (byte_from_text text)
+with_value (edits.Radix other) text = map_ok edits.Radix (byte_from_text text)
+with_value (edits.ExponentBase other) text = map_ok edits.ExponentBase (optional_byte_from_text text)
+with_value (edits.ExponentRadix other) text = map_ok edits.ExponentRadix (optional_byte_from_text text)
 
 -- the edit of a setter, if there is one, with the value that a text writes
 abbrev pub setting_of : Option Edit → List ℕ → Result Edit SettingError
@@ -100,4 +101,4 @@ error_text errors.OutOfRange = codes "the number must be 0 to 255, in at most 3 
 
 -- an edit as a program has it: its byte is below 256, and a byte that is not absent is not 0
 abbrev pub HasByte : Edit → Type 0
-HasByte edit = (byte_of edit < 256) × (edit_of_name (name_of edit) (byte_of edit) ≡ Some edit)
+HasByte edit = (argument_byte edit < 256) × (edit_of_name (name_of edit) (argument_byte edit) ≡ Some edit)

@@ -4,14 +4,14 @@ ghost use Rattle.std.specs.Prelude.{◌≡◌, ◌≤◌, ◌↔◌, ◌++◌, I
 ghost use Rattle.std.specs.List.{AllZip};
 ghost use Rattle.lexical_flags.specs.Layout as layout;
 ghost use Rattle.lexical_flags.specs.Layout.{IsClean};
-ghost use Rattle.lexical_flags.specs.Record.{raw, pack, SeparatorIsUsed, IsBuilt};
+ghost use Rattle.lexical_flags.specs.Record.{raw, pack, SeparatorAllowedOrAbsent, IsBuilt};
 ghost use Rattle.lexical_builder.specs.Writes.{Write, IsLegal, new_record, after};
 ghost use Rattle.lexical_util.specs.Edits.{all_writes};
 ghost use Rattle.lexical_util.specs.Listing.{IsEditOf, needed_writes, other_writes, IsBuiltByWrites};
 ghost use Rattle.lexical_util.specs.Additions.FieldEdits.{field_edits};
 ghost use Rattle.lexical_util.specs.Private.{differs_from_new};
 
-use crate::edits::{Edit, FIELDS, FlagSetter};
+use crate::edits::{Edit, FIELD_COUNT, FlagSetter};
 use crate::feature_format::NumberFormat;
 use lexical_builder::format_builder::NonZeroU8;
 use lexical_flags::format_flags as flags;
@@ -24,12 +24,12 @@ pub const fn is_built(format: u128) -> bool
     // Exactly these words are made by setter calls on a new builder.
     ensures image { IsTrue result ↔ IsBuiltByWrites format }
 {
-    flags::is_clean(format) && is_separator_used(format)
+    flags::is_clean(format) && is_separator_allowed_or_absent(format)
 }
 
 // Whether there is no digit separator, or a flag that allows one.
-const fn is_separator_used(format: u128) -> bool
-    ensures { IsTrue result ↔ SeparatorIsUsed (raw format) }
+const fn is_separator_allowed_or_absent(format: u128) -> bool
+    ensures { IsTrue result ↔ SeparatorAllowedOrAbsent (raw format) }
 {
     flags::digit_separator(format) == 0 || flags::is_separator_allowed(format)
 }
@@ -52,7 +52,7 @@ const fn is_separator_used(format: u128) -> bool
 /// let needed = [Edit::Flag(FlagSetter::RequiredExponentDigits, false), Edit::MantissaRadix(16)];
 /// assert_eq!(edits[..count], needed);
 /// ```
-pub fn edits_of(format: u128) -> ([Edit; FIELDS], usize)
+pub fn edits_of(format: u128) -> ([Edit; FIELD_COUNT], usize)
     ensures list { AllZip IsEditOf (needed_writes (raw format) ++ other_writes (raw format)) result.0 }
     ensures number { result.1 ≡ length (needed_writes (raw format)) }
     ensures legal { All IsLegal (all_writes result.0) }
@@ -75,7 +75,7 @@ pub fn edits_of(format: u128) -> ([Edit; FIELDS], usize)
 }
 
 /// Returns the edits that write all fields of `format` with their values, in the order of their bits.
-pub const fn field_edits_of(format: u128) -> [Edit; FIELDS]
+pub const fn field_edits_of(format: u128) -> [Edit; FIELD_COUNT]
     ensures { result ≡ field_edits (raw format) }
 {
     macro_rules! edits_of_fields {
@@ -116,7 +116,7 @@ const fn raw_exponent_radix(format: u128) -> u8
 
 // Whether an edit changes a new builder.
 #[tactic(auto, using(crate::proofs::ChangeLemmas::flag_change, crate::proofs::ChangeLemmas::group_change))]
-const fn is_change(edit: Edit) -> bool
+const fn differs_from_new(edit: Edit) -> bool
     ensures { result ≡ differs_from_new edit }
 {
     match edit {
@@ -143,7 +143,7 @@ fn move_to_front(edits: &mut [Edit], changed: bool) -> usize
 {
     let mut count = 0;
     for index in 0..edits.len() {
-        if is_change(edits[index]) == changed {
+        if differs_from_new(edits[index]) == changed {
             edits.swap(count, index);
             count += 1;
         }

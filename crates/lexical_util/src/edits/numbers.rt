@@ -2,7 +2,7 @@
 
 ghost use Rattle.std.specs.Prelude.{◌≡◌, ◌<◌, ◌↔◌, ℕ, Some};
 ghost use Rattle.lexical_util.specs.Additions.SetterNames.{setter_name};
-ghost use Rattle.lexical_util.specs.Additions.SettingNumbers.{number_of, name_of, name_of_setter, byte_of, mask_of_edit};
+ghost use Rattle.lexical_util.specs.Additions.SettingNumbers.{setter_number, name_of, setter_name_of_number, argument_byte, mask_of_edit};
 ghost use Rattle.lexical_util.specs.Additions.SettingNumbers.{setter_count, number_of_name, edit_of_numbers, edit_of_name};
 
 use crate::edits::{Edit, FlagSetter, SETTERS, edit_word};
@@ -59,12 +59,12 @@ impl FlagSetter {
 
 impl Edit {
     /// Returns the number of the setter: its index in [`SETTER_NAMES`].
-    pub const fn number(self) -> u8
-        ensures number { result ≡ number_of self }
+    pub const fn setter_number(self) -> u8
+        ensures number { result ≡ setter_number self }
         ensures setter { result < setter_count }
 
         // The number and the byte are the edit.
-        ensures read_back { edit_of_numbers result (byte_of self) ≡ Some self }
+        ensures read_back { edit_of_numbers result (argument_byte self) ≡ Some self }
     {
         match self {
             Edit::Flag(setter, _) => setter as u8,
@@ -83,14 +83,14 @@ impl Edit {
         ensures name { result.now ≡ name_of self }
 
         // The name and the byte are the edit.
-        ensures read_back { edit_of_name result.now (byte_of self) ≡ Some self }
+        ensures read_back { edit_of_name result.now (argument_byte self) ≡ Some self }
     {
-        name_of_number(self.number())
+        setter_name_of_number(self.setter_number())
     }
 
     /// Returns the argument as a byte: for a flag 1 if it is `true` and 0 if not, and 0 for `None`.
     pub const fn byte(self) -> u8
-        ensures { result ≡ byte_of self }
+        ensures { result ≡ argument_byte self }
     {
         match self {
             Edit::Flag(_, flag) => flag as u8,
@@ -154,8 +154,8 @@ impl Edit {
 }
 
 /// Returns the name of the setter of this number, or an empty text if there is none.
-pub const fn name_of_number(number: u8) -> &'static str
-    ensures { result.now ≡ name_of_setter number }
+pub const fn setter_name_of_number(number: u8) -> &'static str
+    ensures { result.now ≡ setter_name_of_number number }
 {
     if number < SETTER_COUNT {
         SETTER_NAMES[number as usize]
@@ -167,12 +167,12 @@ pub const fn name_of_number(number: u8) -> &'static str
 /// Returns the number of the setter of this name, or the length of [`SETTER_NAMES`] if there is none.
 pub fn number_of_name(name: &[u8]) -> u8
     ensures number { result ≡ number_of_name name.now }
-    ensures named { result < setter_count → name_of_setter result ≡ name.now }
+    ensures named { result < setter_count → setter_name_of_number result ≡ name.now }
     ensures none { (result < setter_count → ⊥)
-        → (setter : ℕ) → setter < setter_count → name_of_setter setter ≡ name.now → ⊥ }
+        → (setter : ℕ) → setter < setter_count → setter_name_of_number setter ≡ name.now → ⊥ }
 {
     for number in 0..SETTER_COUNT {
-        if name_of_number(number).as_bytes() == name {
+        if setter_name_of_number(number).as_bytes() == name {
             return number;
         }
     }

@@ -1,16 +1,17 @@
 //! Settings as text: `NAME=VALUE`.
 
 ghost use Rattle.std.specs.Prelude.{◌≡◌, ◌≤◌, Bool, Some, length};
-ghost use Rattle.lexical_base.specs.Additions.Sentences.{piece_text};
-ghost use Rattle.lexical_base.specs.Private.{room};
+ghost use Rattle.lexical_base.specs.Additions.ShortTexts.{piece_text};
+ghost use Rattle.lexical_base.specs.Private.{max_length};
 ghost use Rattle.lexical_util.specs.Additions.Numeral.{is_numeral};
-ghost use Rattle.lexical_util.specs.Additions.SettingText.{byte_in, optional_byte_in, truth_in, with_value, setting_in};
+ghost use Rattle.lexical_util.specs.Additions.SettingText.{byte_from_text, optional_byte_from_text, truth_in};
+ghost use Rattle.lexical_util.specs.Additions.SettingText.{with_value, setting_in};
 ghost use Rattle.lexical_util.specs.Additions.SettingText.{edit_or_error_in, setting_text, value_text, error_text};
 
 use crate::edits::Edit;
 use crate::numeral::read_numeral;
 use lexical_base::digit::char_to_digit;
-use lexical_base::error::{NOTHING, Piece, Sentence};
+use lexical_base::error::{EMPTY_PIECE, Piece, ShortText};
 use lexical_builder::format_builder::{NonZeroU8, OptionU8};
 use std::fmt;
 
@@ -70,11 +71,11 @@ impl Edit {
 impl Edit {
     /// Returns `NAME=VALUE`, such as `mantissa_radix=16`, `no_special=true` or `digit_separator=none`.
     #[tactic(auto, using(crate::proofs::ReasonTextLemmas::short_name))]
-    pub const fn sentence(&self) -> Sentence
+    pub const fn text(&self) -> ShortText
         ensures { result ≡ setting_text self.now }
     {
-        Sentence(
-            NOTHING,
+        ShortText(
+            EMPTY_PIECE,
             Piece::Words(self.name()),
             Piece::Words("="),
             value(self),
@@ -82,19 +83,19 @@ impl Edit {
     }
 }
 
-/// Prints what [`Edit::sentence`] is.
+/// Prints what [`Edit::text`] is.
 impl fmt::Display for Edit {
     ghost output = { λ edit. Some (setting_text edit) };
 
     fn fmt<W: fmt::Write>(&self, f: &mut fmt::Formatter<W>) -> fmt::Result {
-        fmt::Display::fmt(&self.sentence(), f)
+        fmt::Display::fmt(&self.text(), f)
     }
 }
 
 // The text of an edit's argument.
 const fn value(edit: &Edit) -> Piece
     ensures text { piece_text result ≡ value_text edit.now }
-    ensures short { room result ≤ 64 }
+    ensures short { max_length result ≤ 64 }
 {
     match edit {
         Edit::Flag(_, true) => Piece::Words("true"),
@@ -140,7 +141,7 @@ fn truth_from_text(text: &str) -> Result<bool, SettingError>
 
 // Parses `none` or a byte; 0 means `none`.
 fn optional_byte_from_text(text: &str) -> Result<OptionU8, SettingError>
-    ensures { result ≡ optional_byte_in text.now }
+    ensures { result ≡ optional_byte_from_text text.now }
 {
     match text {
         "none" => Ok(None),
@@ -153,7 +154,7 @@ fn optional_byte_from_text(text: &str) -> Result<OptionU8, SettingError>
 /// Any other text of decimal digits alone is [`SettingError::OutOfRange`], and every other text
 /// [`SettingError::BadValue`].
 pub fn byte_from_text(text: &str) -> Result<u8, SettingError>
-    ensures { result ≡ byte_in text.now }
+    ensures { result ≡ byte_from_text text.now }
 {
     let digits = text.as_bytes();
     if let Some(number) = read_numeral(digits, 10, 3) {

@@ -1,10 +1,10 @@
 //! For each predicate that stands on one side alone of a public clause a case that holds and one that does not.
 
 ghost use Rattle.std.specs.Prelude.{◌≡◌, ◌↔◌, ◌⊎◌, ◌<◌, ◌*◌, ◌/◌, ◌^◌, ◌||◌, ◌++◌, ℕ, max, pos, [], ◌∷◌, true, false, Some, None, Ok, IsSome, IsTrue};
-ghost use Rattle.lexical_base.specs.Digits.{value, digit_of, digits_of};
+ghost use Rattle.lexical_base.specs.Digits.{byte_value, digit_of, digits_of};
 ghost use Rattle.lexical_flags.specs.Layout as layout;
 ghost use Rattle.lexical_flags.specs.Layout.{Flag, Byte, bit, shift, IsClean};
-ghost use Rattle.lexical_flags.specs.Options.{AreAccepted, HaveOneRole};
+ghost use Rattle.lexical_flags.specs.Options.{OptionsFit, OptionsHaveOneRole};
 ghost use Rattle.lexical_flags.specs.Record.{raw, fill, trim, pack, IsBuilt};
 ghost use Rattle.lexical_flags.specs.Roles.{Disjoint, cased};
 ghost use Rattle.lexical_flags.specs.Rules.{Demands, Holds, Lawful};
@@ -13,7 +13,7 @@ ghost use Rattle.lexical_flags.specs.declared.format_flags.all_rules.Rule.TheVar
 ghost use Rattle.lexical_flags.specs.declared.format_flags.TheConstants.{FLAG_MASK};
 ghost use Rattle.lexical_builder.specs.Writes.{write_flag, write_byte, SameWrites};
 ghost use Rattle.lexical_util.specs.Edits.{all_writes, edited};
-ghost use Rattle.lexical_util.specs.Normal.{normal_form_of};
+ghost use Rattle.lexical_util.specs.NormalForm.{normal_form_of};
 ghost use Rattle.lexical_util.specs.Additions.SettingText.{HasByte, edit_or_error_in, setting_text};
 ghost use Rattle.lexical_util.specs.Additions.Reasons.{without_prefix_case, IsWith, SameRules};
 ghost use Rattle.lexical_util.specs.declared.edits.Edit.TheVariants as edits;

@@ -1,41 +1,41 @@
 //! The sentences of reasons and of settings without effect.
 
 ghost use Rattle.std.specs.Prelude.{◌≡◌, ◌<◌, ◌≤◌, ◌+◌, ◌++◌, length, Some};
-ghost use Rattle.lexical_base.specs.Additions.Sentences.{piece_text};
-ghost use Rattle.lexical_base.specs.Private.{room};
+ghost use Rattle.lexical_base.specs.Additions.ShortTexts.{piece_text};
+ghost use Rattle.lexical_base.specs.Private.{max_length};
 ghost use Rattle.lexical_util.specs.Additions.SetterNames.{setter_name};
 ghost use Rattle.lexical_util.specs.Additions.ReasonText.{words_of, described, sameness, reason_text, unused_text};
 
 use crate::edits::{Edit, FlagSetter};
 use crate::reasons::{Reason, Unused};
-use lexical_base::error::{NOTHING, Piece, Sentence};
+use lexical_base::error::{EMPTY_PIECE, Piece, ShortText};
 use std::fmt;
 
 impl Reason {
     /// Returns one sentence without a stop, such as `the base prefix 'b' is a digit of radix 16`.
-    pub const fn sentence(&self) -> Sentence
+    pub const fn text(&self) -> ShortText
         ensures { result ≡ reason_text self.now }
     {
         match self {
             Reason::OutOfRange(edit) => followed(
-                Piece::Numbered(words(*edit), edit.byte()),
+                Piece::NumberedByte(words(*edit), edit.byte()),
                 " is not 2 to 36",
             ),
             Reason::NotText(edit) => followed(described(edit), " is not a character of ASCII text"),
             Reason::IsSign(edit) => followed(described(edit), " is a sign"),
-            Reason::IsDigit(edit, radix) => Sentence(
-                NOTHING,
+            Reason::IsDigit(edit, radix) => ShortText(
+                EMPTY_PIECE,
                 described(edit),
                 Piece::Words(" is a digit of radix "),
                 Piece::Number(*radix as usize),
             ),
-            Reason::AreSame(a, b) => Sentence(
+            Reason::AreSame(a, b) => ShortText(
                 described(a),
                 Piece::Words(" and "),
                 described(b),
                 Piece::Words(sameness(*a, *b)),
             ),
-            Reason::Contradict(a, b) => Sentence(
+            Reason::Contradict(a, b) => ShortText(
                 named(*a),
                 Piece::Words(" and "),
                 named(*b),
@@ -45,14 +45,14 @@ impl Reason {
                 named(*flag),
                 " needs the internal, leading or trailing flag of the same part",
             ),
-            Reason::ReservedBits => followed(NOTHING, "a reserved bit is set"),
+            Reason::ReservedBits => followed(EMPTY_PIECE, "a reserved bit is set"),
         }
     }
 }
 
 impl Unused {
     /// Returns one sentence without a stop, such as `the digit separator '_' has no effect: no flag allows one`.
-    pub const fn sentence(&self) -> Sentence
+    pub const fn text(&self) -> ShortText
         ensures { result ≡ unused_text self.now }
     {
         match self {
@@ -60,11 +60,11 @@ impl Unused {
                 followed(described(edit), " has no effect: no flag allows one")
             }
             Unused::NoSeparator => followed(
-                NOTHING,
+                EMPTY_PIECE,
                 "the digit separator flags have no effect: there is no digit separator",
             ),
-            Unused::NoByte(flag, byte) => Sentence(
-                NOTHING,
+            Unused::NoByte(flag, byte) => ShortText(
+                EMPTY_PIECE,
                 named(*flag),
                 Piece::Words(" has no effect: there is no "),
                 Piece::Words(words(*byte)),
@@ -77,7 +77,7 @@ impl fmt::Display for Reason {
     ghost output = { λ reason. Some (reason_text reason) };
 
     fn fmt<W: fmt::Write>(&self, f: &mut fmt::Formatter<W>) -> fmt::Result {
-        fmt::Display::fmt(&self.sentence(), f)
+        fmt::Display::fmt(&self.text(), f)
     }
 }
 
@@ -85,31 +85,31 @@ impl fmt::Display for Unused {
     ghost output = { λ setting. Some (unused_text setting) };
 
     fn fmt<W: fmt::Write>(&self, f: &mut fmt::Formatter<W>) -> fmt::Result {
-        fmt::Display::fmt(&self.sentence(), f)
+        fmt::Display::fmt(&self.text(), f)
     }
 }
 
 // What it is about, and the words after it.
-const fn followed(piece: Piece, end: &'static str) -> Sentence
-    requires { room piece + length end.now < 256 }
+const fn followed(piece: Piece, end: &'static str) -> ShortText
+    requires { max_length piece + length end.now < 256 }
     ensures { result ≡ piece_text piece ++ end.now }
 {
-    Sentence(NOTHING, NOTHING, piece, Piece::Words(end))
+    ShortText(EMPTY_PIECE, EMPTY_PIECE, piece, Piece::Words(end))
 }
 
 // An edit of a byte: the setting and the byte.
 const fn described(edit: &Edit) -> Piece
     ensures text { piece_text result ≡ described edit.now }
-    ensures short { room result ≤ 84 }
+    ensures short { max_length result ≤ 84 }
 {
-    Piece::Shown(words(*edit), edit.byte())
+    Piece::QuotedByte(words(*edit), edit.byte())
 }
 
 // The name of a flag.
 #[tactic(auto, using(crate::proofs::ReasonTextLemmas::short_setter))]
 const fn named(flag: FlagSetter) -> Piece
     ensures text { piece_text result ≡ setter_name flag }
-    ensures short { room result < 49 }
+    ensures short { max_length result < 49 }
 {
     Piece::Words(flag.name())
 }

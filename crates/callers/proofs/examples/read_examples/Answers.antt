@@ -1,12 +1,12 @@
 use Rattle.std.proofs.Common.{◌<◌, ◌^◌, true, codes, refl, arith}
 use Rattle.std.proofs.lemmas.Bool.{false≢true, agree_below_at}
 use Rattle.lexical_util.specs.Record.{Record, raw}
-use Rattle.lexical_util.specs.Unfoldable.{value, cased}
+use Rattle.lexical_util.specs.Unfoldable.{byte_value, cased}
 use Rattle.callers.specs.Reading.{is_read}
 use Rattle.callers.proofs.examples.read_examples.Goals as goal
 
 pub returns : goal.returns
-unfolding value cased
+unfolding byte_value cased
 returns c =
     let decimal : Record = raw 0x00000A00_00000000_00000000_0000000C in
     record {

@@ -2,7 +2,7 @@ use Rattle.std.proofs.Common.{◌≡◌, IsTrue, Some, None, refl, arith}
 use Rattle.std.proofs.lemmas.Bool.{false≢true}
 use Rattle.lexical_util.specs.Record.{raw}
 use Rattle.lexical_util.specs.Unfoldable.{on_literals}
-use Rattle.callers.specs.Playing.{role_set}
+use Rattle.callers.specs.ByteRoles.{role_set}
 use Rattle.callers.specs.declared.roles.Role.{Role}
 use Rattle.callers.specs.declared.roles.Role.TheVariants as roles
 use Rattle.callers.proofs.RoleLemmas.{one_role, no_role}

@@ -3,7 +3,7 @@ use Rattle.std.proofs.Common.{ℕ, Ok, Err, Result, IfOk, IsErr, sym, subst}
 use Rattle.std.proofs.lemmas.Bool.{false≢true}
 use Rattle.std.proofs.lemmas.Result.{IsErr-from_ok_iff, Ok-from_Ok_iff}
 use Rattle.std.specs.Result.{OkIff}
-use Rattle.lexical_util.specs.Normal.{normal_form_of}
+use Rattle.lexical_util.specs.NormalForm.{normal_form_of}
 use Rattle.lexical_util.specs.Rules.{Lawful}
 use Rattle.lexical_util.specs.declared.error.Error.{Error}
 use Rattle.callers.proofs.keep.keep.Goals as goal

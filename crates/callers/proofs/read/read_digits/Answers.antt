@@ -19,8 +19,8 @@ pub returns-then-not-is_skipped-clause-number : goal.returns-then-not-is_skipped
 returns-then-not-is_skipped-clause-number c = no_numeral c.args.format c.args.text.now
     (errors.InvalidDigit c.loop-index.index) c.requires (returns-then-not-is_skipped-clause-refusal c)
 
-pub returns-then-not-is_skipped-clause-only : goal.returns-then-not-is_skipped-clause-only
-returns-then-not-is_skipped-clause-only c error refused =
+pub returns-then-not-is_skipped-clause-unique : goal.returns-then-not-is_skipped-clause-unique
+returns-then-not-is_skipped-clause-unique c error refused =
     ap Err (IsRefusal-unique c.args.format c.args.text.now c.requires _ error
     (returns-then-not-is_skipped-clause-refusal c) refused)
 
@@ -33,8 +33,8 @@ pub returns-in_default-push-clause-number : goal.returns-in_default-push-clause-
 returns-in_default-push-clause-number c = no_numeral c.args.format c.args.text.now
     (errors.Overflow c.loop-index.index) c.requires (returns-in_default-push-clause-refusal c)
 
-pub returns-in_default-push-clause-only : goal.returns-in_default-push-clause-only
-returns-in_default-push-clause-only c error refused =
+pub returns-in_default-push-clause-unique : goal.returns-in_default-push-clause-unique
+returns-in_default-push-clause-unique c error refused =
     ap Err (IsRefusal-unique c.args.format c.args.text.now c.requires _ error
     (returns-in_default-push-clause-refusal c) refused)
 
@@ -59,6 +59,6 @@ returns-else-is_empty-clause-number c =
     whole (raw c.args.format) c.args.text.now c.loop-index.index c.loop-index.number c.loop-index-test.false
     (grind (arith, nat_tests, c.is_empty.ensures)) c.loop-index.invariant
 
-pub returns-else-is_empty-clause-only : goal.returns-else-is_empty-clause-only
-returns-else-is_empty-clause-only c error refused =
+pub returns-else-is_empty-clause-unique : goal.returns-else-is_empty-clause-unique
+returns-else-is_empty-clause-unique c error refused =
     absurd (no_numeral c.args.format c.args.text.now error c.requires refused (returns-else-is_empty-clause-number c).0)

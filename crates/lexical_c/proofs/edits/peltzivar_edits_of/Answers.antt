@@ -6,7 +6,7 @@ use Rattle.lexical_util.specs.Listing.{needed_writes}
 use Rattle.lexical_util.proofs.ListingLemmas.{only_both}
 use Rattle.lexical_util.specs.Writes.{IsLegal, new_record, after}
 use Rattle.lexical_util.specs.Edits.{all_writes}
-use Rattle.lexical_c.specs.Edits.{numbered}
+use Rattle.lexical_c.specs.Edits.{encode_edit}
 use Rattle.lexical_c.proofs.EditLemmas.{more_numbered, all_numbered}
 use Rattle.lexical_c.proofs.edits.peltzivar_edits_of.Goals as goal
 
@@ -25,7 +25,7 @@ returns c =
     let list = only_both (raw c.number.result) _ listed.list ∙ ap (λ word. needed_edits (raw word) ++ other_edits (raw word)) format in
     let (numbers, known, each) = all_numbered c.loop-index.invariant (omega (arith, c.loop-index-test.false)) in
     record {
-      numbers = numbers ∙ ap (map numbered) list;
+      numbers = numbers ∙ ap (map encode_edit) list;
       each = each;
       list = known ∙ list;
       number = listed.number ∙ sym (length-map (needed_writes (raw c.number.result)) edit_of_write)

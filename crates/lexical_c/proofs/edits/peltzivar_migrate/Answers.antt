@@ -1,6 +1,6 @@
 -- search proves this goal as well, but later
 use Rattle.std.proofs.Common.{subst}
-use Rattle.lexical_util.specs.Normal.{normal_form_of}
+use Rattle.lexical_util.specs.NormalForm.{normal_form_of}
 use Rattle.lexical_c.specs.Outcomes.{IsWrittenIfLawful}
 use Rattle.lexical_c.proofs.edits.peltzivar_migrate.Goals as goal
 

@@ -1,6 +1,6 @@
 use Rattle.std.proofs.Common.{subst}
 use Rattle.std.proofs.Common.{◌∙◌, sym}
-use Rattle.lexical_util.specs.Normal.{IsNormal}
+use Rattle.lexical_util.specs.NormalForm.{IsNormal}
 use Rattle.lexical_c.proofs.edits.peltzivar_normal_form.Goals as goal
 
 -- The words that cross to C and back are those of the call.

@@ -1,6 +1,6 @@
 -- search proves these goals as well, but later
 use Rattle.std.proofs.Common.{sym, subst, ◌≡◌, ◌↔◌}
-use Rattle.lexical_util.specs.Options.{AreAccepted}
+use Rattle.lexical_util.specs.Options.{OptionsFit}
 use Rattle.lexical_c.specs.Outcomes.{SUCCESS}
 use Rattle.lexical_c.proofs.rules.peltzivar_options_error.Goals as goal
 
@@ -15,5 +15,5 @@ pub returns-clause-accepted : goal.returns-clause-accepted
 returns-clause-accepted c =
     let accepted = c.options_error.ensures.accepted in
     let success = c.error_number.ensures.success in
-    subst (λ format. (c.error_number.result ≡ SUCCESS) ↔ AreAccepted format c.args.exponent c.args.decimal_point)
+    subst (λ format. (c.error_number.result ≡ SUCCESS) ↔ OptionsFit format c.args.exponent c.args.decimal_point)
     c.number.ensures (λ zero. accepted.0 (success.0 zero), λ is. success.1 (accepted.1 is))

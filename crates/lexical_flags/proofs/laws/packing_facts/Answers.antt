@@ -8,5 +8,5 @@ returns c = record {
   fits = pack-lt;
   alike = pack-injective;
   built = pack-raw;
-  only = raw-injective;
+  unique = raw-injective;
 }

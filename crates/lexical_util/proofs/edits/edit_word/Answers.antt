@@ -16,7 +16,7 @@ returns c =
       word = refl;
       fields = edited-fields word writes legal;
       clean = edited-clean word writes legal;
-      only = edited-only word writes legal;
+      unique = edited-only word writes legal;
       same_writes = λ others other_legal same. edited-same word others writes same;
       legal = legal;
     })

@@ -1,7 +1,7 @@
 -- The result is the normal form, and each clause is a lemma about that.
 use Rattle.std.proofs.Common.{◌∙◌, refl, sym, ap, arith}
 use Rattle.lexical_flags.specs.Record.{pack}
-use Rattle.lexical_util.specs.Normal.{normal_form_of}
+use Rattle.lexical_util.specs.NormalForm.{normal_form_of}
 use Rattle.lexical_util.proofs.NormalLemmas.{normal_form-is, raw_normal, clean_normal, normal_only, normal_again}
 use Rattle.lexical_util.proofs.NormalLemmas.{normal_from_fixed, fixed_from_normal, normal_keeps, groups_normal}
 use Rattle.lexical_util.proofs.NormalLemmas.{flags_normal, edited-normal}
@@ -15,8 +15,8 @@ returns c =
       word = refl;
       fields = raw_normal w;
       clean = clean_normal w;
-      only = normal_only w;
-      again = normal_again w;
+      unique = normal_only w;
+      idempotent = normal_again w;
       unchanged = (normal_from_fixed w, fixed_from_normal w (omega arith));
       same = normal_keeps w;
       groups = groups_normal w;

@@ -10,7 +10,7 @@ returns-in_default c =
       each = ap (λ one. one ∷ None ∷ None ∷ []) c.said.ensures
           ∙ ap (λ reason. then_some (not c.is_kept.result) reason ∷ None ∷ None ∷ []) c.flag_reason.ensures
           ∙ flag_case c.args.rule c.args.format c.is_kept.result other.not-MantissaRadixInRange
-          other.not-ExponentBaseInRange other.not-ExponentRadixInRange other.not-DigitSeparatorIsFree
-          other.not-BasePrefixIsFree other.not-BaseSuffixIsFree other.not-PunctuationDiffers c.is_kept.ensures;
+          other.not-ExponentBaseInRange other.not-ExponentRadixInRange other.not-DigitSeparatorIsPunctuation
+          other.not-BasePrefixIsPunctuation other.not-BaseSuffixIsPunctuation other.not-PunctuationDiffers c.is_kept.ensures;
       kept = kept_without_reason c.args.rule c.args.format;
     }

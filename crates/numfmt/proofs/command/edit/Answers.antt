@@ -2,7 +2,7 @@
 use Rattle.std.proofs.Common.{◌≡◌, ◌-◌, ℕ, Some, true, rules, string_bytes, drop, length, map, nat_le, take, ap, arith}
 use Rattle.std.proofs.lemmas.Bool.{le-leb}
 use Rattle.std.proofs.lemmas.List.{length-map}
-use Rattle.numfmt.specs.WordText.{word_in}
+use Rattle.numfmt.specs.WordText.{word_from_text}
 use Rattle.numfmt.specs.declared.response.Answer.TheVariants.{Word}
 use Rattle.numfmt.proofs.ItemLemmas.{map-first}
 use Rattle.numfmt.proofs.command.edit.Goals as goal
@@ -25,7 +25,7 @@ returns c =
 -- edits_are_read_before_the_word.edit fails soon
 pub returns-in_err-ok_or : goal.returns-in_err-ok_or
 returns-in_err-ok_or c =
-    let (word, read) : (word : ℕ) × (Some word ≡ word_in (string_bytes c.word-item.result)) = search rules in
+    let (word, read) : (word : ℕ) × (Some word ≡ word_from_text (string_bytes c.word-item.result)) = search rules in
     let args = c.args.args.now in
     let texts = take (length args - 1) (drop 1 args) in
     let few : nat_le (length (map string_bytes texts)) 64 ≡ true =

@@ -8,4 +8,4 @@ returns-in_ok-word-in-len1 c =
     rw (
       map-one string_bytes c.args.args.now _ (omega arith) c.word-item.is,
       ← c.in_ok-word-in-len1.ensures.word,
-    ) (refl, c.is_silent.ensures.lawful)
+    ) (refl, c.has_nothing_to_explain.ensures.lawful)

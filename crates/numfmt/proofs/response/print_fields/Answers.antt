@@ -4,7 +4,7 @@ use Rattle.std.proofs.Common.{subst, sym, ap, get_or, drop, ◌∙◌}
 use Rattle.std.specs.Io.KnownBytes.{Appends}
 use Rattle.std.proofs.KnownBytes.{Appends-trans}
 use Rattle.numfmt.specs.Explanation.{line}
-use Rattle.numfmt.specs.Response.{bytes}
+use Rattle.numfmt.specs.Response.{byte_fields}
 use Rattle.numfmt.proofs.WritingLemmas.{then}
 use Rattle.numfmt.proofs.response.print_fields.Goals as goal
 
@@ -28,7 +28,7 @@ returns-clause-text g c =
     let contents = g.W.Output.contents in
     let flags =
     Appends-trans _ _ _ (codes "flags ") _ c.in_ok-write_all.ensures.bytes c.in_ok-print_word.ensures.text in
-    let lines = joined_lines (get_or (bytes c.args.format) 0 []) (drop 1 (bytes c.args.format)) in
+    let lines = joined_lines (get_or (byte_fields c.args.format) 0 []) (drop 1 (byte_fields c.args.format)) in
     let written = rw (
       c.digit_separator.ensures,
       c.base_prefix.ensures,

@@ -30,6 +30,6 @@ returns-clause-value c = ap hex (returns-clause-text c) ∙ hex-printed c.args.w
 pub returns-clause-read_back : goal.returns-clause-read_back
 returns-clause-read_back c = IsPrintedForm.word (returns-clause-form c)
 
-pub returns-clause-only : goal.returns-clause-only
-returns-clause-only c text form same = IsPrintedForm-unique _ _ form (returns-clause-form c)
+pub returns-clause-unique : goal.returns-clause-unique
+returns-clause-unique c text form same = IsPrintedForm-unique _ _ form (returns-clause-form c)
     (same ∙ sym (returns-clause-value c))

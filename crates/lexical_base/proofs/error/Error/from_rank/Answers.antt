@@ -6,5 +6,5 @@ use Rattle.lexical_base.proofs.error.Error.from_rank.Goals as goal
 pub returns-in-7-clause-rank : goal.returns-in-7-clause-rank
 returns-in-7-clause-rank c = sym c.in-7.is
 
-pub returns-in-7-clause-back : goal.returns-in-7-clause-back
-returns-in-7-clause-back c = search rules
+pub returns-in-7-clause-round_trip : goal.returns-in-7-clause-round_trip
+returns-in-7-clause-round_trip c = search rules

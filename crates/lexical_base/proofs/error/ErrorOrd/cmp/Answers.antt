@@ -1,5 +1,5 @@
 use Rattle.std.proofs.Common.{rules}
-use Rattle.lexical_base.proofs.OutcomeLemmas.{tied, turned}
+use Rattle.lexical_base.proofs.OutcomeLemmas.{tied, reversed}
 use Rattle.lexical_base.proofs.error.ErrorOrd.cmp.Goals as goal
 
 -- search proves this goal as well; given here so that the must-fail edit
@@ -10,5 +10,5 @@ returns-in-Equal-clause-value c = search rules
 pub returns-in-Equal-clause-equal : goal.returns-in-Equal-clause-equal
 returns-in-Equal-clause-equal c = tied c.args.self.now c.args.other.now (returns-in-Equal-clause-value c)
 
-pub returns-in-Equal-clause-turned : goal.returns-in-Equal-clause-turned
-returns-in-Equal-clause-turned c = turned c.args.self.now c.args.other.now (returns-in-Equal-clause-value c)
+pub returns-in-Equal-clause-reversed : goal.returns-in-Equal-clause-reversed
+returns-in-Equal-clause-reversed c = reversed c.args.self.now c.args.other.now (returns-in-Equal-clause-value c)

@@ -4,10 +4,10 @@ use Rattle.std.proofs.lemmas.Nat.{shl_whole}
 use Rattle.std.proofs.lemmas.Nat.Bits.{bit_at_or, same_from_bits}
 use Rattle.lexical_flags.specs.Layout.{Byte, IsClean, flags}
 use Rattle.lexical_flags.specs.Layout as layout
-use Rattle.lexical_flags.specs.Record.{Record, pack, flag_bits, separator_on, raw, trim, HasBytes}
+use Rattle.lexical_flags.specs.Record.{Record, pack, flag_bits, separator_allowed, raw, trim, HasBytes}
 use Rattle.lexical_flags.proofs.Packing.{HasBytes-by_name, HasBytes-trim, raw-pack, pack-clean, pack-injective}
-use Rattle.lexical_flags.proofs.FlagBits.{fields_joined, separator_on-flags}
-use Rattle.lexical_builder.specs.BuilderBits.{index_of, record_of}
+use Rattle.lexical_flags.proofs.FlagBits.{fields_joined, separator_allowed-flags}
+use Rattle.lexical_builder.specs.BuilderBits.{byte_index, builder_record}
 use Rattle.lexical_builder.proofs.format_builder.NumberFormatBuilder.build_unchecked.Goals as goal
 
 or_swapped : (a b s : ℕ) → bit_or (bit_or a b) s ≡ bit_or (bit_or a s) b
@@ -26,18 +26,18 @@ joined_first (b ∷ fields) a s = joined_first fields (bit_or a b) s
     ∙ ap (λ n. fold bit_or n fields) (or_swapped a b s)
 
 pub returns-clause-bytes : goal.returns-clause-bytes
-returns-clause-bytes c = subst HasBytes c.self.view_is (HasBytes-by_name (record_of c.self.inside) (omega arith)
+returns-clause-bytes c = subst HasBytes c.self.view_is (HasBytes-by_name (builder_record c.self.inside) (omega arith)
     (omega arith) (omega arith) (omega arith) (omega arith) (omega arith))
 
 pub returns-clause-word : goal.returns-clause-word
 returns-clause-word c =
-    let r : Record = record_of c.self.inside in
-    let byte : Byte → ℕ = λ b. slice_index c.self.inside.bytes (index_of b) in
+    let r : Record = builder_record c.self.inside in
+    let byte : Byte → ℕ = λ b. slice_index c.self.inside.bytes (byte_index b) in
     let bytes : HasBytes r = HasBytes-by_name r (omega arith) (omega arith) (omega arith) (omega arith) (omega arith)
     (omega arith) in
     let flags_joined : c.word_flags-flags.result ≡ sum_by (flag_bits r) flags = c.word_flags-flags.ensures in
-    let used : separator_on (raw c.word_flags-flags.result) ≡ separator_on r =
-    ap (λ word. separator_on (raw word)) flags_joined ∙ separator_on-flags r in
+    let used : separator_allowed (raw c.word_flags-flags.result) ≡ separator_allowed r =
+    ap (λ word. separator_allowed (raw word)) flags_joined ∙ separator_allowed-flags r in
     let trimmed : c.used_separator-separator.result ≡ (trim r).byte layout.digit_separator =
     c.used_separator-separator.ensures ∙ ap (λ on. if on then byte layout.digit_separator else 0) used in
     let joined = fields_joined (trim r) (HasBytes-trim r bytes) in

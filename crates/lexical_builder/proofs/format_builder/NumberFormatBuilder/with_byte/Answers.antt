@@ -5,7 +5,7 @@ use Rattle.std.proofs.lemmas.List.{get_or-set_same, get_or-set_other}
 use Rattle.std.proofs.lemmas.Bool.Decides.{nat_tests}
 use Rattle.lexical_flags.specs.Record.{Record}
 use Rattle.lexical_flags.proofs.RecordLemmas.{record_same}
-use Rattle.lexical_builder.specs.BuilderBits.{index_of, record_of}
+use Rattle.lexical_builder.specs.BuilderBits.{byte_index, builder_record}
 use Rattle.lexical_builder.specs.Private.{byte_at}
 use Rattle.lexical_builder.specs.Writes.{after, write_byte}
 use Rattle.lexical_builder.proofs.WriteLemmas.{after-byte}
@@ -19,9 +19,9 @@ after_set bytes i j value l = grind (arith, nat_tests, get_or-set_same, get_or-s
 pub returns : goal.returns
 unfolding after
 returns c =
-    let r : Record = record_of c.self.inside in
+    let r : Record = builder_record c.self.inside in
     let six : c.args.index < length c.self.inside.bytes = search rules in
-    record_same _ _ (λ f. refl) (λ b. after_set c.self.inside.bytes c.args.index (index_of b) c.args.value six
-    ∙ ap (λ j. if index_of b == j then c.args.value else r.byte b) (sym c.requires.byte)
+    record_same _ _ (λ f. refl) (λ b. after_set c.self.inside.bytes c.args.index (byte_index b) c.args.value six
+    ∙ ap (λ j. if byte_index b == j then c.args.value else r.byte b) (sym c.requires.byte)
     ∙ sym (after-byte r (byte_at c.args.index) c.args.value b))
     ∙ ap (λ (s : Record). after s (write_byte (byte_at c.args.index) c.args.value ∷ [])) c.self.view_is

@@ -2,7 +2,7 @@ use Rattle.std.proofs.Common.{arith, ◌∙◌, ◌≡◌, ap, sym, ◌==◌, if
 use Rattle.lexical_flags.specs.Layout.{Flag, part, bit, flags}
 use Rattle.lexical_flags.specs.Record.{Record}
 use Rattle.lexical_flags.proofs.RecordLemmas.{record_same}
-use Rattle.lexical_builder.specs.BuilderBits.{builder_bit, record_of}
+use Rattle.lexical_builder.specs.BuilderBits.{builder_bit, builder_record}
 use Rattle.lexical_builder.specs.Private.{flags_with}
 use Rattle.lexical_builder.specs.Writes.{after, write_flags}
 use Rattle.lexical_builder.proofs.BuilderFlags.{builder_bit-lt, part-flags_in}
@@ -11,7 +11,7 @@ use Rattle.lexical_builder.proofs.format_builder.NumberFormatBuilder.with_flags.
 
 pub returns : goal.returns
 returns c =
-    let r : Record = record_of c.self.inside in
+    let r : Record = builder_record c.self.inside in
     let in_mask : (f : Flag) → part c.builder_flags.result (builder_bit f) 1 ≡ part c.args.mask (bit f) 1 =
     λ f. ap (λ n. part n (builder_bit f) 1) c.builder_flags.ensures ∙ part-flags_in c.args.mask f in
     record_same _ _ (λ f. c.replace_bits.ensures.each (builder_bit f) (omega (arith, builder_bit-lt f))

@@ -13,21 +13,21 @@ returns-then-not-is_near c =
     let apart = own_roles_apart (raw c.args.format)
     c.digit_separator-separator.ensures c.base_prefix-prefix.ensures c.base_suffix-suffix.ensures
     (mod-lt _ (pow_pos 8)) (mod-lt _ (pow_pos 8))
-    c.are_near.ensures c.are_near-2.ensures c.are_near-3.ensures c.if-not-is_near.true in
+    c.may_clash.ensures c.may_clash-2.ensures c.may_clash-3.ensures c.if-not-is_near.true in
     (λ _. apart, λ _. ap not c.if-not-is_near.true)
 
 -- search proves these goals as well; given here so that the must-fail edit
 -- punctuation_ignores_the_case_flags.edit fails soon
-pub returns-then-are_disjoint-2 : goal.returns-then-are_disjoint-2
+pub returns-then-roles_disjoint-2 : goal.returns-then-roles_disjoint-2
 unfolding Holds
-returns-then-are_disjoint-2 c =
-    let first : IsTrue c.are_disjoint.result ↔ Disjoint (cased true c.digit_separator-separator.result)
-    (cased c.prefix_case_counts-prefix_case.result c.base_prefix-prefix.result) = c.are_disjoint.ensures in
+returns-then-roles_disjoint-2 c =
+    let first : IsTrue c.roles_disjoint.result ↔ Disjoint (cased true c.digit_separator-separator.result)
+    (cased c.prefix_is_case_sensitive-prefix_case.result c.base_prefix-prefix.result) = c.roles_disjoint.ensures in
     search rules
 
-pub returns-else-are_disjoint-2 : goal.returns-else-are_disjoint-2
+pub returns-else-roles_disjoint-2 : goal.returns-else-roles_disjoint-2
 unfolding Holds
-returns-else-are_disjoint-2 c =
-    let first : IsTrue c.are_disjoint.result ↔ Disjoint (cased true c.digit_separator-separator.result)
-    (cased c.prefix_case_counts-prefix_case.result c.base_prefix-prefix.result) = c.are_disjoint.ensures in
+returns-else-roles_disjoint-2 c =
+    let first : IsTrue c.roles_disjoint.result ↔ Disjoint (cased true c.digit_separator-separator.result)
+    (cased c.prefix_is_case_sensitive-prefix_case.result c.base_prefix-prefix.result) = c.roles_disjoint.ensures in
     search rules

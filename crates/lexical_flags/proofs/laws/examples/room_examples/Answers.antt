@@ -1,13 +1,13 @@
 use Rattle.std.proofs.Common.{ℕ}
 use Rattle.std.proofs.lemmas.Bool.{false≢true}
 use Rattle.lexical_flags.specs.Literals.{on_literals}
-use Rattle.lexical_flags.specs.Options.{HaveOneRole}
+use Rattle.lexical_flags.specs.Options.{OptionsHaveOneRole}
 use Rattle.lexical_flags.specs.Record.{Record, raw}
 use Rattle.lexical_flags.specs.Roles.{Disjoint, prefix, suffix}
 use Rattle.lexical_flags.proofs.laws.examples.room_examples.Goals as goal
 
 -- a byte that is both prefix and suffix leaves no pair of bytes one role each
-clashes : (e p : ℕ) → HaveOneRole 0x00000A68_68000000_00000000_0000000C e p → ⊥
+clashes : (e p : ℕ) → OptionsHaveOneRole 0x00000A68_68000000_00000000_0000000C e p → ⊥
 unfolding on_literals
 clashes e p h =
     let r : Record = raw 0x00000A68_68000000_00000000_0000000C in

@@ -9,7 +9,7 @@ pub returns-then-is_clean : goal.returns-then-is_clean
 returns-then-is_clean c =
     let image = built_by_writes c.args.format (omega arith) in
     let clean = c.is_clean.ensures.0 c.if-is_clean.true in
-    let used = c.is_separator_used.ensures in
+    let used = c.is_separator_allowed_or_absent.ensures in
     record {
       rule = (λ t. record { clean = clean; separator_used = used.0 t }, λ built. used.1 built.separator_used);
       image = (

@@ -13,12 +13,14 @@ passes false false = refl
 
 pub loop-index-preserved : goal.loop-index-preserved
 loop-index-preserved c =
-    let test = passes c.args.changed _ ∙ ap (λ t. beq t c.args.changed) (sym c.is_change.ensures) in
-    elim c.if-is_change-changed.branch [
-      | goal.then-is_change-changed w ↦ rw (w.edits-is, w.count-is) (FiltersInPlace-more_swap c.loop-index.invariant
-          (omega arith) (test ∙ w.if-is_change-changed.true) c.index-edits-index.is w.swap.ensures.by_index)
-      | goal.else-is_change-changed w ↦ rw (w.edits-is, w.count-is) (FiltersInPlace-more_no c.loop-index.invariant
-          (omega arith) (test ∙ w.if-is_change-changed.false) c.index-edits-index.is)
+    let test = passes c.args.changed _ ∙ ap (λ t. beq t c.args.changed) (sym c.differs_from_new.ensures) in
+    elim c.if-differs_from_new-changed.branch [
+      | goal.then-differs_from_new-changed w ↦ rw (w.edits-is, w.count-is)
+          (FiltersInPlace-more_swap c.loop-index.invariant
+          (omega arith) (test ∙ w.if-differs_from_new-changed.true) c.index-edits-index.is w.swap.ensures.by_index)
+      | goal.else-differs_from_new-changed w ↦ rw (w.edits-is, w.count-is)
+          (FiltersInPlace-more_no c.loop-index.invariant
+          (omega arith) (test ∙ w.if-differs_from_new-changed.false) c.index-edits-index.is)
     ]
 
 pub returns-clause-count : goal.returns-clause-count

@@ -4,7 +4,7 @@ use Rattle.std.proofs.lemmas.Bool.{cases_lt}
 use Rattle.std.proofs.lemmas.Bool.Decides.{not_from_Decides}
 use Rattle.std.proofs.lemmas.List.Sums.{position_or_len_is}
 use Rattle.std.proofs.lemmas.Slice.Eq.{bytes_eq-Decides}
-use Rattle.lexical_util.specs.Additions.SettingNumbers.{setter_names, name_of_setter}
+use Rattle.lexical_util.specs.Additions.SettingNumbers.{setter_names, setter_name_of_number}
 use Rattle.lexical_util.proofs.edits.numbers.number_of_name.Goals as goal
 
 -- The first number whose name is the name is the number of the name, and if there is none it is that of no setter.
@@ -12,7 +12,7 @@ pub returns-then-eq-clause-number : goal.returns-then-eq-clause-number
 returns-then-eq-clause-number c =
     let name = c.args.name.now in
     let number = c.loop-number.number in
-    let text = c.as_bytes.ensures.value ∙ c.name_of_number.ensures in
+    let text = c.as_bytes.ensures.value ∙ c.setter_name_of_number.ensures in
     let hit = ap (λ text. bytes_eq text name) (sym text) ∙ sym c.eq.ensures ∙ c.if-eq.true in
     sym (position_or_len_is (λ other. bytes_eq other name) setter_names number [] (omega arith) c.loop-number.invariant (λ below. hit))
 
@@ -21,8 +21,8 @@ loop-number-preserved c k below = elim (cases_lt k c.loop-number.number) [
   | inl less ↦ c.loop-number.invariant k less
   | inr last ↦
       let same : k ≡ c.loop-number.number = omega arith in
-      let text = c.as_bytes.ensures.value ∙ c.name_of_number.ensures in
-      ap (λ k. bytes_eq (name_of_setter k) c.args.name.now) same
+      let text = c.as_bytes.ensures.value ∙ c.setter_name_of_number.ensures in
+      ap (λ k. bytes_eq (setter_name_of_number k) c.args.name.now) same
       ∙ ap (λ text. bytes_eq text c.args.name.now) (sym text) ∙ sym c.eq.ensures ∙ c.if-eq.false
 ]
 

@@ -4,7 +4,7 @@ use Rattle.lexical_util.specs.Additions.SettingText.{map_ok}
 use Rattle.lexical_util.proofs.edits.text.with_value.Goals as goal
 
 -- search proves these goals as well; given here so that the must-fail edit
--- none_is_a_mantissa_radix.edit fails soon
+-- mantissa_radix_accepts_none.edit fails soon
 pub returns-in_ok-byte_from_text-in-MantissaRadix : goal.returns-in_ok-byte_from_text-in-MantissaRadix
 returns-in_ok-byte_from_text-in-MantissaRadix c = rw c.in-MantissaRadix.is
     (ap (map_ok edits.MantissaRadix) (sym c.in_ok-byte_from_text-in-MantissaRadix.was ∙ c.byte_from_text.ensures))

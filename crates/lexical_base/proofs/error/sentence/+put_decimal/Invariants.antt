@@ -1,5 +1,0 @@
-use Rattle.lexical_base.proofs.error.sentence.+put_decimal.Given as goal
-
--- proposed from what the function passes where it calls itself
-abbrev pub decreases-put_decimal : goal.decreases-put_decimal
-decreases-put_decimal g l = l.n

@@ -1,0 +1,132 @@
+//! Sentences that are put together from a few pieces.
+
+ghost use Rattle.std.specs.Prelude.{◌≡◌, ◌<◌, ◌∷◌, [], ◌+◌, length, IsErr, OnOk, Some};
+ghost use Rattle.std.specs.Fmt.{WritesInCalls, decimal};
+ghost use Rattle.lexical_base.specs.Additions.ShortTexts.{piece_text, numbered_byte};
+
+use crate::error::Sink;
+use std::fmt;
+use std::marker::Model;
+
+/// A piece of a sentence.
+#[derive(Clone, Copy)]
+pub enum Piece {
+    /// These words.
+    Words(&'static str),
+    /// A number in decimal.
+    Number(usize),
+    /// `the`, a name, and its byte in decimal.
+    NumberedByte(&'static str, u8),
+    /// The same with the byte as a character between quotes, if it can be seen.
+    QuotedByte(&'static str, u8),
+}
+
+/// The empty piece.
+pub const EMPTY_PIECE: Piece = Piece::Words("");
+
+/// A sentence of at most four pieces: a text of less than 256 bytes.
+#[derive(Drop)]
+pub struct ShortText(pub Piece, pub Piece, pub Piece, pub Piece);
+
+impl Model for ShortText {
+    ghost use Rattle.std.specs.Prelude.{ℕ, ◌<◌, ◌+◌, ◌++◌, List};
+    ghost use Rattle.lexical_base.specs.Additions.ShortTexts.{piece_text};
+    ghost use Rattle.lexical_base.specs.Private.{max_length};
+
+    ghost Value = { List ℕ };
+
+    ghost view = { λ pieces. piece_text pieces.0 ++ piece_text pieces.1 ++ piece_text pieces.2 ++ piece_text pieces.3 };
+
+    ghost invariant = { λ pieces. max_length pieces.0 + max_length pieces.1 + max_length pieces.2 + max_length pieces.3 < 256 };
+}
+
+impl ShortText {
+    /// Puts the sentence into a sink. Fails only if the sink does.
+    pub fn put_into<S: Sink>(&self, out: &mut S) -> Result<(), fmt::Error>
+        ensures text { OnOk result (WritesInCalls S.takes out.old self.now out.new) }
+        ensures failed { IsErr result → S.has_failed out.new }
+        ensures short { length self.now < 256 }
+    {
+        self.0.put_into(out)?;
+        self.1.put_into(out)?;
+        self.2.put_into(out)?;
+        self.3.put_into(out)
+    }
+}
+
+/// Writes the sentence, whatever options the formatter has. Fails only if the formatter does.
+impl fmt::Display for ShortText {
+    ghost output = { λ sentence. Some sentence };
+
+    ghost styled_output = { λ sentence spec. Some sentence };
+
+    fn fmt<W: fmt::Write>(&self, f: &mut fmt::Formatter<W>) -> fmt::Result {
+        self.put_into(f)
+    }
+}
+
+impl Piece {
+    // Puts the piece.
+    fn put_into<S: Sink>(self, out: &mut S) -> fmt::Result
+        ensures text { OnOk result (WritesInCalls S.takes out.old (piece_text self) out.new) }
+        ensures failed { IsErr result → S.has_failed out.new }
+    {
+        match self {
+            Piece::Words(words) => out.put(words),
+            Piece::Number(number) => put_decimal(out, number),
+            Piece::NumberedByte(name, byte) => put_numbered(out, name, byte),
+            Piece::QuotedByte(name, byte) => {
+                if !byte.is_ascii_graphic() {
+                    return put_numbered(out, name, byte);
+                }
+                out.put("the ")?;
+                out.put(name)?;
+                out.put(" '")?;
+                out.put(char::from(byte).encode_utf8(&mut [0; 4]))?;
+                out.put("'")
+            }
+        }
+    }
+}
+
+// Puts a name and its byte in decimal.
+fn put_numbered<S: Sink>(out: &mut S, name: &str, byte: u8) -> fmt::Result
+    ensures text { OnOk result (WritesInCalls S.takes out.old (numbered_byte name.now byte) out.new) }
+    ensures failed { IsErr result → S.has_failed out.new }
+{
+    out.put("the ")?;
+    out.put(name)?;
+    out.put(" ")?;
+    put_decimal(out, byte as usize)
+}
+
+// Puts `n` in decimal.
+pub(crate) fn put_decimal<S: Sink>(out: &mut S, n: usize) -> fmt::Result
+    ensures text { OnOk result (WritesInCalls S.takes out.old (decimal n) out.new) }
+    ensures failed { IsErr result → S.has_failed out.new }
+{
+    let has_front = n >= 10;
+    if has_front {
+        put_decimal(out, n / 10)?;
+    }
+    out.put(digit_text(n % 10))
+}
+
+// The digit character of `digit`, which is below 10.
+#[inline(always)]
+const fn digit_text(digit: usize) -> &'static str
+    ensures { digit < 10 → result.now ≡ (48 + digit) ∷ [] }
+{
+    match digit {
+        0 => "0",
+        1 => "1",
+        2 => "2",
+        3 => "3",
+        4 => "4",
+        5 => "5",
+        6 => "6",
+        7 => "7",
+        8 => "8",
+        _ => "9",
+    }
+}

@@ -1,0 +1,13 @@
+use Rattle.std.proofs.Common.{◌≢◌, rules}
+use Rattle.lexical_flags.proofs.CaseLemmas.{same_clash, cases_apart}
+use Rattle.lexical_flags.proofs.format_flags.rules.roles_disjoint.Goals as goal
+
+pub returns-else-not-is_case_pair : goal.returns-else-not-is_case_pair
+returns-else-not-is_case_pair c =
+    let same_letter = c.is_case_pair.ensures.0 c.if-not-is_case_pair.false in
+    cases_apart c.args.a c.args.a_case_sensitive c.args.b c.args.b_case_sensitive c.if-a-b.true same_letter.0 same_letter.1
+
+-- search proves this goal as well; given here so that the must-fail edit
+-- two_absent_bytes_clash.edit fails soon
+pub returns-else-a-b : goal.returns-else-a-b
+returns-else-a-b c = let some : c.args.a ≢ 0 = search rules in search (rules, same_clash)

@@ -1,0 +1,98 @@
+// Made by rust/erase from crates/lexical_base/src/error/short_text.rt: change that file.
+
+//! Sentences that are put together from a few pieces.
+
+use crate::error::Sink;
+use core::fmt;
+
+/// A piece of a sentence.
+#[derive(Clone, Copy)]
+pub enum Piece {
+    /// These words.
+    Words(&'static str),
+    /// A number in decimal.
+    Number(usize),
+    /// `the`, a name, and its byte in decimal.
+    NumberedByte(&'static str, u8),
+    /// The same with the byte as a character between quotes, if it can be seen.
+    QuotedByte(&'static str, u8),
+}
+
+/// The empty piece.
+pub const EMPTY_PIECE: Piece = Piece::Words("");
+
+/// A sentence of at most four pieces: a text of less than 256 bytes.
+#[derive(Clone, Copy)]
+pub struct ShortText(pub Piece, pub Piece, pub Piece, pub Piece);
+
+impl ShortText {
+    /// Puts the sentence into a sink. Fails only if the sink does.
+    pub fn put_into<S: Sink>(&self, out: &mut S) -> Result<(), fmt::Error> {
+        self.0.put_into(out)?;
+        self.1.put_into(out)?;
+        self.2.put_into(out)?;
+        self.3.put_into(out)
+    }
+}
+
+/// Writes the sentence, whatever options the formatter has. Fails only if the formatter does.
+impl fmt::Display for ShortText {
+    fn fmt(&self, f: &mut fmt::Formatter<'_>) -> fmt::Result {
+        self.put_into(f)
+    }
+}
+
+impl Piece {
+    // Puts the piece.
+    fn put_into<S: Sink>(self, out: &mut S) -> fmt::Result {
+        match self {
+            Piece::Words(words) => out.put(words),
+            Piece::Number(number) => put_decimal(out, number),
+            Piece::NumberedByte(name, byte) => put_numbered(out, name, byte),
+            Piece::QuotedByte(name, byte) => {
+                if !byte.is_ascii_graphic() {
+                    return put_numbered(out, name, byte);
+                }
+                out.put("the ")?;
+                out.put(name)?;
+                out.put(" '")?;
+                out.put(char::from(byte).encode_utf8(&mut [0; 4]))?;
+                out.put("'")
+            }
+        }
+    }
+}
+
+// Puts a name and its byte in decimal.
+fn put_numbered<S: Sink>(out: &mut S, name: &str, byte: u8) -> fmt::Result {
+    out.put("the ")?;
+    out.put(name)?;
+    out.put(" ")?;
+    put_decimal(out, byte as usize)
+}
+
+// Puts `n` in decimal.
+pub(crate) fn put_decimal<S: Sink>(out: &mut S, n: usize) -> fmt::Result {
+    let has_front = n >= 10;
+    if has_front {
+        put_decimal(out, n / 10)?;
+    }
+    out.put(digit_text(n % 10))
+}
+
+// The digit character of `digit`, which is below 10.
+#[inline(always)]
+const fn digit_text(digit: usize) -> &'static str {
+    match digit {
+        0 => "0",
+        1 => "1",
+        2 => "2",
+        3 => "3",
+        4 => "4",
+        5 => "5",
+        6 => "6",
+        7 => "7",
+        8 => "8",
+        _ => "9",
+    }
+}
