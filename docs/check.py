@@ -8,7 +8,7 @@
 - check_definitions.py follows the definitions that headline calls cite, and compares the reading lists in PROVED.md.
 - DIFFERENCES.md names each public name that the Rust crate does not have.
 - A format word outside of a block of code can be pasted: it has no `_`.
-- Flags, fields, rules, reserved bits and outcomes are as many as a page says, and so are the rows of rust/erase's tables.
+- Flags, fields, rules, reserved bits and outcomes are as many as a page says, and so are the rows of the eraser's tables.
 - Each file of a folder must-fail/ is an edit. There are no fewer edits and tests than before.
 - No line of code or proof has over 160 columns, and at most 150 have over 120. No line of a page has, but those of
   tables and code.
@@ -18,21 +18,21 @@
 The last line counts the lines of the pages, the words of README, and transcripts (which the tests of numfmt, of rust/ and
 of c/ run, but for lines `$ cc ..`) and blocks of code (which are compared here).
 """
-import importlib.machinery
-import importlib.util
 import pathlib
 import re
 import sys
 
+TOP = pathlib.Path(__file__).resolve().parent.parent
 sys.dont_write_bytecode = True
+sys.path.append(str(TOP / "rust/tools"))
 import check_clauses
 import check_definitions
 import check_format
 import check_header
+import erase
 
-TOP = pathlib.Path(__file__).resolve().parent.parent
 PAGES = sorted(page for folder in (".", "docs", "compare", "bench", "rust") for page in (TOP / folder).glob("*.md"))
-SOURCES = [("crates", "*.rt"), ("crates", "*.antt"), ("rust", "*.rs"), ("rust", "*.toml"), ("c", "*.*")]
+SOURCES = [("crates", "*.rt"), ("crates", "*.antt"), ("rust", "*.rs"), ("rust", "*.toml"), ("c", "*.[chp]*")]
 LANGUAGES = ["rust", "antt", "c", "python", "toml"]
 LIBRARIES = ["lexical_base", "lexical_flags", "lexical_builder", "lexical_util"]
 # How many must-fail edits and tests there are at least.
@@ -164,15 +164,12 @@ def layout():
 
 
 def substituted(text):
-    """Returns whether the rows of rust/erase's tables are not as many as the page says."""
-    loader = importlib.machinery.SourceFileLoader("erase", str(TOP / "rust/erase"))
-    erase = importlib.util.module_from_spec(importlib.util.spec_from_loader("erase", loader))
-    loader.exec_module(erase)
+    """Returns whether the rows of the eraser's tables are not as many as the page says."""
     counts = {"texts": len(erase.SUBSTITUTIONS + erase.EVERYWHERE), "items in place": len(erase.ITEMS)}
     for name, count in counts.items():
         number = re.search(rf"(\w+) {name}", text.partition("## The plain Rust")[2])[1]
         if {"two": "2", **WORDS}.get(number, number) != str(count):
-            yield f"rust/erase has {count} {name}, not {number}"
+            yield f"the eraser has {count} {name}, not {number}"
 
 
 def readme(text):

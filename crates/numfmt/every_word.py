@@ -1,5 +1,5 @@
 #!/usr/bin/env python3
-"""Prints what `built-program-test` tries: arguments of numfmt, and the text and status that they call for.
+"""Prints what `built-program-test.sh` tries: arguments of numfmt, and the text and status that they call for.
 
 Words with each bit alone, with all but each, and with each value of each byte are shown and written as Rust code; the
 normal forms of the first two are printed; and a word that breaks each rule is checked. Names, bits and rules are read

@@ -1,4 +1,4 @@
-// Made by rust/erase from crates/lexical_base/src/ascii.rt: change that file.
+// Made by rust/tools/erase.py from crates/lexical_base/src/ascii.rt: change that file.
 
 //! Tests of single bytes and of slices of bytes: allowed ASCII and letters.
 

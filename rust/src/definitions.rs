@@ -1,4 +1,4 @@
-// Made by rust/erase from crates/*/specs: change those files.
+// Made by rust/tools/erase.py from crates/*/specs: change those files.
 
 //! What the words mean that the parts `Proved` of the documentation cite.
 //!

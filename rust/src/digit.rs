@@ -1,4 +1,4 @@
-// Made by rust/erase from crates/lexical_base/src/digit.rt: change that file.
+// Made by rust/tools/erase.py from crates/lexical_base/src/digit.rt: change that file.
 
 //! Conversions and tests of single digits. Nothing here iterates over a text.
 //!

@@ -1,4 +1,4 @@
-// Made by rust/erase from crates/lexical_util/src/edits.rt: change that file.
+// Made by rust/tools/erase.py from crates/lexical_util/src/edits.rt: change that file.
 
 //! Edits of a format word: lists of setter calls, and the normal form of a word.
 

@@ -1,4 +1,4 @@
-// Made by rust/erase from crates/lexical_base/src/error.rt: change that file.
+// Made by rust/tools/erase.py from crates/lexical_base/src/error.rt: change that file.
 
 //! The errors of parsing a number, and of checking a number format or its options.
 //!

@@ -1,4 +1,4 @@
-// Made by rust/erase from crates/lexical_builder/src/format_builder.rt: change that file.
+// Made by rust/tools/erase.py from crates/lexical_builder/src/format_builder.rt: change that file.
 
 //! Builds number formats field by field.
 

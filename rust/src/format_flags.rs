@@ -1,4 +1,4 @@
-// Made by rust/erase from crates/lexical_flags/src/format_flags.rt: change that file.
+// Made by rust/tools/erase.py from crates/lexical_flags/src/format_flags.rt: change that file.
 
 //! The layout of a format word: the bits of each flag and byte, and the functions that read them.
 //! The tests of the validity rules, whose file is `format_flags/rules.rt`, are re-exported.

@@ -55,8 +55,8 @@
 //!
 //! # What is proved
 //!
-//! The library is written in Rattle, Rust with contracts, and a prover has accepted every function. `rust/erase` in the
-//! repository leaves out what only the prover reads; the rest, but for a few imports and derives, are the files that
+//! The library is written in Rattle, Rust with contracts, and a prover has accepted every function. `tools/erase.py` in
+//! the repository leaves out what only the prover reads; the rest, but for a few imports and derives, are the files that
 //! begin with `Made by`. Written by hand are `format`, `feature_format`, `{:?}` of builders and views, and lanes of bytes in place of
 //! `std::simd`. Nothing is proved when you build this crate: you trust the eraser and `rustc`.
 #![no_std]
@@ -65,7 +65,9 @@
 pub mod ascii;
 mod debug;
 pub mod definitions;
+#[allow(clippy::redundant_pattern_matching, reason = "as it is proved")]
 pub mod digit;
+#[allow(clippy::redundant_pattern_matching, reason = "as it is proved")]
 pub mod edits;
 pub mod error;
 pub mod feature_format;

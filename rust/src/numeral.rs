@@ -1,4 +1,4 @@
-// Made by rust/erase from crates/lexical_util/src/numeral.rt: change that file.
+// Made by rust/tools/erase.py from crates/lexical_util/src/numeral.rt: change that file.
 
 //! Numbers written as digits of a radix.
 

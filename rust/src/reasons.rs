@@ -1,4 +1,4 @@
-// Made by rust/erase from crates/lexical_util/src/reasons.rt: change that file.
+// Made by rust/tools/erase.py from crates/lexical_util/src/reasons.rt: change that file.
 
 //! What is wrong with a format word, and what of it has no effect, for the one who has to mend it.
 

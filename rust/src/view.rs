@@ -1,4 +1,4 @@
-// Made by rust/erase from crates/lexical_util/src/feature_format.rt: change that file.
+// Made by rust/tools/erase.py from crates/lexical_util/src/feature_format.rt: change that file.
 
 //! The view of a format word: reads each field, and checks the word.
 

@@ -1,4 +1,4 @@
-// Made by rust/erase from crates/lexical_util/src/format.rt: change that file.
+// Made by rust/tools/erase.py from crates/lexical_util/src/format.rt: change that file.
 
 //! The standard format, the view and the checks of a word that is a value, and all names of
 //! `format_flags` and `format_builder`.

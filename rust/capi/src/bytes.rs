@@ -1,4 +1,4 @@
-// Made by rust/erase from crates/lexical_c/src/bytes.rt: change that file.
+// Made by rust/tools/erase.py from crates/lexical_c/src/bytes.rt: change that file.
 
 //! Bytes and digits.
 

@@ -1,4 +1,4 @@
-// Made by rust/erase from crates/lexical_c/src/edits.rt: change that file.
+// Made by rust/tools/erase.py from crates/lexical_c/src/edits.rt: change that file.
 
 //! Builders, which are structs of fields here, and edits of words.
 

@@ -1,5 +1,6 @@
-//! The calls of `c/peltzivar.h`. `rust/erase` makes them from the proved exports in `crates/lexical_c`; by hand are this
-//! file and `slices`. Build it with `--release`: else core needs what only `std` has, and the library does not load.
+//! The calls of `c/peltzivar.h`. `rust/tools/erase.py` makes them from the proved exports in `crates/lexical_c`; by hand
+//! are this file and `slices`. Build it with `--release`: else core needs what only `std` has, and the library does not
+//! load.
 //!
 //! Each `#[unsafe(no_mangle)]` is sound because the names begin with `peltzivar_`, as no other library's do, and no two
 //! are the same: else rustc refuses them. A call trusts its caller for what the header asks. A pointer points to a value of
@@ -8,7 +9,9 @@
 //! not see how C made it.
 #![no_std]
 
+#[allow(clippy::manual_unwrap_or, reason = "as it is proved")]
 mod bytes;
+#[allow(clippy::question_mark, reason = "as it is proved")]
 mod edits;
 mod outcomes;
 mod rules;

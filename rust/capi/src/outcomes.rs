@@ -1,4 +1,4 @@
-// Made by rust/erase from crates/lexical_c/src/outcomes.rt: change that file.
+// Made by rust/tools/erase.py from crates/lexical_c/src/outcomes.rt: change that file.
 
 //! Outcomes, which cross as numbers, and their texts.
 

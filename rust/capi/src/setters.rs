@@ -1,4 +1,4 @@
-// Made by rust/erase from crates/lexical_c/src/setters.rt: change that file.
+// Made by rust/tools/erase.py from crates/lexical_c/src/setters.rt: change that file.
 
 //! The names of setters, and settings as text. A setter crosses as its number.
 

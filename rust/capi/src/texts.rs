@@ -1,4 +1,4 @@
-// Made by rust/erase from crates/lexical_c/src/texts.rt: change that file.
+// Made by rust/tools/erase.py from crates/lexical_c/src/texts.rt: change that file.
 
 //! Texts that are written into a buffer with a 0 at their end.
 

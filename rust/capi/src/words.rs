@@ -1,4 +1,4 @@
-// Made by rust/erase from crates/lexical_c/src/words.rt: change that file.
+// Made by rust/tools/erase.py from crates/lexical_c/src/words.rt: change that file.
 
 //! The structs that stand for a word, an edit, and the fields of a builder.
 

@@ -1,4 +1,4 @@
-// Made by rust/erase from crates/numfmt/src/command.rt: change that file.
+// Made by rust/tools/erase.py from crates/numfmt/src/command.rt: change that file.
 
 //! The commands: what the program's arguments ask for, and the response to it.
 

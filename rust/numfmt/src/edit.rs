@@ -1,4 +1,4 @@
-// Made by rust/erase from crates/numfmt/src/edit.rt: change that file.
+// Made by rust/tools/erase.py from crates/numfmt/src/edit.rt: change that file.
 
 //! Edits as text: `NAME=VALUE`.
 

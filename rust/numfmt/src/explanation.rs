@@ -1,4 +1,4 @@
-// Made by rust/erase from crates/numfmt/src/explanation.rt: change that file.
+// Made by rust/tools/erase.py from crates/numfmt/src/explanation.rt: change that file.
 
 //! What there is to say of a format word: the rules that it breaks, and the settings without effect.
 

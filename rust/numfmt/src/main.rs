@@ -1,11 +1,14 @@
 //! `numfmt` shows, edits, compares, checks, explains and migrates number formats, and writes them as Rust code: the
-//! program of `crates/numfmt`, whose other files `rust/erase` makes. `crates/numfmt/src/main.rt` has its commands.
+//! program of `crates/numfmt`, whose other files `rust/tools/erase.py` makes. `crates/numfmt/src/main.rt` has its
+//! commands.
 //!
 //! Two statuses differ from those of the proved program, since std decides them: without memory this one aborts, and a
 //! closed output is `/dev/null`.
 
+#[allow(clippy::ptr_arg, reason = "as it is proved")]
 mod command;
 mod edit;
+#[allow(clippy::manual_flatten, reason = "as it is proved")]
 mod explanation;
 mod output;
 mod program;

@@ -1,4 +1,4 @@
-// Made by rust/erase from crates/numfmt/src/output.rt: change that file.
+// Made by rust/tools/erase.py from crates/numfmt/src/output.rt: change that file.
 
 //! What the program writes to, with words for what std's `Write` leaves open: an error, and a flush.
 

@@ -1,4 +1,4 @@
-// Made by rust/erase from crates/numfmt/src/program.rt: change that file.
+// Made by rust/tools/erase.py from crates/numfmt/src/program.rt: change that file.
 
 //! The program over its arguments and a writer.
 

@@ -1,4 +1,4 @@
-// Made by rust/erase from crates/numfmt/src/response.rt: change that file.
+// Made by rust/tools/erase.py from crates/numfmt/src/response.rt: change that file.
 
 //! The responses of the program: answers and refusals, their texts and their exit statuses.
 

@@ -1,4 +1,4 @@
-// Made by rust/erase from crates/numfmt/src/source.rt: change that file.
+// Made by rust/tools/erase.py from crates/numfmt/src/source.rt: change that file.
 
 //! The builder expression of a format word: the setter calls of single fields that make it, as Rust code.
 

@@ -1,4 +1,4 @@
-// Made by rust/erase from crates/numfmt/src/word.rt: change that file.
+// Made by rust/tools/erase.py from crates/numfmt/src/word.rt: change that file.
 
 //! Format words as text: `0x` and hexadecimal digits.
 

@@ -1,4 +1,4 @@
-// Made by rust/erase from crates/lexical_util/src/edits/listing.rt: change that file.
+// Made by rust/tools/erase.py from crates/lexical_util/src/edits/listing.rt: change that file.
 
 //! Which words a builder packs, and the setter calls that make a word.
 

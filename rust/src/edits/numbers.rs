@@ -1,4 +1,4 @@
-// Made by rust/erase from crates/lexical_util/src/edits/numbers.rt: change that file.
+// Made by rust/tools/erase.py from crates/lexical_util/src/edits/numbers.rt: change that file.
 
 //! The numbers and names of setters, and edits as two numbers.
 

@@ -1,4 +1,4 @@
-// Made by rust/erase from crates/lexical_util/src/edits/text.rt: change that file.
+// Made by rust/tools/erase.py from crates/lexical_util/src/edits/text.rt: change that file.
 
 //! Settings as text: `NAME=VALUE`.
 

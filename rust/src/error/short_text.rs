@@ -1,4 +1,4 @@
-// Made by rust/erase from crates/lexical_base/src/error/short_text.rt: change that file.
+// Made by rust/tools/erase.py from crates/lexical_base/src/error/short_text.rt: change that file.
 
 //! Sentences that are put together from a few pieces.
 

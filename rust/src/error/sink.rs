@@ -1,4 +1,4 @@
-// Made by rust/erase from crates/lexical_base/src/error/sink.rt: change that file.
+// Made by rust/tools/erase.py from crates/lexical_base/src/error/sink.rt: change that file.
 
 //! What a text is put into, piece by piece.
 

@@ -1,4 +1,4 @@
-// Made by rust/erase from crates/lexical_builder/src/format_builder/setters.rt: change that file.
+// Made by rust/tools/erase.py from crates/lexical_builder/src/format_builder/setters.rt: change that file.
 
 //! The setters of a builder. Each takes the builder and returns it with its fields changed.
 

@@ -1,4 +1,4 @@
-// Made by rust/erase from crates/lexical_flags/src/format_flags/all_rules.rt: change that file.
+// Made by rust/tools/erase.py from crates/lexical_flags/src/format_flags/all_rules.rt: change that file.
 
 //! The rules as values.
 

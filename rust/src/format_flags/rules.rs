@@ -1,4 +1,4 @@
-// Made by rust/erase from crates/lexical_flags/src/format_flags/rules.rt: change that file.
+// Made by rust/tools/erase.py from crates/lexical_flags/src/format_flags/rules.rt: change that file.
 
 //! The rules of a format word: a test for each, and the error of the first that a word breaks.
 //!

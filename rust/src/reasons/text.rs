@@ -1,4 +1,4 @@
-// Made by rust/erase from crates/lexical_util/src/reasons/text.rt: change that file.
+// Made by rust/tools/erase.py from crates/lexical_util/src/reasons/text.rt: change that file.
 
 //! The sentences of reasons and of settings without effect.
 

@@ -1,4 +1,4 @@
-// Made by rust/erase from crates/lexical_util/src/feature_format/getters.rt: change that file.
+// Made by rust/tools/erase.py from crates/lexical_util/src/feature_format/getters.rt: change that file.
 
 //! The flags of a viewed word, one by one and in groups.
 

@@ -1,9 +1,9 @@
 #!/usr/bin/env python3
 """Says which public names of the Rust crate lexical-util 1.0.7 are otherwise in rust/.
 
-    compare/names                   prints them as a table
-    compare/names --check PAGE      compares the table with that in the page; the status is 1 if they differ
-    compare/names --list            reads the names from the folder UPSTREAM into names.txt
+    compare/names.py                   prints them as a table
+    compare/names.py --check PAGE      compares the table with that in the page; the status is 1 if they differ
+    compare/names.py --list            reads the names from the folder UPSTREAM into names.txt
 
 The names of the crate's seven modules are the lines of names.txt; where UPSTREAM is set, these are compared too. The
 compiler says what is otherwise: each name is used once, as it can be with the crate, in a program over rust/, and what does
@@ -284,13 +284,13 @@ def main():
         return 0
     names = LIST.read_text().splitlines()
     if read is not None and read != names:
-        print("names.txt is not what UPSTREAM has: compare/names --list")
+        print("names.txt is not what UPSTREAM has: compare/names.py --list")
         return 1
     found = table(differences(names))
     if arguments[:1] == ["--check"]:
         if "\n".join(found) in pathlib.Path(arguments[1]).read_text():
             return 0
-        print(f"{arguments[1]} has another table than this one, of compare/names:")
+        print(f"{arguments[1]} has another table than this one, of compare/names.py:")
     print("\n".join(found))
     print(f"\n{len(names)} names of {len(MODULES)} modules", file=sys.stderr)
     return int(arguments[:1] == ["--check"])

@@ -5,13 +5,14 @@
 # pages prints what the page shows below it. The last line is `N passed, M failed`; the exit status is 1 if a run failed, or
 # fewer were tried than before.
 #
-#     built-program-test            tests out/numfmt, which `rt run` and `rt ci` leave; if that is absent, or older than
-#                                   a source file, `rt run` builds it
-#     built-program-test PROGRAM    tests another program, such as that of rust/numfmt. What fails is tried less often: Rust's
-#                                   std opens /dev/null in place of a closed output, and aborts where memory fails
+#     built-program-test.sh            tests out/numfmt, which `rt run` and `rt ci` leave; if that is absent, or older than
+#                                      a source file, `rt run` builds it
+#     built-program-test.sh PROGRAM    tests another program, such as that of rust/numfmt. What fails is tried less often:
+#                                      Rust's std opens /dev/null in place of a closed output, and aborts where memory fails
+# shellcheck disable=SC2016 # the backquotes in patterns are those of pages
 set -u
 program=${1:+$(realpath -m "$1")} least=4109
-cd "$(dirname "$0")"
+cd "$(dirname "$0")" || exit
 if [ -z "$program" ]; then
     program=out/numfmt least=4260
     if ! [ -x "$program" ] || [ -n "$(find ../*/src -name '*.rt' -newer "$program")" ]; then
@@ -130,7 +131,9 @@ new='NumberFormatBuilder::new()'
 
 # The flags of the word of ones by the rows of FORMAT.md, and the calls for those that a new builder does not have.
 ones_flags=0
-for bit in $(sed -nE 's/^\| ([0-9]+) \| `[a-z_]+` \|.*/\1/p' ../../docs/FORMAT.md); do ones_flags=$((ones_flags | 1 << bit)); done
+while read -r bit; do
+    ones_flags=$((ones_flags | 1 << bit))
+done < <(sed -nE 's/^\| ([0-9]+) \| `[a-z_]+` \|.*/\1/p' ../../docs/FORMAT.md)
 ones_calls=$(sed -nE 's/^\| [0-9]+ \| `([a-z_]+)` \| false \|.*/.\1(true)/p' ../../docs/FORMAT.md | tr -d '\n')
 
 # fields FLAGS SEPARATOR PREFIX SUFFIX RADIX BASE RADIX
@@ -143,9 +146,8 @@ ones_fields=$(fields "$(printf 0x%032X $ones_flags)" 255 255 255 255 255 255)
 one_to_six=$(fields 0x0000000000000000000000000000000C 1 2 3 4 5 6)
 one_digit=$(fields 0x0000000000000000000000000000000F 0 0 0 0 0 0)
 
-edits() {
-    for ((i = 0; i < $1; i++)); do echo "$2"; done
-}
+# As many edits as the program takes.
+mapfile -t most < <(yes radix=16 | head -n 64)
 
 #       status  text                                 arguments
 prints  0       "$standard_fields"
@@ -159,7 +161,7 @@ prints  0       "$one_digit"                         show 0xf
 prints  0       0x000010000000005F000002490000000C   edit 0xc radix=16 digit_separator=95 integer_digit_separator_flags=true
 prints  0       0x0A0A070000000000000000000000000C   edit $standard radix=007
 prints  0       0x0A000A0000000000000000000000000C   edit $standard digit_separator=0 exponent_base=none
-prints  0       0x0A0A100000000000000000000000000C   edit $standard $(edits 64 radix=16)
+prints  0       0x0A0A100000000000000000000000000C   edit $standard "${most[@]}"
 prints  0       $decimal                             edit $standard
 prints  0       0x00000000000000000000000000000000   edit 0x100000000000 special_digit_separator=false
 prints  0       "'not actually an error'"            check $standard
@@ -283,7 +285,7 @@ refuses "wrong number of arguments"   source
 refuses "wrong number of arguments"   source $standard $standard
 refuses "wrong number of arguments"   explain
 refuses "wrong number of arguments"   explain $standard $standard
-refuses "too many edits"              edit 0x $(edits 65 radix=1)
+refuses "too many edits"              edit 0x "${most[@]}" radix=1
 refuses "bad word"                    show 0x
 refuses "bad word"                    show 0x000000000000000000000000000000000
 refuses "bad word"                    show 0X1
@@ -388,12 +390,14 @@ fails edit 0xC radix
 # Every bit, byte and rule.
 python3 every_word.py > "$folder/runs"
 compare "status 0" "status $?" "(every_word.py)"
+# shellcheck disable=SC2094 # the program writes to a file what the loop reads from it
 while IFS= read -r -d '$' run; do
     arguments=${run%%$'\n'*}
-    "$program" $arguments >&3 2>&3
+    read -ra words <<< "$arguments"
+    "$program" "${words[@]}" >&3 2>&3
     status=$?
     IFS= read -r -d '' text <&4
-    compare "$run" "$arguments"$'\n'"${text}status $status"$'\n' $arguments
+    compare "$run" "$arguments"$'\n'"${text}status $status"$'\n' "$arguments"
 done < "$folder/runs" 3> "$folder/text" 4< "$folder/text"
 
 for page in README.md docs/CALLING.md docs/FORMAT.md docs/MIGRATING.md; do

@@ -5,7 +5,7 @@
 #     UPSTREAM=folder compare/run --record crates/recorded/data/results.txt
 set -euo pipefail
 here=$(cd "$(dirname "${BASH_SOURCE[0]}")" && pwd)
-. "$here/prepare"
+. "$here/prepare.sh"
 
 prepare_work
 prepare_upstream

@@ -6,7 +6,7 @@
 # PROCESSORS  what to build for, as RATTLE:RUST; default "x86-64-v2:x86-64-v2 x86-64-v3:x86-64-v3"
 set -euo pipefail
 here=$(cd "$(dirname "${BASH_SOURCE[0]}")" && pwd)
-. "$here/../compare/prepare"
+. "$here/../compare/prepare.sh"
 
 prepare_work
 prepare_upstream

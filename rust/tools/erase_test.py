@@ -1,23 +1,19 @@
 #!/usr/bin/env python3
-"""Tests what has to be believed of rust/erase: the words of each made file are those of its source, in their order, with
-whole ghost items left out, but for the tables of rust/erase. Comments are no words, and the order of imports and what
+"""Tests what has to be believed of erase.py: the words of each made file are those of its source, in their order, with
+whole ghost items left out, but for the tables of erase.py. Comments are no words, and the order of imports and what
 rustfmt adds (commas, braces round an arm) do not count.
 
-It reads the sources by itself and takes only the tables from rust/erase. Then it sees that faults planted in the made files,
+It reads the sources by itself and takes only the tables from erase.py. Then it sees that faults planted in the made files,
 and in sources that the eraser has to refuse, are found. The last line is `N passed, M failed`.
 """
-import importlib.machinery
-import importlib.util
 import pathlib
 import random
 import re
 import sys
 
-RUST = pathlib.Path(__file__).resolve().parent
 sys.dont_write_bytecode = True
-LOADER = importlib.machinery.SourceFileLoader("erase", str(RUST / "erase"))
-ERASE = importlib.util.module_from_spec(importlib.util.spec_from_loader("erase", LOADER))
-LOADER.exec_module(ERASE)
+import erase
+
 OPENS, CLOSES = "([{", ")]}"
 
 
@@ -65,7 +61,7 @@ def until(words, at, *ends):
 def law_names():
     """The laws: functions of the files of laws, which do nothing but call others."""
     bodies = {}
-    for path in ERASE.CRATES.glob("*/src/**/*.rt"):
+    for path in erase.CRATES.glob("*/src/**/*.rt"):
         words = words_of(path.read_text())
         for at, word in enumerate(words[:-1]):
             if word == "fn":
@@ -92,7 +88,7 @@ def plain(words, file):
             at = until(words, at, ";") + 1
         elif ahead[:3] == ["#", "[", "tactic"] or ahead[:4] == ["#", "!", "[", "tactic"]:
             at = close(words, at + ahead.index("["))
-        elif any(ahead[: len(item.split())] == item.split() for name, item in ERASE.ITEMS if name == file):
+        elif any(ahead[: len(item.split())] == item.split() for name, item in erase.ITEMS if name == file):
             at = close(words, until(words, at, "{"))
         elif ahead[:3] == ["impl", "Model", "for"]:
             at = close(words, until(words, at, "{"))
@@ -119,10 +115,10 @@ def plain(words, file):
 def wanted_words(path, place):
     """The words that the made file of a source has to have."""
     text = path.read_text()
-    for file, old, new in ERASE.SUBSTITUTIONS:
+    for file, old, new in erase.SUBSTITUTIONS:
         if file == path.name:
             text = text.replace(old, new)
-    for old, new in ERASE.EVERYWHERE:
+    for old, new in erase.EVERYWHERE:
         text = text.replace(old, new)
     folder, root, std = place
     words = plain(words_of(text), path.name)
@@ -130,8 +126,8 @@ def wanted_words(path, place):
         if words[at + 1 : at + 3] == [":", ":"]:
             words[at] = root if re.fullmatch("lexical_(base|flags|builder|util)", word) else std if word == "std" else word
         if words[at - 3 : at] == [root, ":", ":"]:
-            words[at] = ERASE.MODULES.get(words[at], words[at])
-        words[at] = ERASE.VIEW[1] if words[at] == ERASE.VIEW[0] else words[at]
+            words[at] = erase.MODULES.get(words[at], words[at])
+        words[at] = erase.VIEW[1] if words[at] == erase.VIEW[0] else words[at]
     return words
 
 
@@ -183,15 +179,15 @@ def are_same(wanted, made):
 
 def made_files():
     """Each source with the words that its made file has to have, and those that it has."""
-    for crate, place in ERASE.PLACES.items():
-        top = ERASE.CRATES / crate / "src"
+    for crate, place in erase.PLACES.items():
+        top = erase.CRATES / crate / "src"
         for path in sorted(top.rglob("*.rt")):
             name = path.relative_to(top)
-            if not ERASE.LEFT_OUT.fullmatch(str(name)):
+            if not erase.LEFT_OUT.fullmatch(str(name)):
                 first, *rest = name.with_suffix(".rs").parts
                 if crate == "lexical_util":
-                    first = ERASE.MODULES.get(first.removesuffix(".rs"), first.removesuffix(".rs")) + first[-3:] * first.endswith(".rs")
-                made = RUST.joinpath(place[0], first, *rest)
+                    first = erase.MODULES.get(first.removesuffix(".rs"), first.removesuffix(".rs")) + first[-3:] * first.endswith(".rs")
+                made = erase.RUST.joinpath(place[0], first, *rest)
                 yield made, wanted_words(path, place), words_of(made.read_text())
 
 
@@ -227,7 +223,7 @@ def main():
     passed, failed = 0, []
     chance = random.Random(1)
     for path, wanted, made in made_files():
-        name = path.relative_to(RUST)
+        name = path.relative_to(erase.RUST)
         for what, words in [("", made), *faults(made, chance)]:
             if are_same(wanted, words) == (what == ""):
                 passed += 1
@@ -235,9 +231,9 @@ def main():
                 failed.append(f"{name}: {'not found: ' + what if what else 'not the words of its source'}")
     for text, says in REFUSED.items():
         try:
-            erased = ERASE.Source(pathlib.Path("f.rt"), text).erase()
+            erased = erase.Source(pathlib.Path("f.rt"), text).erase()
             failed.append(f"not refused: {text!r} -> {erased!r}")
-        except ERASE.Refused as refused:
+        except erase.Refused as refused:
             passed += says in str(refused)
             failed += [f"{refused}, and not {says}"] * (says not in str(refused))
     print(*failed, f"{passed} passed, {len(failed)} failed", sep="\n")

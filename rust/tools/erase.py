@@ -1,8 +1,8 @@
 #!/usr/bin/env python3
 """Makes the plain Rust of rust/ from the proved sources, crates/*/src/*.rt.
 
-    rust/erase            writes the files
-    rust/erase --check    names the files that are not up to date, and ends with status 1 if there are any
+    rust/tools/erase.py            writes the files
+    rust/tools/erase.py --check    names the files that are not up to date, and ends with status 1 if there are any
 
 What only the prover reads is left out, whole: ghost items, clauses, tactics, `impl Model`, laws and their calls. All
 other words stay, in their order, but for
@@ -12,8 +12,8 @@ other words stay, in their order, but for
 - exports to C, where a slice becomes a pointer and a length.
 
 Added is `#[must_use]`, and for the functions in SHOWN their clauses as documentation. The layout is rustfmt's. A ghost
-form that is not known here is refused with file and line; then no file is changed. `rust/erase-test` compares the words
-of each file with those of its source.
+form that is not known here is refused with file and line; then no file is changed. `erase_test.py` compares the words of
+each file with those of its source.
 """
 import pathlib
 import re
@@ -21,8 +21,11 @@ import subprocess
 import sys
 import textwrap
 
-RUST = pathlib.Path(__file__).resolve().parent
+RUST = pathlib.Path(__file__).resolve().parent.parent
 CRATES = RUST.parent / "crates"
+
+# How each made file begins.
+MADE = "// Made by rust/tools/erase.py"
 
 # A crate, the folder of its files in plain Rust, the root of their paths, and the standard library that they use.
 LIBRARY = ("src", "crate", "core")
@@ -312,12 +315,12 @@ def made_files():
             source = source_of(path)
             text = renamed(source.erase(), root, std)
             cited |= source.cited
-            head = f"// Made by rust/erase from crates/{crate}/src/{name}: change that file.\n\n"
+            head = f"{MADE} from crates/{crate}/src/{name}: change that file.\n\n"
             files[RUST.joinpath(folder, first, *rest)] = laid_out(head + text)
     for file, old, _ in SUBSTITUTIONS:
         if not any(path.name == file.replace(".rt", ".rs") or path.stem == MODULES.get(file[:-3]) for path in files):
             raise Refused(f"{file} is no source, and this is to stand in it: {old}")
-    head = "// Made by rust/erase from crates/*/specs: change those files.\n\n"
+    head = f"{MADE} from crates/*/specs: change those files.\n\n"
     files[RUST / "src/definitions.rs"] = laid_out(head + definitions(cited))
     return files
 
@@ -326,12 +329,12 @@ def main():
     try:
         files = made_files()
     except Refused as refused:
-        sys.exit(f"rust/erase: {refused}")
+        sys.exit(f"rust/tools/erase.py: {refused}")
     stale = [path for path, text in files.items() if not path.exists() or path.read_text() != text]
-    gone = [it for it in RUST.glob("**/src/**/*.rs") if it not in files and it.read_text().startswith("// Made by rust/erase")]
+    gone = [it for it in RUST.glob("**/src/**/*.rs") if it not in files and it.read_text().startswith(MADE)]
     names = " ".join(str(path.relative_to(RUST)) for path in stale + gone)
     if "--check" in sys.argv[1:]:
-        sys.exit(f"run rust/erase: not up to date: {names}" if names else 0)
+        sys.exit(f"run rust/tools/erase.py: not up to date: {names}" if names else 0)
     for path in stale:
         path.parent.mkdir(parents=True, exist_ok=True)
         path.write_text(files[path])

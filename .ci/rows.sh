@@ -1,4 +1,5 @@
-# The rows of a test and their counts, for a script that begins with `. .ci/rows`. Its last command is `counted LEAST`.
+# shellcheck shell=bash
+# The rows of a test and their counts, for a script that begins with `. .ci/rows.sh`. Its last command is `counted LEAST`.
 #
 # What a machine lacks is skipped, by name. Where CI is set, a machine without cc, cargo or python3 fails the test.
 passed=0
@@ -23,14 +24,15 @@ prints() {
 # shows PAGE PROMPT COMMAND..: for each indented line `$ PROMPT ARGUMENT..` of the page, the command with these arguments
 # prints the indented lines below. There is such a line.
 shows() {
-    local line arguments='' text='' found=''
+    local line arguments='' text='' found='' words
     while IFS= read -r line; do
         if [[ $arguments && $line == '    '[^$]* ]]; then
             text+=${line#'    '}$'\n'
             continue
         fi
         if [[ $arguments ]]; then
-            compares "$text" "$("${@:3}" $arguments 2>&1)"$'\n' "$2 $arguments" "in $1"
+            read -ra words <<< "$arguments"
+            compares "$text" "$("${@:3}" "${words[@]}" 2>&1)"$'\n' "$2 $arguments" "in $1"
             found=$2
         fi
         arguments='' text=''

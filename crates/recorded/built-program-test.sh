@@ -4,7 +4,7 @@
 # out/recorded, which `rt run` and `rt ci` leave; if that is absent, or older than a source file, `rt run` builds it. The
 # last line is `N passed, M failed`; the exit status is 1 if a run failed, or fewer were tried than before.
 set -u
-cd "$(dirname "$0")"
+cd "$(dirname "$0")" || exit
 program=$PWD/out/recorded
 results=$PWD/data/results.txt
 if ! [ -x "$program" ] || [ -n "$(find ../*/src -name '*.rt' -newer "$program")" ]; then
@@ -16,7 +16,7 @@ passed=0
 failed=0
 folder=$(mktemp -d)
 trap 'rm -r "$folder"' EXIT
-cd "$folder"
+cd "$folder" || exit
 
 # ends STATUS TEXT NAME: the program ends with the status and prints a text that begins so.
 ends() {

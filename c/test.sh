@@ -1,14 +1,14 @@
 #!/usr/bin/env bash
 # Tests the calls of peltzivar.h from C, C++ and Python, also under the address sanitizer.
 #
-#     c/test            the plain library, which cargo builds twice: with rustc's checks of numbers and pointers, and without
-#     c/test ARCHIVE    a library that is there, as the proved one: `rt lib` in crates/lexical_c makes out/liblexical_c.a
+#     c/test.sh            the plain library, which cargo builds twice: with rustc's checks of numbers and pointers, and without
+#     c/test.sh ARCHIVE    a library that is there, as the proved one: `rt lib` in crates/lexical_c makes out/liblexical_c.a
 #
 # The last line is `N passed, M failed, K skipped`; the exit status is 1 if a row failed, or fewer were tried than before.
 set -u
 given=${1:+$(realpath "$1")}
-cd "$(dirname "$0")"
-. ../.ci/rows
+cd "$(dirname "$0")" || exit
+. ../.ci/rows.sh
 page=../docs/C-AND-PYTHON.md
 work=$(mktemp -d)
 trap 'rm -rf "$work"' EXIT
@@ -18,9 +18,10 @@ declare -A here=()
 for tool in nm g++ python3; do
     if has $tool; then here[$tool]=yes; fi
 done
-strict="-Wall -Wextra -Wpedantic -Werror"
+strict=(-Wall -Wextra -Wpedantic -Werror)
 sanitizer="-g -fsanitize=address,undefined"
-if cc $sanitizer -x c -o "$work/empty" - <<< 'int main(void) { return 0; }' 2> /dev/null && "$work/empty"; then
+read -ra options <<< "$sanitizer"
+if cc "${options[@]}" -x c -o "$work/empty" - <<< 'int main(void) { return 0; }' 2> /dev/null && "$work/empty"; then
     here[sanitizer]=yes
 else
     skips "cc -fsanitize=address"
@@ -92,14 +93,15 @@ declares() {
 
 # library ARCHIVE SHARED: the rows over a library in its two forms.
 library() {
-    local options
-    for options in -O2 ${here[sanitizer]:+"$sanitizer"}; do
-        passes cc -std=c11 $strict $options example.c "$1" -o "$work/example" && example "$work/example"
-        passes cc -std=c11 $strict $options settings.c "$1" -o "$work/settings" && settings "$work/settings"
-        passes cc -std=c11 $strict $options header.c "$1" -o "$work/header" && passes "$work/header"
+    local text options
+    for text in -O2 ${here[sanitizer]:+"$sanitizer"}; do
+        read -ra options <<< "$text"
+        passes cc -std=c11 "${strict[@]}" "${options[@]}" example.c "$1" -o "$work/example" && example "$work/example"
+        passes cc -std=c11 "${strict[@]}" "${options[@]}" settings.c "$1" -o "$work/settings" && settings "$work/settings"
+        passes cc -std=c11 "${strict[@]}" "${options[@]}" header.c "$1" -o "$work/header" && passes "$work/header"
     done
     if [ "${here[g++]:-}" ]; then
-        passes g++ -std=c++17 $strict header.cpp "$1" -o "$work/header" && passes "$work/header"
+        passes g++ -std=c++17 "${strict[@]}" header.cpp "$1" -o "$work/header" && passes "$work/header"
     fi
     if [ "${here[python3]:-}" ]; then
         shows $page "python3 example.py ./libpeltzivar_c.so" python3 example.py "$2"

@@ -1,4 +1,5 @@
-# Shared by compare/run and bench/run: sourced, not run. It needs UPSTREAM, and takes WORK.
+# shellcheck shell=bash
+# Shared by compare/run.sh and bench/run.sh: sourced, not run. It needs UPSTREAM, and takes WORK.
 #
 # UPSTREAM  the sources of the Rust crate lexical-util 1.0.7: its folder, or one that holds its files
 #           as src--src--NAME.rs.txt
@@ -88,12 +89,13 @@ build_member() {
 build_driver() {
     local folder
     for folder in compare bench; do
-        rm -rf "$work/$folder"
+        rm -rf "${work:?}/$folder"
         mkdir -p "$work/$folder"
         cp -r "$repository/$folder/rust" "$work/$folder/"
         mv "$work/$folder/rust/Cargo.toml.in" "$work/$folder/rust/Cargo.toml"
     done
     (cd "$work/$1/rust" && BENCH_LIB=$work/lib-${3:-} RUSTFLAGS="-C target-cpu=$2" \
         CARGO_TARGET_DIR="$work/target-$1-$2" cargo build --release --offline --quiet)
+    # shellcheck disable=SC2034 # the scripts that source this file run it
     driver=$work/target-$1-$2/release/driver
 }
