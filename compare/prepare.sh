@@ -86,15 +86,17 @@ build_member() {
 
 # Builds the driver of folder $1 for processor $2. The driver of bench/ takes some modules of compare/, and links the
 # static libraries that were built for processor $3.
+#
+# No jump crosses a border of 32 bytes: otherwise rows of bench/ move with the addresses of their code.
 build_driver() {
-    local folder
+    local folder flags="-C target-cpu=$2 -C llvm-args=-x86-branches-within-32B-boundaries"
     for folder in compare bench; do
         rm -rf "${work:?}/$folder"
         mkdir -p "$work/$folder"
         cp -r "$repository/$folder/rust" "$work/$folder/"
         mv "$work/$folder/rust/Cargo.toml.in" "$work/$folder/rust/Cargo.toml"
     done
-    (cd "$work/$1/rust" && BENCH_LIB=$work/lib-${3:-} RUSTFLAGS="-C target-cpu=$2" \
+    (cd "$work/$1/rust" && BENCH_LIB=$work/lib-${3:-} RUSTFLAGS=$flags \
         CARGO_TARGET_DIR="$work/target-$1-$2" cargo build --release --offline --quiet)
     # shellcheck disable=SC2034 # the scripts that source this file run it
     driver=$work/target-$1-$2/release/driver

@@ -232,7 +232,7 @@ fn main() {
             worst = Some((times.ratio, &row.name));
         }
         println!(
-            "{:<50} {:>10.2} {:>10.2} {:>6.2} {:>6.2} to {:.2}",
+            "{:<50} {:>10.3} {:>10.3} {:>6.2} {:>6.2} to {:.2}",
             row.name, times.ours, times.theirs, times.ratio, times.low, times.high
         );
     }

@@ -14,8 +14,7 @@ pub struct Row<'a> {
     pub theirs: Loop<'a>,
 }
 
-/// Medians over the rounds: nanoseconds of one call, and their ratio; and between what ratios the
-/// middle half of the rounds lies.
+/// The least nanoseconds of one call on each side; of the rounds' ratios the median, and the bounds of the middle half.
 pub struct Times {
     pub ours: f64,
     pub theirs: f64,
@@ -68,8 +67,8 @@ impl Row<'_> {
         let ratios = column(|pair| pair.0 / pair.1);
         let calls = self.calls as f64;
         Times {
-            ours: ours[rounds / 2] / calls,
-            theirs: theirs[rounds / 2] / calls,
+            ours: ours[0] / calls,
+            theirs: theirs[0] / calls,
             ratio: ratios[rounds / 2],
             low: ratios[rounds / 4],
             high: ratios[rounds - 1 - rounds / 4],
