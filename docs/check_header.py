@@ -47,7 +47,7 @@ def setters():
     """Returns the names in C of the setters, in the order of their numbers."""
     edits, numbers = ((TOP / f"crates/lexical_util/src/edits{it}.rt").read_text() for it in ("", "/numbers"))
     variants = re.search(r"pub enum FlagSetter \{(.*?)^\}", edits, re.M | re.S)[1]
-    names = re.findall(r"^    (\w+),", variants, re.M) + re.findall(r"\d+ => Some\(Edit::(\w+)\(", numbers)
+    names = re.findall(r"^    (\w+),", variants, re.M) + re.findall(r"Edit::(\w+)\(_\) => [A-Z_]+,", numbers)
     return [constant(f"SET_{name}") for name in names]
 
 

@@ -65,7 +65,9 @@ mod numbers;
 mod text;
 
 pub use listing::{edits_of, field_edits_of, is_built};
-pub use numbers::{number_of_name, setter_name_of_number, SETTER_NAMES};
+pub use numbers::{
+    setter_name_of_number, setter_number_of_name, Argument, ArgumentKind, SETTER_NAMES,
+};
 pub use text::{byte_from_text, SettingError};
 
 /// A builder setter that takes a `bool`: one for each flag, and one for each of the nine groups of

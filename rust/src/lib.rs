@@ -67,7 +67,11 @@ mod debug;
 pub mod definitions;
 #[allow(clippy::redundant_pattern_matching, reason = "as it is proved")]
 pub mod digit;
-#[allow(clippy::redundant_pattern_matching, reason = "as it is proved")]
+#[allow(
+    clippy::redundant_pattern_matching,
+    clippy::manual_find,
+    reason = "as it is proved"
+)]
 pub mod edits;
 pub mod error;
 pub mod feature_format;
@@ -90,6 +94,21 @@ impl core::str::FromStr for edits::Edit {
     /// Calls [`Edit::from_text`][edits::Edit::from_text].
     fn from_str(text: &str) -> Result<Self, Self::Err> {
         Self::from_text(text)
+    }
+}
+
+impl core::str::FromStr for edits::FlagSetter {
+    type Err = edits::SettingError;
+
+    /// Returns the setter of this name.
+    ///
+    /// # Errors
+    ///
+    /// [`SettingError::UnknownName`][edits::SettingError::UnknownName] if no flag or group setter has the name.
+    fn from_str(name: &str) -> Result<Self, Self::Err> {
+        edits::setter_number_of_name(name.as_bytes())
+            .and_then(|number| edits::SETTERS.get(usize::from(number)).copied())
+            .ok_or(edits::SettingError::UnknownName)
     }
 }
 

@@ -34,7 +34,7 @@ fn error(name: &str) -> Option<Error> {
 /// The edit that `SETTER=VALUE` stands for.
 fn edit(call: &str) -> Option<Edit> {
     let (name, value) = call.split_once('=')?;
-    if let Some(setter) = FlagSetter::from_name(name) {
+    if let Ok(setter) = name.parse::<FlagSetter>() {
         return Some(Edit::Flag(setter, value.parse().ok()?));
     }
     let byte: u8 = value.parse().ok()?;

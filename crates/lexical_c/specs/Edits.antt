@@ -3,7 +3,7 @@ use Rattle.std.specs.Prelude.{ℕ, Option, IsSome, List, filter_map}
 use Rattle.lexical_util.specs.declared.edits.Edit.{Edit}
 use Rattle.lexical_util.specs.declared.edits.text.SettingError.{SettingError}
 use Rattle.lexical_util.specs.declared.edits.text.SettingError.TheVariants as errors
-use Rattle.lexical_util.specs.Additions.SettingNumbers.{edit_of_numbers, setter_number, argument_byte}
+use Rattle.lexical_util.specs.Additions.SettingNumbers.{edit_of_number, setter_number, argument_byte}
 use Rattle.lexical_c.specs.declared.words.NumberedEdit.{NumberedEdit}
 
 -- an edit as the number of its setter and its argument
@@ -12,7 +12,7 @@ encode_edit edit = record { setter = setter_number edit; value = argument_byte e
 
 -- the edit that two numbers stand for
 abbrev pub decode_edit : NumberedEdit → Option Edit
-decode_edit edit = edit_of_numbers edit.setter edit.value
+decode_edit edit = edit_of_number edit.setter edit.value
 
 -- two numbers the first of which is that of a setter
 abbrev pub HasSetter : NumberedEdit → Type 0

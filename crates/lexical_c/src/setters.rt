@@ -1,46 +1,42 @@
 //! The names of setters, and settings as text. A setter crosses as its number.
 
-ghost use Rattle.std.specs.Prelude.{◌≡◌, ◌<◌, ℕ, [], None, IfSome, IfOk, IfErr};
+ghost use Rattle.std.specs.Prelude.{◌≡◌, [], None, IfSome, IfOk, IfErr, unwrap_or};
 ghost use Rattle.std.specs.Str.{IsUtf8};
-ghost use Rattle.lexical_util.specs.Additions.SettingNumbers.{setter_name_of_number, setter_count, mask_of_edit};
-ghost use Rattle.lexical_util.specs.Additions.SettingText.{edit_or_error_in, setting_text};
+ghost use Rattle.lexical_util.specs.Additions.SettingNumbers.{setter_name_of_number, setter_number_of_name, mask_of_edit};
+ghost use Rattle.lexical_util.specs.Additions.SettingText.{edit_from_text, setting_text};
 ghost use Rattle.lexical_c.specs.Edits.{decode_edit, encode_edit, error_code};
 ghost use Rattle.lexical_c.specs.Texts.{IsWritten};
 
 use crate::texts::{write_nothing, write_short_text, write_text};
 use crate::words::{NumberedEdit, Word};
-use lexical_util::edits::{Edit, SETTER_NAMES, number_of_name, setter_name_of_number};
+use lexical_util::edits::{Edit, setter_name_of_number, setter_number_of_name};
 
 /// Writes a setter's name.
 #[unsafe(no_mangle)]
 pub extern "C" fn peltzivar_setter_name(setter: u8, text: &mut [u8]) -> usize
-    ensures text { setter < setter_count → IsWritten (setter_name_of_number setter) result text.old text.new }
-    ensures unknown { (setter < setter_count → ⊥) → IsWritten [] result text.old text.new }
+    ensures text { IfSome (setter_name_of_number setter) (λ name. IsWritten name result text.old text.new) }
+    ensures unknown { setter_name_of_number setter ≡ None → IsWritten [] result text.old text.new }
 {
-    write_text(setter_name_of_number(setter).as_bytes(), text)
+    match setter_name_of_number(setter) {
+        Some(name) => write_text(name.as_bytes(), text),
+        None => write_nothing(text),
+    }
 }
 
 /// Returns the number of the setter of this name, or 255 if there is none.
 #[unsafe(no_mangle)]
 pub extern "C" fn peltzivar_setter_of_name(name: &[u8]) -> u8
-    ensures named { result < setter_count → setter_name_of_number result ≡ name.now }
-    ensures none { (result < setter_count → ⊥) → (result ≡ 255)
-        × ((setter : ℕ) → setter < setter_count → setter_name_of_number setter ≡ name.now → ⊥) }
+    ensures { result ≡ unwrap_or (setter_number_of_name name.now) 255 }
 {
-    let setter = number_of_name(name);
-    if (setter as usize) < SETTER_NAMES.len() {
-        setter
-    } else {
-        255
-    }
+    setter_number_of_name(name).unwrap_or(255)
 }
 
 /// Writes the edit of a text `NAME=VALUE` and returns 0, or returns 1 to 3, which says what is wrong.
 #[unsafe(no_mangle)]
 pub extern "C" fn peltzivar_edit_of_text(text: &[u8], out: &mut NumberedEdit) -> u32
-    ensures edit { IsUtf8 text.now → IfOk (edit_or_error_in text.now)
+    ensures edit { IsUtf8 text.now → IfOk (edit_from_text text.now)
         (λ edit. (result ≡ 0) × (out.new ≡ encode_edit edit)) }
-    ensures none { IsUtf8 text.now → IfErr (edit_or_error_in text.now)
+    ensures none { IsUtf8 text.now → IfErr (edit_from_text text.now)
         (λ error. (result ≡ error_code error) × (out.new ≡ out.old)) }
     ensures no_text { (IsUtf8 text.now → ⊥) → (result ≡ 1) × (out.new ≡ out.old) }
 {

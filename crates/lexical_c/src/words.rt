@@ -70,7 +70,7 @@ impl NumberedEdit {
     {
         NumberedEdit {
             setter: edit.setter_number(),
-            value: edit.byte(),
+            value: edit.argument_byte(),
         }
     }
 

@@ -4,7 +4,6 @@ mod ViewLemmas
 pub mod ListingLemmas
 mod ChangeLemmas
 mod ImageLemmas
-mod SetterNameLemmas
 mod Distance
 mod FieldWrites
 mod NumberLemmas

@@ -1,6 +1,6 @@
 -- What an edit prints is read as that edit.
-use Rattle.std.proofs.Common.{ℕ, ◌≡◌, ◌<◌, ◌==◌, ◌∙◌, Bool, true, false, decimal, codes, bytes_eq, refl, ap}
-use Rattle.std.proofs.Common.{Option, None, Some, Result, Ok, Err}
+use Rattle.std.proofs.Common.{ℕ, ◌+◌, ◌≡◌, ◌<◌, ◌==◌, ◌∙◌, Bool, true, false, decimal, codes, bytes_eq, refl, ap}
+use Rattle.std.proofs.Common.{None, Some, Result, Ok, Err}
 use Rattle.std.specs.Fmt.{digits}
 use Rattle.std.specs.Option.{ok_or}
 use Rattle.std.proofs.lemmas.Bool.{agree_below_at, eqb-true, cond-false}
@@ -12,7 +12,11 @@ use Rattle.lexical_util.specs.declared.edits.FlagSetter.{FlagSetter}
 use Rattle.lexical_util.specs.declared.edits.FlagSetter.TheVariants as setters
 use Rattle.lexical_util.specs.declared.edits.text.SettingError.{SettingError}
 use Rattle.lexical_util.specs.declared.edits.text.SettingError.TheVariants.{UnknownName}
-use Rattle.lexical_util.specs.Additions.SettingText.{HasByte, byte_from_text, optional_byte_from_text, map_ok, edit_or_error_in, setting_text}
+use Rattle.lexical_util.specs.declared.edits.numbers.Argument.TheVariants as arguments
+use Rattle.lexical_util.specs.declared.edits.numbers.ArgumentKind.TheVariants as kinds
+use Rattle.lexical_util.specs.Additions.SettingNumbers.{first_byte, edit_with, HasByte}
+use Rattle.lexical_util.specs.Additions.SettingText.{byte_from_text, optional_byte_from_text, map_ok}
+use Rattle.lexical_util.specs.Additions.SettingText.{argument_from_text, edit_with_read, edit_from_text, setting_text}
 
 -- whether a byte was read
 abbrev is_read : Result ℕ SettingError → ℕ → Bool
@@ -40,31 +44,42 @@ option_back byte small =
     cond-false (bytes_eq (decimal byte) (codes "none")) _ _ (not_none byte small)
     ∙ ap (map_ok option_of_byte) (byte_back byte small)
 
--- an edit that is found by name is read
-found : (read : Result (Option ℕ) SettingError) (make : Option ℕ → Edit) (byte : ℕ) (edit : Edit)
-    → read ≡ Ok (option_of_byte byte) → Some (make (option_of_byte byte)) ≡ Some edit → map_ok make read ≡ Ok edit
-found read make byte edit is same = ap (map_ok make) is ∙ ap (λ o. ok_or o UnknownName) same
+-- So an edit whose byte may be absent is read, if it is the edit of its number and that byte.
+optional_back : (number byte : ℕ) (edit : Edit) → byte < 256
+    → edit_with number (arguments.OptionalByte (option_of_byte byte)) ≡ Some edit
+    → edit_with_read number (argument_from_text kinds.OptionalByte (decimal byte)) ≡ Ok edit
+optional_back number byte edit small made =
+    ap (λ read. edit_with_read number (map_ok arguments.OptionalByte read)) (option_back byte small)
+    ∙ ap (λ o. ok_or o UnknownName) made
 
+-- An edit of a byte that is always there is read.
+always_back : (number byte : ℕ) → byte < 256
+    → edit_with_read number (argument_from_text kinds.Byte (decimal byte))
+    ≡ ok_or (edit_with number (arguments.Byte byte)) UnknownName
+always_back number byte small =
+    ap (λ read. edit_with_read number (map_ok arguments.Byte read)) (byte_back byte small)
+
+-- An edit of a flag or a group is read: each case is computed.
 flag_back : (setter : FlagSetter) (flag : Bool)
-    → edit_or_error_in (setting_text (edits.Flag setter flag)) ≡ Ok (edits.Flag setter flag)
-unfolding edit_or_error_in
+    → edit_from_text (setting_text (edits.Flag setter flag)) ≡ Ok (edits.Flag setter flag)
+unfolding edit_from_text
 flag_back setters.RequiredIntegerDigits true = refl
 flag_back setters.RequiredIntegerDigits false = refl
 flag_back _ true = refl
 flag_back _ false = refl
 
-pub setting_back : (edit : Edit) → HasByte edit → edit_or_error_in (setting_text edit) ≡ Ok edit
-unfolding edit_or_error_in
+pub setting_back : (edit : Edit) → HasByte edit → edit_from_text (setting_text edit) ≡ Ok edit
+unfolding edit_from_text
 setting_back (edits.Flag setter flag) h = flag_back setter flag
-setting_back (edits.MantissaRadix radix) h = ap (map_ok edits.MantissaRadix) (byte_back radix h.0)
-setting_back (edits.Radix radix) h = ap (map_ok edits.Radix) (byte_back radix h.0)
+setting_back (edits.MantissaRadix byte) h = always_back (first_byte + 3) byte h.0
+setting_back (edits.Radix byte) h = always_back (first_byte + 4) byte h.0
 setting_back (edits.DigitSeparator None) h = refl
 setting_back (edits.BasePrefix None) h = refl
 setting_back (edits.BaseSuffix None) h = refl
 setting_back (edits.ExponentBase None) h = refl
 setting_back (edits.ExponentRadix None) h = refl
-setting_back (edits.DigitSeparator (Some byte)) h = found _ edits.DigitSeparator byte _ (option_back byte h.0) h.1
-setting_back (edits.BasePrefix (Some byte)) h = found _ edits.BasePrefix byte _ (option_back byte h.0) h.1
-setting_back (edits.BaseSuffix (Some byte)) h = found _ edits.BaseSuffix byte _ (option_back byte h.0) h.1
-setting_back (edits.ExponentBase (Some byte)) h = found _ edits.ExponentBase byte _ (option_back byte h.0) h.1
-setting_back (edits.ExponentRadix (Some byte)) h = found _ edits.ExponentRadix byte _ (option_back byte h.0) h.1
+setting_back (edits.DigitSeparator (Some byte)) h = optional_back first_byte byte _ h.0 h.1
+setting_back (edits.BasePrefix (Some byte)) h = optional_back (first_byte + 1) byte _ h.0 h.1
+setting_back (edits.BaseSuffix (Some byte)) h = optional_back (first_byte + 2) byte _ h.0 h.1
+setting_back (edits.ExponentBase (Some byte)) h = optional_back (first_byte + 5) byte _ h.0 h.1
+setting_back (edits.ExponentRadix (Some byte)) h = optional_back (first_byte + 6) byte _ h.0 h.1

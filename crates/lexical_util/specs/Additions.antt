@@ -1,5 +1,4 @@
 -- For settings as text, `reasons` and `numfmt`: what only additions to `lexical-util` cite.
-pub mod SetterNames
 pub mod SettingNumbers
 pub mod SettingText
 pub mod Numeral

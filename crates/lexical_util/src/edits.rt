@@ -76,7 +76,9 @@ mod numbers;
 mod text;
 
 pub use listing::{edits_of, field_edits_of, is_built};
-pub use numbers::{SETTER_NAMES, number_of_name, setter_name_of_number};
+pub use numbers::{
+    Argument, ArgumentKind, SETTER_NAMES, setter_name_of_number, setter_number_of_name,
+};
 pub use text::{SettingError, byte_from_text};
 
 /// A builder setter that takes a `bool`: one for each flag, and one for each of the nine groups of

@@ -13,7 +13,6 @@ ghost use Rattle.lexical_util.specs.Edits.{all_writes, edited};
 ghost use Rattle.lexical_util.specs.NormalForm.{normal_form_of, SameFormat, IsNormal};
 ghost use Rattle.lexical_util.specs.Groups.{any_flag, bits_of};
 ghost use Rattle.lexical_util.specs.Additions.FieldEdits.{needed_edits};
-ghost use Rattle.lexical_util.specs.Additions.SettingText.{HasByte, edit_or_error_in, setting_text};
 ghost use Rattle.lexical_util.specs.declared.edits.Edit.{Edit};
 ghost use Rattle.lexical_util.specs.declared.edits.Edit.TheVariants as edits;
 ghost use Rattle.lexical_util.specs.declared.edits.FlagSetter.TheVariants as setters;
@@ -45,11 +44,6 @@ pub const fn normal_form_facts()
 {
     flags::rule_facts();
 }
-
-/// What an edit prints is read as that edit.
-pub fn setting_facts()
-    ensures read_back { (edit : Edit) → HasByte edit → edit_or_error_in (setting_text edit) ≡ Ok edit }
-{}
 
 /// Normal forms, written out.
 #[tactic(auto, unfolding(crate::specs::Unfoldable::on_literals))]

@@ -2,10 +2,11 @@
 use Rattle.std.specs.Prelude.{ℕ, List, ◌++◌, Option, Some, None, codes, decimal, flat_map}
 use Rattle.lexical_util.specs.Record.{raw}
 use Rattle.lexical_util.specs.Additions.FieldEdits.{needed_edits}
-use Rattle.lexical_util.specs.Additions.SettingNumbers.{name_of}
-use Rattle.lexical_util.specs.Additions.SettingText.{truth_text}
+use Rattle.lexical_util.specs.Additions.SettingNumbers.{name_of, argument_of}
+use Rattle.lexical_util.specs.Additions.SettingText.{bool_text}
 use Rattle.lexical_util.specs.declared.edits.Edit.{Edit}
-use Rattle.lexical_util.specs.declared.edits.Edit.TheVariants as edits
+use Rattle.lexical_util.specs.declared.edits.Argument.{Argument}
+use Rattle.lexical_util.specs.declared.edits.Argument.TheVariants as arguments
 
 -- a byte that may be absent, as Rust code
 abbrev pub option_text : Option ℕ → List ℕ
@@ -16,20 +17,15 @@ option_text (Some byte) = codes "NonZeroU8::new(" ++ decimal byte ++ codes ")"
 abbrev pub call : List ℕ → List ℕ → List ℕ
 call name value = codes "." ++ name ++ codes "(" ++ value ++ codes ")"
 
--- the argument of an edit, as Rust code
-abbrev pub argument_text : Edit → List ℕ
-argument_text (edits.Flag setter value) = truth_text value
-argument_text (edits.DigitSeparator byte) = option_text byte
-argument_text (edits.BasePrefix byte) = option_text byte
-argument_text (edits.BaseSuffix byte) = option_text byte
-argument_text (edits.MantissaRadix radix) = decimal radix
-argument_text (edits.Radix radix) = decimal radix
-argument_text (edits.ExponentBase base) = option_text base
-argument_text (edits.ExponentRadix radix) = option_text radix
+-- An argument as Rust code.
+abbrev pub code_of_argument : Argument → List ℕ
+code_of_argument (arguments.Flag flag) = bool_text flag
+code_of_argument (arguments.Byte byte) = decimal byte
+code_of_argument (arguments.OptionalByte byte) = option_text byte
 
 -- the setter call that an edit stands for
 abbrev pub call_text : Edit → List ℕ
-call_text edit = call (name_of edit) (argument_text edit)
+call_text edit = call (name_of edit) (code_of_argument (argument_of edit))
 
 -- the builder expression of a word: a new builder, one call for each field that differs from the builder's, and the
 -- packing

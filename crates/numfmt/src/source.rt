@@ -2,10 +2,10 @@
 
 ghost use Rattle.std.specs.Prelude.{◌≡◌, IsErr, OnOk};
 ghost use Rattle.std.specs.Io.KnownBytes.{Appends};
-ghost use Rattle.numfmt.specs.Source.{argument_text, source_text};
+ghost use Rattle.numfmt.specs.Source.{code_of_argument, source_text};
 
 use crate::output::Output;
-use lexical_util::edits::{Edit, edits_of};
+use lexical_util::edits::{Argument, edits_of};
 use lexical_util::error::{EMPTY_PIECE, Piece, ShortText};
 use std::io;
 
@@ -21,40 +21,33 @@ pub fn write_source<W: Output>(word: u128, out: &mut W) -> io::Result<()>
     let (edits, count) = edits_of(word);
     out.write_all("NumberFormatBuilder::new()".as_bytes())?;
     for edit in &edits[..count] {
-        write!(out, ".{}({})", edit.name(), argument(*edit))?;
+        write!(
+            out,
+            ".{}({})",
+            edit.name(),
+            code_of_argument(edit.argument())
+        )?;
     }
     out.write_all(".build_unchecked()".as_bytes())
 }
 
-// The argument of the setter call that an edit stands for.
-const fn argument(edit: Edit) -> ShortText
-    ensures { result ≡ argument_text edit }
+// An argument as Rust code.
+const fn code_of_argument(argument: Argument) -> ShortText
+    ensures { result ≡ code_of_argument argument }
 {
-    match edit {
-        Edit::Flag(_, true) => {
-            ShortText(EMPTY_PIECE, EMPTY_PIECE, EMPTY_PIECE, Piece::Words("true"))
-        }
-        Edit::Flag(_, false) => {
-            ShortText(EMPTY_PIECE, EMPTY_PIECE, EMPTY_PIECE, Piece::Words("false"))
-        }
-        Edit::MantissaRadix(radix) | Edit::Radix(radix) => ShortText(
-            EMPTY_PIECE,
-            EMPTY_PIECE,
-            EMPTY_PIECE,
-            Piece::Number(radix as usize),
-        ),
-        Edit::DigitSeparator(byte)
-        | Edit::BasePrefix(byte)
-        | Edit::BaseSuffix(byte)
-        | Edit::ExponentBase(byte)
-        | Edit::ExponentRadix(byte) => match byte {
-            Some(byte) => ShortText(
+    let piece = match argument {
+        Argument::OptionalByte(Some(byte)) => {
+            return ShortText(
                 EMPTY_PIECE,
                 Piece::Words("NonZeroU8::new("),
                 Piece::Number(byte.get() as usize),
                 Piece::Words(")"),
-            ),
-            None => ShortText(EMPTY_PIECE, EMPTY_PIECE, EMPTY_PIECE, Piece::Words("None")),
-        },
-    }
+            );
+        }
+        Argument::OptionalByte(None) => Piece::Words("None"),
+        Argument::Byte(byte) => Piece::Number(byte as usize),
+        Argument::Flag(true) => Piece::Words("true"),
+        Argument::Flag(false) => Piece::Words("false"),
+    };
+    ShortText(EMPTY_PIECE, EMPTY_PIECE, EMPTY_PIECE, piece)
 }

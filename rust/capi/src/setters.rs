@@ -4,7 +4,7 @@
 
 use crate::texts::{write_nothing, write_short_text, write_text};
 use crate::words::{NumberedEdit, Word};
-use peltzivar::edits::{number_of_name, setter_name_of_number, Edit, SETTER_NAMES};
+use peltzivar::edits::{setter_name_of_number, setter_number_of_name, Edit};
 
 /// Writes a setter's name.
 #[unsafe(no_mangle)]
@@ -15,7 +15,10 @@ pub unsafe extern "C" fn peltzivar_setter_name(
 ) -> usize {
     // SAFETY: c/peltzivar.h asks this of its callers.
     let text = unsafe { crate::slices::of_mut(text, text_len) };
-    write_text(setter_name_of_number(setter).as_bytes(), text)
+    match setter_name_of_number(setter) {
+        Some(name) => write_text(name.as_bytes(), text),
+        None => write_nothing(text),
+    }
 }
 
 /// Returns the number of the setter of this name, or 255 if there is none.
@@ -23,12 +26,7 @@ pub unsafe extern "C" fn peltzivar_setter_name(
 pub unsafe extern "C" fn peltzivar_setter_of_name(name: *const u8, name_len: usize) -> u8 {
     // SAFETY: c/peltzivar.h asks this of its callers.
     let name = unsafe { crate::slices::of(name, name_len) };
-    let setter = number_of_name(name);
-    if (setter as usize) < SETTER_NAMES.len() {
-        setter
-    } else {
-        255
-    }
+    setter_number_of_name(name).unwrap_or(255)
 }
 
 /// Writes the edit of a text `NAME=VALUE` and returns 0, or returns 1 to 3, which says what is wrong.

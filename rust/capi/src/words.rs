@@ -46,7 +46,7 @@ impl NumberedEdit {
     pub fn new(edit: &Edit) -> NumberedEdit {
         NumberedEdit {
             setter: edit.setter_number(),
-            value: edit.byte(),
+            value: edit.argument_byte(),
         }
     }
 

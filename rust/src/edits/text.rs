@@ -3,7 +3,7 @@
 //! Settings as text: `NAME=VALUE`.
 
 use crate::digit::char_to_digit;
-use crate::edits::Edit;
+use crate::edits::{setter_number_of_name, Argument, ArgumentKind, Edit};
 use crate::error::{Piece, ShortText, EMPTY_PIECE};
 use crate::format_builder::{NonZeroU8, OptionU8};
 use crate::numeral::read_numeral;
@@ -39,8 +39,8 @@ impl Edit {
     /// a byte: 1 to 3 decimal digits, a number of at most 255. That of the other five is a byte too, or
     /// `none`; 0 means `none`. No spaces are taken off.
     pub fn from_setting(name: &str, value: &str) -> Result<Edit, SettingError> {
-        match Edit::from_name(name, 0) {
-            Some(edit) => with_value(edit, value),
+        match setter_number_of_name(name.as_bytes()) {
+            Some(setter) => edit_with_text(setter, value),
             None => Err(SettingError::UnknownName),
         }
     }
@@ -64,7 +64,7 @@ impl Edit {
             EMPTY_PIECE,
             Piece::Words(self.name()),
             Piece::Words("="),
-            value(self),
+            value(self.argument()),
         )
     }
 }
@@ -76,39 +76,37 @@ impl fmt::Display for Edit {
     }
 }
 
-// The text of an edit's argument.
-const fn value(edit: &Edit) -> Piece {
-    match edit {
-        Edit::Flag(_, true) => Piece::Words("true"),
-        Edit::Flag(_, false) => Piece::Words("false"),
-        Edit::MantissaRadix(radix) | Edit::Radix(radix) => Piece::Number(*radix as usize),
-        Edit::DigitSeparator(byte)
-        | Edit::BasePrefix(byte)
-        | Edit::BaseSuffix(byte)
-        | Edit::ExponentBase(byte)
-        | Edit::ExponentRadix(byte) => match byte {
-            Some(byte) => Piece::Number(byte.get() as usize),
-            None => Piece::Words("none"),
-        },
+// The text of an argument.
+const fn value(argument: Argument) -> Piece {
+    match argument {
+        Argument::Flag(true) => Piece::Words("true"),
+        Argument::Flag(false) => Piece::Words("false"),
+        Argument::Byte(byte) => Piece::Number(byte as usize),
+        Argument::OptionalByte(Some(byte)) => Piece::Number(byte.get() as usize),
+        Argument::OptionalByte(None) => Piece::Words("none"),
     }
 }
 
-// The edit of the same setter as `edit`, with the value that a text writes.
-fn with_value(edit: Edit, value: &str) -> Result<Edit, SettingError> {
-    match edit {
-        Edit::Flag(setter, _) => Ok(Edit::Flag(setter, truth_from_text(value)?)),
-        Edit::DigitSeparator(_) => Ok(Edit::DigitSeparator(optional_byte_from_text(value)?)),
-        Edit::BasePrefix(_) => Ok(Edit::BasePrefix(optional_byte_from_text(value)?)),
-        Edit::BaseSuffix(_) => Ok(Edit::BaseSuffix(optional_byte_from_text(value)?)),
-        Edit::MantissaRadix(_) => Ok(Edit::MantissaRadix(byte_from_text(value)?)),
-        Edit::Radix(_) => Ok(Edit::Radix(byte_from_text(value)?)),
-        Edit::ExponentBase(_) => Ok(Edit::ExponentBase(optional_byte_from_text(value)?)),
-        Edit::ExponentRadix(_) => Ok(Edit::ExponentRadix(optional_byte_from_text(value)?)),
+// Returns the edit of the setter with this number, with the argument that `value` writes.
+fn edit_with_text(setter: u8, value: &str) -> Result<Edit, SettingError> {
+    let argument = argument_from_text(ArgumentKind::of(setter), value)?;
+    match Edit::new(setter, argument) {
+        Some(edit) => Ok(edit),
+        None => Err(SettingError::UnknownName),
+    }
+}
+
+// Parses an argument of this kind.
+fn argument_from_text(kind: ArgumentKind, text: &str) -> Result<Argument, SettingError> {
+    match kind {
+        ArgumentKind::Flag => Ok(Argument::Flag(bool_from_text(text)?)),
+        ArgumentKind::Byte => Ok(Argument::Byte(byte_from_text(text)?)),
+        ArgumentKind::OptionalByte => Ok(Argument::OptionalByte(optional_byte_from_text(text)?)),
     }
 }
 
 // Parses `true` or `false`.
-fn truth_from_text(text: &str) -> Result<bool, SettingError> {
+fn bool_from_text(text: &str) -> Result<bool, SettingError> {
     match text {
         "true" => Ok(true),
         "false" => Ok(false),

@@ -13,7 +13,7 @@ impl Reason {
     pub const fn text(&self) -> ShortText {
         match self {
             Reason::OutOfRange(edit) => followed(
-                Piece::NumberedByte(words(*edit), edit.byte()),
+                Piece::NumberedByte(words(*edit), edit.argument_byte()),
                 " is not 2 to 36",
             ),
             Reason::NotText(edit) => followed(described(edit), " is not a character of ASCII text"),
@@ -86,7 +86,7 @@ const fn followed(piece: Piece, end: &'static str) -> ShortText {
 
 // An edit of a byte: the setting and the byte.
 const fn described(edit: &Edit) -> Piece {
-    Piece::QuotedByte(words(*edit), edit.byte())
+    Piece::QuotedByte(words(*edit), edit.argument_byte())
 }
 
 // The name of a flag.
@@ -96,7 +96,7 @@ const fn named(flag: FlagSetter) -> Piece {
 
 // What is said of two bytes that are the same, or differ only in case.
 const fn sameness(a: Edit, b: Edit) -> &'static str {
-    if a.byte() == b.byte() {
+    if a.argument_byte() == b.argument_byte() {
         " are the same"
     } else {
         " differ only in case, which counts only if both are case-sensitive"

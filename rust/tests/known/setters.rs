@@ -1,6 +1,6 @@
 //! The builder: its setters and getters, and the words that it packs.
 
-use peltzivar::edits::{apply, Edit, FlagSetter, SETTERS};
+use peltzivar::edits::{apply, Edit, FlagSetter, SettingError, SETTERS};
 use peltzivar::error::Error;
 use peltzivar::format::{NonZeroU8, NumberFormatBuilder, STANDARD};
 
@@ -73,8 +73,8 @@ fn each_setter_has_its_name_and_its_edit() {
     for (row, setter) in setters().iter().zip(SETTERS) {
         let name = row.name;
         assert_eq!(
-            (setter.name(), FlagSetter::from_name(name)),
-            (name, Some(setter))
+            (setter.name(), name.parse::<FlagSetter>()),
+            (name, Ok(setter))
         );
         assert_eq!(format!("{setter:?}").to_lowercase(), name.replace('_', ""));
         let applied = [
@@ -84,7 +84,8 @@ fn each_setter_has_its_name_and_its_edit() {
         assert_eq!(applied, [row.set, row.cleared], "{name}");
     }
     for name in ["", "mantissa_radix", "no_specials", "NoSpecial"] {
-        assert_eq!(FlagSetter::from_name(name), None, "{name}");
+        let unknown = Err(SettingError::UnknownName);
+        assert_eq!(name.parse::<FlagSetter>(), unknown, "{name}");
     }
 }
 

@@ -1,6 +1,9 @@
 //! Settings by number, name and text.
 
-use peltzivar::edits::{byte_from_text, Edit, FlagSetter, SettingError, SETTERS, SETTER_NAMES};
+use peltzivar::edits::{
+    byte_from_text, setter_name_of_number, setter_number_of_name, Argument, ArgumentKind, Edit,
+    FlagSetter, SettingError, SETTERS, SETTER_NAMES,
+};
 use std::num::NonZeroU8;
 
 /// The setters of flags and groups come first, then those of bytes.
@@ -21,8 +24,18 @@ fn setters_have_their_names() {
         .chain(bytes)
         .collect();
     assert_eq!(SETTER_NAMES.to_vec(), names);
-    assert_eq!(Edit::from_number(47, 0), None);
-    assert_eq!(Edit::from_name("digit", 0), None);
+    for (number, name) in (0..).zip(names) {
+        assert_eq!(setter_name_of_number(number), Some(name));
+        assert_eq!(setter_number_of_name(name.as_bytes()), Some(number));
+    }
+    for name in ["", "digit", "radix ", "RADIX"] {
+        assert_eq!(setter_number_of_name(name.as_bytes()), None, "{name}");
+        assert_eq!(Edit::from_name(name, 0), None, "{name}");
+    }
+    for number in [47, 255] {
+        assert_eq!(setter_name_of_number(number), None);
+        assert_eq!(Edit::from_number(number, 0), None);
+    }
 }
 
 /// Each edit is its number and byte, its name and byte, and its text.
@@ -33,9 +46,35 @@ fn edits_are_read_back() {
         for byte in 0..=255 {
             let edit = Edit::from_number(number, byte).unwrap();
             assert_eq!((edit.setter_number(), edit.name()), (number, name));
-            assert_eq!(edit.byte(), if number < 40 { byte.min(1) } else { byte });
+            let flag_or_byte = if number < 40 { byte.min(1) } else { byte };
+            assert_eq!(edit.argument_byte(), flag_or_byte);
+            assert_eq!(Edit::new(number, edit.argument()), Some(edit));
             assert_eq!(Edit::from_name(name, byte), Some(edit));
             assert_eq!(edit.to_string().parse(), Ok(edit));
+        }
+    }
+}
+
+/// A setter takes one kind of argument.
+#[test]
+fn another_kind_of_argument_makes_no_edit() {
+    let arguments = [
+        (ArgumentKind::Flag, Argument::Flag(true)),
+        (ArgumentKind::Byte, Argument::Byte(1)),
+        (
+            ArgumentKind::OptionalByte,
+            Argument::OptionalByte(NonZeroU8::new(1)),
+        ),
+    ];
+    for number in 0..=255 {
+        for (kind, argument) in arguments {
+            let fits = number < 47 && ArgumentKind::of(number) == kind;
+            assert_eq!(
+                Edit::new(number, argument).is_some(),
+                fits,
+                "{number} {argument:?}"
+            );
+            assert_eq!((argument.byte(), kind.argument_of_byte(1)), (1, argument));
         }
     }
 }

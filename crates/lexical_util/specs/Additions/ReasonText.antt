@@ -1,8 +1,7 @@
 -- For `text` of reasons: why a rule is broken, and what has no effect, in words.
 use Rattle.std.specs.Prelude.{ℕ, ◌==◌, if◌then◌else◌, List, ◌++◌, codes, decimal}
 use Rattle.lexical_base.specs.Additions.ShortTexts.{numbered_byte, quoted_byte}
-use Rattle.lexical_util.specs.Additions.SetterNames.{setter_name}
-use Rattle.lexical_util.specs.Additions.SettingNumbers.{argument_byte}
+use Rattle.lexical_util.specs.Additions.SettingNumbers.{name_of_flags, argument_byte}
 use Rattle.lexical_util.specs.declared.edits.Edit.{Edit}
 use Rattle.lexical_util.specs.declared.edits.Edit.TheVariants as edits
 use Rattle.lexical_util.specs.declared.reasons.Reason.{Reason}
@@ -42,13 +41,13 @@ reason_text (reasons.NotText edit) = described edit ++ codes " is not a characte
 reason_text (reasons.IsSign edit) = described edit ++ codes " is a sign"
 reason_text (reasons.IsDigit edit radix) = described edit ++ codes " is a digit of radix " ++ decimal radix
 reason_text (reasons.AreSame a b) = described a ++ codes " and " ++ described b ++ sameness a b
-reason_text (reasons.Contradict a b) = setter_name a ++ codes " and " ++ setter_name b ++ codes " exclude each other"
+reason_text (reasons.Contradict a b) = name_of_flags a ++ codes " and " ++ name_of_flags b ++ codes " exclude each other"
 reason_text (reasons.HasNoPlace flag) =
-    setter_name flag ++ codes " needs the internal, leading or trailing flag of the same part"
+    name_of_flags flag ++ codes " needs the internal, leading or trailing flag of the same part"
 reason_text reasons.ReservedBits = codes "a reserved bit is set"
 
 -- the sentence of a setting without effect
 abbrev pub unused_text : Unused → List ℕ
 unused_text (unused.NotAllowed edit) = described edit ++ codes " has no effect: no flag allows one"
 unused_text unused.NoSeparator = codes "the digit separator flags have no effect: there is no digit separator"
-unused_text (unused.NoByte flag byte) = setter_name flag ++ codes " has no effect: there is no " ++ words_of byte
+unused_text (unused.NoByte flag byte) = name_of_flags flag ++ codes " has no effect: there is no " ++ words_of byte

@@ -1,95 +1,139 @@
--- For `number` and `from_number`: the numbers and names of setters, and the edits that numbers stand for.
-use Rattle.std.specs.Prelude.{ℕ, ◌+◌, ◌^◌, length, not, ◌==◌, nat_lt, if◌then◌else◌, true, false, Option, Some, None}
-use Rattle.std.specs.Prelude.{List, [], ◌∷◌, ◌++◌, map, get_or, codes}
+-- For `setter_number`, `argument`, `name` and `from_number`: an edit as the number of its setter and an argument. Names and
+-- numbers are those of the program's table, and each edit is that of its number and its argument (`read_back`).
+use Rattle.std.specs.Prelude.{ℕ, ◌≡◌, ◌<◌, ◌+◌, ◌^◌, length, not, ◌==◌, nat_lt, if◌then◌else◌, ◌||◌, Option, Some, None}
+use Rattle.std.specs.Prelude.{List, [], map, get_or, slice_get, bytes_eq}
+use Rattle.std.specs.Bool.{then_some}
 use Rattle.std.specs.List.{position_or_len, sum_by}
-use Rattle.std.specs.Str.{bytes_eq}
+use Rattle.std.specs.Option.{option_map}
 use Rattle.lexical_flags.specs.Layout.{bit}
 use Rattle.lexical_flags.specs.Additions.Masks.{byte_mask}
 use Rattle.lexical_builder.specs.OptionByte.{byte_of_option, option_of_byte}
 use Rattle.lexical_builder.specs.Writes.{Write, write_flag, write_byte}
-use Rattle.lexical_util.specs.Edits.{writes_of}
-use Rattle.lexical_util.specs.Additions.SetterNames.{setter_name}
-use Rattle.lexical_util.specs.declared.edits.FlagSetter.{FlagSetter}
-use Rattle.lexical_util.specs.declared.edits.FlagSetter.TheVariants as setters
+use Rattle.lexical_util.specs.Edits.{flags_of, writes_of}
 use Rattle.lexical_util.specs.declared.edits.TheConstants.{SETTERS}
+use Rattle.lexical_util.specs.declared.edits.numbers.TheConstants.{SETTER_NAMES}
+use Rattle.lexical_util.specs.declared.edits.FlagSetter.{FlagSetter}
+use Rattle.lexical_util.specs.declared.edits.numbers.Argument.{Argument}
+use Rattle.lexical_util.specs.declared.edits.numbers.Argument.TheVariants as arguments
+use Rattle.lexical_util.specs.declared.edits.numbers.ArgumentKind.{ArgumentKind}
+use Rattle.lexical_util.specs.declared.edits.numbers.ArgumentKind.TheVariants as kinds
 use Rattle.lexical_util.specs.declared.edits.Edit.{Edit}
 use Rattle.lexical_util.specs.declared.edits.Edit.TheVariants as edits
 
--- the names of all setters, each at the index of its number: those of flags and groups, and then those of bytes
+-- The names of all setters, each at the index of its number.
 abbrev pub setter_names : List (List ℕ)
-setter_names = map setter_name SETTERS ++ codes "digit_separator" ∷ codes "base_prefix" ∷ codes "base_suffix"
-    ∷ codes "mantissa_radix" ∷ codes "radix" ∷ codes "exponent_base" ∷ codes "exponent_radix" ∷ []
+setter_names = map (λ name. name.now) SETTER_NAMES
 
--- the number of the first setter of a byte
+-- The number of setters, and the number of the first byte setter.
+abbrev pub setter_count : ℕ
+setter_count = length setter_names
+
 abbrev pub first_byte : ℕ
 first_byte = length SETTERS
 
--- how many setters there are
-abbrev pub setter_count : ℕ
-setter_count = first_byte + 7
+-- The name of the setter with this number, if there is one.
+abbrev pub setter_name_of_number : ℕ → Option (List ℕ)
+setter_name_of_number number = slice_get setter_names number
 
--- the name of a setter's number
-abbrev pub setter_name_of_number : ℕ → List ℕ
-setter_name_of_number setter = get_or setter_names setter []
+-- The number of the setter of this name, if there is one.
+abbrev pub if_setter : ℕ → Option ℕ
+if_setter number = then_some (nat_lt number setter_count) number
 
--- the number of a name; of any other text it is that count
-abbrev pub number_of_name : List ℕ → ℕ
-number_of_name name = position_or_len (λ other. bytes_eq other name) setter_names
+abbrev pub setter_number_of_name : List ℕ → Option ℕ
+setter_number_of_name name = if_setter (position_or_len (λ other. bytes_eq other name) setter_names)
 
--- the number of an edit's setter
+-- The number of a flag or group setter: the index of the setter that writes the same flags.
+abbrev pub number_of_flags : FlagSetter → ℕ
+number_of_flags setter =
+    position_or_len (λ other. bytes_eq (map bit (flags_of other)) (map bit (flags_of setter))) SETTERS
+
+-- The number of an edit's setter.
 abbrev pub setter_number : Edit → ℕ
-setter_number (edits.Flag setter value) = number_of_name (setter_name setter)
+setter_number (edits.Flag setter flag) = number_of_flags setter
 setter_number (edits.DigitSeparator byte) = first_byte
 setter_number (edits.BasePrefix byte) = first_byte + 1
 setter_number (edits.BaseSuffix byte) = first_byte + 2
-setter_number (edits.MantissaRadix radix) = first_byte + 3
-setter_number (edits.Radix radix) = first_byte + 4
-setter_number (edits.ExponentBase base) = first_byte + 5
-setter_number (edits.ExponentRadix radix) = first_byte + 6
+setter_number (edits.MantissaRadix byte) = first_byte + 3
+setter_number (edits.Radix byte) = first_byte + 4
+setter_number (edits.ExponentBase byte) = first_byte + 5
+setter_number (edits.ExponentRadix byte) = first_byte + 6
 
--- the name of an edit's setter
+-- The names of an edit's setter, and of a flag or group setter.
 abbrev pub name_of : Edit → List ℕ
-name_of edit = setter_name_of_number (setter_number edit)
+name_of edit = get_or setter_names (setter_number edit) []
 
--- the argument of an edit as a byte
-abbrev pub argument_byte : Edit → ℕ
-argument_byte (edits.Flag setter true) = 1
-argument_byte (edits.Flag setter false) = 0
-argument_byte (edits.DigitSeparator byte) = byte_of_option byte
-argument_byte (edits.BasePrefix byte) = byte_of_option byte
-argument_byte (edits.BaseSuffix byte) = byte_of_option byte
-argument_byte (edits.MantissaRadix radix) = radix
-argument_byte (edits.Radix radix) = radix
-argument_byte (edits.ExponentBase base) = byte_of_option base
-argument_byte (edits.ExponentRadix radix) = byte_of_option radix
+abbrev pub name_of_flags : FlagSetter → List ℕ
+name_of_flags setter = get_or setter_names (number_of_flags setter) []
 
--- the setter of flags with a number below that of the bytes
-abbrev pub flag_setter : ℕ → FlagSetter
-flag_setter number = get_or SETTERS number setters.RequiredIntegerDigits
+-- The argument of an edit.
+abbrev pub argument_of : Edit → Argument
+argument_of (edits.Flag setter flag) = arguments.Flag flag
+argument_of (edits.DigitSeparator byte) = arguments.OptionalByte byte
+argument_of (edits.BasePrefix byte) = arguments.OptionalByte byte
+argument_of (edits.BaseSuffix byte) = arguments.OptionalByte byte
+argument_of (edits.MantissaRadix byte) = arguments.Byte byte
+argument_of (edits.Radix byte) = arguments.Byte byte
+argument_of (edits.ExponentBase byte) = arguments.OptionalByte byte
+argument_of (edits.ExponentRadix byte) = arguments.OptionalByte byte
 
--- the edit of a setter's number with a byte, if there is such a setter: for a flag any byte but 0 is true, and for a
--- byte that may be absent 0 is none
-abbrev pub edit_of_numbers : ℕ → ℕ → Option Edit
-edit_of_numbers setter byte =
-    if nat_lt setter first_byte then Some (edits.Flag (flag_setter setter) (not (byte == 0)))
-    else if setter == first_byte then Some (edits.DigitSeparator (option_of_byte byte))
-    else if setter == first_byte + 1 then Some (edits.BasePrefix (option_of_byte byte))
-    else if setter == first_byte + 2 then Some (edits.BaseSuffix (option_of_byte byte))
-    else if setter == first_byte + 3 then Some (edits.MantissaRadix byte)
-    else if setter == first_byte + 4 then Some (edits.Radix byte)
-    else if setter == first_byte + 5 then Some (edits.ExponentBase (option_of_byte byte))
-    else if setter == first_byte + 6 then Some (edits.ExponentRadix (option_of_byte byte))
+-- The edit of a setter's number and an argument, if the setter takes such an argument.
+abbrev pub edit_with : ℕ → Argument → Option Edit
+edit_with number (arguments.Flag flag) = option_map (λ setter. edits.Flag setter flag) (slice_get SETTERS number)
+edit_with number (arguments.Byte byte) =
+    if number == first_byte + 3 then Some (edits.MantissaRadix byte)
+    else if number == first_byte + 4 then Some (edits.Radix byte)
+    else None
+edit_with number (arguments.OptionalByte byte) =
+    if number == first_byte then Some (edits.DigitSeparator byte)
+    else if number == first_byte + 1 then Some (edits.BasePrefix byte)
+    else if number == first_byte + 2 then Some (edits.BaseSuffix byte)
+    else if number == first_byte + 5 then Some (edits.ExponentBase byte)
+    else if number == first_byte + 6 then Some (edits.ExponentRadix byte)
     else None
 
--- the edit of a setter's name with a byte, if there is such a setter
-abbrev pub edit_of_name : List ℕ → ℕ → Option Edit
-edit_of_name name byte = edit_of_numbers (number_of_name name) byte
+-- The kind of argument that the setter with this number takes.
+abbrev pub kind_of_number : ℕ → ArgumentKind
+kind_of_number number =
+    if nat_lt number first_byte then kinds.Flag
+    else if (number == first_byte + 3) || (number == first_byte + 4) then kinds.Byte
+    else kinds.OptionalByte
 
--- the bits of a word that a write writes
+-- An argument as a byte: 1 for `true`, and 0 for `false` or an absent byte.
+abbrev pub byte_of_argument : Argument → ℕ
+byte_of_argument (arguments.Flag flag) = if flag then 1 else 0
+byte_of_argument (arguments.Byte byte) = byte
+byte_of_argument (arguments.OptionalByte byte) = byte_of_option byte
+
+-- The argument of a kind that a byte represents: any byte except 0 is `true`, and 0 is an absent byte.
+abbrev pub argument_of_byte : ArgumentKind → ℕ → Argument
+argument_of_byte kinds.Flag byte = arguments.Flag (not (byte == 0))
+argument_of_byte kinds.Byte byte = arguments.Byte byte
+argument_of_byte kinds.OptionalByte byte = arguments.OptionalByte (option_of_byte byte)
+
+-- The argument of an edit as a byte.
+abbrev pub argument_byte : Edit → ℕ
+argument_byte edit = byte_of_argument (argument_of edit)
+
+-- The edit of a setter's number and a byte, if there is such a setter.
+abbrev pub edit_of_number : ℕ → ℕ → Option Edit
+edit_of_number number byte = edit_with number (argument_of_byte (kind_of_number number) byte)
+
+-- `HasByte edit` holds for each edit of a program: its byte is below 256, and a byte that is not absent is not 0.
+abbrev pub HasByte : Edit → Type 0
+HasByte edit = (argument_byte edit < 256) × (edit_of_number (setter_number edit) (argument_byte edit) ≡ Some edit)
+
+-- The edit of a setter's name and a byte, if there is such a setter.
+abbrev pub edit_of_found : Option ℕ → ℕ → Option Edit
+edit_of_found None byte = None
+edit_of_found (Some number) byte = edit_of_number number byte
+
+abbrev pub edit_of_name : List ℕ → ℕ → Option Edit
+edit_of_name name byte = edit_of_found (setter_number_of_name name) byte
+
+-- The bits of a word that a write writes, and those that an edit writes.
 abbrev pub mask_of_write : Write → ℕ
 mask_of_write (write_flag f value) = 2 ^ bit f
 mask_of_write (write_byte b value) = byte_mask b
 
--- the bits of a word that an edit writes
 abbrev pub mask_of_edit : Edit → ℕ
 mask_of_edit edit = sum_by mask_of_write (writes_of edit)

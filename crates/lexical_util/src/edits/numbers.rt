@@ -1,18 +1,34 @@
-//! The numbers and names of setters, and edits as two numbers.
+//! The names and numbers of setters, and an edit as the number of its setter and an argument.
 
-ghost use Rattle.std.specs.Prelude.{◌≡◌, ◌<◌, ◌↔◌, ℕ, Some};
-ghost use Rattle.lexical_util.specs.Additions.SetterNames.{setter_name};
-ghost use Rattle.lexical_util.specs.Additions.SettingNumbers.{setter_number, name_of, setter_name_of_number, argument_byte, mask_of_edit};
-ghost use Rattle.lexical_util.specs.Additions.SettingNumbers.{setter_count, number_of_name, edit_of_numbers, edit_of_name};
+ghost use Rattle.std.specs.Prelude.{◌≡◌, ◌<◌, Some};
+ghost use Rattle.std.specs.Option.{option_map};
+ghost use Rattle.lexical_util.specs.Additions.SettingNumbers.{setter_number, name_of_flags, name_of, mask_of_edit};
+ghost use Rattle.lexical_util.specs.Additions.SettingNumbers.{setter_count, setter_name_of_number, setter_number_of_name};
+ghost use Rattle.lexical_util.specs.Additions.SettingNumbers.{argument_of, argument_byte, byte_of_argument, kind_of_number};
+ghost use Rattle.lexical_util.specs.Additions.SettingNumbers.{argument_of_byte, edit_with, edit_of_number, edit_of_name, HasByte};
 
 use crate::edits::{Edit, FlagSetter, SETTERS, edit_word};
-use lexical_builder::format_builder::NonZeroU8;
+use lexical_builder::format_builder::{NonZeroU8, OptionU8};
 use lexical_flags::format_flags as flags;
 
-// The number of the first setter of a byte: the setters of flags and groups come before it.
-const FIRST_BYTE: u8 = SETTERS.len() as u8;
+// The numbers of the byte setters, which follow those of the flag and group setters.
+const DIGIT_SEPARATOR: u8 = SETTERS.len() as u8;
 
-// The names of the setters of flags and groups, and then of bytes.
+const BASE_PREFIX: u8 = DIGIT_SEPARATOR + 1;
+
+const BASE_SUFFIX: u8 = DIGIT_SEPARATOR + 2;
+
+const MANTISSA_RADIX: u8 = DIGIT_SEPARATOR + 3;
+
+const RADIX: u8 = DIGIT_SEPARATOR + 4;
+
+const EXPONENT_BASE: u8 = DIGIT_SEPARATOR + 5;
+
+const EXPONENT_RADIX: u8 = DIGIT_SEPARATOR + 6;
+
+const SETTER_COUNT: u8 = DIGIT_SEPARATOR + 7;
+
+// The names of the flag and group setters, and of the byte setters.
 macro_rules! names {
     (() { $($Flag:ident $flag:ident;)* } { $($Group:ident $group:ident;)* }) => {
         [
@@ -30,51 +46,124 @@ macro_rules! names {
 }
 
 /// The names of all setters, each at the index of its number: those of [`SETTERS`] in their order, and
-/// then those of seven setters of bytes.
+/// then those of the seven byte setters.
 pub const SETTER_NAMES: [&str; SETTERS.len() + 7] = with_setters!(names());
 
-// How many setters there are.
-const SETTER_COUNT: u8 = FIRST_BYTE + 7;
+/// The argument of an edit.
+#[derive(Debug, Clone, Copy, PartialEq, Eq, Hash)]
+pub enum Argument {
+    /// The value of a flag, or of every flag of a group.
+    Flag(bool),
+    /// A byte that is always there: the mantissa radix.
+    Byte(u8),
+    /// A byte that may be absent.
+    OptionalByte(OptionU8),
+}
+
+/// The kind of argument that a setter takes: a variant of [`Argument`].
+#[derive(Debug, Clone, Copy, PartialEq, Eq, Hash)]
+pub enum ArgumentKind {
+    /// `true` or `false`.
+    Flag,
+    /// A byte that is always there.
+    Byte,
+    /// A byte that may be absent.
+    OptionalByte,
+}
+
+impl Argument {
+    /// Returns the argument as a byte: 1 for `true`, and 0 for `false` or an absent byte.
+    pub const fn byte(self) -> u8
+        ensures { result ≡ byte_of_argument self }
+    {
+        match self {
+            Argument::Flag(flag) => flag as u8,
+            Argument::Byte(byte) => byte,
+            Argument::OptionalByte(Some(byte)) => byte.get(),
+            Argument::OptionalByte(None) => 0,
+        }
+    }
+}
+
+impl ArgumentKind {
+    /// Returns the kind of argument that the setter with this number takes.
+    ///
+    /// A number that no setter has gives [`ArgumentKind::OptionalByte`].
+    pub const fn of(number: u8) -> ArgumentKind
+        ensures { result ≡ kind_of_number number }
+    {
+        if number < DIGIT_SEPARATOR {
+            ArgumentKind::Flag
+        } else if number == MANTISSA_RADIX || number == RADIX {
+            ArgumentKind::Byte
+        } else {
+            ArgumentKind::OptionalByte
+        }
+    }
+
+    /// Returns the argument of this kind that `byte` represents. Any byte except 0 is `true`, and 0 is an
+    /// absent byte.
+    pub const fn argument_of_byte(self, byte: u8) -> Argument
+        ensures { result ≡ argument_of_byte self byte }
+    {
+        match self {
+            ArgumentKind::Flag => Argument::Flag(byte != 0),
+            ArgumentKind::Byte => Argument::Byte(byte),
+            ArgumentKind::OptionalByte => Argument::OptionalByte(NonZeroU8::new(byte)),
+        }
+    }
+}
 
 impl FlagSetter {
     /// Returns the name of the setter: the variant in snake case.
     pub const fn name(self) -> &'static str
-        ensures { result.now ≡ setter_name self }
+        ensures { result.now ≡ name_of_flags self }
     {
         SETTER_NAMES[self as usize]
-    }
-
-    /// Returns the setter of this name, or `None` if no setter of flags has it.
-    pub fn from_name(name: &str) -> Option<FlagSetter>
-        ensures { (setter : FlagSetter) → (result ≡ Some setter) ↔ (setter_name setter ≡ name.now) }
-    {
-        for setter in &SETTERS {
-            if setter.name() == name {
-                return Some(*setter);
-            }
-        }
-        None
     }
 }
 
 impl Edit {
+    /// Returns the edit of the setter with this number and `argument`, or `None` if no setter has the number,
+    /// or it takes another kind of argument.
+    pub const fn new(number: u8, argument: Argument) -> Option<Edit>
+        ensures { result ≡ edit_with number argument }
+    {
+        match argument {
+            Argument::Flag(flag) if number < DIGIT_SEPARATOR => {
+                Some(Edit::Flag(SETTERS[number as usize], flag))
+            }
+            Argument::Flag(_) => None,
+            Argument::Byte(byte) => match number {
+                MANTISSA_RADIX => Some(Edit::MantissaRadix(byte)),
+                RADIX => Some(Edit::Radix(byte)),
+                _ => None,
+            },
+            Argument::OptionalByte(byte) => match number {
+                DIGIT_SEPARATOR => Some(Edit::DigitSeparator(byte)),
+                BASE_PREFIX => Some(Edit::BasePrefix(byte)),
+                BASE_SUFFIX => Some(Edit::BaseSuffix(byte)),
+                EXPONENT_BASE => Some(Edit::ExponentBase(byte)),
+                EXPONENT_RADIX => Some(Edit::ExponentRadix(byte)),
+                _ => None,
+            },
+        }
+    }
+
     /// Returns the number of the setter: its index in [`SETTER_NAMES`].
     pub const fn setter_number(self) -> u8
         ensures number { result ≡ setter_number self }
         ensures setter { result < setter_count }
-
-        // The number and the byte are the edit.
-        ensures read_back { edit_of_numbers result (argument_byte self) ≡ Some self }
     {
         match self {
             Edit::Flag(setter, _) => setter as u8,
-            Edit::DigitSeparator(_) => FIRST_BYTE,
-            Edit::BasePrefix(_) => FIRST_BYTE + 1,
-            Edit::BaseSuffix(_) => FIRST_BYTE + 2,
-            Edit::MantissaRadix(_) => FIRST_BYTE + 3,
-            Edit::Radix(_) => FIRST_BYTE + 4,
-            Edit::ExponentBase(_) => FIRST_BYTE + 5,
-            Edit::ExponentRadix(_) => FIRST_BYTE + 6,
+            Edit::DigitSeparator(_) => DIGIT_SEPARATOR,
+            Edit::BasePrefix(_) => BASE_PREFIX,
+            Edit::BaseSuffix(_) => BASE_SUFFIX,
+            Edit::MantissaRadix(_) => MANTISSA_RADIX,
+            Edit::Radix(_) => RADIX,
+            Edit::ExponentBase(_) => EXPONENT_BASE,
+            Edit::ExponentRadix(_) => EXPONENT_RADIX,
         }
     }
 
@@ -82,59 +171,55 @@ impl Edit {
     pub const fn name(self) -> &'static str
         ensures name { result.now ≡ name_of self }
 
-        // The name and the byte are the edit.
-        ensures read_back { edit_of_name result.now (argument_byte self) ≡ Some self }
+        // The number of the name is that of the setter.
+        ensures read_back { setter_number_of_name result.now ≡ Some (setter_number self) }
     {
-        setter_name_of_number(self.setter_number())
+        SETTER_NAMES[self.setter_number() as usize]
     }
 
-    /// Returns the argument as a byte: for a flag 1 if it is `true` and 0 if not, and 0 for `None`.
-    pub const fn byte(self) -> u8
-        ensures { result ≡ argument_byte self }
+    /// Returns the argument.
+    pub const fn argument(self) -> Argument
+        ensures argument { result ≡ argument_of self }
+
+        // The number of the setter and the argument, or its byte, are the edit.
+        ensures read_back { edit_with (setter_number self) result ≡ Some self }
+        ensures byte { HasByte self }
     {
         match self {
-            Edit::Flag(_, flag) => flag as u8,
+            Edit::Flag(_, flag) => Argument::Flag(flag),
+            Edit::MantissaRadix(byte) | Edit::Radix(byte) => Argument::Byte(byte),
             Edit::DigitSeparator(byte)
             | Edit::BasePrefix(byte)
             | Edit::BaseSuffix(byte)
             | Edit::ExponentBase(byte)
-            | Edit::ExponentRadix(byte) => match byte {
-                Some(byte) => byte.get(),
-                None => 0,
-            },
-            Edit::MantissaRadix(radix) | Edit::Radix(radix) => radix,
+            | Edit::ExponentRadix(byte) => Argument::OptionalByte(byte),
         }
     }
 
-    /// Returns the edit of the setter of this number with `byte` as its argument, or `None` if no setter
-    /// has the number.
-    ///
-    /// For a flag any byte but 0 is `true`. For a byte that may be absent 0 is `None`.
-    pub const fn from_number(number: u8, byte: u8) -> Option<Edit>
-        ensures { result ≡ edit_of_numbers number byte }
+    /// Returns the argument as a byte, as [`Argument::byte`] does.
+    pub const fn argument_byte(self) -> u8
+        ensures byte { result ≡ argument_byte self }
+
+        // The number of the setter and the byte are the edit.
+        ensures read_back { edit_of_number (setter_number self) result ≡ Some self }
     {
-        if number < FIRST_BYTE {
-            return Some(Edit::Flag(SETTERS[number as usize], byte != 0));
-        }
-        let option = NonZeroU8::new(byte);
-        match number - FIRST_BYTE {
-            0 => Some(Edit::DigitSeparator(option)),
-            1 => Some(Edit::BasePrefix(option)),
-            2 => Some(Edit::BaseSuffix(option)),
-            3 => Some(Edit::MantissaRadix(byte)),
-            4 => Some(Edit::Radix(byte)),
-            5 => Some(Edit::ExponentBase(option)),
-            6 => Some(Edit::ExponentRadix(option)),
-            _ => None,
-        }
+        self.argument().byte()
     }
 
-    /// Returns the edit of the setter of this name with `byte` as its argument, as
+    /// Returns the edit of the setter with this number whose argument `byte` represents, as
+    /// [`ArgumentKind::argument_of_byte`] states, or `None` if no setter has the number.
+    pub const fn from_number(number: u8, byte: u8) -> Option<Edit>
+        ensures { result ≡ edit_of_number number byte }
+    {
+        Edit::new(number, ArgumentKind::of(number).argument_of_byte(byte))
+    }
+
+    /// Returns the edit of the setter of this name whose argument `byte` represents, as
     /// [`Edit::from_number`] does, or `None` if no setter has the name.
     pub fn from_name(name: &str, byte: u8) -> Option<Edit>
         ensures { result ≡ edit_of_name name.now byte }
     {
-        Edit::from_number(number_of_name(name.as_bytes()), byte)
+        Edit::from_number(setter_number_of_name(name.as_bytes())?, byte)
     }
 
     /// Returns the bits of a word that the edit writes.
@@ -153,28 +238,25 @@ impl Edit {
     }
 }
 
-/// Returns the name of the setter of this number, or an empty text if there is none.
-pub const fn setter_name_of_number(number: u8) -> &'static str
-    ensures { result.now ≡ setter_name_of_number number }
+/// Returns the name of the setter with this number, or `None` if no setter has it.
+pub const fn setter_name_of_number(number: u8) -> Option<&'static str>
+    ensures { option_map (λ name. name.now) result ≡ setter_name_of_number number }
 {
     if number < SETTER_COUNT {
-        SETTER_NAMES[number as usize]
+        Some(SETTER_NAMES[number as usize])
     } else {
-        ""
+        None
     }
 }
 
-/// Returns the number of the setter of this name, or the length of [`SETTER_NAMES`] if there is none.
-pub fn number_of_name(name: &[u8]) -> u8
-    ensures number { result ≡ number_of_name name.now }
-    ensures named { result < setter_count → setter_name_of_number result ≡ name.now }
-    ensures none { (result < setter_count → ⊥)
-        → (setter : ℕ) → setter < setter_count → setter_name_of_number setter ≡ name.now → ⊥ }
+/// Returns the number of the setter of this name, or `None` if no setter has it.
+pub fn setter_number_of_name(name: &[u8]) -> Option<u8>
+    ensures { result ≡ setter_number_of_name name.now }
 {
     for number in 0..SETTER_COUNT {
-        if setter_name_of_number(number).as_bytes() == name {
-            return number;
+        if SETTER_NAMES[number as usize].as_bytes() == name {
+            return Some(number);
         }
     }
-    SETTER_COUNT
+    None
 }

@@ -1,14 +1,15 @@
 //! Settings as text: `NAME=VALUE`.
 
-ghost use Rattle.std.specs.Prelude.{◌≡◌, ◌≤◌, Bool, Some, length};
+ghost use Rattle.std.specs.Prelude.{◌≡◌, ◌≤◌, Bool, Some, Ok, length};
 ghost use Rattle.lexical_base.specs.Additions.ShortTexts.{piece_text};
 ghost use Rattle.lexical_base.specs.Private.{max_length};
 ghost use Rattle.lexical_util.specs.Additions.Numeral.{is_numeral};
-ghost use Rattle.lexical_util.specs.Additions.SettingText.{byte_from_text, optional_byte_from_text, truth_in};
-ghost use Rattle.lexical_util.specs.Additions.SettingText.{with_value, setting_in};
-ghost use Rattle.lexical_util.specs.Additions.SettingText.{edit_or_error_in, setting_text, value_text, error_text};
+ghost use Rattle.lexical_util.specs.Additions.SettingText.{byte_from_text, optional_byte_from_text, bool_from_text};
+ghost use Rattle.lexical_util.specs.Additions.SettingNumbers.{kind_of_number};
+ghost use Rattle.lexical_util.specs.Additions.SettingText.{argument_from_text, argument_text, edit_with_read, edit_from_setting};
+ghost use Rattle.lexical_util.specs.Additions.SettingText.{edit_from_text, setting_text, error_text};
 
-use crate::edits::Edit;
+use crate::edits::{Argument, ArgumentKind, Edit, setter_number_of_name};
 use crate::numeral::read_numeral;
 use lexical_base::digit::char_to_digit;
 use lexical_base::error::{EMPTY_PIECE, Piece, ShortText};
@@ -47,10 +48,10 @@ impl Edit {
     /// a byte: 1 to 3 decimal digits, a number of at most 255. That of the other five is a byte too, or
     /// `none`; 0 means `none`. No spaces are taken off.
     pub fn from_setting(name: &str, value: &str) -> Result<Edit, SettingError>
-        ensures { result ≡ setting_in name.now value.now }
+        ensures { result ≡ edit_from_setting name.now value.now }
     {
-        match Edit::from_name(name, 0) {
-            Some(edit) => with_value(edit, value),
+        match setter_number_of_name(name.as_bytes()) {
+            Some(setter) => edit_with_text(setter, value),
             None => Err(SettingError::UnknownName),
         }
     }
@@ -59,7 +60,7 @@ impl Edit {
     ///
     /// Name and value are those of [`Edit::from_setting`]. A text without `=` is a name with an empty value.
     pub fn from_text(text: &str) -> Result<Edit, SettingError>
-        ensures { result ≡ edit_or_error_in text.now }
+        ensures { result ≡ edit_from_text text.now }
     {
         match text.split_once('=') {
             Some((name, value)) => Edit::from_setting(name, value),
@@ -72,13 +73,16 @@ impl Edit {
     /// Returns `NAME=VALUE`, such as `mantissa_radix=16`, `no_special=true` or `digit_separator=none`.
     #[tactic(auto, using(crate::proofs::ReasonTextLemmas::short_name))]
     pub const fn text(&self) -> ShortText
-        ensures { result ≡ setting_text self.now }
+        ensures text { result ≡ setting_text self.now }
+
+        // The text is parsed to the same edit.
+        ensures read_back { edit_from_text result ≡ Ok self.now }
     {
         ShortText(
             EMPTY_PIECE,
             Piece::Words(self.name()),
             Piece::Words("="),
-            value(self),
+            value(self.argument()),
         )
     }
 }
@@ -92,45 +96,45 @@ impl fmt::Display for Edit {
     }
 }
 
-// The text of an edit's argument.
-const fn value(edit: &Edit) -> Piece
-    ensures text { piece_text result ≡ value_text edit.now }
+// The text of an argument.
+const fn value(argument: Argument) -> Piece
+    ensures text { piece_text result ≡ argument_text argument }
     ensures short { max_length result ≤ 64 }
 {
-    match edit {
-        Edit::Flag(_, true) => Piece::Words("true"),
-        Edit::Flag(_, false) => Piece::Words("false"),
-        Edit::MantissaRadix(radix) | Edit::Radix(radix) => Piece::Number(*radix as usize),
-        Edit::DigitSeparator(byte)
-        | Edit::BasePrefix(byte)
-        | Edit::BaseSuffix(byte)
-        | Edit::ExponentBase(byte)
-        | Edit::ExponentRadix(byte) => match byte {
-            Some(byte) => Piece::Number(byte.get() as usize),
-            None => Piece::Words("none"),
-        },
+    match argument {
+        Argument::Flag(true) => Piece::Words("true"),
+        Argument::Flag(false) => Piece::Words("false"),
+        Argument::Byte(byte) => Piece::Number(byte as usize),
+        Argument::OptionalByte(Some(byte)) => Piece::Number(byte.get() as usize),
+        Argument::OptionalByte(None) => Piece::Words("none"),
     }
 }
 
-// The edit of the same setter as `edit`, with the value that a text writes.
-fn with_value(edit: Edit, value: &str) -> Result<Edit, SettingError>
-    ensures { result ≡ with_value edit value.now }
+// Returns the edit of the setter with this number, with the argument that `value` writes.
+fn edit_with_text(setter: u8, value: &str) -> Result<Edit, SettingError>
+    ensures { result ≡ edit_with_read setter (argument_from_text (kind_of_number setter) value.now) }
 {
-    match edit {
-        Edit::Flag(setter, _) => Ok(Edit::Flag(setter, truth_from_text(value)?)),
-        Edit::DigitSeparator(_) => Ok(Edit::DigitSeparator(optional_byte_from_text(value)?)),
-        Edit::BasePrefix(_) => Ok(Edit::BasePrefix(optional_byte_from_text(value)?)),
-        Edit::BaseSuffix(_) => Ok(Edit::BaseSuffix(optional_byte_from_text(value)?)),
-        Edit::MantissaRadix(_) => Ok(Edit::MantissaRadix(byte_from_text(value)?)),
-        Edit::Radix(_) => Ok(Edit::Radix(byte_from_text(value)?)),
-        Edit::ExponentBase(_) => Ok(Edit::ExponentBase(optional_byte_from_text(value)?)),
-        Edit::ExponentRadix(_) => Ok(Edit::ExponentRadix(optional_byte_from_text(value)?)),
+    let argument = argument_from_text(ArgumentKind::of(setter), value)?;
+    match Edit::new(setter, argument) {
+        Some(edit) => Ok(edit),
+        None => Err(SettingError::UnknownName),
+    }
+}
+
+// Parses an argument of this kind.
+fn argument_from_text(kind: ArgumentKind, text: &str) -> Result<Argument, SettingError>
+    ensures { result ≡ argument_from_text kind text.now }
+{
+    match kind {
+        ArgumentKind::Flag => Ok(Argument::Flag(bool_from_text(text)?)),
+        ArgumentKind::Byte => Ok(Argument::Byte(byte_from_text(text)?)),
+        ArgumentKind::OptionalByte => Ok(Argument::OptionalByte(optional_byte_from_text(text)?)),
     }
 }
 
 // Parses `true` or `false`.
-fn truth_from_text(text: &str) -> Result<bool, SettingError>
-    ensures { result ≡ truth_in text.now }
+fn bool_from_text(text: &str) -> Result<bool, SettingError>
+    ensures { result ≡ bool_from_text text.now }
 {
     match text {
         "true" => Ok(true),

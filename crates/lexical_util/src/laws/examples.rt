@@ -14,11 +14,8 @@ ghost use Rattle.lexical_flags.specs.declared.format_flags.TheConstants.{FLAG_MA
 ghost use Rattle.lexical_builder.specs.Writes.{write_flag, write_byte, SameWrites};
 ghost use Rattle.lexical_util.specs.Edits.{all_writes, edited};
 ghost use Rattle.lexical_util.specs.NormalForm.{normal_form_of};
-ghost use Rattle.lexical_util.specs.Additions.SettingText.{HasByte, edit_or_error_in, setting_text};
 ghost use Rattle.lexical_util.specs.Additions.Reasons.{without_prefix_case, IsWith, SameRules};
 ghost use Rattle.lexical_util.specs.declared.edits.Edit.TheVariants as edits;
-
-use crate::laws::setting_facts;
 
 /// Lists that write the same, and lists that do not.
 pub fn write_examples()
@@ -35,16 +32,6 @@ pub fn write_examples()
         (write_byte layout.mantissa_radix 8 ∷ write_byte layout.mantissa_radix 16 ∷ [])
         (write_byte layout.mantissa_radix 16 ∷ write_byte layout.mantissa_radix 8 ∷ []) → ⊥ }
 {}
-
-/// An edit that a program can have, and one that none has, since a byte that is there is not 0; and what is read back.
-#[tactic(auto, unfolding(crate::specs::Unfoldable::on_literals))]
-pub fn setting_law_examples()
-    ensures has { HasByte (edits.BasePrefix None) }
-    ensures lacks { HasByte (edits.BasePrefix (Some 0)) → ⊥ }
-    ensures read_back { HasByte (edits.Radix 16) → edit_or_error_in (setting_text (edits.Radix 16)) ≡ Ok (edits.Radix 16) }
-{
-    setting_facts();
-}
 
 /// What has no effect: the case of a prefix that is absent, cleared and not, and words with the same rules and not.
 #[tactic(auto, unfolding(crate::specs::Unfoldable::on_literals))]

@@ -3,7 +3,7 @@
 ghost use Rattle.std.specs.Prelude.{◌≡◌, ◌<◌, ◌≤◌, ◌+◌, ◌++◌, length, Some};
 ghost use Rattle.lexical_base.specs.Additions.ShortTexts.{piece_text};
 ghost use Rattle.lexical_base.specs.Private.{max_length};
-ghost use Rattle.lexical_util.specs.Additions.SetterNames.{setter_name};
+ghost use Rattle.lexical_util.specs.Additions.SettingNumbers.{name_of_flags};
 ghost use Rattle.lexical_util.specs.Additions.ReasonText.{words_of, described, sameness, reason_text, unused_text};
 
 use crate::edits::{Edit, FlagSetter};
@@ -18,7 +18,7 @@ impl Reason {
     {
         match self {
             Reason::OutOfRange(edit) => followed(
-                Piece::NumberedByte(words(*edit), edit.byte()),
+                Piece::NumberedByte(words(*edit), edit.argument_byte()),
                 " is not 2 to 36",
             ),
             Reason::NotText(edit) => followed(described(edit), " is not a character of ASCII text"),
@@ -102,13 +102,13 @@ const fn described(edit: &Edit) -> Piece
     ensures text { piece_text result ≡ described edit.now }
     ensures short { max_length result ≤ 84 }
 {
-    Piece::QuotedByte(words(*edit), edit.byte())
+    Piece::QuotedByte(words(*edit), edit.argument_byte())
 }
 
 // The name of a flag.
 #[tactic(auto, using(crate::proofs::ReasonTextLemmas::short_setter))]
 const fn named(flag: FlagSetter) -> Piece
-    ensures text { piece_text result ≡ setter_name flag }
+    ensures text { piece_text result ≡ name_of_flags flag }
     ensures short { max_length result < 49 }
 {
     Piece::Words(flag.name())
@@ -119,7 +119,7 @@ const fn sameness(a: Edit, b: Edit) -> &'static str
     ensures text { result.now ≡ sameness a b }
     ensures short { length result.now ≤ 67 }
 {
-    if a.byte() == b.byte() {
+    if a.argument_byte() == b.argument_byte() {
         " are the same"
     } else {
         " differ only in case, which counts only if both are case-sensitive"

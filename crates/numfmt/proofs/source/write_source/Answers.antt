@@ -8,7 +8,7 @@ use Rattle.lexical_util.specs.Record.{raw}
 use Rattle.lexical_util.specs.Additions.FieldEdits.{edit_of_write, needed_edits, other_edits}
 use Rattle.lexical_util.specs.Listing.{needed_writes}
 use Rattle.lexical_util.proofs.ListingLemmas.{only_both}
-use Rattle.numfmt.specs.Source.{source_text, call, call_text}
+use Rattle.numfmt.specs.Source.{source_text, call, call_text, code_of_argument}
 use Rattle.numfmt.proofs.WritingLemmas.{one_more, then}
 use Rattle.numfmt.proofs.source.write_source.Goals as goal
 
@@ -35,8 +35,9 @@ pieces name value =
 pub loop-edit-preserved : goal.loop-edit-preserved
 loop-edit-preserved g c =
     let contents = g.W.Output.contents in
-    let text = pieces c.name.result.now c.argument.result
-    ∙ (λ i. call (c.name.ensures.name i) (c.argument.ensures i)) in
+    let text = pieces c.name.result.now c.code_of_argument.result
+    ∙ (λ i. call (c.name.ensures.name i)
+    ((c.code_of_argument.ensures ∙ ap code_of_argument c.argument.ensures.argument) i)) in
     let one = subst (λ (t : List ℕ). Appends (contents c.loop-edit.out) (contents c.write.new.self) t) text
     c.in_ok-write.ensures.bytes in
     one_more call_text _ c.loop-edit.edit-index c.edit-item.result _ _ _ c.loop-edit-test.true c.loop-edit.invariant
