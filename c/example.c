@@ -1,4 +1,4 @@
-/* Makes a format of settings, and prints its word and the settings of single fields that make it again.
+/* Builds a format from settings, and prints its word and the fewest settings of single fields that build it.
  *
  *     cc -Wall -Wextra -Werror example.c libpeltzivar_c.a -o example
  *     ./example mantissa_radix=16 digit_separator=95 internal_digit_separator=true */
@@ -12,28 +12,27 @@ static void print_settings(peltzivar_word word) {
     peltzivar_edit edits[PELTZIVAR_FIELD_COUNT];
     const size_t count = peltzivar_edits_of(word, edits);
     for (size_t i = 0; i < count; i++) {
-        char text[256];
+        char text[PELTZIVAR_TEXT_SIZE];
         peltzivar_text_of_edit(edits[i], text, sizeof text);
         printf("%s\n", text);
     }
 }
 
 int main(int argc, char **argv) {
-    /* What is not set keeps its default: exponent base and exponent radix follow the mantissa radix. To change a word
-     * that is finished, take peltzivar_edit_word. */
+    /* A field that no setting names keeps its default, and exponent base and exponent radix follow the mantissa radix.
+     * To change a finished word, call peltzivar_edit_word. */
     peltzivar_fields fields = PELTZIVAR_NEW_FIELDS;
     for (int i = 1; i < argc; i++) {
         peltzivar_edit edit;
-        if (peltzivar_edit_of_text(argv[i], strlen(argv[i]), &edit)) {
+        if (peltzivar_edit_of_text(argv[i], strlen(argv[i]), &edit) || !peltzivar_edit_fields(&fields, &edit, 1)) {
             fprintf(stderr, "no setting: %s\n", argv[i]);
             return 2;
         }
-        peltzivar_edit_fields(&fields, &edit, 1);
     }
     peltzivar_word word;
     const peltzivar_error error = peltzivar_build_strict(&fields, &word);
     if (error) {
-        char text[256];
+        char text[PELTZIVAR_TEXT_SIZE];
         peltzivar_text(error, 0, text, sizeof text);
         fprintf(stderr, "%s\n", text);
         return 1;

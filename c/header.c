@@ -1,5 +1,7 @@
-/* Tests that peltzivar.h fits the library: the order of fields, and each call once. Its expected values are of
- * the layout that the header tells, and of the Rust crate lexical-util 1.0.7. */
+/* Tests that peltzivar.h fits the library: the order of fields, and each call once. Its expected values come from the
+ * layout that the header describes, and from the Rust crate lexical-util 1.0.7.
+ *
+ * With -DWITHOUT_VERSION it does not call peltzivar_version, which the proved library does not have. */
 #include "peltzivar.h"
 
 #include <stdio.h>
@@ -24,8 +26,22 @@ static bool is_text(const char *wanted, size_t len, const char *text) {
     return len == strlen(wanted) && strcmp(wanted, text) == 0 && text[len + 1] == '#';
 }
 
+/* The initialisers are constant at file scope, alone and in an array. */
+static peltzivar_fields start = PELTZIVAR_NEW_FIELDS_INIT;
+static const peltzivar_word starts[] = {PELTZIVAR_STANDARD_INIT, {1, 2}, PELTZIVAR_STANDARD_INIT};
+
 static const peltzivar_word ZERO = {0, 0};
 static const peltzivar_word RESERVED = {0x8000000C, 0x00000A0000000000};
+
+static void test_constants(void) {
+    CHECK(is_word(peltzivar_pack(&start), PELTZIVAR_STANDARD.high, PELTZIVAR_STANDARD.low));
+    CHECK(is_word(starts[2], PELTZIVAR_STANDARD.high, PELTZIVAR_STANDARD.low));
+    const int number = PELTZIVAR_VERSION_MAJOR << 16 | PELTZIVAR_VERSION_MINOR << 8 | PELTZIVAR_VERSION_PATCH;
+    CHECK(number == PELTZIVAR_VERSION_NUMBER);
+#ifndef WITHOUT_VERSION
+    CHECK(peltzivar_version() == PELTZIVAR_VERSION_NUMBER);
+#endif
+}
 
 /* Each byte of the fields at its bits, and each flag. */
 static void test_fields(void) {
@@ -50,9 +66,10 @@ static void test_fields(void) {
     const peltzivar_edit unknown[] = {{PELTZIVAR_SET_RADIX, 7}, {PELTZIVAR_SET_EXPONENT_RADIX + 1, 0}};
     CHECK(!peltzivar_build(&fields, unknown, 2, &word));
     CHECK(is_word(word, 0x0605040302000001, 0x0000100000000000 | 0xC));
-    const peltzivar_fields before = fields;
     CHECK(!peltzivar_edit_fields(&fields, unknown, 2));
-    CHECK(memcmp(&fields, &before, sizeof fields) == 0);
+    CHECK(fields.digit_separator == 1 && fields.base_prefix == 2 && fields.base_suffix == 3);
+    CHECK(fields.mantissa_radix == 4 && fields.exponent_base == 5 && fields.exponent_radix == 6);
+    CHECK(fields.flags >> 31 && is_word(peltzivar_pack(&fields), 0x0605040302000001, 0x0000100000000000 | 0xC));
     const uint8_t separators = PELTZIVAR_SET_INTEGER_INTERNAL_DIGIT_SEPARATOR;
     for (uint8_t flag = 0; flag < PELTZIVAR_SET_REQUIRED_DIGITS; flag++) {
         const peltzivar_edit set = {flag, 200};
@@ -76,6 +93,23 @@ static void test_words(void) {
     CHECK(is_word(peltzivar_normal_form(PELTZIVAR_STANDARD), 0x0A0A0A0000000000, 0xC));
     CHECK(peltzivar_same_format(PELTZIVAR_STANDARD, RESERVED) && !peltzivar_same_format(PELTZIVAR_STANDARD, ZERO));
     CHECK(peltzivar_is_built(PELTZIVAR_STANDARD) && !peltzivar_is_built(RESERVED));
+}
+
+/* Two calls are not always one call with the edits of both: the first drops a separator that no flag allows yet, and
+ * the second fills an exponent byte that the first set to 0. */
+static void test_two_calls(void) {
+    const peltzivar_edit separator[] = {
+        {PELTZIVAR_SET_DIGIT_SEPARATOR, '_'}, {PELTZIVAR_SET_INTEGER_INTERNAL_DIGIT_SEPARATOR, 1}};
+    const peltzivar_edit radix[] = {{PELTZIVAR_SET_EXPONENT_BASE, 0}, {PELTZIVAR_SET_MANTISSA_RADIX, 16}};
+    peltzivar_word word;
+    CHECK(peltzivar_edit_word(PELTZIVAR_STANDARD, separator, 2, &word));
+    CHECK(is_word(word, 0x0A0A0A000000005F, 0x10000000C));
+    CHECK(peltzivar_edit_word(PELTZIVAR_STANDARD, separator, 1, &word) && is_word(word, 0x0A0A0A0000000000, 0xC));
+    CHECK(peltzivar_edit_word(word, &separator[1], 1, &word));
+    CHECK(is_word(word, 0x0A0A0A0000000000, 0x10000000C));
+    CHECK(peltzivar_edit_word(PELTZIVAR_STANDARD, radix, 2, &word) && is_word(word, 0x0A00100000000000, 0xC));
+    CHECK(peltzivar_edit_word(PELTZIVAR_STANDARD, radix, 1, &word) && is_word(word, 0x0A000A0000000000, 0xC));
+    CHECK(peltzivar_edit_word(word, &radix[1], 1, &word) && is_word(word, 0x0A0A100000000000, 0xC));
 }
 
 /* An array of PELTZIVAR_FIELD_COUNT edits is written to its last entry, and no further. */
@@ -161,7 +195,7 @@ static void test_reasons(void) {
         {{0x0000080000000000, 0x0000020000000000}, "exponent_consecutive_digit_separator", needs},
         {{0x0000000080000000, 0x0000020000000000}, "a reserved bit is set", ""},
     };
-    char text[256], wanted[256];
+    char text[PELTZIVAR_TEXT_SIZE], wanted[PELTZIVAR_TEXT_SIZE];
     for (uint8_t rule = 0; rule < PELTZIVAR_RULE_COUNT; rule++) {
         snprintf(wanted, sizeof wanted, "%s%s", rows[rule].why, rows[rule].end);
         for (int index = 0; index < 256; index++) {
@@ -202,7 +236,7 @@ static void test_unused(void) {
         {{PELTZIVAR_SET_CASE_SENSITIVE_BASE_SUFFIX, 1},
          "case_sensitive_base_suffix has no effect: there is no base suffix"},
     };
-    char text[256];
+    char text[PELTZIVAR_TEXT_SIZE];
     for (int row = 0; row < PELTZIVAR_UNUSED; row++) {
         peltzivar_fields fields = PELTZIVAR_NEW_FIELDS;
         CHECK(peltzivar_edit_fields(&fields, &rows[row].edit, 1));
@@ -240,7 +274,7 @@ static void test_bytes(void) {
 }
 
 static void test_texts(void) {
-    char text[256];
+    char text[PELTZIVAR_TEXT_SIZE];
     memset(text, '#', sizeof text);
     CHECK(is_text("'not actually an error'", peltzivar_description(PELTZIVAR_SUCCESS, text, sizeof text), text));
     memset(text, '#', sizeof text);
@@ -301,7 +335,7 @@ static void test_settings(void) {
         CHECK(peltzivar_edit_of_text(rows[row].text, strlen(rows[row].text), &edit) == rows[row].wanted);
         CHECK(edit.setter == rows[row].edit.setter && edit.value == rows[row].edit.value);
     }
-    char text[256];
+    char text[PELTZIVAR_TEXT_SIZE];
     for (size_t row = 0; row < 3; row++) {
         memset(text, '#', sizeof text);
         CHECK(is_text(rows[row].text, peltzivar_text_of_edit(rows[row].edit, text, sizeof text), text));
@@ -343,8 +377,10 @@ static void test_null(void) {
 }
 
 int main(void) {
+    test_constants();
     test_fields();
     test_words();
+    test_two_calls();
     test_edits_of();
     test_rules();
     test_one_rule_each();

@@ -1,19 +1,18 @@
-/* Number formats in words of 128 bits: their fields, edits and rules. docs/FORMAT.md says what each field asks of a
- * parser, and has the rules with a word that breaks each; c/settings.c reads a file of settings. Link with
- * libpeltzivar_c.a or .so, which cargo builds of rust/capi, or with liblexical_c.a, which the kit proves and builds of crates/lexical_c.
+/* Number formats in words of 128 bits: their fields, edits and rules.
  *
- * A format word has flags (bits 0 to 17 and 32 to 44) and six bytes (from bit 64 up: digit separator, bits 64 to 71;
- * base prefix, 88; base suffix, 96; mantissa radix, 104; exponent base, 112; exponent radix, 120). The other bits are
- * reserved and 0 in a lawful word.
+ * A format word has 31 flags (bits 0 to 17 and 32 to 44) and six bytes: the digit separator (bits 64 to 71), and from
+ * the bit in parentheses up the base prefix (88), base suffix (96), mantissa radix (104), exponent base (112) and
+ * exponent radix (120). The other bits are reserved. A word is lawful if it keeps the 16 rules below. docs/FORMAT.md
+ * of the repository describes each field and each rule, and c/settings.c shows how to read a file of settings.
  *
- * Any word, number, byte or length that fits its type is allowed. A pointer has to point to what its type says, or to as
- * many as the length beside it or the number in brackets says; it may be null only beside a length of 0. What a call reads
- * needs a value before, *fields of peltzivar_edit_fields too; *out, the array of peltzivar_edits_of and the text that a call
- * writes need none. What a call writes must not overlap what it reads. No call allocates, keeps a pointer, or sets errno.
- * Calls can be made from several threads at once if what one of them writes is neither read nor written by another thread.
+ * Any word, number, byte or length of the right type is accepted. A pointer must point to the object or array that
+ * its declaration describes; it may be null only with a length of 0. Input must be initialised, and so must *fields
+ * of peltzivar_edit_fields; other output need not be. Output must not overlap input. No call allocates, keeps a
+ * pointer or sets errno. Calls may run in several threads if none of them writes what another reads or writes.
  *
- * The bits of a word stay as they are for ever. A flag that is added in a new minor version may change the numbers of other
- * setters and bits of peltzivar_fields: so keep words, or names of setters, and compile with the header of the library. */
+ * The bits of a word never change their meaning. A new minor version may add a flag, which renumbers setters and
+ * the bits of peltzivar_fields. So store words or names of setters, and compile with the header of the library
+ * that you link. */
 #ifndef PELTZIVAR_H
 #define PELTZIVAR_H
 
@@ -21,10 +20,36 @@
 #include <stddef.h>
 #include <stdint.h>
 
+/* The version of this header. Its number has eight bits for each part. peltzivar_version returns the library's. */
 #define PELTZIVAR_VERSION "0.4.0"
 #define PELTZIVAR_VERSION_MAJOR 0
 #define PELTZIVAR_VERSION_MINOR 4
 #define PELTZIVAR_VERSION_PATCH 0
+#define PELTZIVAR_VERSION_NUMBER 0x000400
+
+/* How a program imports a call. To link with a DLL, define PELTZIVAR_SHARED. */
+#ifndef PELTZIVAR_API
+#if defined(_WIN32) && defined(PELTZIVAR_SHARED)
+#define PELTZIVAR_API __declspec(dllimport)
+#elif defined(__GNUC__) && !defined(_WIN32)
+#define PELTZIVAR_API __attribute__((visibility("default")))
+#else
+#define PELTZIVAR_API
+#endif
+#endif
+
+/* The compiler warns if a caller ignores the result: an error, or whether the call wrote its output. */
+#ifndef PELTZIVAR_MUST_USE
+#if defined(__cplusplus) && __cplusplus >= 201703L
+#define PELTZIVAR_MUST_USE [[nodiscard]]
+#elif defined(__STDC_VERSION__) && __STDC_VERSION__ >= 202311L
+#define PELTZIVAR_MUST_USE [[nodiscard]]
+#elif defined(__GNUC__)
+#define PELTZIVAR_MUST_USE __attribute__((warn_unused_result))
+#else
+#define PELTZIVAR_MUST_USE
+#endif
+#endif
 
 #ifdef __cplusplus
 extern "C" {
@@ -35,8 +60,8 @@ typedef struct {
     uint64_t low, high;
 } peltzivar_word;
 
-/* The fields before they are packed into a word: the flags, the first at bit 0, and six bytes, each 0 if it is absent.
- * The bits above the flags are ignored. */
+/* The fields before they are packed into a word. The flag of setter n is bit n of `flags`; the bits above the
+ * flags are ignored, and 0 in a result. A byte is 0 if it is absent. */
 typedef struct {
     uint32_t flags;
     uint8_t digit_separator;
@@ -47,23 +72,26 @@ typedef struct {
     uint8_t exponent_radix;
 } peltzivar_fields;
 
-/* An edit: a setter and its argument. For a setter of flags any value but 0 is true; for a setter of a byte 0 is
- * none. */
+/* An edit: a setter and its argument. For a flag setter, any value except 0 means true. For a byte setter, 0 means
+ * absent, except for mantissa_radix and radix, which are then 0. */
 typedef struct {
     uint8_t setter, value;
 } peltzivar_edit;
 
-/* The fields to start from, and the standard format, which is the word that they are packed into. */
-static const peltzivar_word PELTZIVAR_STANDARD = {UINT64_C(0xC), UINT64_C(0x00000A0000000000)};
-static const peltzivar_fields PELTZIVAR_NEW_FIELDS = {UINT32_C(0xC), 0, 0, 0, 10, 0, 0};
+/* The standard format, and the fields to start from: peltzivar_pack packs these into that word. The initialisers
+ * are constant expressions, so they also serve at file scope and in arrays. */
+#define PELTZIVAR_STANDARD_INIT {UINT64_C(0xC), UINT64_C(0x00000A0000000000)}
+#define PELTZIVAR_NEW_FIELDS_INIT {UINT32_C(0xC), 0, 0, 0, 10, 0, 0}
+static const peltzivar_word PELTZIVAR_STANDARD = PELTZIVAR_STANDARD_INIT;
+static const peltzivar_fields PELTZIVAR_NEW_FIELDS = PELTZIVAR_NEW_FIELDS_INIT;
 
-/* What stands for no setter, no digit, and no digit character. */
+/* The results that mean "no setter", "not a digit" and "no digit character". */
 #define PELTZIVAR_NO_SETTER 255
 #define PELTZIVAR_NO_DIGIT UINT32_MAX
 #define PELTZIVAR_NO_CHAR 0
 
-/* The setters. First come those of flags, each with the number of its bit in `flags`, then those of groups of flags,
- * then those of bytes. PELTZIVAR_SET_RADIX does the same as the one before it. */
+/* The setters: flag setters, setters of a group of flags, byte setters. The number of a flag setter is the bit of
+ * its flag in `flags`. PELTZIVAR_SET_RADIX does the same as PELTZIVAR_SET_MANTISSA_RADIX. */
 enum {
     PELTZIVAR_SET_REQUIRED_INTEGER_DIGITS = 0,
     PELTZIVAR_SET_REQUIRED_FRACTION_DIGITS,
@@ -111,16 +139,15 @@ enum {
     PELTZIVAR_SET_MANTISSA_RADIX,
     PELTZIVAR_SET_RADIX,
     PELTZIVAR_SET_EXPONENT_BASE,
-    PELTZIVAR_SET_EXPONENT_RADIX,
+    PELTZIVAR_SET_EXPONENT_RADIX
 };
 
-/* How many fields a word has: the flags and six bytes. */
+/* The number of fields: the flags and six bytes. */
 #define PELTZIVAR_FIELD_COUNT (PELTZIVAR_SET_REQUIRED_DIGITS + 6)
 
-/* Success, which is 0, or one of 48 errors, 49 outcomes in all: 1 to 19 are of parsing, each with the index in the text at
- * which it was found; 20 to 36 of formats, which calls below return; 37 to 48 of options. There is no parser here: the
- * errors of parsing, and most of options, are for one that you write. Two rules have PELTZIVAR_INVALID_SPECIAL, so an error
- * does not name a rule: peltzivar_keeps_rule does. */
+/* Success (0) or one of 48 errors: 1 to 19 are parse errors, 20 to 36 format errors, 37 to 48 option errors. The
+ * calls below return only success and format errors; the others are for parsers and writers that use this library.
+ * Two rules share PELTZIVAR_INVALID_SPECIAL; to find out which one is broken, call peltzivar_keeps_rule. */
 typedef uint32_t peltzivar_error;
 enum {
     PELTZIVAR_SUCCESS = 0,
@@ -171,21 +198,23 @@ enum {
     PELTZIVAR_INVALID_RADIX = 45,
     PELTZIVAR_INVALID_FLOAT_PRECISION = 46,
     PELTZIVAR_INVALID_NEGATIVE_EXPONENT_BREAK = 47,
-    PELTZIVAR_INVALID_POSITIVE_EXPONENT_BREAK = 48,
+    PELTZIVAR_INVALID_POSITIVE_EXPONENT_BREAK = 48
 };
 
-/* The rules of words, in the order in which they are tried, each with what it demands, and how many there are. In
- * docs/FORMAT.md they are numbered from 1, so the rule n there is n - 1 here. Punctuation is a byte of ASCII text (9 to 13,
- * 32 to 126) that is no sign and no digit of the mantissa or exponent. An exponent base or exponent radix of 0 is the mantissa
- * radix. */
+/* The rules in the order in which they are tried, each with the words that keep it. docs/FORMAT.md numbers them
+ * from 1, so rule n there is n - 1 here. Punctuation is allowed ASCII (the bytes 9 to 13 and 32 to 126) that is
+ * neither a sign nor a digit of the mantissa or exponent. An exponent base or exponent radix of 0 means the
+ * mantissa radix. */
 enum {
-    PELTZIVAR_RULE_MANTISSA_RADIX_IN_RANGE = 0, /* mantissa_radix is 2 to 36 */
-    PELTZIVAR_RULE_EXPONENT_BASE_IN_RANGE, /* exponent_base is 2 to 36 */
-    PELTZIVAR_RULE_EXPONENT_RADIX_IN_RANGE, /* exponent_radix is 2 to 36 */
+    PELTZIVAR_RULE_MANTISSA_RADIX_IN_RANGE = 0, /* mantissa_radix is between 2 and 36 */
+    PELTZIVAR_RULE_EXPONENT_BASE_IN_RANGE, /* exponent_base is between 2 and 36 */
+    PELTZIVAR_RULE_EXPONENT_RADIX_IN_RANGE, /* exponent_radix is between 2 and 36 */
     PELTZIVAR_RULE_DIGIT_SEPARATOR_IS_PUNCTUATION, /* digit_separator is 0 or punctuation */
     PELTZIVAR_RULE_BASE_PREFIX_IS_PUNCTUATION, /* base_prefix is 0 or punctuation */
     PELTZIVAR_RULE_BASE_SUFFIX_IS_PUNCTUATION, /* base_suffix is 0 or punctuation */
-    /* no two of these three share a byte; a letter counts in both cases unless its case_sensitive_ flag is set */
+    /* No two of digit_separator, base_prefix and base_suffix share a byte. A base_prefix or base_suffix that is a
+     * letter has the bytes of both cases, unless case_sensitive_base_prefix or case_sensitive_base_suffix is set.
+     * A digit_separator has one byte. */
     PELTZIVAR_RULE_PUNCTUATION_DIFFERS,
     PELTZIVAR_RULE_EXPONENT_FLAGS_AGREE, /* not both no_exponent_notation and required_exponent_notation */
     PELTZIVAR_RULE_MANTISSA_SIGN_FLAGS_AGREE, /* not both no_positive_mantissa_sign and required_mantissa_sign */
@@ -194,184 +223,222 @@ enum {
     PELTZIVAR_RULE_SPECIAL_SEPARATOR_FLAGS_AGREE, /* not both no_special and special_digit_separator */
     /* integer_consecutive_digit_separator only with an internal, leading or trailing flag of the integer */
     PELTZIVAR_RULE_INTEGER_CONSECUTIVE_IS_ALLOWED,
-    PELTZIVAR_RULE_FRACTION_CONSECUTIVE_IS_ALLOWED, /* the same of the fraction */
-    PELTZIVAR_RULE_EXPONENT_CONSECUTIVE_IS_ALLOWED, /* the same of the exponent */
-    PELTZIVAR_RULE_RESERVED_BITS_ARE_ZERO, /* the bits that hold no field are 0 */
+    /* fraction_consecutive_digit_separator only with an internal, leading or trailing flag of the fraction */
+    PELTZIVAR_RULE_FRACTION_CONSECUTIVE_IS_ALLOWED,
+    /* exponent_consecutive_digit_separator only with an internal, leading or trailing flag of the exponent */
+    PELTZIVAR_RULE_EXPONENT_CONSECUTIVE_IS_ALLOWED,
+    PELTZIVAR_RULE_RESERVED_BITS_ARE_ZERO /* the bits of no field are 0 */
 };
-#define PELTZIVAR_RULE_COUNT 16
 
-/* How many reasons there may be for which a word breaks one rule, and how many settings without effect. */
+/* The number of rules, the most reasons why one rule is broken, and the most settings that peltzivar_unused names. */
+#define PELTZIVAR_RULE_COUNT 16
 #define PELTZIVAR_REASONS 3
 #define PELTZIVAR_UNUSED 4
 
-/* What peltzivar_edit_of_text returns. */
+/* The bytes that hold any text of this library and its final 0. */
+#define PELTZIVAR_TEXT_SIZE 256
+
+/* The results of peltzivar_edit_of_text. */
 enum {
     PELTZIVAR_SETTING_READ = 0,
     PELTZIVAR_SETTING_UNKNOWN_NAME = 1,
     PELTZIVAR_SETTING_BAD_VALUE = 2,
-    PELTZIVAR_SETTING_OUT_OF_RANGE = 3,
+    PELTZIVAR_SETTING_OUT_OF_RANGE = 3
 };
+
+/* Returns the version of the library, in the form of PELTZIVAR_VERSION_NUMBER. If its major or minor part differs
+ * from that of the header, the numbers of setters may differ too. The proved library does not have this call. */
+PELTZIVAR_API uint32_t peltzivar_version(void);
 
 /* FIELDS */
 
-/* Returns the fields of a word; an exponent base or exponent radix of 0 becomes the mantissa radix. */
-peltzivar_fields peltzivar_fields_of(peltzivar_word format);
+/* Returns the fields of a word. An exponent base or exponent radix of 0 becomes the mantissa radix. */
+PELTZIVAR_API peltzivar_fields peltzivar_fields_of(peltzivar_word format);
 
-/* Applies the edits to the fields in order and returns true. If one of them has no setter, returns false and leaves
- * the fields as they were. */
-bool peltzivar_edit_fields(peltzivar_fields *fields, const peltzivar_edit *edits, size_t len);
+/* Applies the edits to the fields in order and returns true. If an edit has no such setter, returns false and
+ * leaves *fields unchanged. */
+PELTZIVAR_MUST_USE PELTZIVAR_API bool peltzivar_edit_fields(
+    peltzivar_fields *fields, const peltzivar_edit *edits, size_t len);
 
-/* Returns the word that the fields are packed into, lawful or not. The digit separator is packed only if a flag
- * allows one. */
-peltzivar_word peltzivar_pack(const peltzivar_fields *fields);
+/* Returns the word of the fields, lawful or not. A digit separator that no flag allows is dropped. */
+PELTZIVAR_API peltzivar_word peltzivar_pack(const peltzivar_fields *fields);
 
-/* Applies the edits to the fields in order, writes the word that they are packed into to *out and returns true. If one
- * of them has no setter, returns false and writes nothing. */
-bool peltzivar_build(const peltzivar_fields *fields, const peltzivar_edit *edits, size_t len, peltzivar_word *out);
+/* Applies the edits to a copy of the fields in order, packs the copy as peltzivar_pack does, writes the word to
+ * *out and returns true. If an edit has no such setter, returns false and leaves *out unchanged. */
+PELTZIVAR_MUST_USE PELTZIVAR_API bool peltzivar_build(
+    const peltzivar_fields *fields, const peltzivar_edit *edits, size_t len, peltzivar_word *out);
 
-/* Packs the fields as peltzivar_pack does. If the word is lawful, writes it to *out and returns PELTZIVAR_SUCCESS; else
- * writes nothing and returns the error of the first rule that it breaks. A digit separator that no flag allows is dropped,
- * and no error says so: peltzivar_unused does. */
-peltzivar_error peltzivar_build_strict(const peltzivar_fields *fields, peltzivar_word *out);
+/* Packs the fields as peltzivar_pack does. If the word is lawful, writes it to *out and returns PELTZIVAR_SUCCESS.
+ * If not, returns the error of the first rule that it breaks and leaves *out unchanged. A digit separator that no
+ * flag allows is dropped without an error; peltzivar_unused names it. */
+PELTZIVAR_MUST_USE PELTZIVAR_API peltzivar_error peltzivar_build_strict(
+    const peltzivar_fields *fields, peltzivar_word *out);
 
 /* WORDS */
 
-/* Applies the edits to a word in order, writes the new word to *out and returns true. If one of them has no setter,
- * returns false and writes nothing. Empty exponent bytes are filled from the mantissa radix before the edits. */
-bool peltzivar_edit_word(peltzivar_word format, const peltzivar_edit *edits, size_t len, peltzivar_word *out);
+/* Applies the edits to a word in order, writes the new word to *out and returns true. If an edit has no such
+ * setter, returns false and leaves *out unchanged. Before the edits, an exponent base or exponent radix of 0
+ * becomes the mantissa radix; after them, a digit separator that no flag allows is dropped. So two calls do not
+ * always give the word of one call with both lists of edits: pass a separator and its flags in one call. */
+PELTZIVAR_MUST_USE PELTZIVAR_API bool peltzivar_edit_word(
+    peltzivar_word format, const peltzivar_edit *edits, size_t len, peltzivar_word *out);
 
-/* Returns the normal form: the canonical one among the words that mean the same. */
-peltzivar_word peltzivar_normal_form(peltzivar_word format);
+/* Returns the normal form of a word: the canonical one of the words that mean the same format. */
+PELTZIVAR_API peltzivar_word peltzivar_normal_form(peltzivar_word format);
 
-/* Writes the normal form to *out and returns PELTZIVAR_SUCCESS if it is lawful; else writes nothing and returns the
- * error of the first rule that it breaks. */
-peltzivar_error peltzivar_migrate(peltzivar_word format, peltzivar_word *out);
+/* If the normal form is lawful, writes it to *out and returns PELTZIVAR_SUCCESS. If not, returns the error of the
+ * first rule that the normal form breaks and leaves *out unchanged. */
+PELTZIVAR_MUST_USE PELTZIVAR_API peltzivar_error peltzivar_migrate(peltzivar_word format, peltzivar_word *out);
 
 /* Returns whether two words have the same normal form. */
-bool peltzivar_same_format(peltzivar_word a, peltzivar_word b);
+PELTZIVAR_API bool peltzivar_same_format(peltzivar_word a, peltzivar_word b);
 
 /* Returns whether peltzivar_pack can return the word. */
-bool peltzivar_is_built(peltzivar_word format);
+PELTZIVAR_API bool peltzivar_is_built(peltzivar_word format);
 
-/* Writes one edit for each field, with its value in the word, and returns how many of them make these fields from
- * PELTZIVAR_NEW_FIELDS. These come first. Where peltzivar_pack can return the word, no shorter list of edits of
- * single fields makes it; an edit of a group stands for several of them. */
-size_t peltzivar_edits_of(peltzivar_word format, peltzivar_edit edits[PELTZIVAR_FIELD_COUNT]);
+/* Writes one edit for each field of the word. An absent exponent byte stays absent. The edits in which the word
+ * differs from PELTZIVAR_NEW_FIELDS come first; returns their number. Applied to PELTZIVAR_NEW_FIELDS, these alone
+ * give the fields of the word. If peltzivar_is_built returns true, no shorter list of single-field edits builds
+ * the word. */
+PELTZIVAR_API size_t peltzivar_edits_of(peltzivar_word format, peltzivar_edit edits[PELTZIVAR_FIELD_COUNT]);
 
 /* RULES */
 
-/* Returns the error of the first rule that a word breaks, or PELTZIVAR_SUCCESS if it is lawful. */
-peltzivar_error peltzivar_format_error(peltzivar_word format);
+/* Returns the error of the first rule that a word breaks, or PELTZIVAR_SUCCESS if the word is lawful. */
+PELTZIVAR_MUST_USE PELTZIVAR_API peltzivar_error peltzivar_format_error(peltzivar_word format);
 
-/* Returns the error of the first of the three radixes that is not 2 to 36, or PELTZIVAR_SUCCESS. */
-peltzivar_error peltzivar_radix_error(peltzivar_word format);
+/* Returns the error of the first of the three radix rules that a word breaks, or PELTZIVAR_SUCCESS. */
+PELTZIVAR_MUST_USE PELTZIVAR_API peltzivar_error peltzivar_radix_error(peltzivar_word format);
 
-/* Returns whether a number is 2 to 36. */
-bool peltzivar_is_valid_radix(uint32_t radix);
+/* Returns whether a number is between 2 and 36. */
+PELTZIVAR_API bool peltzivar_is_valid_radix(uint32_t radix);
 
-/* Returns whether the word keeps one rule: exponents are not both required and forbidden; the byte is absent, or
- * allowed ASCII that is no sign and no digit; no byte is two of separator, prefix and suffix. */
-bool peltzivar_is_valid_exponent_flags(peltzivar_word format);
-bool peltzivar_is_valid_digit_separator(peltzivar_word format);
-bool peltzivar_is_valid_base_prefix(peltzivar_word format);
-bool peltzivar_is_valid_base_suffix(peltzivar_word format);
-bool peltzivar_is_valid_punctuation(peltzivar_word format);
+/* Returns whether a word keeps PELTZIVAR_RULE_EXPONENT_FLAGS_AGREE. */
+PELTZIVAR_API bool peltzivar_is_valid_exponent_flags(peltzivar_word format);
 
-/* Returns whether an exponent character and a decimal point fit a word: both are allowed ASCII that is no sign and no
- * digit, and they differ from each other and from separator, prefix and suffix. */
-bool peltzivar_is_valid_options_punctuation(peltzivar_word format, uint8_t exponent, uint8_t decimal_point);
+/* Returns whether a word keeps PELTZIVAR_RULE_DIGIT_SEPARATOR_IS_PUNCTUATION. The byte is tested even if no flag allows
+ * it. */
+PELTZIVAR_API bool peltzivar_is_valid_digit_separator(peltzivar_word format);
 
-/* Returns PELTZIVAR_SUCCESS if they fit; else PELTZIVAR_INVALID_EXPONENT_SYMBOL if the exponent character is not allowed
- * ASCII, a sign or a digit; else PELTZIVAR_INVALID_DECIMAL_POINT if the decimal point is; else
+/* Returns whether a word keeps PELTZIVAR_RULE_BASE_PREFIX_IS_PUNCTUATION. */
+PELTZIVAR_API bool peltzivar_is_valid_base_prefix(peltzivar_word format);
+
+/* Returns whether a word keeps PELTZIVAR_RULE_BASE_SUFFIX_IS_PUNCTUATION. */
+PELTZIVAR_API bool peltzivar_is_valid_base_suffix(peltzivar_word format);
+
+/* Returns whether a word keeps PELTZIVAR_RULE_PUNCTUATION_DIFFERS. */
+PELTZIVAR_API bool peltzivar_is_valid_punctuation(peltzivar_word format);
+
+/* Returns whether an exponent character and a decimal point fit a word: both are punctuation, and neither shares a
+ * byte with the other or with the digit separator, base prefix or base suffix of the word. An exponent character
+ * that is a letter has the bytes of both cases, unless case_sensitive_exponent is set; prefix and suffix as in
+ * PELTZIVAR_RULE_PUNCTUATION_DIFFERS. The word is not checked otherwise. */
+PELTZIVAR_API bool peltzivar_is_valid_options_punctuation(
+    peltzivar_word format, uint8_t exponent, uint8_t decimal_point);
+
+/* Returns PELTZIVAR_SUCCESS if they fit, PELTZIVAR_INVALID_EXPONENT_SYMBOL if the exponent character is not
+ * punctuation, otherwise PELTZIVAR_INVALID_DECIMAL_POINT if the decimal point is not, and otherwise
  * PELTZIVAR_INVALID_PUNCTUATION. */
-peltzivar_error peltzivar_options_error(peltzivar_word format, uint8_t exponent, uint8_t decimal_point);
+PELTZIVAR_MUST_USE PELTZIVAR_API peltzivar_error peltzivar_options_error(
+    peltzivar_word format, uint8_t exponent, uint8_t decimal_point);
 
-/* Returns whether a word keeps a rule: true only if there is such a rule. */
-bool peltzivar_keeps_rule(peltzivar_word format, uint8_t rule);
+/* Returns whether the word keeps the rule; false if there is no such rule. */
+PELTZIVAR_API bool peltzivar_keeps_rule(peltzivar_word format, uint8_t rule);
 
-/* Returns the error of a word that breaks this rule and none before it, or PELTZIVAR_SUCCESS if there is no such rule. */
-peltzivar_error peltzivar_rule_error(uint8_t rule);
+/* Returns the error of a word that breaks this rule and none before it, or PELTZIVAR_SUCCESS if there is no such
+ * rule. */
+PELTZIVAR_API peltzivar_error peltzivar_rule_error(uint8_t rule);
 
-/* Returns the bits of a word that a rule reads, or 0 if there is no such rule. Which settings may be to blame for a broken
- * rule say the bits that it has in common with peltzivar_edit_mask. */
-peltzivar_word peltzivar_rule_mask(uint8_t rule);
+/* Returns the bits of a word that the rule reads, or 0 if there is no such rule. A setting may be to blame for a
+ * broken rule if its peltzivar_edit_mask has a bit in common with this mask. */
+PELTZIVAR_API peltzivar_word peltzivar_rule_mask(uint8_t rule);
 
 /* Returns whether a byte is a digit of the mantissa radix or of the exponent radix. */
-bool peltzivar_is_digit(peltzivar_word format, uint8_t byte);
+PELTZIVAR_API bool peltzivar_is_digit(peltzivar_word format, uint8_t byte);
 
-/* Returns the bits that word and mask have in common, shifted right, low 32 bits; the mantissa radix if these are
- * 0; and UINT32_MAX for a shift of 128 or more. */
-uint32_t peltzivar_radix_from_flags(peltzivar_word format, peltzivar_word mask, uint32_t shift);
+/* Returns the low 32 bits of (format & mask) >> shift, or the mantissa radix if they are 0. Returns UINT32_MAX if
+ * shift is 128 or more. */
+PELTZIVAR_API uint32_t peltzivar_radix_from_flags(peltzivar_word format, peltzivar_word mask, uint32_t shift);
 
 /* BYTES AND DIGITS */
 
-/* Returns whether a byte, or each byte, is ASCII that a format may use: 9 to 13, and 32 to 126. */
-bool peltzivar_is_valid_ascii(uint8_t byte);
-bool peltzivar_is_valid_ascii_slice(const uint8_t *bytes, size_t len);
+/* Returns whether a byte, or each byte of an array, is allowed ASCII: 9 to 13 or 32 to 126. */
+PELTZIVAR_API bool peltzivar_is_valid_ascii(uint8_t byte);
+PELTZIVAR_API bool peltzivar_is_valid_ascii_slice(const uint8_t *bytes, size_t len);
 
-/* Returns whether a byte, or each byte, is an ASCII letter. */
-bool peltzivar_is_valid_letter(uint8_t byte);
-bool peltzivar_is_valid_letter_slice(const uint8_t *bytes, size_t len);
+/* Returns whether a byte, or each byte of an array, is an ASCII letter. */
+PELTZIVAR_API bool peltzivar_is_valid_letter(uint8_t byte);
+PELTZIVAR_API bool peltzivar_is_valid_letter_slice(const uint8_t *bytes, size_t len);
 
-/* Returns the digit that a byte is in a radix, or PELTZIVAR_NO_DIGIT. In a radix above 255 a byte that is no digit
- * character is the digit 255. */
-uint32_t peltzivar_char_to_digit(uint8_t byte, uint32_t radix);
+/* Returns the value of a digit character (letters of either case are 10 to 35) if it is below the radix, and
+ * PELTZIVAR_NO_DIGIT otherwise. Any other byte has the value 255, so in a radix above 255 it counts as a digit. */
+PELTZIVAR_API uint32_t peltzivar_char_to_digit(uint8_t byte, uint32_t radix);
 
-/* Returns whether a byte is a digit of a radix. */
-bool peltzivar_char_is_digit(uint8_t byte, uint32_t radix);
+/* Returns whether peltzivar_char_to_digit does not return PELTZIVAR_NO_DIGIT. */
+PELTZIVAR_API bool peltzivar_char_is_digit(uint8_t byte, uint32_t radix);
 
-/* Returns the digit character of a digit, or PELTZIVAR_NO_CHAR for a digit of 36 or more. */
-uint8_t peltzivar_digit_to_char(uint32_t digit);
+/* Returns the digit character of a number below 36 (the letters are capitals), or PELTZIVAR_NO_CHAR of any other
+ * number. */
+PELTZIVAR_API uint8_t peltzivar_digit_to_char(uint32_t digit);
 
-/* The same by the calls that the Rust crate has for a radix known at compile time. The second is meaningful only if
- * the byte is a digit of the radix, the last only if the digit is below the radix. */
-uint32_t peltzivar_char_to_digit_const(uint8_t byte, uint32_t radix);
-uint32_t peltzivar_char_to_valid_digit_const(uint8_t byte, uint32_t radix);
-bool peltzivar_char_is_digit_const(uint8_t byte, uint32_t radix);
-uint8_t peltzivar_digit_to_char_const(uint32_t digit, uint32_t radix);
+/* The calls that lexical-util has for a radix that is known at compile time. peltzivar_char_to_digit_const and
+ * peltzivar_char_is_digit_const return what the calls above do. peltzivar_char_to_valid_digit_const returns the
+ * value of a byte that is a digit of the radix, and an unspecified number for any other byte.
+ * peltzivar_digit_to_char_const returns the digit character of a number below the radix, PELTZIVAR_NO_CHAR for 36
+ * or more, and an unspecified byte otherwise. */
+PELTZIVAR_API uint32_t peltzivar_char_to_digit_const(uint8_t byte, uint32_t radix);
+PELTZIVAR_API uint32_t peltzivar_char_to_valid_digit_const(uint8_t byte, uint32_t radix);
+PELTZIVAR_API bool peltzivar_char_is_digit_const(uint8_t byte, uint32_t radix);
+PELTZIVAR_API uint8_t peltzivar_digit_to_char_const(uint32_t digit, uint32_t radix);
 
-/* TEXTS: each is ASCII and ends with a 0. As snprintf does, a call writes at most len bytes, the final 0 among them, so the
- * front of a longer text, and nothing if len is 0; it returns the length of the whole text without that 0. If there is no
- * such error, setter, rule or index, the text is empty. 256 bytes are enough for each. */
+/* TEXTS
+ *
+ * Each call writes ASCII text with a final 0, as snprintf does: at most len bytes with the 0, the front of a
+ * longer text, nothing if len is 0. It returns the length of the whole text without the 0. The text is empty if
+ * there is no such error, setter, rule or index. PELTZIVAR_TEXT_SIZE bytes are always enough. */
 
-/* Writes what is wrong, as text between single quotes and without an index. */
-size_t peltzivar_description(peltzivar_error error, char *text, size_t len);
+/* Writes the description of an error: what is wrong, between single quotes and without an index. */
+PELTZIVAR_API size_t peltzivar_description(peltzivar_error error, char *text, size_t len);
 
-/* Writes what the error is about, its description, and for an error of parsing the index. Else the index is not read: pass
- * 0. */
-size_t peltzivar_text(peltzivar_error error, size_t index, char *text, size_t len);
+/* Writes the whole sentence of an error: its class, its description, and for a parse error the index. Success has
+ * no class. Any other error than a parse error has no index: pass 0. */
+PELTZIVAR_API size_t peltzivar_text(peltzivar_error error, size_t index, char *text, size_t len);
 
-/* Writes one of the reasons for which a word breaks a rule, such as "the base prefix 'b' is a digit of radix 16"; the index
- * is 0 to PELTZIVAR_REASONS - 1. Any of them may be empty, and all are exactly if the word keeps the rule. */
-size_t peltzivar_reason(peltzivar_word format, uint8_t rule, uint8_t index, char *text, size_t len);
+/* Writes one reason why a word breaks a rule, such as "the base prefix 'b' is a digit of radix 16". The index is 0
+ * to PELTZIVAR_REASONS - 1; try them all, since any of the texts may be empty. All of them are empty if and only
+ * if the word keeps the rule or there is no such rule. */
+PELTZIVAR_API size_t peltzivar_reason(peltzivar_word format, uint8_t rule, uint8_t index, char *text, size_t len);
 
-/* Writes one of the settings that have no effect if the fields are packed, such as "the digit separator '_' has no effect: no
- * flag allows one"; the index is 0 to PELTZIVAR_UNUSED - 1, and any of them may be empty. They are no errors. Those of a word
- * are those of the fields that peltzivar_fields_of returns. */
-size_t peltzivar_unused(const peltzivar_fields *fields, uint8_t index, char *text, size_t len);
+/* Writes one setting that no number can show, such as "the digit separator '_' has no effect: no flag allows one".
+ * It is not an error, and rules may still read the setting. The index is 0 to PELTZIVAR_UNUSED - 1; any of the
+ * texts may be empty. They name a digit separator that no flag allows, digit separator flags without a digit
+ * separator, and a case-sensitivity flag without its base prefix or base suffix. For a word, pass what
+ * peltzivar_fields_of returns. */
+PELTZIVAR_API size_t peltzivar_unused(const peltzivar_fields *fields, uint8_t index, char *text, size_t len);
 
-/* Writes the name of a setter: that of its constant in lower case without PELTZIVAR_SET_, such as "digit_separator". */
-size_t peltzivar_setter_name(uint8_t setter, char *text, size_t len);
+/* Writes the name of a setter: its constant in lower case without PELTZIVAR_SET_, such as "digit_separator". */
+PELTZIVAR_API size_t peltzivar_setter_name(uint8_t setter, char *text, size_t len);
 
-/* Returns the setter of a name, or PELTZIVAR_NO_SETTER. The name is len bytes with no 0 at the end, so it can be a part of
- * a text, as before the `=` of a setting. */
-uint8_t peltzivar_setter_of_name(const char *name, size_t len);
+/* Returns the setter of a name, or PELTZIVAR_NO_SETTER. The name has len bytes and no final 0, so it can be a part
+ * of a text, such as the part before the `=` of a setting. */
+PELTZIVAR_API uint8_t peltzivar_setter_of_name(const char *name, size_t len);
 
-/* Reads a setting, NAME=VALUE, writes its edit to *out and returns PELTZIVAR_SETTING_READ, which is 0. Else writes nothing
- * and returns PELTZIVAR_SETTING_UNKNOWN_NAME if no setter has the name; PELTZIVAR_SETTING_BAD_VALUE if the value is not of the
- * setter's type; PELTZIVAR_SETTING_OUT_OF_RANGE if the number is above 255 or has more than 3 digits. The value of flags is
- * `true` or `false`, not 1 or 0; that of a byte a decimal number. For a byte that may be absent, which is all but
- * mantissa_radix and radix, `none` and 0 mean that it is absent. No blank is skipped, neither at the ends nor around `=`. A
- * text without `=` is a name with an empty value. The text is len bytes with no 0 at the end; bytes that are no UTF-8 are an
- * unknown name. */
-uint32_t peltzivar_edit_of_text(const char *text, size_t len, peltzivar_edit *out);
+/* Parses a setting NAME=VALUE, split at the first `=`, writes its edit to *out and returns PELTZIVAR_SETTING_READ,
+ * which is 0. Otherwise leaves *out unchanged and returns PELTZIVAR_SETTING_UNKNOWN_NAME if no setter has the name,
+ * PELTZIVAR_SETTING_BAD_VALUE if the setter does not take the value, or PELTZIVAR_SETTING_OUT_OF_RANGE if the value
+ * is a number above 255 or with more than three digits.
+ *
+ * A flag setter takes `true` or `false`. A byte setter takes a decimal number, and except for mantissa_radix and
+ * radix also `none`, which like 0 means absent. No blank is skipped. A text without `=` is a name with an empty
+ * value. The text has len bytes and no final 0. Text that is not UTF-8 gives PELTZIVAR_SETTING_UNKNOWN_NAME. */
+PELTZIVAR_MUST_USE PELTZIVAR_API uint32_t peltzivar_edit_of_text(const char *text, size_t len, peltzivar_edit *out);
 
-/* Writes an edit as NAME=VALUE, so that peltzivar_edit_of_text reads the same edit back: `true` for any value but 0 of flags,
- * and `none` for a byte that is absent. */
-size_t peltzivar_text_of_edit(peltzivar_edit edit, char *text, size_t len);
+/* Writes an edit as NAME=VALUE, which peltzivar_edit_of_text parses to an edit that does the same. The value is
+ * `true` for any value except 0 of a flag setter, and `none` for an absent byte. */
+PELTZIVAR_API size_t peltzivar_text_of_edit(peltzivar_edit edit, char *text, size_t len);
 
-/* Returns the bits of a word that an edit writes, or 0 if it has no setter. */
-peltzivar_word peltzivar_edit_mask(peltzivar_edit edit);
+/* Returns the bits of a word that an edit writes, or 0 if there is no such setter. */
+PELTZIVAR_API peltzivar_word peltzivar_edit_mask(peltzivar_edit edit);
 
 #ifdef __cplusplus
 }

@@ -1,31 +1,42 @@
 #!/usr/bin/env bash
-# Tests the calls of peltzivar.h from C, C++ and Python, also under the address sanitizer.
+# Tests the calls of peltzivar.h from C, C++ and Python, also under the address and undefined behaviour sanitizers and
+# under valgrind; and the library that `make install` installs, from another folder.
 #
-#     c/test.sh            the plain library, which cargo builds twice: with rustc's checks of numbers and pointers, and without
-#     c/test.sh ARCHIVE    a library that is there, as the proved one: `rt lib` in crates/lexical_c makes out/liblexical_c.a
+#     c/test.sh            the plain library, built twice: with rustc's checks of numbers and pointers, and without
+#     c/test.sh ARCHIVE    another library, such as the proved one: `rt lib` in crates/lexical_c makes out/liblexical_c.a
 #
 # The last line is `N passed, M failed, K skipped`; the exit status is 1 if a row failed, or fewer were tried than before.
+# Options are split at blanks.
+# shellcheck disable=SC2086
 set -u
 given=${1:+$(realpath "$1")}
 cd "$(dirname "$0")" || exit
 . ../.ci/rows.sh
-page=../docs/C-AND-PYTHON.md
+page=$(realpath ../docs/C-AND-PYTHON.md)
 work=$(mktemp -d)
 trap 'rm -rf "$work"' EXIT
 
 has cc || { counted 0; exit; }
 declare -A here=()
-for tool in nm g++ python3; do
+for tool in nm readelf gcc g++ clang clang++ python3 valgrind make pkg-config cmake; do
     if has $tool; then here[$tool]=yes; fi
 done
-strict=(-Wall -Wextra -Wpedantic -Werror)
-sanitizer="-g -fsanitize=address,undefined"
-read -ra options <<< "$sanitizer"
-if cc "${options[@]}" -x c -o "$work/empty" - <<< 'int main(void) { return 0; }' 2> /dev/null && "$work/empty"; then
-    here[sanitizer]=yes
-else
-    skips "cc -fsanitize=address"
-fi
+
+# probe NAME OPTION: whether programs of cc with this option run; if not, it is skipped.
+probe() {
+    if cc $2 -x c -o "$work/empty" - <<< 'int main(void) { return 0; }' 2> /dev/null && "$work/empty"; then
+        here[$1]=yes
+    else
+        skips "cc $2"
+    fi
+}
+probe address -fsanitize=address
+probe undefined -fsanitize=undefined
+probe static -static
+strict="-Wall -Wextra -Wpedantic -Wconversion -Wshadow -Werror"
+sanitizer=${here[address]:+ -fsanitize=address}${here[undefined]:+ -fsanitize=undefined -fno-sanitize-recover=all}
+sanitizer=${sanitizer:+-O1 -g$sanitizer}
+memcheck="valgrind -q --error-exitcode=9 --leak-check=full"
 
 separated="0x000010000000005F000000070000000C
 integer_internal_digit_separator=true
@@ -42,7 +53,7 @@ example() {
     prints 0 "$separated" "$1" mantissa_radix=16 digit_separator=95 internal_digit_separator=true
     prints 0 "$binary" "$1" mantissa_radix=2 base_suffix=57
     prints 1 "lexical number format error: 'invalid base suffix character'" "$1" base_suffix=57
-    shows $page ./example "$1"
+    shows "$page" ./example "$1"
     for setting in radix radices=2 radix=256 radix= radix=2x radix=none no_special=1; do
         prints 2 "no setting: $setting" "$1" mantissa_radix=2 $setting
     done
@@ -56,6 +67,31 @@ digit_separator= 95   # `_`
 	internal_digit_separator =true
 case_sensitive_base_prefix=true
 END
+printf 'radix = 300\nno_special = 1\ncolour = 7\nradix\nradix = 2\nmantissa_radix 16' > "$work/unreadable.txt"
+unreadable="line 1: radix=300: a number above 255
+line 2: no_special=1: no value for it
+line 3: colour=7: no such setting
+line 4: radix: no value for it
+line 6: mantissa_radix 16: no such setting"
+printf '# 0\0\r\nradix=2\0\r\n\r\n\x1b[2J\xff = 1\r\n\xef\xbb\xbfradix=2\r\nbase_prefix\r=\t256\r' > "$work/bytes.txt"
+bytes='line 2: radix=2\x00: no value for it
+line 4: \x1b[2J\xff=1: no such setting
+line 5: \xef\xbb\xbfradix=2: no such setting
+line 6: base_prefix=256: a number above 255'
+printf 'radix = 2\r\nno_special=true\r\n\r\nspecial_digit_separator=true\r' > "$work/crlf.txt"
+crlf="no_special and special_digit_separator exclude each other
+    line 2: no_special=true
+    line 4: special_digit_separator=true
+the digit separator flags have no effect: there is no digit separator"
+{
+    printf '#%0100000d\n' 0
+    for ((line = 2; line <= 20000; line++)); do echo 'radix = 16'; done
+    printf '%100000snonsense%100000s\n' ' ' ' '
+    printf 'base_suffix%0300d=h' 0
+} > "$work/long.txt"
+long="line 20001: nonsense: no such setting
+line 20002: base_suffix$(printf %0300d 0)=h: no such setting"
+: > "$work/empty.txt"
 good="0x000010000000005F000000070001000C
 case_sensitive_base_prefix has no effect: there is no base prefix"
 cat > "$work/unlawful.txt" << 'END'
@@ -71,40 +107,93 @@ no_special and special_digit_separator exclude each other
     line 3: no_special=true
     line 4: special_digit_separator=true
 the digit separator flags have no effect: there is no digit separator"
-printf 'radix = 300\nno_special = 1\ncolour = 7\nradix\nradix = 2\nmantissa_radix 16' > "$work/unreadable.txt"
-unreadable="line 1: a number above 255
-line 2: no value for it
-line 3: no such setting
-line 4: no value for it
-line 6: no such setting"
-
 # settings PROGRAM: what the reader of a file of settings prints.
 settings() {
     prints 0 "$good" "$1" "$work/good.txt"
     prints 1 "$unlawful" "$1" "$work/unlawful.txt"
     prints 2 "$unreadable" "$1" "$work/unreadable.txt"
+    prints 2 "$bytes" "$1" "$work/bytes.txt"
+    prints 1 "$crlf" "$1" "$work/crlf.txt"
+    prints 2 "$long" "$1" "$work/long.txt"
+    prints 0 0x00000A0000000000000000000000000C "$1" "$work/empty.txt"
+    prints 2 "settings: nothing\\x1b[2J: No such file or directory" "$1" $'nothing\e[2J'
+    prints 2 "settings: .: Is a directory" "$1" .
+    prints 2 "settings: name one file" "$1"
+    if [ -e /dev/full ]; then
+        prints 2 "settings: standard output: No space left on device" bash -c "'$1' '$work/good.txt' > /dev/full"
+    fi
+}
+
+# headers COMPILER OPTION STANDARD..: each test of the header compiles without a warning.
+headers() {
+    local standard
+    for standard in "${@:3}"; do
+        passes "$1" -std="$standard" $strict -c -o "$work/object" $2
+    done
+}
+
+# warns COMPILER..: a result that is an error must not be ignored.
+warns() {
+    "$@" -I. -c -o "$work/object" - 2>&1 <<< '#include "peltzivar.h"
+        void ignore(peltzivar_word *out);
+        void ignore(peltzivar_word *out) { peltzivar_build_strict(&PELTZIVAR_NEW_FIELDS, out); }' | grep -q Wunused-result
+}
+
+# compilers: the header in each language that it is said to be.
+compilers() {
+    local compiler
+    headers cc 'header.c' c99 c11 c17
+    if [ "${here[clang]:-}" ]; then headers clang 'header.c' c99 c11 c17; fi
+    if [ "${here[gcc]:-}" ]; then headers gcc '-include ./peltzivar.h -x c /dev/null' c89; fi
+    for compiler in g++ clang++; do
+        [ "${here[$compiler]:-}" ] || continue
+        headers $compiler '-include ./peltzivar.h -x c++ /dev/null' c++98
+        headers $compiler header.cpp c++11 c++14 c++17 c++20
+        passes warns $compiler -std=c++17 -x c++
+    done
+    passes warns cc -x c
+    if [ "${here[clang]:-}" ]; then passes warns clang -x c; fi
+}
+
+# calls: the names that the header declares.
+calls() {
+    grep -oE 'peltzivar_[a-z_]+\(' peltzivar.h | tr -d '(' | sort
 }
 
 # declares NM..: the header declares each call that the library has, and no other. rustc's own names begin with `__`.
 declares() {
-    diff <("$@" | awk 'NF == 3 && $3 !~ /^__/ { print $3 }' | sort) \
-        <(grep -oE 'peltzivar_[a-z_]+\(' peltzivar.h | tr -d '(' | sort)
+    diff <("$@" | awk 'NF == 3 && $3 !~ /^__/ { print $3 }' | sort) <(calls | grep -vx "${without:-}")
+}
+
+# exports SHARED: the shared library exports the calls of the header alone.
+exports() {
+    diff <(nm -gD --defined-only "$1" | cut -d' ' -f3 | sort) <(calls)
 }
 
 # library ARCHIVE SHARED: the rows over a library in its two forms.
 library() {
-    local text options
-    for text in -O2 ${here[sanitizer]:+"$sanitizer"}; do
-        read -ra options <<< "$text"
-        passes cc -std=c11 "${strict[@]}" "${options[@]}" example.c "$1" -o "$work/example" && example "$work/example"
-        passes cc -std=c11 "${strict[@]}" "${options[@]}" settings.c "$1" -o "$work/settings" && settings "$work/settings"
-        passes cc -std=c11 "${strict[@]}" "${options[@]}" header.c "$1" -o "$work/header" && passes "$work/header"
+    local options defined=${without:+-DWITHOUT_VERSION}
+    for options in -O2 ${sanitizer:+"$sanitizer"}; do
+        passes cc -std=c11 $strict $options example.c "$1" -o "$work/example" && example "$work/example"
+        passes cc -std=c11 $strict $options settings.c "$1" -o "$work/settings" && settings "$work/settings"
+        passes cc -std=c11 $strict $options settings_test.c "$1" -o "$work/random" &&
+            passes "$work/random" "$work/random.txt" 2500
+        passes cc -std=c11 $strict $options $defined header.c "$1" -o "$work/header" && passes "$work/header"
     done
+    if [ "${here[valgrind]:-}" ]; then
+        passes cc -g header.c $defined "$1" -o "$work/header" && passes $memcheck "$work/header"
+        passes cc -g settings.c "$1" -o "$work/settings" &&
+            prints 1 "$unlawful" $memcheck "$work/settings" "$work/unlawful.txt"
+        passes cc -g settings_test.c "$1" -o "$work/random" && passes $memcheck "$work/random" "$work/random.txt" 50
+    fi
+    if [ "${here[clang]:-}" ]; then
+        passes clang -std=c99 $strict $defined header.c "$1" -o "$work/header" && passes "$work/header"
+    fi
     if [ "${here[g++]:-}" ]; then
-        passes g++ -std=c++17 "${strict[@]}" header.cpp "$1" -o "$work/header" && passes "$work/header"
+        passes g++ -std=c++17 $strict header.cpp "$1" -o "$work/header" && passes "$work/header"
     fi
     if [ "${here[python3]:-}" ]; then
-        shows $page "python3 example.py ./libpeltzivar_c.so" python3 example.py "$2"
+        shows "$page" "python3 example.py ./libpeltzivar_c.so" python3 example.py "$2"
     fi
     if [ "${here[nm]:-}" ]; then
         passes declares nm -g --defined-only "$1"
@@ -112,12 +201,92 @@ library() {
     fi
 }
 
+# block LANGUAGE: the lines of the page's blocks of code in a language.
+block() {
+    sed -n "/^\`\`\`$1\$/,/^\`\`\`\$/p" "$page" | grep -v '^```'
+}
+
+# hides TEXT FILE..: none of the files has the text.
+hides() {
+    ! grep -laF -- "$@"
+}
+
+# dynamic ENTRY FILE: the name in the dynamic section.
+dynamic() {
+    readelf -d "$2" | sed -n "s/.*($1).*\[\(.*peltzivar.*\)\]/\1/p"
+}
+
+# program COMMAND NEEDED: the command makes ./example, which works, and needs this shared library or none.
+program() {
+    passes bash -c "$1" || return
+    LD_LIBRARY_PATH=$prefix/lib example ./example
+    passes hides "$top" ./example
+    if [ "${here[readelf]:-}" ]; then compares "$2" "$(dynamic NEEDED ./example)" "$1"; fi
+}
+
+# programs: in another folder, by the lines of the page.
+programs() {
+    local line
+    while IFS= read -r line; do
+        case $line in
+            'cc -static '*) if [ "${here[static]:-}" ]; then program "$line" ''; fi ;;
+            'cc '*) program "$line" "$soname" ;;
+        esac
+    done < <(block sh)
+    # Names that a program hides are its own, not those of the library.
+    # shellcheck disable=SC2016
+    passes bash -c 'cc -x c - $(pkg-config --cflags --libs peltzivar) -o hidden' << 'END' &&
+#pragma GCC visibility push(hidden)
+#include <peltzivar.h>
+#pragma GCC visibility pop
+int main(void) { return (int)peltzivar_format_error(PELTZIVAR_STANDARD); }
+END
+        passes env LD_LIBRARY_PATH="$prefix/lib" ./hidden
+    if [ "${here[cmake]:-}" ]; then
+        printf '%s\n' 'cmake_minimum_required(VERSION 3.10)' 'project(example C)' 'add_executable(example example.c)' \
+            "$(block cmake)" > CMakeLists.txt
+        program 'cmake . && cmake --build . && cp -f example built && mv built example' "$soname"
+    fi
+}
+
+# installed: what `make install` writes, and `make uninstall` removes.
+installed() {
+    local prefix=$work/prefix top version soname files
+    top=$(cd .. && pwd -P)
+    version=$(sed -n 's/^version = "\(.*\)"/\1/p' ../rust/Cargo.toml)
+    soname=libpeltzivar_c.so.${version%.*}
+    export BUILD=$work/make PKG_CONFIG_PATH=$prefix/lib/pkgconfig
+    passes env CARGO_PROFILE_RELEASE_DEBUG=1 make install PREFIX="$prefix" || return
+    passes make install PREFIX=/usr LIBDIR=/usr/lib/here INCLUDEDIR=/opt/include DESTDIR="$work/root"
+    files=(./opt/include/peltzivar.h ./usr/lib/here/libpeltzivar_c.{a,so} ./usr/lib/here/"$soname"{,".${version##*.}"}
+        ./usr/lib/here/pkgconfig/peltzivar.pc)
+    compares "${files[*]}" "$(cd "$work/root" && find ./* ! -type d | LC_ALL=C sort | xargs)" make install DESTDIR=..
+    compares "prefix=/usr libdir=\${prefix}/lib/here includedir=/opt/include" \
+        "$(grep -E '^[a-z]+=' "$work/root/usr/lib/here/pkgconfig/peltzivar.pc" | xargs)" peltzivar.pc
+    passes make uninstall PREFIX=/usr LIBDIR=/usr/lib/here INCLUDEDIR=/opt/include DESTDIR="$work/root"
+    compares "" "$(find "$work/root" ! -type d)" make uninstall
+    passes bash -c '! make install PREFIX=relative'
+    rm -r "$work/make"
+    passes hides "$top" "$prefix"/lib/* "$prefix"/lib/pkgconfig/*
+    if [ "${here[nm]:-}" ]; then passes exports "$prefix/lib/libpeltzivar_c.so"; fi
+    if [ "${here[readelf]:-}" ]; then compares "$soname" "$(dynamic SONAME "$prefix/lib/libpeltzivar_c.so")" SONAME; fi
+    if [ "${here[pkg-config]:-}" ]; then
+        mkdir "$work/elsewhere"
+        cp example.c "$work/elsewhere"
+        pushd "$work/elsewhere" > /dev/null || exit
+        programs
+        popd > /dev/null || exit
+    fi
+}
+
 if [ "$given" ]; then
+    without=peltzivar_version
     passes cc -shared -o "$work/library.so" -Wl,--whole-archive "$given" -Wl,--no-whole-archive &&
         library "$given" "$work/library.so"
-    counted 51
+    counted 79
     exit
 fi
+compilers
 if has cargo; then
     for checks in true false; do
         export CARGO_TARGET_DIR=$work/$checks
@@ -125,5 +294,6 @@ if has cargo; then
         passes cargo build --offline --quiet --release --manifest-path ../rust/Cargo.toml --package peltzivar-capi &&
             library "$work/$checks"/release/libpeltzivar_c.{a,so}
     done
+    if [ "${here[make]:-}" ]; then installed; fi
 fi
-counted 102
+counted 245

@@ -1,10 +1,12 @@
-"""What of c/peltzivar.h differs from the exports of lexical_c, from the tables of setters and outcomes, and from the version."""
+"""What of c/peltzivar.h differs from the exports of lexical_c and the one written by hand, from the tables of setters and
+outcomes, from the version, and from the length of texts."""
 import pathlib
 import re
 
 TOP = pathlib.Path(__file__).resolve().parent.parent
 HEADER = (TOP / "c/peltzivar.h").read_text()
-EXPORTS = "".join(path.read_text() for path in sorted((TOP / "crates/lexical_c/src").glob("*.rt")))
+SOURCES = [*sorted((TOP / "crates/lexical_c/src").glob("*.rt")), TOP / "rust/capi/src/lib.rs"]
+EXPORTS = "".join(path.read_text() for path in SOURCES)
 
 TYPES = {
     "bool": "bool",
@@ -33,9 +35,21 @@ def argument(name, kind):
 def prototypes():
     """Returns the prototype of each export."""
     text = " ".join(EXPORTS.split())
-    for name, arguments, result in re.findall(r'extern "C" fn (\w+)\( ?(.*?),? ?\) -> (\w+) ensures', text):
-        pairs = [pair.split(": ") for pair in re.split(r", (?=\w+: )", arguments)]
-        yield f"{TYPES[result]} {name}({', '.join(argument(*pair) for pair in pairs)});"
+    for name, arguments, result in re.findall(r'extern "C" fn (\w+)\( ?(.*?),? ?\) -> (\w+) (?:ensures|\{)', text):
+        pairs = [pair.split(": ") for pair in re.split(r", (?=\w+: )", arguments) if pair]
+        yield f"{TYPES[result]} {name}({', '.join(argument(*pair) for pair in pairs) or 'void'});"
+
+
+def declarations():
+    """Returns the declarations of the header, each as a prototype with the macros in front of it."""
+    for front, declaration in re.findall(r"^((?:PELTZIVAR_[A-Z_]+ )*)(\w+ peltzivar_\w+\([^()]*\);)", HEADER, re.M):
+        yield " ".join(declaration.split()).replace("( ", "("), front
+
+
+def macros(prototype):
+    """Returns the macros of a declaration: a caller must not ignore an error, or whether the call wrote its output."""
+    is_checked = re.search(r"(?<!const )peltzivar_\w+ \*|^peltzivar_error \w+\([^u]", prototype)
+    return "PELTZIVAR_MUST_USE PELTZIVAR_API " if is_checked else "PELTZIVAR_API "
 
 
 def constant(name):
@@ -58,28 +72,31 @@ def outcomes():
     return [(constant(name), 0 if name == "Success" else int(rank) + 1) for name, rank in ranks]
 
 
-def version():
-    """Returns the lines of the header that say the version of the library."""
+def constants():
+    """Returns the lines of the header with the version of the library, and the bytes in which each text fits."""
     number = re.search(r'^version = "(.*)"', (TOP / "rust/Cargo.toml").read_text(), re.M)[1]
     yield f'#define PELTZIVAR_VERSION "{number}"\n'
-    for part, value in zip(("MAJOR", "MINOR", "PATCH"), number.split(".")):
+    parts = [int(part) for part in number.split(".")]
+    for part, value in zip(("MAJOR", "MINOR", "PATCH"), parts):
         yield f"#define PELTZIVAR_VERSION_{part} {value}\n"
+    yield f"#define PELTZIVAR_VERSION_NUMBER 0x{bytes(parts).hex()}\n"
+    texts = (TOP / "crates/lexical_c/src/texts.rt").read_text()
+    yield f"#define PELTZIVAR_TEXT_SIZE {re.search(r'^const ROOM: usize = (.*);', texts, re.M)[1]}\n"
 
 
 def header(wanted):
     """Returns what differs; `wanted` says how many fields, groups and outcomes there are."""
-    declared = [" ".join(it.split()) for it in re.findall(r"^\w+ peltzivar_\w+\(.*?\);", HEADER, re.M | re.S)]
-    exported = list(prototypes())
-    yield from (f"not both declared and exported: {it}" for it in sorted({*declared} ^ {*exported}))
+    declared, exported = list(declarations()), [(it, macros(it)) for it in prototypes()]
+    yield from (f"not both declared and exported: {front}{it}" for it, front in sorted({*declared} ^ {*exported}))
     if not len(declared) == len(exported) == EXPORTS.count("no_mangle"):
         yield f"{len(declared)} calls are declared, and {EXPORTS.count('no_mangle')} exported"
     names = setters()
-    if re.findall(r"^    (PELTZIVAR_SET_.*),$", HEADER, re.M) != [f"{names[0]} = 0", *names[1:]]:
+    if re.findall(r"^    (PELTZIVAR_SET_.*?),?$", HEADER, re.M) != [f"{names[0]} = 0", *names[1:]]:
         yield "has not the setters in their order"
     for name, number in outcomes():
-        if HEADER.count(f"    {name} = {number},\n") != 1:
+        if len(re.findall(rf"^    {name} = {number},?$", HEADER, re.M)) != 1:
             yield f"not there once: {name} = {number}"
-    yield from (f"has not: {line.strip()}" for line in version() if line not in HEADER)
+    yield from (f"has not: {line.strip()}" for line in constants() if line not in HEADER)
     # `radix` is one more setter.
     if len(names) != wanted["fields"] + wanted["groups"] + 1 or len(outcomes()) != wanted["outcomes"]:
         yield f"{len(names)} setters and {len(outcomes())} outcomes are named"

@@ -60,10 +60,23 @@ SUBSTITUTIONS = [
     ("output.rt", "use std::fmt::Display;", "use std::fmt::Arguments;"),
     ("output.rt", "write_fmt<D: Display + Drop>(&mut self, text: D) -> io::Result<()> {", "write_fmt(&mut self, text: Arguments<'_>) -> io::Result<()> {"),
     ("output.rt", "write_fmt<D: Display + Drop>(&mut self, text: D)", "write_fmt(&mut self, text: Arguments<'_>)"),
+    # C may leave unset what a call writes, so there is no reference to it: rust/capi/src/outputs.rs.
+    ("outcomes.rt", "*out = Word::new(word);", "out.write(Word::new(word));"),
+    ("texts.rt", "out[..count].copy_from_slice(&text[..count]);", "crate::outputs::write_bytes(&mut out[..count], &text[..count]);"),
+    ("texts.rt", "out[count] = 0;", "out[count].write(0);"),
 ]
 
 # The same, in every file and as often as it stands there.
-EVERYWHERE = [("fn fmt<W: fmt::Write>(&self, f: &mut fmt::Formatter<W>)", "fn fmt(&self, f: &mut fmt::Formatter<'_>)")]
+EVERYWHERE = [
+    ("fn fmt<W: fmt::Write>(&self, f: &mut fmt::Formatter<W>)", "fn fmt(&self, f: &mut fmt::Formatter<'_>)"),
+    ("out: &mut Word", "out: crate::outputs::Out<Word>"),
+    ("*out = Word::new(builder.build_unchecked());", "out.write(Word::new(builder.build_unchecked()));"),
+    ("out: &mut NumberedEdit", "out: crate::outputs::Out<NumberedEdit>"),
+    ("*out = NumberedEdit::new(&edit);", "out.write(NumberedEdit::new(&edit));"),
+    ("edits: &mut [NumberedEdit; FIELD_COUNT]", "mut edits: crate::outputs::Out<[NumberedEdit; FIELD_COUNT]>"),
+    ("edits[index] = NumberedEdit::new(&list[index]);", "edits.write_at(index, NumberedEdit::new(&list[index]));"),
+    ("out: &mut [u8]", "out: &mut crate::outputs::Buffer"),
+]
 
 # Items in place of which plain Rust has a derive.
 ITEMS = [("error.rt", "impl PartialEq for Error"), ("error.rt", "impl Eq for Error")]
@@ -77,6 +90,11 @@ SHOWN = {
 
 # Words that stand in no code of plain Rust here: a ghost form that was not left out.
 GHOST = {"ghost", "requires", "ensures", "tactic", "prove", "invariant", "measure", "Model", "Drop", "laws", "rt", "alloc"}
+
+# The reasons of each `unsafe` in an export to C, where the caller keeps to c/peltzivar.h.
+NO_MANGLE = "// SAFETY: no other library has names that begin with `peltzivar_`."
+ARRAY = "// SAFETY: the length is 0, or the caller passes a pointer to as many values."
+BUFFER = "// SAFETY: the length is 0, or the caller passes a pointer to as many bytes, and nothing else uses them."
 
 TOKEN = re.compile(r"""//[^\n]*|b?"(?:\\.|[^"\\])*"|b?'(?:\\[^']+|[^\\'\n])'|'?\w+|\S""")
 CLOSING = {"(": ")", "[": "]", "{": "}"}
@@ -203,7 +221,7 @@ class Source:
         if clauses and self.words[index + 1] in SHOWN:
             self.document(above, clauses)
         if '"C"' in self.words[start:index]:
-            self.export(start, body)
+            self.export(above, start, body)
         elif re.search(r"\) -> (?!(io::)?Result<)", self.text[self.tokens[start].start() : self.tokens[body].start()]):
             self.changes.append((self.tokens[above].start(),) * 2 + ("#[must_use]\n",))
 
@@ -218,16 +236,17 @@ class Source:
         at = self.tokens[above - 1].end()
         self.changes.append((at, at, lines))
 
-    def export(self, start, body):
-        """An export to C has a pointer and a length for each slice, and makes the slice of them."""
+    def export(self, above, start, body):
+        """An export to C has a pointer and a length for each slice, and makes the slice of them. Each `unsafe` has its reason."""
         at, end = self.tokens[start].start(), self.tokens[body].start()
+        self.changes.append((self.tokens[above].start(),) * 2 + (f"{NO_MANGLE}\n",))
         head = self.text[at : next((s for s, e, _ in self.changes if s >= at and e == end), end)]
         slices = SLICE.findall(head)
         if slices:
             plain = SLICE.sub(lambda m: f"{m[1]}: *{'mut' if m[2] else 'const'} {m[3]}, {m[1]}_len: usize", head)
             self.changes.append((at, at + len(head), plain.replace("extern", "unsafe extern")))
-            text = "// SAFETY: c/peltzivar.h asks this of its callers.\nlet {0} = unsafe {{ crate::slices::of{1}({0}, {0}_len) }};"
-            made = (text.format(name, "_mut" if mutable else "") for name, mutable, _ in slices)
+            text = "{2}\nlet {0} = unsafe {{ crate::slices::of{1}({0}, {0}_len) }};"
+            made = (text.format(name, *(("_mut", BUFFER) if mutable else ("", ARRAY))) for name, mutable, _ in slices)
             self.changes.append((end + 1, end + 1, "\n" + "\n".join(made)))
 
     def erase(self):

@@ -326,12 +326,12 @@ const COMPARED: &[(&str, Compare)] = compared! {
     edit_mask: on_random(setter, |it, setter| unsafe { (it.edit_mask)(OneEdit(*setter, 1)) });
 };
 
-/// The names that the header declares, without `peltzivar_`.
+/// The names that the header declares, without `peltzivar_`. The proved library has no `peltzivar_version`.
 fn declared(header: &str) -> Vec<&str> {
     let calls = header.split("peltzivar_").skip(1).filter_map(|rest| rest.split_once('('));
     calls
         .map(|(name, _)| name)
-        .filter(|name| name.chars().all(|c| c == '_' || c.is_ascii_lowercase()))
+        .filter(|name| *name != "version" && name.chars().all(|c| c == '_' || c.is_ascii_lowercase()))
         .collect()
 }
 

@@ -25,19 +25,21 @@ pub fn apply_edits(
 }
 
 /// Returns the fields of a word, empty exponent bytes filled from its mantissa radix. The bits above the flags are 0.
+// SAFETY: no other library has names that begin with `peltzivar_`.
 #[unsafe(no_mangle)]
 pub extern "C" fn peltzivar_fields_of(format: Word) -> Fields {
     Fields::new(&NumberFormatBuilder::rebuild(format.number()))
 }
 
 /// Applies the edits to the fields and clears the bits above the flags, or returns `false`: one has no setter.
+// SAFETY: no other library has names that begin with `peltzivar_`.
 #[unsafe(no_mangle)]
 pub unsafe extern "C" fn peltzivar_edit_fields(
     fields: &mut Fields,
     edits: *const NumberedEdit,
     edits_len: usize,
 ) -> bool {
-    // SAFETY: c/peltzivar.h asks this of its callers.
+    // SAFETY: the length is 0, or the caller passes a pointer to as many values.
     let edits = unsafe { crate::slices::of(edits, edits_len) };
     let Some(builder) = apply_edits(fields.builder(), edits) else {
         return false;
@@ -47,85 +49,97 @@ pub unsafe extern "C" fn peltzivar_edit_fields(
 }
 
 /// Packs the fields into a word, lawful or not.
+// SAFETY: no other library has names that begin with `peltzivar_`.
 #[unsafe(no_mangle)]
 pub extern "C" fn peltzivar_pack(fields: &Fields) -> Word {
     Word::new(fields.builder().build_unchecked())
 }
 
 /// Writes the word of the edited fields, or returns `false`: an edit has no setter.
+// SAFETY: no other library has names that begin with `peltzivar_`.
 #[unsafe(no_mangle)]
 pub unsafe extern "C" fn peltzivar_build(
     fields: &Fields,
     edits: *const NumberedEdit,
     edits_len: usize,
-    out: &mut Word,
+    out: crate::outputs::Out<Word>,
 ) -> bool {
-    // SAFETY: c/peltzivar.h asks this of its callers.
+    // SAFETY: the length is 0, or the caller passes a pointer to as many values.
     let edits = unsafe { crate::slices::of(edits, edits_len) };
     let Some(builder) = apply_edits(fields.builder(), edits) else {
         return false;
     };
-    *out = Word::new(builder.build_unchecked());
+    out.write(Word::new(builder.build_unchecked()));
     true
 }
 
 /// Writes the word of the fields if it is lawful, or returns its error.
+// SAFETY: no other library has names that begin with `peltzivar_`.
 #[unsafe(no_mangle)]
-pub extern "C" fn peltzivar_build_strict(fields: &Fields, out: &mut Word) -> ErrorNumber {
+pub extern "C" fn peltzivar_build_strict(
+    fields: &Fields,
+    out: crate::outputs::Out<Word>,
+) -> ErrorNumber {
     write_if_lawful(fields.builder().build_strict(), out)
 }
 
 /// Writes the edited word, or returns `false`: an edit has no setter.
+// SAFETY: no other library has names that begin with `peltzivar_`.
 #[unsafe(no_mangle)]
 pub unsafe extern "C" fn peltzivar_edit_word(
     format: Word,
     edits: *const NumberedEdit,
     edits_len: usize,
-    out: &mut Word,
+    out: crate::outputs::Out<Word>,
 ) -> bool {
-    // SAFETY: c/peltzivar.h asks this of its callers.
+    // SAFETY: the length is 0, or the caller passes a pointer to as many values.
     let edits = unsafe { crate::slices::of(edits, edits_len) };
     let start = NumberFormatBuilder::rebuild(format.number());
     let Some(builder) = apply_edits(start, edits) else {
         return false;
     };
-    *out = Word::new(builder.build_unchecked());
+    out.write(Word::new(builder.build_unchecked()));
     true
 }
 
 /// Returns the normal form of a word.
+// SAFETY: no other library has names that begin with `peltzivar_`.
 #[unsafe(no_mangle)]
 pub extern "C" fn peltzivar_normal_form(format: Word) -> Word {
     Word::new(edits::normal_form(format.number()))
 }
 
 /// Writes the normal form of a word if it is lawful, or returns its error.
+// SAFETY: no other library has names that begin with `peltzivar_`.
 #[unsafe(no_mangle)]
-pub extern "C" fn peltzivar_migrate(format: Word, out: &mut Word) -> ErrorNumber {
+pub extern "C" fn peltzivar_migrate(format: Word, out: crate::outputs::Out<Word>) -> ErrorNumber {
     write_if_lawful(edits::migrate(format.number()), out)
 }
 
 /// Returns whether two words mean the same, that is, have the same normal form.
+// SAFETY: no other library has names that begin with `peltzivar_`.
 #[unsafe(no_mangle)]
 pub extern "C" fn peltzivar_same_format(a: Word, b: Word) -> bool {
     edits::same_format(a.number(), b.number())
 }
 
 /// Returns whether [`peltzivar_pack`] can return this word.
+// SAFETY: no other library has names that begin with `peltzivar_`.
 #[unsafe(no_mangle)]
 pub extern "C" fn peltzivar_is_built(format: Word) -> bool {
     edits::is_built(format.number())
 }
 
 /// Writes one edit for each field, those first that change a new builder, and returns how many these are.
+// SAFETY: no other library has names that begin with `peltzivar_`.
 #[unsafe(no_mangle)]
 pub extern "C" fn peltzivar_edits_of(
     format: Word,
-    edits: &mut [NumberedEdit; FIELD_COUNT],
+    mut edits: crate::outputs::Out<[NumberedEdit; FIELD_COUNT]>,
 ) -> usize {
     let (list, count) = edits_of(format.number());
     for index in 0..list.len() {
-        edits[index] = NumberedEdit::new(&list[index]);
+        edits.write_at(index, NumberedEdit::new(&list[index]));
     }
     count
 }

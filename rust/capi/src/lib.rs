@@ -1,30 +1,53 @@
-//! The calls of `c/peltzivar.h`. `rust/tools/erase.py` makes them from the proved exports in `crates/lexical_c`; by hand
-//! are this file and `slices`. Build it with `--release`: else core needs what only `std` has, and the library does not
-//! load.
+//! The calls of `c/peltzivar.h` as a static and a shared library without `std`.
 //!
-//! Each `#[unsafe(no_mangle)]` is sound because the names begin with `peltzivar_`, as no other library's do, and no two
-//! are the same: else rustc refuses them. A call trusts its caller for what the header asks. A pointer points to a value of
-//! its type, or to as many as the length beside it says; nothing else writes to them during the call, nor reads what the
-//! call writes. What a call only writes, `*out` and texts, may be uninitialized in C: no body here reads it, and rustc does
-//! not see how C made it.
+//! `rust/tools/erase.py` makes them from the proved exports in `crates/lexical_c`. This file, `outputs` and `slices` are
+//! written by hand. Build with `--release`: the shared library of a dev build lacks a symbol that only `std` has, and does not load.
+//!
+//! A call trusts its caller for what the header asks. Arguments are initialised. Each pointer points to an object of its
+//! type, or to as many as its length says. Nothing else writes to what a call reads, or uses what it writes.
 #![no_std]
 
 #[allow(clippy::manual_unwrap_or, reason = "as it is proved")]
 mod bytes;
-#[allow(clippy::question_mark, reason = "as it is proved")]
+#[allow(
+    clippy::question_mark,
+    clippy::needless_range_loop,
+    reason = "as it is proved"
+)]
 mod edits;
 mod outcomes;
+mod outputs;
 mod rules;
 mod setters;
 mod slices;
 mod texts;
 mod words;
 
-/// Nothing here panics, as is proved of the sources. If it did, the program would end here.
+/// The version of this library: its major, minor and patch number, each in eight bits.
+const VERSION: u32 = part(env!("CARGO_PKG_VERSION_MAJOR")) << 16
+    | part(env!("CARGO_PKG_VERSION_MINOR")) << 8
+    | part(env!("CARGO_PKG_VERSION_PATCH"));
+
+/// Returns the version of this library.
+// SAFETY: no other library has names that begin with `peltzivar_`.
+#[unsafe(no_mangle)]
+pub extern "C" fn peltzivar_version() -> u32 {
+    VERSION
+}
+
+/// Returns a number of the version, which is below 256.
+const fn part(text: &str) -> u32 {
+    match u8::from_str_radix(text, 10) {
+        Ok(part) => part as u32,
+        Err(_) => panic!("a number of the version is not between 0 and 255"),
+    }
+}
+
+/// Ends the program. Nothing calls this: the sources are proved not to panic.
 #[cfg(not(test))]
 #[panic_handler]
 fn stop(_: &core::panic::PanicInfo<'_>) -> ! {
-    // SAFETY: this is how the C library declares it, and all who call from C have one.
+    // SAFETY: the C library declares it so, and every program that calls from C has a C library.
     unsafe extern "C" {
         safe fn abort() -> !;
     }

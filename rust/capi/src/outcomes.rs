@@ -23,10 +23,10 @@ pub fn error_number(error: Error) -> ErrorNumber {
 /// Writes the word and returns 0, or writes nothing and returns the number of the error.
 #[must_use]
 #[inline(always)]
-pub fn write_if_lawful(word: Result<u128, Error>, out: &mut Word) -> ErrorNumber {
+pub fn write_if_lawful(word: Result<u128, Error>, out: crate::outputs::Out<Word>) -> ErrorNumber {
     match word {
         Ok(word) => {
-            *out = Word::new(word);
+            out.write(Word::new(word));
             0
         }
         Err(error) => error_number(error),
@@ -34,13 +34,14 @@ pub fn write_if_lawful(word: Result<u128, Error>, out: &mut Word) -> ErrorNumber
 }
 
 /// Writes an outcome's description.
+// SAFETY: no other library has names that begin with `peltzivar_`.
 #[unsafe(no_mangle)]
 pub unsafe extern "C" fn peltzivar_description(
     error: ErrorNumber,
     text: *mut u8,
     text_len: usize,
 ) -> usize {
-    // SAFETY: c/peltzivar.h asks this of its callers.
+    // SAFETY: the length is 0, or the caller passes a pointer to as many bytes, and nothing else uses them.
     let text = unsafe { crate::slices::of_mut(text, text_len) };
     match outcome(error, 0) {
         Some(error) => write_text(error.description().as_bytes(), text),
@@ -49,6 +50,7 @@ pub unsafe extern "C" fn peltzivar_description(
 }
 
 /// Writes the text that `Display` prints of an outcome, found at `index` if it is an error of parsing.
+// SAFETY: no other library has names that begin with `peltzivar_`.
 #[unsafe(no_mangle)]
 pub unsafe extern "C" fn peltzivar_text(
     error: ErrorNumber,
@@ -56,7 +58,7 @@ pub unsafe extern "C" fn peltzivar_text(
     text: *mut u8,
     text_len: usize,
 ) -> usize {
-    // SAFETY: c/peltzivar.h asks this of its callers.
+    // SAFETY: the length is 0, or the caller passes a pointer to as many bytes, and nothing else uses them.
     let text = unsafe { crate::slices::of_mut(text, text_len) };
     match outcome(error, index) {
         Some(error) => write_error(error, text),

@@ -7,13 +7,14 @@ use crate::words::{NumberedEdit, Word};
 use peltzivar::edits::{setter_name_of_number, setter_number_of_name, Edit};
 
 /// Writes a setter's name.
+// SAFETY: no other library has names that begin with `peltzivar_`.
 #[unsafe(no_mangle)]
 pub unsafe extern "C" fn peltzivar_setter_name(
     setter: u8,
     text: *mut u8,
     text_len: usize,
 ) -> usize {
-    // SAFETY: c/peltzivar.h asks this of its callers.
+    // SAFETY: the length is 0, or the caller passes a pointer to as many bytes, and nothing else uses them.
     let text = unsafe { crate::slices::of_mut(text, text_len) };
     match setter_name_of_number(setter) {
         Some(name) => write_text(name.as_bytes(), text),
@@ -22,28 +23,30 @@ pub unsafe extern "C" fn peltzivar_setter_name(
 }
 
 /// Returns the number of the setter of this name, or 255 if there is none.
+// SAFETY: no other library has names that begin with `peltzivar_`.
 #[unsafe(no_mangle)]
 pub unsafe extern "C" fn peltzivar_setter_of_name(name: *const u8, name_len: usize) -> u8 {
-    // SAFETY: c/peltzivar.h asks this of its callers.
+    // SAFETY: the length is 0, or the caller passes a pointer to as many values.
     let name = unsafe { crate::slices::of(name, name_len) };
     setter_number_of_name(name).unwrap_or(255)
 }
 
 /// Writes the edit of a text `NAME=VALUE` and returns 0, or returns 1 to 3, which says what is wrong.
+// SAFETY: no other library has names that begin with `peltzivar_`.
 #[unsafe(no_mangle)]
 pub unsafe extern "C" fn peltzivar_edit_of_text(
     text: *const u8,
     text_len: usize,
-    out: &mut NumberedEdit,
+    out: crate::outputs::Out<NumberedEdit>,
 ) -> u32 {
-    // SAFETY: c/peltzivar.h asks this of its callers.
+    // SAFETY: the length is 0, or the caller passes a pointer to as many values.
     let text = unsafe { crate::slices::of(text, text_len) };
     let Ok(text) = core::str::from_utf8(text) else {
         return 1;
     };
     match Edit::from_text(text) {
         Ok(edit) => {
-            *out = NumberedEdit::new(&edit);
+            out.write(NumberedEdit::new(&edit));
             0
         }
         Err(error) => error as u32 + 1,
@@ -51,6 +54,7 @@ pub unsafe extern "C" fn peltzivar_edit_of_text(
 }
 
 /// Returns the bits of a word that an edit writes, or 0 if it has no setter.
+// SAFETY: no other library has names that begin with `peltzivar_`.
 #[unsafe(no_mangle)]
 pub extern "C" fn peltzivar_edit_mask(edit: NumberedEdit) -> Word {
     match edit.edit() {
@@ -60,13 +64,14 @@ pub extern "C" fn peltzivar_edit_mask(edit: NumberedEdit) -> Word {
 }
 
 /// Writes an edit as `NAME=VALUE`.
+// SAFETY: no other library has names that begin with `peltzivar_`.
 #[unsafe(no_mangle)]
 pub unsafe extern "C" fn peltzivar_text_of_edit(
     edit: NumberedEdit,
     text: *mut u8,
     text_len: usize,
 ) -> usize {
-    // SAFETY: c/peltzivar.h asks this of its callers.
+    // SAFETY: the length is 0, or the caller passes a pointer to as many bytes, and nothing else uses them.
     let text = unsafe { crate::slices::of_mut(text, text_len) };
     match edit.edit() {
         Some(edit) => write_short_text(&edit.text(), text),

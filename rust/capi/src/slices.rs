@@ -1,5 +1,7 @@
 //! Slices of what C passes as a pointer and a length. A null pointer with length 0 is an empty slice.
 
+use crate::outputs::Buffer;
+use core::mem::MaybeUninit;
 use core::slice;
 
 /// Returns the `len` values from `start` on.
@@ -12,21 +14,22 @@ pub unsafe fn of<'a, T>(start: *const T, len: usize) -> &'a [T] {
     if len == 0 {
         return &[];
     }
-    // SAFETY: as the caller promises. Bytes and edits need no alignment, all their bits are values, and no object of C
-    // has more than `isize::MAX` bytes.
+    // SAFETY: the caller promises the values. Bytes and edits need no alignment, all their bits are values, and no object
+    // of C has more than `isize::MAX` bytes.
     unsafe { slice::from_raw_parts(start, len) }
 }
 
-/// Returns the `len` values from `start` on, to be written.
+/// Returns the `len` bytes from `start` on, to be written. They may be unset.
 ///
 /// # Safety
 ///
-/// If `len` is not 0, `start` points to `len` values of C, bytes or edits. Nothing else reads or writes them while the
-/// call that passed them runs.
-pub unsafe fn of_mut<'a, T>(start: *mut T, len: usize) -> &'a mut [T] {
+/// If `len` is not 0, `start` points to `len` bytes of C. Nothing else reads or writes them while the call that passed
+/// them runs.
+pub unsafe fn of_mut<'a>(start: *mut u8, len: usize) -> &'a mut Buffer {
     if len == 0 {
         return &mut [];
     }
-    // SAFETY: as in `of`. A buffer may be uninitialized in C, and is only written here.
-    unsafe { slice::from_raw_parts_mut(start, len) }
+    // SAFETY: the caller promises the bytes. A byte that may be unset needs no alignment and no value, and no object of C
+    // has more than `isize::MAX` bytes.
+    unsafe { slice::from_raw_parts_mut(start.cast::<MaybeUninit<u8>>(), len) }
 }

@@ -8,24 +8,24 @@ use peltzivar::error::{Error, ShortText, Sink};
 /// Writes a text and a final 0 from the start of a buffer on, of the text as much as leaves room for the 0, and
 /// returns the length of the whole text.
 #[must_use]
-pub fn write_text(text: &[u8], out: &mut [u8]) -> usize {
+pub fn write_text(text: &[u8], out: &mut crate::outputs::Buffer) -> usize {
     if !out.is_empty() {
         let count = text.len().min(out.len() - 1);
-        out[..count].copy_from_slice(&text[..count]);
-        out[count] = 0;
+        crate::outputs::write_bytes(&mut out[..count], &text[..count]);
+        out[count].write(0);
     }
     text.len()
 }
 
 /// Writes an empty text as [`write_text`] does.
 #[must_use]
-pub fn write_nothing(out: &mut [u8]) -> usize {
+pub fn write_nothing(out: &mut crate::outputs::Buffer) -> usize {
     write_text(b"", out)
 }
 
 /// Writes a sentence as [`write_text`] does.
 #[must_use]
-pub fn write_short_text(sentence: &ShortText, out: &mut [u8]) -> usize {
+pub fn write_short_text(sentence: &ShortText, out: &mut crate::outputs::Buffer) -> usize {
     let mut whole = Text::new();
     let _ = sentence.put_into(&mut whole);
     whole.write_to(out)
@@ -33,7 +33,7 @@ pub fn write_short_text(sentence: &ShortText, out: &mut [u8]) -> usize {
 
 /// Writes what `Display` prints of an error as [`write_text`] does.
 #[must_use]
-pub fn write_error(error: Error, out: &mut [u8]) -> usize {
+pub fn write_error(error: Error, out: &mut crate::outputs::Buffer) -> usize {
     let mut whole = Text::new();
     let _ = error.put_into(&mut whole);
     whole.write_to(out)
@@ -58,7 +58,7 @@ impl Text {
     }
 
     // Writes the text as `write_text` does.
-    fn write_to(self, out: &mut [u8]) -> usize {
+    fn write_to(self, out: &mut crate::outputs::Buffer) -> usize {
         let Text { bytes, len } = self;
         write_text(&bytes[..len], out)
     }
