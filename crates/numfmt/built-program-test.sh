@@ -2,8 +2,8 @@
 # Tests the program as it was built, with arguments: what it prints and its exit status, also if writes or memory fail;
 # that every bit, byte and rule is printed as FORMAT.md says; that an edit of each name there sets the bits of its row;
 # that the words in the tables of FORMAT.md and MIGRATING.md come out as these say; and that each line `$ numfmt ..` of the
-# pages prints what the page shows below it. The last line is `N passed, M failed`; the exit status is 1 if a run failed, or
-# fewer were tried than before.
+# pages prints what the page shows below it. The last line is `N passed, M failed, K skipped`; the exit status is 1 if a
+# run failed, or fewer were tried than before.
 #
 #     built-program-test.sh            tests out/numfmt, which `rt run` and `rt ci` leave; if that is absent, or older than
 #                                      a source file, `rt run` builds it
@@ -13,15 +13,15 @@
 set -u
 program=${1:+$(realpath -m "$1")} least=4109
 cd "$(dirname "$0")" || exit
+# shellcheck source=../../.ci/rows.sh
+. ../../.ci/rows.sh
 if [ -z "$program" ]; then
     program=out/numfmt least=4260
     if ! [ -x "$program" ] || [ -n "$(find ../*/src -name '*.rt' -newer "$program")" ]; then
-        rt run > /dev/null 2>&1 || { echo "rt run failed"; echo "0 passed, 1 failed"; exit 1; }
+        rt run > /dev/null 2>&1 || { echo "rt run failed"; exit 1; }
     fi
 fi
 
-passed=0
-failed=0
 folder=$(mktemp -d)
 trap 'rm -r "$folder"' EXIT
 
@@ -43,60 +43,52 @@ ssize_t write(int file, const void *bytes, size_t count) {
 }
 END
 
-# compare WANTED GOT ARGUMENT..
-compare() {
-    if [ "$1" = "$2" ]; then
-        passed=$((passed + 1))
-    else
-        failed=$((failed + 1))
-        printf 'numfmt %s\n  wanted: %q\n  got:    %q\n' "${*:3}" "$1" "$2"
-    fi
+numfmt() {
+    "$program" "$@"
 }
 
-# prints STATUS TEXT ARGUMENT..: the program prints the text and a newline, and ends with the status.
-prints() {
-    local got
-    got=$("$program" "${@:3}" 2>&1; echo "status $?")
-    compare "$2"$'\n'"status $1" "$got" "${@:3}"
+# responds STATUS TEXT ARGUMENT..: the program prints the text and a newline, and ends with the status.
+responds() {
+    prints "$1" "$2" numfmt "${@:3}"
 }
 
 # refuses REASON ARGUMENT..
 refuses() {
-    prints 2 "numfmt: $1" "${@:2}"
+    responds 2 "numfmt: $1" "${@:2}"
 }
 
 # fails ARGUMENT..: on a full and on a closed standard output the status is 3, and nothing else is told; so if one write
-# fails, whichever it is. Then the front of the text was written before, and nothing is written after. A row of `prints`
+# fails, whichever it is. Then the front of the text was written before, and nothing is written after. A row of `responds`
 # or `refuses` says what the text is.
 fails() {
     local got front text count
     got=$("$program" "$@" 2>&1 > /dev/full; echo "status $?")
-    compare "status 3" "$got" "$@" "> /dev/full"
+    compares "status 3" "$got" "$@" "> /dev/full"
     if [ "$program" = out/numfmt ]; then
         got=$("$program" "$@" 2>&1 >&-; echo "status $?")
-        compare "status 3" "$got" "$@" ">&-"
+        compares "status 3" "$got" "$@" ">&-"
     fi
     text=$("$program" "$@"; echo "status $?")
     for ((count = 1; count < 100; count++)); do
         got=$(FAILING_WRITE=$count LD_PRELOAD=$folder/write.so "$program" "$@" 2>&1; echo "status $?")
         [ "$got" != "$text" ] || break
         front=${text::${#got}-8}
-        compare "${front}status 3" "$got" "$@" "(write $count fails)"
+        compares "${front}status 3" "$got" "$@" "(write $count fails)"
     done
-    compare "some writes" "$([ $count -gt 1 ] && [ $count -lt 100 ] && echo "some writes")" "$@" "(each write fails)"
+    compares "some writes" "$([ $count -gt 1 ] && [ $count -lt 100 ] && echo "some writes")" "$@" "(each write fails)"
 }
 
-# shows PAGE: the program prints what the page shows. An indented line `$ out/numfmt ARGUMENT..` or `$ numfmt ARGUMENT..`
-# is a command, and `$ .. rt run` or `$ .. cargo run` the program without arguments; the indented lines below it are its text,
+# shows_page PAGE: the program prints what the page shows. An indented line `$ out/numfmt ARGUMENT..` or `$ numfmt ..` is a
+# command, and `$ .. rt run` or `$ .. cargo run` the program without arguments; the indented lines below it are its text,
 # which may be left out of the last two.
-shows() {
+shows_page() {
     local line command='' text='' count=0
     while IFS= read -r line; do
         if [[ $line == '    $ '* ]]; then
             shown "$1" "$command" "$text"
             command=${line#'    $ '} text='' count=$((count + 1))
         elif [[ $line =~ ^[[:space:]]*'$ ' ]]; then
-            compare "four spaces before a command" "$line" "in $1"
+            compares "four spaces before a command" "$line" "in $1"
         elif [[ -n $command && $line == '    '* ]]; then
             text+=${line#'    '}$'\n'
         else
@@ -104,7 +96,7 @@ shows() {
             command=''
         fi
     done < <(cat "$1"; echo)
-    compare "some command" "$([ "$count" -gt 0 ] && echo "some command")" "in $1"
+    compares "some command" "$([ "$count" -gt 0 ] && echo "some command")" "in $1"
 }
 
 # shown PAGE COMMAND TEXT: the command of the page prints this text.
@@ -113,9 +105,9 @@ shown() {
     read -ra words <<< "$2"
     case "$2" in
         '') ;;
-        *'rt run' | *'cargo run') [ -z "$3" ] || compare "$3" "$("$program" 2>&1)"$'\n' "in $1" ;;
-        'numfmt '* | 'out/numfmt '*) compare "$3" "$("$program" "${words[@]:1}" 2>&1)"$'\n' "${words[@]:1}" "in $1" ;;
-        *) compare "a command that can be tried" "$2" "in $1" ;;
+        *'rt run' | *'cargo run') [ -z "$3" ] || compares "$3" "$("$program" 2>&1)"$'\n' "in $1" ;;
+        'numfmt '* | 'out/numfmt '*) compares "$3" "$("$program" "${words[@]:1}" 2>&1)"$'\n' "${words[@]:1}" "in $1" ;;
+        *) compares "a command that can be tried" "$2" "in $1" ;;
     esac
 }
 
@@ -149,81 +141,81 @@ one_digit=$(fields 0x0000000000000000000000000000000F 0 0 0 0 0 0)
 # As many edits as the program takes.
 mapfile -t most < <(yes radix=16 | head -n 64)
 
-#       status  text                                 arguments
-prints  0       "$standard_fields"
-prints  0       "$standard_fields"                   show $standard
-prints  0       "$ones_fields"                       show $ones
-prints  0       "$one_to_six"                        show 0x0605040302000001000000000000000C
-prints  0       "$standard_fields"                   show 0xa0000000000000000000000000c
-prints  0       "$ones_fields"                       show 0xffffffffffffffffffffffffffffffff
-prints  0       "$one_digit"                         show 0xF
-prints  0       "$one_digit"                         show 0xf
-prints  0       0x000010000000005F000002490000000C   edit 0xc radix=16 digit_separator=95 integer_digit_separator_flags=true
-prints  0       0x0A0A070000000000000000000000000C   edit $standard radix=007
-prints  0       0x0A000A0000000000000000000000000C   edit $standard digit_separator=0 exponent_base=none
-prints  0       0x0A0A100000000000000000000000000C   edit $standard "${most[@]}"
-prints  0       $decimal                             edit $standard
-prints  0       0x00000000000000000000000000000000   edit 0x100000000000 special_digit_separator=false
-prints  0       "'not actually an error'"            check $standard
-prints  1       "lexical number format error: 'invalid radix for mantissa digits'"  check 0xC
-prints  0       same                                 same $standard $decimal
-prints  1       different                            same 0x0 0xC
-prints  1       refused                              options $hexadecimal 101 46
-prints  0       accepted                             options $hexadecimal 94 46
-prints  0       accepted                             options $hexadecimal 094 046
-prints  0       accepted                             options $decimal 101 46
-prints  1       refused                              options $decimal 101 101
-prints  1       refused                              options $decimal 0 46
-prints  1       "lexical number format error: 'invalid flags enabled without the format feature'"  check $reserved
-prints  1       refused                              options $prefix_e 101 46
-prints  0       accepted                             options $prefix_e 46 101
-prints  0       $decimal                             migrate $reserved
-prints  0       $decimal                             migrate 0x0A0A0A000000005F000000000000000C
-prints  1       "lexical number format error: 'invalid radix for mantissa digits'"  migrate 0x0
-prints  1       "lexical number format error: 'exponent flags set while disabling exponent notation'"  migrate 0x00000A0000000035000000000000404C
-prints  0       "$new.build_unchecked()" \
+#        status text                                 arguments
+responds 0      "$standard_fields"
+responds 0      "$standard_fields"                   show $standard
+responds 0      "$ones_fields"                       show $ones
+responds 0      "$one_to_six"                        show 0x0605040302000001000000000000000C
+responds 0      "$standard_fields"                   show 0xa0000000000000000000000000c
+responds 0      "$ones_fields"                       show 0xffffffffffffffffffffffffffffffff
+responds 0      "$one_digit"                         show 0xF
+responds 0      "$one_digit"                         show 0xf
+responds 0      0x000010000000005F000002490000000C   edit 0xc radix=16 digit_separator=95 integer_digit_separator_flags=true
+responds 0      0x0A0A070000000000000000000000000C   edit $standard radix=007
+responds 0      0x0A000A0000000000000000000000000C   edit $standard digit_separator=0 exponent_base=none
+responds 0      0x0A0A100000000000000000000000000C   edit $standard "${most[@]}"
+responds 0      $decimal                             edit $standard
+responds 0      0x00000000000000000000000000000000   edit 0x100000000000 special_digit_separator=false
+responds 0      "'not actually an error'"            check $standard
+responds 1      "lexical number format error: 'invalid radix for mantissa digits'"  check 0xC
+responds 0      same                                 same $standard $decimal
+responds 1      different                            same 0x0 0xC
+responds 1      refused                              options $hexadecimal 101 46
+responds 0      accepted                             options $hexadecimal 94 46
+responds 0      accepted                             options $hexadecimal 094 046
+responds 0      accepted                             options $decimal 101 46
+responds 1      refused                              options $decimal 101 101
+responds 1      refused                              options $decimal 0 46
+responds 1      "lexical number format error: 'invalid flags enabled without the format feature'"  check $reserved
+responds 1      refused                              options $prefix_e 101 46
+responds 0      accepted                             options $prefix_e 46 101
+responds 0      $decimal                             migrate $reserved
+responds 0      $decimal                             migrate 0x0A0A0A000000005F000000000000000C
+responds 1      "lexical number format error: 'invalid radix for mantissa digits'"  migrate 0x0
+responds 1      "lexical number format error: 'exponent flags set while disabling exponent notation'"  migrate 0x00000A0000000035000000000000404C
+responds 0      "$new.build_unchecked()" \
         source 0x00000A0000000000000000000000000C
-prints  0       "$new.build_unchecked()" \
+responds 0      "$new.build_unchecked()" \
         source 0xa0000000000000000000000000c
-prints  0       "$new.exponent_base(NonZeroU8::new(10)).exponent_radix(NonZeroU8::new(10)).build_unchecked()" \
+responds 0      "$new.exponent_base(NonZeroU8::new(10)).exponent_radix(NonZeroU8::new(10)).build_unchecked()" \
         source 0x0A0A0A0000000000000000000000000C
-prints  0       "$new.required_exponent_digits(false).required_mantissa_digits(false).mantissa_radix(0)\
+responds 0      "$new.required_exponent_digits(false).required_mantissa_digits(false).mantissa_radix(0)\
 .build_unchecked()" \
         source 0x0
-prints  0       "$new.integer_internal_digit_separator(true).digit_separator(NonZeroU8::new(95)).build_unchecked()" \
+responds 0      "$new.integer_internal_digit_separator(true).digit_separator(NonZeroU8::new(95)).build_unchecked()" \
         source 0x00000A000000005F000000010000000C
-prints  0       "$new.integer_internal_digit_separator(true).fraction_internal_digit_separator(true)\
+responds 0      "$new.integer_internal_digit_separator(true).fraction_internal_digit_separator(true)\
 .exponent_internal_digit_separator(true).digit_separator(NonZeroU8::new(95)).mantissa_radix(16)\
 .exponent_base(NonZeroU8::new(10)).exponent_radix(NonZeroU8::new(10)).build_unchecked()" \
         source 0x0A0A10000000005F000000070000000C
-prints  0       "$new.required_integer_digits(true).special_digit_separator(true)\
+responds 0      "$new.required_integer_digits(true).special_digit_separator(true)\
 .digit_separator(NonZeroU8::new(1)).base_prefix(NonZeroU8::new(2)).base_suffix(NonZeroU8::new(3))\
 .mantissa_radix(4).exponent_base(NonZeroU8::new(5)).exponent_radix(NonZeroU8::new(6)).build_unchecked()" \
         source 0x0605040302000001000010000000000D
-prints  1       "$new.digit_separator(NonZeroU8::new(95)).build_unchecked()" \
+responds 1      "$new.digit_separator(NonZeroU8::new(95)).build_unchecked()" \
         source 0x00000A000000005F000000000000000C
-prints  1       "$new.build_unchecked()" \
+responds 1      "$new.build_unchecked()" \
         source 0x00000A0000000000000000008000000C
-prints  1       "$new$ones_calls.digit_separator(NonZeroU8::new(255)).base_prefix(NonZeroU8::new(255))\
+responds 1      "$new$ones_calls.digit_separator(NonZeroU8::new(255)).base_prefix(NonZeroU8::new(255))\
 .base_suffix(NonZeroU8::new(255)).mantissa_radix(255).exponent_base(NonZeroU8::new(255))\
 .exponent_radix(NonZeroU8::new(255)).build_unchecked()" \
         source $ones
-prints  0       "$new.no_special(true).mantissa_radix(16).build_unchecked()" \
+responds 0      "$new.no_special(true).mantissa_radix(16).build_unchecked()" \
         source 0x0000100000000000000000000000040C
 
 # A lawful word whose settings all have an effect: nothing is printed.
 for word in $standard $decimal $hexadecimal 0x00000A000000005F000000010000000C; do
-    compare "status 0" "$("$program" explain "$word" 2>&1; echo "status $?")" explain "$word"
+    compares "status 0" "$("$program" explain "$word" 2>&1; echo "status $?")" explain "$word"
 done
 error="lexical number format error:"
-prints  1       "$error 'invalid base prefix character'
+responds 1      "$error 'invalid base prefix character'
     base_prefix=98
     mantissa_radix=16
     exponent_radix=10
     the base prefix 'b' is a digit of radix 16
 the digit separator '_' has no effect: no flag allows one" \
         explain $prefix_b
-prints  1       "$error 'invalid digit separator: must be ASCII and not a digit or a \`+/-\` sign'
+responds 1      "$error 'invalid digit separator: must be ASCII and not a digit or a \`+/-\` sign'
     digit_separator=53
     mantissa_radix=10
     exponent_radix=none
@@ -234,7 +226,7 @@ $error 'exponent flags set while disabling exponent notation'
     no_exponent_notation and required_exponent_notation exclude each other
 the digit separator '5' has no effect: no flag allows one" \
         explain 0x00000A0000000035000000000000404C
-prints  1       "$error 'invalid radix for mantissa digits'
+responds 1      "$error 'invalid radix for mantissa digits'
     mantissa_radix=0
     the mantissa radix 0 is not 2 to 36
 $error 'invalid exponent base'
@@ -246,7 +238,7 @@ $error 'invalid radix for exponent digits'
     exponent_radix=none
     the exponent radix 0 is not 2 to 36" \
         explain 0xC
-prints  1       "$error 'invalid punctuation: multiple characters overlap'
+responds 1      "$error 'invalid punctuation: multiple characters overlap'
     case_sensitive_base_prefix=true
     case_sensitive_base_suffix=false
     digit_separator=none
@@ -254,14 +246,14 @@ prints  1       "$error 'invalid punctuation: multiple characters overlap'
     base_suffix=88
     the base prefix 'x' and the base suffix 'X' differ only in case, which counts only if both are case-sensitive" \
         explain 0x0A0A0A5878000000000000000001000C
-prints  1       "$error 'invalid flags enabled without the format feature'
+responds 1      "$error 'invalid flags enabled without the format feature'
     a reserved bit is set" \
         explain $reserved
-prints  1       "the digit separator '_' has no effect: no flag allows one" \
+responds 1      "the digit separator '_' has no effect: no flag allows one" \
         explain $unused_separator
-prints  1       "the digit separator flags have no effect: there is no digit separator" \
+responds 1      "the digit separator flags have no effect: there is no digit separator" \
         explain 0x00000A0000000000000000010000000C
-prints  1       "case_sensitive_base_prefix has no effect: there is no base prefix
+responds 1      "case_sensitive_base_prefix has no effect: there is no base prefix
 case_sensitive_base_suffix has no effect: there is no base suffix" \
         explain 0x00000A0000000000000000000003000C
 
@@ -326,26 +318,26 @@ edits_of_format() {
     sed -nE 's/^\| ([0-9]+) to [0-9]+ \| `([a-z_]+)` \|.*/\2=1 \1/p' ../../docs/FORMAT.md
     echo "radix=1 104"
 }
-compare "$(grep -c '  PELTZIVAR_SET_' ../../c/peltzivar.h)" "$(edits_of_format | wc -l)" "names in FORMAT.md"
+compares "$(grep -c '  PELTZIVAR_SET_' ../../c/peltzivar.h)" "$(edits_of_format | wc -l)" "names in FORMAT.md"
 while read -r edit bits; do
     low=$((1 << 44)) high=0
     for bit in $bits; do
         if [ "$bit" -lt 64 ]; then low=$((low | 1 << bit)); else high=$((high | 1 << (bit - 64))); fi
     done
-    prints 0 "$(printf '0x%016X%016X' "$high" "$low")" edit 0x100000000000 "$edit"
+    responds 0 "$(printf '0x%016X%016X' "$high" "$low")" edit 0x100000000000 "$edit"
 done < <(edits_of_format)
 
 # The last column of FORMAT.md's table of rules is what `explain` says first of the smallest word, after its error and fields.
 while IFS='|' read -r _ _ _ _ word why _; do
     word=$(tr -d ' `' <<< "$word")
-    compare "   $why" "$("$program" explain "$word" | grep -v = | sed -n 2p) " explain "$word" "in FORMAT.md"
+    compares "   $why" "$("$program" explain "$word" | grep -v = | sed -n 2p) " explain "$word" "in FORMAT.md"
 done < <(grep -E '^\| [0-9]+ \| .* \| `Invalid\w+` \| `0x' ../../docs/FORMAT.md)
 
 # The word at the end of each row of MIGRATING.md's table: the columns `check` and `migrate` begin with what is seen of it.
 while IFS='|' read -r _ _ check migrate _ word _; do
     word=$(tr -d ' `' <<< "$word")
     "$program" check "$word" > /dev/null && seen="no error" || seen=error
-    compare " $seen" "${check::${#seen}+1}" check "$word" "in MIGRATING.md"
+    compares " $seen" "${check::${#seen}+1}" check "$word" "in MIGRATING.md"
     if ! normal=$("$program" migrate "$word"); then
         seen=error
     elif [ "$normal" = "$word" ]; then
@@ -355,19 +347,19 @@ while IFS='|' read -r _ _ check migrate _ word _; do
     else
         seen=fills
     fi
-    compare " $seen" "${migrate::${#seen}+1}" migrate "$word" "in MIGRATING.md"
+    compares " $seen" "${migrate::${#seen}+1}" migrate "$word" "in MIGRATING.md"
 done < <(grep -E '^\|.*\| `0x[0-9A-F]{32}` \|$' ../../docs/MIGRATING.md)
 
 # Arguments that are not UTF-8: nothing is printed.
 for word in $'\xff' $'0x1\xc3'; do
-    compare "status 3" "$("$program" show "$word" 2>&1; echo "status $?")" show "$(printf %q "$word")"
-    compare "status 3" "$("$program" "$word" 2>&1; echo "status $?")" "$(printf %q "$word")"
+    compares "status 3" "$("$program" show "$word" 2>&1; echo "status $?")" show "$(printf %q "$word")"
+    compares "status 3" "$("$program" "$word" 2>&1; echo "status $?")" "$(printf %q "$word")"
 done
 
 # Without memory for the arguments the status is 3, and nothing is printed.
 if [ "$program" = out/numfmt ]; then
     got=$(LD_PRELOAD=$folder/malloc.so "$program" show $standard 2>&1; echo "status $?")
-    compare "status 3" "$got" show $standard "(no memory)"
+    compares "status 3" "$got" show $standard "(no memory)"
 fi
 
 # One line for each form of output.
@@ -389,7 +381,7 @@ fails edit 0xC radix
 
 # Every bit, byte and rule.
 python3 every_word.py > "$folder/runs"
-compare "status 0" "status $?" "(every_word.py)"
+compares "status 0" "status $?" "(every_word.py)"
 # shellcheck disable=SC2094 # the program writes to a file what the loop reads from it
 while IFS= read -r -d '$' run; do
     arguments=${run%%$'\n'*}
@@ -397,13 +389,11 @@ while IFS= read -r -d '$' run; do
     "$program" "${words[@]}" >&3 2>&3
     status=$?
     IFS= read -r -d '' text <&4
-    compare "$run" "$arguments"$'\n'"${text}status $status"$'\n' "$arguments"
+    compares "$run" "$arguments"$'\n'"${text}status $status"$'\n' "$arguments"
 done < "$folder/runs" 3> "$folder/text" 4< "$folder/text"
 
 for page in README.md docs/CALLING.md docs/FORMAT.md docs/MIGRATING.md; do
-    shows "../../$page"
+    shows_page "../../$page"
 done
 
-echo "$passed passed, $failed failed"
-[ $((passed + failed)) -ge $least ] || { echo "fewer were tried than before: $least"; exit 1; }
-[ "$failed" -eq 0 ]
+counted $least

@@ -2,33 +2,27 @@
 # Tests the replay as it was built: a line of each kind is kept, and differs once its last part is changed; no line that
 # cannot be read is passed over; the exit status is 1 if a line differs or cannot be read, and if there is no file. It uses
 # out/recorded, which `rt run` and `rt ci` leave; if that is absent, or older than a source file, `rt run` builds it. The
-# last line is `N passed, M failed`; the exit status is 1 if a run failed, or fewer were tried than before.
+# last line is `N passed, M failed, K skipped`; the exit status is 1 if a run failed, or fewer were tried than before.
 set -u
 cd "$(dirname "$0")" || exit
+# shellcheck source=../../.ci/rows.sh
+. ../../.ci/rows.sh
 program=$PWD/out/recorded
 results=$PWD/data/results.txt
 if ! [ -x "$program" ] || [ -n "$(find ../*/src -name '*.rt' -newer "$program")" ]; then
     rt run > /dev/null 2>&1
-    [ -x "$program" ] || { echo "rt run failed"; echo "0 passed, 1 failed"; exit 1; }
+    [ -x "$program" ] || { echo "rt run failed"; exit 1; }
 fi
 
-passed=0
-failed=0
 folder=$(mktemp -d)
 trap 'rm -r "$folder"' EXIT
 cd "$folder" || exit
 
 # ends STATUS TEXT NAME: the program ends with the status and prints a text that begins so.
 ends() {
-    local got status
-    got=$("$program" 2>&1)
-    status=$?
-    if [[ $status = "$1" && $got = "$2"* ]]; then
-        passed=$((passed + 1))
-    else
-        failed=$((failed + 1))
-        printf '%s\n  wanted: %q, status %s\n  got:    %q, status %s\n' "$3" "$2" "$1" "$got" "$status"
-    fi
+    local got
+    got=$("$program" 2>&1; echo "status $?")
+    compares "$2status $1" "${got::${#2}}${got##*$'\n'}" "$3"
 }
 
 # differs LINE: the line alone, and after a thousand that are kept, ends the replay with status 1.
@@ -94,6 +88,4 @@ done < <(sed -nE 's/^(printed [0-9]+ [A-Za-z]+) /\1s /p' "$results")
 rm results.txt
 ends 1 "" "no file"
 
-echo "$passed passed, $failed failed"
-[ $((passed + failed)) -ge 134 ] || { echo "fewer were tried than before: 134"; exit 1; }
-[ "$failed" -eq 0 ]
+counted 134
