@@ -3,9 +3,10 @@
 //! Each format has a constant and a law, a function that does nothing. A caller that calls the law may
 //! pass the constant where a lawful format is required, and nothing is tested when it runs.
 
-ghost use Rattle.std.specs.Prelude.{◌≡◌, [], ◌∷◌, IfErr, true, false};
+ghost use Rattle.std.specs.Prelude.{◌≡◌, ◌≢◌, ◌↔◌, [], ◌∷◌, IfErr, IsTrue, bit_and, true, false};
 ghost use Rattle.std.specs.Result.{OkIff};
 ghost use Rattle.lexical_util.specs.Layout as layout;
+ghost use Rattle.lexical_util.specs.Masks.{mask_of};
 ghost use Rattle.lexical_util.specs.Record.{raw};
 ghost use Rattle.lexical_util.specs.Rules.{Lawful};
 ghost use Rattle.lexical_util.specs.Options.{OptionsFit};
@@ -15,6 +16,8 @@ ghost use Rattle.callers.specs.Reading.{number_read, IsNumeral, IsRefusal};
 
 use crate::read::read_digits;
 use lexical_util::error::Error;
+use lexical_util::format_flags::DIGIT_SEPARATOR_FLAG_MASK;
+use lexical_util::laws::flags;
 
 /// Decimal numbers with `_` between digits, such as `1_000.000_1e1_0`.
 pub const DECIMAL: u128 = 0x0A0A0A00_0000005F_00000007_0000000C;
@@ -38,6 +41,14 @@ pub const EXPONENT: u8 = b'e';
 
 /// The exponent character of hexadecimal floats, in which `e` is a digit.
 pub const HEXADECIMAL_EXPONENT: u8 = b'p';
+
+/// Returns whether a flag of `word` allows a digit separator, by a mask, of which the law tells the flags.
+pub fn has_separator_flag(word: u128) -> bool
+    ensures { IsTrue result ↔ (bit_and word (mask_of layout.digit_separator_flags) ≢ 0) }
+{
+    flags::layout_facts();
+    word & DIGIT_SEPARATOR_FLAG_MASK != 0
+}
 
 /// What is known of [`DECIMAL`].
 #[tactic(auto, unfolding(lexical_util::specs::Unfoldable::on_literals))]

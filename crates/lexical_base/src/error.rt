@@ -3,7 +3,7 @@
 //! A parser or a checker returns one [`Error`], and [`Error::Success`] if nothing is wrong. This
 //! crate only defines them; the crates above return them.
 
-ghost use Rattle.std.specs.Prelude.{◌≡◌, ◌↔◌, ◌<◌, ◌∷◌, [], ◌+◌, ℕ, List, length, IsTrue, IsSome, IfSome, IsErr, OnOk, Some};
+ghost use Rattle.std.specs.Prelude.{◌≡◌, ◌↔◌, ◌<◌, ◌+◌, length, IsTrue, IsSome, IfSome, IsErr, OnOk, Some};
 ghost use Rattle.std.specs.Fmt.{WritesInCalls, decimal};
 ghost use Rattle.std.specs.Option.{option_copied};
 ghost use Rattle.std.specs.Cmp.{partial_order_from_own_ties};

@@ -8,15 +8,9 @@ ghost use Rattle.lexical_c.specs.Texts.{IsWritten};
 /// The number of an outcome with a property, and a text with its length, as they are returned.
 pub fn returned_examples()
     ensures success { IsCodeOfSome (λ error. error ≡ errors.Success) 0 }
-    ensures first { IsCodeOfSome (λ error. error ≡ errors.Overflow 7) 1 }
-    ensures last { IsCodeOfSome (λ error. error ≡ errors.InvalidPositiveExponentBreak) 48 }
     ensures other_number { IsCodeOfSome (λ error. error ≡ errors.Success) 48 → ⊥ }
-    ensures no_outcome { IsCodeOfSome (λ error. ⊥) 0 → ⊥ }
 
-    // The front of a longer text, a shorter one whole, and one that has no room.
+    // The front of a longer text.
     ensures front { IsWritten (1 ∷ 2 ∷ []) 2 (9 ∷ 9 ∷ []) (1 ∷ 0 ∷ []) }
-    ensures whole { IsWritten (1 ∷ []) 1 (9 ∷ 9 ∷ 9 ∷ []) (1 ∷ 0 ∷ 9 ∷ []) }
-    ensures no_room { IsWritten (1 ∷ []) 1 [] [] }
     ensures other_byte { IsWritten (1 ∷ 2 ∷ []) 2 (9 ∷ 9 ∷ []) (1 ∷ 2 ∷ []) → ⊥ }
-    ensures other_length { IsWritten (1 ∷ 2 ∷ []) 1 (9 ∷ 9 ∷ []) (1 ∷ 0 ∷ []) → ⊥ }
 {}

@@ -6,7 +6,7 @@
 //! other bits are reserved: no field takes them, and they are 0 in a lawful format.
 #![tactic(auto, using(crate::proofs::ByteParts::byte_parts))]
 
-ghost use Rattle.std.specs.Prelude.{◌≡◌, ℕ, ◌/◌, ◌%◌, ◌^◌, ◌≤ℤ◌, ◌<ℤ◌, pos, unsigned_abs};
+ghost use Rattle.std.specs.Prelude.{◌≡◌, ◌/◌, ◌%◌, ◌^◌, ◌≤ℤ◌, ◌<ℤ◌, pos, unsigned_abs};
 ghost use Rattle.lexical_flags.specs.Layout as layout;
 ghost use Rattle.lexical_flags.specs.Record.{raw, effective, effective_exponent_base, effective_exponent_radix};
 ghost use Rattle.lexical_flags.specs.Common.{common};

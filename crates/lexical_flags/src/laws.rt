@@ -1,17 +1,15 @@
-//! Laws of the layout, of packing, of the rules and of the roles, stated as the clauses of functions
-//! with empty bodies; and examples of the definitions, proved by computation.
+//! Laws of the layout, of the rules and of the roles, stated as the clauses of functions with empty bodies.
 
-ghost use Rattle.std.specs.Prelude.{◌≡◌, ℕ, ◌*◌, ◌/◌, ◌^◌, ◌<◌, ◌↔◌, [], ◌∷◌, ◌+◌, ◌-◌, length, map, pos, bit_or, true, false, IsTrue, bit_and};
+ghost use Rattle.std.specs.Prelude.{◌≡◌, ℕ, ◌*◌, ◌/◌, ◌^◌, ◌<◌, ◌↔◌, [], ◌∷◌, length, map, pos, bit_or, IsTrue, bit_and};
 ghost use Rattle.lexical_base.specs.declared.error.Error.{Error};
 ghost use Rattle.lexical_base.specs.Ascii.{ByteSet};
 ghost use Rattle.lexical_flags.specs.Layout as layout;
 ghost use Rattle.lexical_flags.specs.Layout.{Flag, Byte, bit, shift, IsClean};
-ghost use Rattle.lexical_flags.specs.Record.{Record, raw, fill, trim, pack, HasBytes, IsBuilt};
+ghost use Rattle.lexical_flags.specs.Record.{raw, fill, trim};
 ghost use Rattle.lexical_flags.specs.Record.{SeparatorAllowedOrAbsent};
-ghost use Rattle.lexical_flags.specs.Record.{effective_exponent_base, effective_exponent_radix, separator_allowed};
 ghost use Rattle.lexical_flags.specs.Pairs.{ArePairwise};
-ghost use Rattle.lexical_flags.specs.Roles.{Disjoint, digits};
-ghost use Rattle.lexical_flags.specs.Rules.{Demands, Holds, Lawful, IsErrorOf};
+ghost use Rattle.lexical_flags.specs.Roles.{Disjoint};
+ghost use Rattle.lexical_flags.specs.Rules.{Holds, Lawful, IsErrorOf};
 ghost use Rattle.lexical_flags.specs.Additions.BrokenRules.{mask_read};
 ghost use Rattle.lexical_flags.specs.declared.format_flags.all_rules.Rule.{Rule};
 ghost use Rattle.lexical_flags.specs.Options.{OptionsFit, OptionsHaveOneRole};
@@ -66,36 +64,12 @@ pub fn layout_facts()
         (bit_or EXPONENT_DIGIT_SEPARATOR_FLAG_MASK SPECIAL_DIGIT_SEPARATOR)) ≡ DIGIT_SEPARATOR_FLAG_MASK }
 {}
 
-/// The laws of `pack`: what a packed word holds, and which words are packed.
-pub fn packing_facts()
-    // Packing and reading back gives the trimmed record.
-    ensures fields { (r : Record) → HasBytes r → raw (pack r) ≡ trim r }
-    ensures clean { (r : Record) → HasBytes r → IsClean (pack r) }
-    ensures fits { (r : Record) → HasBytes r → pack r < 2 ^ 128 }
-
-    // Two records are packed into the same word exactly if they are equal when trimmed.
-    ensures alike { (r s : Record) → HasBytes r → HasBytes s → (pack s ≡ pack r) ↔ (trim s ≡ trim r) }
-
-    // Packing the fields of a word gives the word exactly if some record is packed into it.
-    ensures built { (w : ℕ) → w < 2 ^ 128 → (pack (raw w) ≡ w) ↔ IsBuilt w }
-
-    // No two words without reserved bits have the same fields.
-    ensures unique { (v w : ℕ) → v < 2 ^ 128 → w < 2 ^ 128 → IsClean v → IsClean w → raw v ≡ raw w → v ≡ w }
-{}
-
 /// What the rules demand of a normal form: of fields whose exponent bytes are filled in, and whose
 /// digit separator is dropped if no flag allows one; and that a word has one error.
 #[inline(always)]
 pub const fn rule_facts()
-    // A rule that the fields keep is kept by the normal form.
-    ensures kept { (rule : Rule) → (r : Record) → Demands rule r → Demands rule (trim (fill r)) }
-
-    // If no separator is dropped, the normal form keeps no other.
-    ensures same { (rule : Rule) → (r : Record) → SeparatorAllowedOrAbsent r
-        → Demands rule r ↔ Demands rule (trim (fill r)) }
-
-    // So a word without reserved bits that has these fields is lawful if the word is; and if no
-    // reserved bit and no separator is dropped, it has the same error.
+    // A word without reserved bits that has these fields is lawful if the word is; and if no reserved bit and no
+    // separator is dropped, it has the same error.
     ensures kept_lawful { (word normal : ℕ) → IsClean normal → raw normal ≡ trim (fill (raw word))
         → Lawful word → Lawful normal }
     ensures same_error { (word normal : ℕ) → IsClean normal → raw normal ≡ trim (fill (raw word))
@@ -123,54 +97,4 @@ pub fn role_facts()
     // In a lawful format with accepted options a byte plays at most one role.
     ensures lawful { (word exponent_byte point_byte : ℕ) → Lawful word → OptionsFit word exponent_byte point_byte
         → OptionsHaveOneRole word exponent_byte point_byte }
-{}
-
-/// Examples of the fields of words.
-#[tactic(auto, unfolding(crate::specs::Record::word_of))]
-pub fn field_examples()
-    ensures separator { (raw 0x06050403_02000001_00000000_0000000C).byte layout.digit_separator ≡ 1 }
-    ensures prefix { (raw 0x06050403_02000001_00000000_0000000C).byte layout.base_prefix ≡ 2 }
-    ensures suffix { (raw 0x06050403_02000001_00000000_0000000C).byte layout.base_suffix ≡ 3 }
-    ensures radix { (raw 0x06050403_02000001_00000000_0000000C).byte layout.mantissa_radix ≡ 4 }
-    ensures base { (raw 0x06050403_02000001_00000000_0000000C).byte layout.exponent_base ≡ 5 }
-    ensures exponent_radix { (raw 0x06050403_02000001_00000000_0000000C).byte layout.exponent_radix ≡ 6 }
-
-    // Bits 2 and 3 are set in 0xC.
-    ensures fraction_digits { (raw 0xC).flag layout.required_fraction_digits ≡ false }
-    ensures exponent_digits { (raw 0xC).flag layout.required_exponent_digits ≡ true }
-    ensures mantissa_digits { (raw 0xC).flag layout.required_mantissa_digits ≡ true }
-
-    // An empty exponent byte is the mantissa radix.
-    ensures filled_base { effective_exponent_base (raw 0x0A001000_00000000_00000000_0000000C) ≡ 16 }
-    ensures filled_radix { effective_exponent_radix (raw 0x000A0200_00000000_00000000_0000000C) ≡ 2 }
-
-    // Bit 44 alone allows a separator; all the others below 64 do not.
-    ensures allowed { separator_allowed (raw 0x00000A00_0000005F_00001000_0000000C) ≡ true }
-    ensures not_allowed { separator_allowed
-        (raw (0x00000A00_0000005F_FFFFFFFF_FFFFFFFF - DIGIT_SEPARATOR_FLAG_MASK)) ≡ false }
-
-    // The standard format and two words of its builder, packed; a separator that no flag allows is dropped.
-    ensures standard { pack (raw 0x00000A00_00000000_00000000_0000000C) ≡ 0x00000A00_00000000_00000000_0000000C }
-    ensures kept { pack (raw 0x00000A00_0000005F_00001000_0000000C) ≡ 0x00000A00_0000005F_00001000_0000000C }
-    ensures dropped { pack (raw 0x0A0A0A00_0000005F_00000000_0000000C) ≡ 0x0A0A0A00_00000000_00000000_0000000C }
-
-    // A packed word has no reserved bit.
-    ensures cleared { pack (raw 0xFFFFFFFF_FFFFFFFF_FFFFFFFF_FFFFFFFF)
-        ≡ 0xFFFFFFFF_FF0000FF_00000000_00000000 + FLAG_MASK }
-{}
-
-/// Examples of the digits of a format.
-#[tactic(auto, unfolding(lexical_base::specs::Digits::byte_value))]
-pub fn digit_examples()
-    ensures nine { digits (raw 0x00000A00_00000000_00000000_0000000C) 0x39 ≡ true }
-    ensures letter { digits (raw 0x00000A00_00000000_00000000_0000000C) 0x61 ≡ false }
-
-    // Letters are digits in both cases.
-    ensures lowercase { digits (raw 0x10101000_00000000_00000000_0000000C) 0x66 ≡ true }
-    ensures uppercase { digits (raw 0x10101000_00000000_00000000_0000000C) 0x46 ≡ true }
-    ensures beyond { digits (raw 0x10101000_00000000_00000000_0000000C) 0x67 ≡ false }
-
-    // The exponent radix has digits, the exponent base has none.
-    ensures exponent { digits (raw 0x10000A00_00000061_00000000_0000000C) 0x61 ≡ true }
-    ensures base { digits (raw 0x000A0200_00000035_00001FFF_0000000C) 0x35 ≡ false }
 {}

@@ -1,9 +1,8 @@
 //! Edits of a format word: lists of setter calls, and the normal form of a word.
 
-ghost use Rattle.std.specs.Prelude.{◌≡◌, ◌≢◌, ℕ, IfErr, IfOk, ◌<◌, ◌^◌, ◌↔◌, ◌++◌, IsTrue, Some, List, All};
+ghost use Rattle.std.specs.Prelude.{◌≡◌, ◌≢◌, ℕ, IfErr, IfOk, ◌<◌, ◌^◌, ◌↔◌, IsTrue, List, All};
 ghost use Rattle.std.specs.Result.{OkIff};
 ghost use Rattle.lexical_base.specs.declared.error.Error.{Error};
-ghost use Rattle.lexical_flags.specs.Layout as layout;
 ghost use Rattle.lexical_flags.specs.Layout.{Flag, IsClean};
 ghost use Rattle.lexical_flags.specs.Record.{raw, fill, trim, SeparatorAllowedOrAbsent};
 ghost use Rattle.lexical_flags.specs.Rules.{Lawful, IsErrorOf};

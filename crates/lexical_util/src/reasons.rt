@@ -1,6 +1,6 @@
 //! What is wrong with a format word, and what of it has no effect, for the one who has to mend it.
 
-ghost use Rattle.std.specs.Prelude.{◌≡◌, ◌↔◌, ℕ, false, ◌++◌, [], ◌∷◌, None, map, take};
+ghost use Rattle.std.specs.Prelude.{◌≡◌, ◌↔◌, ℕ, false, [], None, map};
 ghost use Rattle.std.specs.Bool.{then_some};
 ghost use Rattle.lexical_flags.specs.Layout as layout;
 ghost use Rattle.lexical_flags.specs.Record.{raw, set_byte, separator_allowed};

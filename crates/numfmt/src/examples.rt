@@ -1,10 +1,9 @@
 //! That arguments have one response; and for each predicate, one case that holds and one that does not. The functions
 //! are not called.
 
-ghost use Rattle.std.specs.Prelude.{◌≡◌, ℕ, List, codes, Ok, Err};
+ghost use Rattle.std.specs.Prelude.{◌≡◌, ℕ, List, Ok};
 ghost use Rattle.numfmt.specs.Command.{Responds, request_of};
 ghost use Rattle.numfmt.specs.Command as commands;
-ghost use Rattle.numfmt.specs.WordText.{IsPrintedForm};
 ghost use Rattle.numfmt.specs.declared.response.Answer.TheVariants as answers;
 ghost use Rattle.numfmt.specs.Response.{Response};
 
@@ -17,13 +16,6 @@ fn response_facts()
 {
     laws::flags::rule_facts();
 }
-
-// The form in which words are printed.
-#[tactic(auto, unfolding(lexical_util::specs::Unfoldable::on_literals))]
-fn form_examples()
-    ensures printed { IsPrintedForm (codes "0x0123456789ABCDEF0123456789ABCDEF") }
-    ensures lowercase { IsPrintedForm (codes "0x0123456789abcdef0123456789abcdef") → ⊥ }
-{}
 
 // The answers to commands.
 fn answer_examples()

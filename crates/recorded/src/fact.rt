@@ -1,6 +1,6 @@
 //! Recorded results, and whether the library returns the same.
 
-ghost use Rattle.std.specs.Prelude.{◌≡◌, ◌↔◌, ℕ, Option, List, Bool, IsTrue, IfOk, string_bytes};
+ghost use Rattle.std.specs.Prelude.{◌≡◌, ◌↔◌, Option, IsTrue, IfOk};
 ghost use Rattle.lexical_util.specs.Ascii.{allowed_ascii, letters};
 ghost use Rattle.lexical_util.specs.Digits.{digit_of};
 ghost use Rattle.lexical_util.specs.Outcomes.{printed_text};

@@ -3,14 +3,12 @@
 
 ghost use Rattle.std.specs.Prelude.{[], ◌∷◌, Some, None};
 ghost use Rattle.lexical_flags.specs.Constants.{ShareNoBit};
-ghost use Rattle.lexical_flags.specs.Options.{OptionsHaveOneRole, IsOptionsError, SomeOptionsFit};
+ghost use Rattle.lexical_flags.specs.Options.{SomeOptionsFit};
 ghost use Rattle.std.specs.List.{AllZip};
 ghost use Rattle.lexical_flags.specs.Additions.BrokenRules.{ReportsRule};
 ghost use Rattle.lexical_flags.specs.declared.format_flags.all_rules.Rule.TheVariants as rules;
 ghost use Rattle.lexical_flags.specs.Pairs.{ArePairwise};
 ghost use Rattle.lexical_flags.specs.Record.{raw, SeparatorAllowedOrAbsent};
-
-use lexical_base::error::Error;
 
 /// Masks that have a bit in common, and masks that have none.
 pub fn mask_examples()
@@ -28,23 +26,16 @@ pub fn built_examples()
     ensures not_allowed { SeparatorAllowedOrAbsent (raw 0x00000A00_0000005F_00000000_0000000C) → ⊥ }
 {}
 
-/// Exponent characters and decimal points beside a format.
+/// The prefix and the suffix h clash, whatever is chosen beside them; without them there is room.
 pub fn room_examples()
-    ensures one_role { OptionsHaveOneRole 0x0A0A0A00_00000000_00000000_0000000C 0x65 0x2E }
-    ensures same_byte { OptionsHaveOneRole 0x0A0A0A00_00000000_00000000_0000000C 0x65 0x65 → ⊥ }
-
-    // The prefix and the suffix h clash, whatever is chosen beside them; without them there is room.
     ensures room { SomeOptionsFit 0x0A0A0A00_00000000_00000000_0000000C }
     ensures no_room { SomeOptionsFit 0x00000A68_68000000_00000000_0000000C → ⊥ }
 {}
 
-/// Broken rules and unfit options: flags 4 and 5, which exclude each other, and a digit as exponent character.
+/// Broken rules: flags 4 and 5 exclude each other.
 pub fn broken_examples()
     ensures broken { AllZip (ReportsRule 0x0A0A0A00_00000000_00000000_0000003C)
         (rules.ExponentFlagsAgree ∷ rules.MantissaSignFlagsAgree ∷ []) (None ∷ Some rules.MantissaSignFlagsAgree ∷ []) }
     ensures left_out { AllZip (ReportsRule 0x0A0A0A00_00000000_00000000_0000003C)
         (rules.ExponentFlagsAgree ∷ rules.MantissaSignFlagsAgree ∷ []) (None ∷ None ∷ []) → ⊥ }
-
-    ensures exponent { IsOptionsError 0x0A0A0A00_00000000_00000000_0000000C 0x35 0x35 Error.InvalidExponentSymbol }
-    ensures not_the_point { IsOptionsError 0x0A0A0A00_00000000_00000000_0000000C 0x35 0x35 Error.InvalidDecimalPoint → ⊥ }
 {}

@@ -3,7 +3,6 @@
 ghost use Rattle.std.specs.Prelude.{◌≡◌, ◌≤◌, ◌↔◌, ◌++◌, IsTrue, List, All, length, filter, take, not, if◌then◌else◌};
 ghost use Rattle.std.specs.List.{AllZip};
 ghost use Rattle.lexical_flags.specs.Layout as layout;
-ghost use Rattle.lexical_flags.specs.Layout.{IsClean};
 ghost use Rattle.lexical_flags.specs.Record.{raw, pack, SeparatorAllowedOrAbsent, IsBuilt};
 ghost use Rattle.lexical_builder.specs.Writes.{Write, IsLegal, new_record, after};
 ghost use Rattle.lexical_util.specs.Edits.{all_writes};

@@ -1,31 +1,18 @@
 //! For each predicate that stands on one side alone of a public clause a case that holds and one that does not.
 
-ghost use Rattle.std.specs.Prelude.{◌≡◌, ◌↔◌, ◌⊎◌, ◌<◌, ◌*◌, ◌/◌, ◌^◌, ◌||◌, ◌++◌, ℕ, max, pos, [], ◌∷◌, true, false, Some, None, Ok, IsSome, IsTrue};
-ghost use Rattle.lexical_base.specs.Digits.{byte_value, digit_of, digits_of};
+ghost use Rattle.std.specs.Prelude.{◌≡◌, [], ◌∷◌, true, Some, None, Ok};
 ghost use Rattle.lexical_flags.specs.Layout as layout;
-ghost use Rattle.lexical_flags.specs.Layout.{Flag, Byte, bit, shift, IsClean};
-ghost use Rattle.lexical_flags.specs.Options.{OptionsFit, OptionsHaveOneRole};
-ghost use Rattle.lexical_flags.specs.Record.{raw, fill, trim, pack, IsBuilt};
-ghost use Rattle.lexical_flags.specs.Roles.{Disjoint, cased};
-ghost use Rattle.lexical_flags.specs.Rules.{Demands, Holds, Lawful};
-ghost use Rattle.lexical_flags.specs.declared.format_flags.all_rules.Rule.{Rule};
-ghost use Rattle.lexical_flags.specs.declared.format_flags.all_rules.Rule.TheVariants as rules;
-ghost use Rattle.lexical_flags.specs.declared.format_flags.TheConstants.{FLAG_MASK};
+ghost use Rattle.lexical_flags.specs.Record.{raw};
 ghost use Rattle.lexical_builder.specs.Writes.{write_flag, write_byte, SameWrites};
-ghost use Rattle.lexical_util.specs.Edits.{all_writes, edited};
-ghost use Rattle.lexical_util.specs.NormalForm.{normal_form_of};
 ghost use Rattle.lexical_util.specs.Additions.Reasons.{without_prefix_case, IsWith, SameRules};
 ghost use Rattle.lexical_util.specs.declared.edits.Edit.TheVariants as edits;
 
 /// Lists that write the same, and lists that do not.
 pub fn write_examples()
-    // Two fields in another order, and a field that is written twice.
+    // Two fields in another order.
     ensures order { SameWrites
         (write_flag layout.no_special true ∷ write_byte layout.mantissa_radix 16 ∷ [])
         (write_byte layout.mantissa_radix 16 ∷ write_flag layout.no_special true ∷ []) }
-    ensures twice { SameWrites
-        (write_byte layout.mantissa_radix 8 ∷ write_byte layout.mantissa_radix 16 ∷ [])
-        (write_byte layout.mantissa_radix 16 ∷ []) }
 
     // Another last value.
     ensures other_last { SameWrites

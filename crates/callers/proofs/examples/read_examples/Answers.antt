@@ -1,5 +1,5 @@
-use Rattle.std.proofs.Common.{◌<◌, ◌^◌, true, codes, refl, arith}
-use Rattle.std.proofs.lemmas.Bool.{false≢true, agree_below_at}
+use Rattle.std.proofs.Common.{◌<◌, true, codes, refl, arith}
+use Rattle.std.proofs.lemmas.Bool.{agree_below_at}
 use Rattle.lexical_util.specs.Record.{Record, raw}
 use Rattle.lexical_util.specs.Unfoldable.{byte_value, cased}
 use Rattle.callers.specs.Reading.{is_read}
@@ -16,11 +16,4 @@ returns c =
         fits = omega arith;
       };
       end = λ h. let inside : 2 < 2 = h.inside in omega (arith, inside);
-      letter = λ h. false≢true (h.read 0 (omega arith));
-      largest = record {
-        inside = omega arith;
-        read = λ k. agree_below_at (is_read decimal (codes "18446744073709551615a")) (λ _. true) 20 k refl;
-        fits = omega arith;
-      };
-      too_large = λ h. let fits : 2 ^ 64 < 2 ^ 64 = h.fits in omega (arith, fits);
     }

@@ -3,7 +3,7 @@ use Rattle.lexical_flags.proofs.FlagBits.{separator_flag_set, no_separator_flag_
 use Rattle.lexical_builder.proofs.format_builder.used_separator.Goals as goal
 
 -- search proves these goals as well; given here so that the must-fail edit
--- packs_every_separator.edit fails soon
+-- build_unchecked_packs_every_separator.edit fails soon
 pub returns-then-flags-ne0 : goal.returns-then-flags-ne0
 returns-then-flags-ne0 c = rw (separator_flag_set c.args.flags c.if-flags-ne0.true) refl
 

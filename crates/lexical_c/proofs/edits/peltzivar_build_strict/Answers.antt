@@ -1,5 +1,5 @@
 -- search proves this goal as well; given here so that the must-fail edit
--- unlawful_word_is_written.edit fails soon
+-- build_strict_writes_an_unlawful_word.edit fails soon
 use Rattle.std.proofs.Common.{subst}
 use Rattle.lexical_util.specs.Record.{pack}
 use Rattle.lexical_c.specs.Outcomes.{IsWrittenIfLawful}

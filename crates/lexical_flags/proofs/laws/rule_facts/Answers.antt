@@ -1,12 +1,10 @@
-use Rattle.lexical_flags.proofs.NormalRules.{Demands-kept, Demands-same, Lawful-kept, IsErrorOf-kept}
+use Rattle.lexical_flags.proofs.NormalRules.{Lawful-kept, IsErrorOf-kept}
 use Rattle.lexical_flags.proofs.RuleFieldLemmas.{kept_alike}
 use Rattle.lexical_flags.proofs.RuleLemmas.{IsErrorOf-unique, Holds-from_lawful, Lawful-from_all}
 use Rattle.lexical_flags.proofs.laws.rule_facts.Goals as goal
 
 pub returns : goal.returns
 returns c = record {
-  kept = Demands-kept;
-  same = Demands-same;
   kept_lawful = Lawful-kept;
   same_error = IsErrorOf-kept;
   lawful = λ word. ((λ h rule. Holds-from_lawful rule word h), Lawful-from_all word);

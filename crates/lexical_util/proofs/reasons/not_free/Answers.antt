@@ -7,7 +7,7 @@ same false true h = h.1 refl
 same false false h = refl
 
 -- given here, though search alone proves it, so that the must-fail edit
--- a_comma_is_said_to_be_a_sign.edit fails soon
+-- reasons_of_calls_a_comma_a_sign.edit fails soon
 pub returns : goal.returns
 returns c = rw (
   c.said.ensures,

@@ -2,7 +2,7 @@ use Rattle.std.proofs.Common.{refl}
 use Rattle.lexical_util.proofs.reasons.unused_beside.Goals as goal
 
 -- search proves this goal as well; given here so that the must-fail edit
--- case_of_a_prefix_that_is_there_is_unused.edit fails soon
+-- unused_settings_names_the_case_of_a_prefix_that_is_there.edit fails soon
 pub returns : goal.returns
 returns c = rw c.said.ensures (rw c.said-2.ensures (rw c.said-3.ensures (rw c.said-4.ensures
     (rw c.is_separator_allowed-is_allowed.ensures

@@ -22,7 +22,7 @@ returns c =
     ) (ap Word c.edit_word.ensures.word)
 
 -- search proves this goal as well; given here so that the must-fail edit
--- edits_are_read_before_the_word.edit fails soon
+-- edit_reads_the_edits_before_the_word.edit fails soon
 pub returns-in_err-ok_or : goal.returns-in_err-ok_or
 returns-in_err-ok_or c =
     let (word, read) : (word : ℕ) × (Some word ≡ word_from_text (string_bytes c.word-item.result)) = search rules in

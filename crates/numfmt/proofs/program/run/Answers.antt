@@ -1,5 +1,5 @@
 -- search proves this goal as well; given here so that the must-fail edit
--- status_is_always_0.edit fails soon
+-- run_always_has_status_0.edit fails soon
 use Rattle.std.proofs.Common.{inr, arith}
 use Rattle.numfmt.proofs.program.run.Goals as goal
 

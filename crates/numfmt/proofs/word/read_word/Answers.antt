@@ -1,5 +1,5 @@
 -- grind proves this goal by itself as well; given here so that the must-fail edit
--- word_drops_digits_past_the_32nd.edit fails soon
+-- read_word_drops_digits_past_the_32nd.edit fails soon
 use Rattle.std.proofs.Common.{arith}
 use Rattle.std.proofs.lemmas.Grind.{common_steps}
 use Rattle.numfmt.proofs.word.read_word.Goals as goal

@@ -2,8 +2,7 @@ use Rattle.std.proofs.Common.{rules}
 use Rattle.lexical_base.proofs.OutcomeLemmas.{tied, reversed}
 use Rattle.lexical_base.proofs.error.ErrorOrd.cmp.Goals as goal
 
--- search proves this goal as well; given here so that the must-fail edit
--- outcome_order_ignores_the_index.edit fails soon
+-- the others follow from it
 pub returns-in-Equal-clause-value : goal.returns-in-Equal-clause-value
 returns-in-Equal-clause-value c = search rules
 

@@ -24,6 +24,6 @@ returns-clause-text g t c =
     ]
 
 -- search proves this goal as well; given here so that the must-fail edit
--- display_returns_its_own_error.edit fails soon
+-- put_decimal_returns_its_own_error.edit fails soon
 pub returns-clause-failed : goal.returns-clause-failed
 returns-clause-failed g t c = c.put.ensures.failed

@@ -5,7 +5,7 @@ use Rattle.lexical_flags.proofs.RuleLemmas.{first_in_front}
 use Rattle.lexical_flags.proofs.format_flags.rules.first_broken.Goals as goal
 
 -- search proves this goal as well; given here so that the must-fail edit
--- error_checks_reserved_bits_first.edit fails soon
+-- format_error_checks_reserved_bits_first.edit fails soon
 pub returns-in_default : goal.returns-in_default
 unfolding IsErrorOf
 returns-in_default c = first_in_front c.args.format _ (search rules) radix_rules

@@ -17,7 +17,7 @@ returns-then-not-is_near c =
     (λ _. apart, λ _. ap not c.if-not-is_near.true)
 
 -- search proves these goals as well; given here so that the must-fail edit
--- punctuation_ignores_the_case_flags.edit fails soon
+-- is_valid_punctuation_ignores_the_case_flags.edit fails soon
 pub returns-then-roles_disjoint-2 : goal.returns-then-roles_disjoint-2
 unfolding Holds
 returns-then-roles_disjoint-2 c =

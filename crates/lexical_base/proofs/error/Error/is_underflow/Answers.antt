@@ -1,7 +1,0 @@
-use Rattle.std.proofs.Common.{rules, tests}
-use Rattle.lexical_base.proofs.error.Error.is_underflow.Goals as goal
-
--- search proves this goal as well; given here so that the must-fail edit
--- outcome_test_names_the_neighbour.edit fails soon
-pub returns-in_default : goal.returns-in_default
-returns-in_default c = search (tests, rules)
