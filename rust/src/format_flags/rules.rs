@@ -345,51 +345,26 @@ pub const fn is_separator_allowed(format: u128) -> bool {
 
 // THE FIRST BROKEN RULE
 
-// Whether all rules of punctuation are kept.
-#[inline(always)]
-const fn keeps_punctuation_rules(format: u128) -> bool {
-    let are_free = is_valid_digit_separator(format)
-        & is_valid_base_prefix(format)
-        & is_valid_base_suffix(format);
-    are_free && is_valid_punctuation(format)
-}
-
-// The error of the first broken rule of punctuation, or `Success`. All are tested at once first, since most
-// words keep them.
+// The error of the first broken rule of punctuation, or `Success`.
 #[inline(always)]
 const fn first_broken_punctuation(format: u128) -> Error {
-    if keeps_punctuation_rules(format) {
-        Error::Success
-    } else if !is_valid_digit_separator(format) {
+    if !is_valid_digit_separator(format) {
         Error::InvalidDigitSeparator
     } else if !is_valid_base_prefix(format) {
         Error::InvalidBasePrefix
     } else if !is_valid_base_suffix(format) {
         Error::InvalidBaseSuffix
-    } else {
+    } else if !is_valid_punctuation(format) {
         Error::InvalidPunctuation
+    } else {
+        Error::Success
     }
 }
 
-// Whether all rules of flags are kept.
-#[inline(always)]
-const fn keeps_flag_rules(format: u128) -> bool {
-    is_valid_exponent_flags(format)
-        & is_valid_mantissa_sign_flags(format)
-        & is_valid_exponent_sign_flags(format)
-        & is_valid_special_case_flags(format)
-        & is_valid_special_separator_flags(format)
-        & is_valid_integer_consecutive_flags(format)
-        & is_valid_fraction_consecutive_flags(format)
-        & is_valid_exponent_consecutive_flags(format)
-}
-
-// The error of the first broken rule of flags, or `Success`. All are tested at once first.
+// The error of the first broken rule of flags, or `Success`.
 #[inline(always)]
 const fn first_broken_flags(format: u128) -> Error {
-    if keeps_flag_rules(format) {
-        Error::Success
-    } else if !is_valid_exponent_flags(format) {
+    if !is_valid_exponent_flags(format) {
         Error::InvalidExponentFlags
     } else if !is_valid_mantissa_sign_flags(format) {
         Error::InvalidMantissaSign
@@ -401,8 +376,10 @@ const fn first_broken_flags(format: u128) -> Error {
         Error::InvalidConsecutiveIntegerDigitSeparator
     } else if !is_valid_fraction_consecutive_flags(format) {
         Error::InvalidConsecutiveFractionDigitSeparator
-    } else {
+    } else if !is_valid_exponent_consecutive_flags(format) {
         Error::InvalidConsecutiveExponentDigitSeparator
+    } else {
+        Error::Success
     }
 }
 

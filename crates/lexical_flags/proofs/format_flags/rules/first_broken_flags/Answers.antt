@@ -2,12 +2,12 @@ use Rattle.std.proofs.Common.{rules}
 use Rattle.lexical_flags.proofs.format_flags.rules.first_broken_flags.Goals as goal
 
 -- search proves this goal as well; given here so that the must-fail edit
--- error_swaps_two_rules.edit fails soon
+-- format_error_swaps_two_rules.edit fails soon
 pub returns-then-not-is_valid_mantissa_sign_flags : goal.returns-then-not-is_valid_mantissa_sign_flags
 returns-then-not-is_valid_mantissa_sign_flags c = search rules
 
 -- search proves this goal as well; given here so that the must-fail edit
--- error_refuses_every_word.edit fails soon
-pub returns-else-not-is_valid_fraction_consecutive_flags
-    : goal.returns-else-not-is_valid_fraction_consecutive_flags
-returns-else-not-is_valid_fraction_consecutive_flags c = search rules
+-- format_error_refuses_every_word.edit fails soon
+pub returns-then-not-is_valid_exponent_consecutive_flags
+    : goal.returns-then-not-is_valid_exponent_consecutive_flags
+returns-then-not-is_valid_exponent_consecutive_flags c = search rules
