@@ -8,8 +8,8 @@ use crate::format_flags::*;
 
 /// A rule of format words. A word that breaks none is lawful.
 ///
-/// The variants are in the order in which the rules are tried; each is named by what it demands. A byte is free if it is
-/// 0, which stands for none, or allowed ASCII that is no sign and no digit of the mantissa or of the exponent.
+/// The variants are in the order in which the rules are tried; each is named by what it demands. *Punctuation* is allowed
+/// ASCII that is neither a sign nor a digit of the mantissa or the exponent.
 #[derive(Debug, Clone, Copy, PartialEq, Eq, Hash)]
 pub enum Rule {
     /// The mantissa radix is 2 to 36.
@@ -18,11 +18,11 @@ pub enum Rule {
     ExponentBaseInRange,
     /// The exponent radix, or the mantissa radix if that is 0, is 2 to 36.
     ExponentRadixInRange,
-    /// The digit separator is free.
+    /// The digit separator is absent or punctuation.
     DigitSeparatorIsPunctuation,
-    /// The base prefix is free.
+    /// The base prefix is absent or punctuation.
     BasePrefixIsPunctuation,
-    /// The base suffix is free.
+    /// The base suffix is absent or punctuation.
     BaseSuffixIsPunctuation,
     /// No byte is two of digit separator, base prefix and base suffix.
     PunctuationDiffers,

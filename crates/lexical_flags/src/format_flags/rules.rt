@@ -26,8 +26,9 @@ use lexical_base::laws::digit_facts;
 
 // BYTES
 
-// For each byte, at its index, how many radixes leave it free: those below the entry. A digit is free in the
-// radixes up to its value, 0 and other text in all 256, and a sign and every other byte in none.
+// For each byte, at its index, the number of radixes in which it is absent or punctuation: those below the entry.
+// A digit is punctuation in the radixes up to its value, 0 and other allowed ASCII in all 256, and a sign or any
+// other byte in none.
 const LIMITS: [u16; 256] = [
     256, 0, 0, 0, 0, 0, 0, 0, 0, 256, 256, 256, 256, 256, 0, 0, 0, 0, 0, 0, 0, 0, 0, 0, 0, 0, 0, 0,
     0, 0, 0, 0, 256, 256, 256, 256, 256, 256, 256, 256, 256, 256, 256, 0, 256, 0, 256, 256, 1, 2,
