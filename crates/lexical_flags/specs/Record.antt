@@ -17,7 +17,7 @@ set_byte r b value = record r { byte = λ c. if shift c == shift b then value el
 abbrev pub raw : ℕ → Record
 raw word = record { flag = λ f. part word (bit f) 1 == 1; byte = λ b. part word (shift b) 8 }
 
--- `effective own mantissa_radix` is the exponent byte `own`, or the mantissa radix if `own` is 0.
+-- `effective byte mantissa_radix` is the exponent byte `byte`, or the mantissa radix if `byte` is 0.
 abbrev pub effective : ℕ → ℕ → ℕ
 effective byte mantissa_radix = if byte == 0 then mantissa_radix else byte
 
@@ -58,7 +58,7 @@ byte_bits r b = r.byte b * 2 ^ shift b
 unfoldable pub word_of : Record → ℕ
 word_of r = sum_by (flag_bits r) flags + sum_by (byte_bits r) bytes
 
--- `pack r` is the word that `r` is packed into.
+-- `pack r` is the word of `r` after `trim`.
 abbrev pub pack : Record → ℕ
 pack r = word_of (trim r)
 

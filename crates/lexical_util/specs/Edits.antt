@@ -68,6 +68,6 @@ writes_of (edits.ExponentRadix radix) = write_byte layout.exponent_radix (byte_o
 abbrev pub all_writes : List Edit → List Write
 all_writes list = flat_map writes_of list
 
--- `edited word writes` is the word that results if the fields of `word` are filled, written in order, and packed.
+-- `edited word writes` is the word that results if the fields of `word` are filled, written in order, trimmed and packed.
 abbrev pub edited : ℕ → List Write → ℕ
 edited word writes = pack (after (fill (raw word)) writes)
