@@ -126,7 +126,7 @@
 //!
 //! # `pack`
 //!
-//! `pack r` is the word that `r` is packed into.
+//! `pack r` is the word of `r` after `trim`.
 //!
 //! ```text
 //! abbrev pub pack : Record → ℕ
@@ -233,7 +233,7 @@
 //!
 //! # `edited`
 //!
-//! `edited word writes` is the word that results if the fields of `word` are filled, written in order, and packed.
+//! `edited word writes` is the word that results if the fields of `word` are filled, written in order, trimmed and packed.
 //!
 //! ```text
 //! abbrev pub edited : ℕ → List Write → ℕ

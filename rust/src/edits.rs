@@ -286,7 +286,7 @@ pub const fn apply_all(mut builder: NumberFormatBuilder, edits: &[Edit]) -> Numb
 /// ensures fields { raw result ≡ trim (after (fill (raw format)) (all_writes edits.now)) }
 /// ensures clean { IsClean result }
 ///
-/// // No other word has these fields.
+/// // No other word with clear reserved bits has these fields.
 /// ensures unique { (other : ℕ) → other < 2 ^ 128 → IsClean other
 ///     → raw other ≡ trim (after (fill (raw format)) (all_writes edits.now)) → other ≡ result }
 ///
@@ -316,7 +316,7 @@ pub const fn edit_word(format: u128, edits: &[Edit]) -> u128 {
 /// ensures fields { raw result ≡ trim (fill (raw format)) }
 /// ensures clean { IsClean result }
 ///
-/// // No other word has these fields.
+/// // No other word with clear reserved bits has these fields.
 /// ensures unique { (other : ℕ) → other < 2 ^ 128 → IsClean other
 ///     → raw other ≡ trim (fill (raw format)) → other ≡ result }
 ///
