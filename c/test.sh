@@ -257,13 +257,13 @@ installed() {
     soname=libpeltzivar_c.so.${version%.*}
     export BUILD=$work/make PKG_CONFIG_PATH=$prefix/lib/pkgconfig
     passes env CARGO_PROFILE_RELEASE_DEBUG=1 make install PREFIX="$prefix" || return
-    passes make install PREFIX=/usr LIBDIR=/usr/lib/here INCLUDEDIR=/usr/include/here DESTDIR="$work/root"
-    files=(./usr/include/here/peltzivar.h ./usr/lib/here/libpeltzivar_c.{a,so} ./usr/lib/here/"$soname"{,".${version##*.}"}
+    passes make install PREFIX=/usr LIBDIR=/usr/lib/here INCLUDEDIR=/srv/include DESTDIR="$work/root"
+    files=(./srv/include/peltzivar.h ./usr/lib/here/libpeltzivar_c.{a,so} ./usr/lib/here/"$soname"{,".${version##*.}"}
         ./usr/lib/here/pkgconfig/peltzivar.pc)
     compares "${files[*]}" "$(cd "$work/root" && find ./* ! -type d | LC_ALL=C sort | xargs)" make install DESTDIR=..
-    compares "prefix=/usr libdir=\${prefix}/lib/here includedir=/usr/include/here" \
+    compares "prefix=/usr libdir=\${prefix}/lib/here includedir=/srv/include" \
         "$(grep -E '^[a-z]+=' "$work/root/usr/lib/here/pkgconfig/peltzivar.pc" | xargs)" peltzivar.pc
-    passes make uninstall PREFIX=/usr LIBDIR=/usr/lib/here INCLUDEDIR=/usr/include/here DESTDIR="$work/root"
+    passes make uninstall PREFIX=/usr LIBDIR=/usr/lib/here INCLUDEDIR=/srv/include DESTDIR="$work/root"
     compares "" "$(find "$work/root" ! -type d)" make uninstall
     passes bash -c '! make install PREFIX=relative'
     rm -r "$work/make"
