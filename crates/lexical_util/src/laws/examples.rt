@@ -1,4 +1,4 @@
-//! For each predicate that stands on one side alone of a public clause a case that holds and one that does not.
+//! Each predicate that only one side of a public clause names has an example here that holds and one that does not.
 
 ghost use Rattle.std.specs.Prelude.{◌≡◌, [], ◌∷◌, true, Some, None, Ok};
 ghost use Rattle.lexical_flags.specs.Layout as layout;

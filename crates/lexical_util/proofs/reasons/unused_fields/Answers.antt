@@ -6,7 +6,7 @@ use Rattle.lexical_util.specs.Additions.Reasons.{said, unused_cases}
 use Rattle.lexical_util.proofs.reasons.unused_fields.Goals as goal
 use Rattle.lexical_util.proofs.reasons.unused_fields.Goals.{in-Some, in-None}
 
--- a record with another separator is not the record by computation alone: what is said of it is
+-- The packed record with the builder's separator is not the builder's record by computation, but their cases are equal.
 pub returns : goal.returns
 returns c =
     let separator = c.match-get_digit_separator.separator in
