@@ -1,17 +1,25 @@
-"""Calls the library from Python: python3 example.py ./libpeltzivar_c.so WORD, with WORD in hexadecimal."""
-import ctypes, sys
+"""Builds a format from settings and prints it, or each reason why it is not lawful.
 
-class Word(ctypes.Structure):
-    _fields_ = [("low", ctypes.c_uint64), ("high", ctypes.c_uint64)]
+python3 example.py mantissa_radix=16 digit_separator=95 internal_digit_separator=true
+"""
+import sys
 
-lib = ctypes.CDLL(sys.argv[1])
-lib.peltzivar_normal_form.argtypes, lib.peltzivar_normal_form.restype = [Word], Word
-lib.peltzivar_format_error.argtypes, lib.peltzivar_format_error.restype = [Word], ctypes.c_uint32
-lib.peltzivar_text.argtypes = [ctypes.c_uint32, ctypes.c_size_t, ctypes.c_char_p, ctypes.c_size_t]
-lib.peltzivar_text.restype = ctypes.c_size_t
-number = int(sys.argv[2], 16)
-word = Word(number % 2**64, number >> 64)
-normal = lib.peltzivar_normal_form(word)
-text = ctypes.create_string_buffer(256)
-lib.peltzivar_text(lib.peltzivar_format_error(word), 0, text, len(text))
-print(f"0x{normal.high:016X}{normal.low:016X} {text.value.decode()}")
+from peltzivar import Format, FormatError, notes_of
+
+
+def main(settings: list[str]) -> int:
+    try:
+        format = Format.of(*settings)
+    except FormatError as error:
+        print(*error.reasons, sep="\n")
+        return 1
+    except ValueError as error:
+        print(error)
+        return 2
+    print(format, repr(format), *notes_of(*settings), sep="\n")
+    print("digits:", "".join(digit for digit in map(chr, range(128)) if format.is_digit(digit)))
+    print("without NaN:", format.edit(no_special=True, case_sensitive_special=False, special_digit_separator=False))
+    return 0
+
+
+sys.exit(main(sys.argv[1:]))

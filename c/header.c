@@ -170,48 +170,63 @@ static void test_one_rule_each(void) {
 
 /* For each rule the smallest word that breaks it, and why (docs/FORMAT.md). */
 static void test_reasons(void) {
-    static const char needs[] = " needs the internal, leading or trailing flag of the same part";
+    static const char needs[] = " requires an internal, leading or trailing flag for the same part of the number";
     static const struct {
         peltzivar_word word;
         const char *why, *end;
     } rows[PELTZIVAR_RULE_COUNT] = {
-        {{0x0000000000000000, 0x0000000000000000}, "the mantissa radix 0 is not 2 to 36", ""},
-        {{0x0000000000000000, 0x0001020000000000}, "the exponent base 1 is not 2 to 36", ""},
-        {{0x0000000000000000, 0x0100020000000000}, "the exponent radix 1 is not 2 to 36", ""},
-        {{0x0000000000000000, 0x0000020000000001}, "the digit separator 1 is not a character of ASCII text", ""},
-        {{0x0000000000000000, 0x0000020001000000}, "the base prefix 1 is not a character of ASCII text", ""},
-        {{0x0000000000000000, 0x0000020100000000}, "the base suffix 1 is not a character of ASCII text", ""},
+        {{0x0000000000000000, 0x0000000000000000}, "the mantissa radix 0 is not between 2 and 36", ""},
+        {{0x0000000000000000, 0x0001020000000000}, "the exponent base 1 is not between 2 and 36", ""},
+        {{0x0000000000000000, 0x0100020000000000}, "the exponent radix 1 is not between 2 and 36", ""},
+        {{0x0000000000000000, 0x0000020000000001}, "the digit separator 1 is not an allowed ASCII character", ""},
+        {{0x0000000000000000, 0x0000020001000000}, "the base prefix 1 is not an allowed ASCII character", ""},
+        {{0x0000000000000000, 0x0000020100000000}, "the base suffix 1 is not an allowed ASCII character", ""},
         {{0x0000000000000000, 0x0000020009000009}, "the digit separator 9 and the base prefix 9 are the same", ""},
         {{0x0000000000004040, 0x0000020000000000},
-         "no_exponent_notation and required_exponent_notation exclude each other", ""},
+         "no_exponent_notation and required_exponent_notation cannot both be set", ""},
         {{0x0000000000000030, 0x0000020000000000},
-         "no_positive_mantissa_sign and required_mantissa_sign exclude each other", ""},
+         "no_positive_mantissa_sign and required_mantissa_sign cannot both be set", ""},
         {{0x0000000000000180, 0x0000020000000000},
-         "no_positive_exponent_sign and required_exponent_sign exclude each other", ""},
-        {{0x0000000000000C00, 0x0000020000000000}, "no_special and case_sensitive_special exclude each other", ""},
-        {{0x0000100000000400, 0x0000020000000000}, "no_special and special_digit_separator exclude each other", ""},
+         "no_positive_exponent_sign and required_exponent_sign cannot both be set", ""},
+        {{0x0000000000000C00, 0x0000020000000000}, "no_special and case_sensitive_special cannot both be set", ""},
+        {{0x0000100000000400, 0x0000020000000000}, "no_special and special_digit_separator cannot both be set", ""},
         {{0x0000020000000000, 0x0000020000000000}, "integer_consecutive_digit_separator", needs},
         {{0x0000040000000000, 0x0000020000000000}, "fraction_consecutive_digit_separator", needs},
         {{0x0000080000000000, 0x0000020000000000}, "exponent_consecutive_digit_separator", needs},
-        {{0x0000000080000000, 0x0000020000000000}, "a reserved bit is set", ""},
+        {{0x0000000080000000, 0x0000020000000000}, "reserved bits are set: 0x80000000", ""},
     };
     char text[PELTZIVAR_TEXT_SIZE], wanted[PELTZIVAR_TEXT_SIZE];
     for (uint8_t rule = 0; rule < PELTZIVAR_RULE_COUNT; rule++) {
+        const peltzivar_word word = rows[rule].word;
         snprintf(wanted, sizeof wanted, "%s%s", rows[rule].why, rows[rule].end);
+        /* The first reason of an exponent byte is the mantissa radix that it follows. */
+        const bool is_second = rule == PELTZIVAR_RULE_EXPONENT_BASE_IN_RANGE ||
+                               rule == PELTZIVAR_RULE_EXPONENT_RADIX_IN_RANGE;
+        int slots = 0;
         for (int index = 0; index < 256; index++) {
             memset(text, '#', sizeof text);
-            const size_t len = peltzivar_reason(rows[rule].word, rule, (uint8_t)index, text, sizeof text);
-            CHECK(is_text(index ? "" : wanted, len, text));
+            size_t len = peltzivar_reason(word, rule, (uint8_t)index, text, sizeof text);
+            CHECK(is_text(index == is_second ? wanted : "", len, text));
+            memset(text, '#', sizeof text);
+            len = peltzivar_word_reason(word, (uint8_t)index, text, sizeof text);
+            slots += len != 0;
+            CHECK(is_text(len ? wanted : "", len, text));
+            CHECK(peltzivar_word_reason_rule(word, (uint8_t)index) == (len ? rule : PELTZIVAR_RULE_COUNT));
+            CHECK(peltzivar_word_reason_breaks(word, (uint8_t)index, rule) == (len != 0));
+            CHECK(!peltzivar_word_reason_breaks(word, (uint8_t)index, PELTZIVAR_RULE_COUNT));
+            const peltzivar_word mask = peltzivar_word_reason_mask(word, (uint8_t)index);
+            CHECK((mask.low || mask.high) == (len != 0));
         }
+        CHECK(slots == 1);
         CHECK(peltzivar_reason(PELTZIVAR_STANDARD, rule, 0, text, sizeof text) == 0 && *text == 0);
     }
     const peltzivar_word clash = {0, 0x0000100061000061}, sign = {0, 0x000010000000002D};
     CHECK(peltzivar_reason(clash, PELTZIVAR_RULE_BASE_PREFIX_IS_PUNCTUATION, 2, text, sizeof text));
-    CHECK(strcmp(text, "the base prefix 'a' is a digit of radix 16") == 0);
+    CHECK(strcmp(text, "the base prefix 'a' is a digit in radix 16") == 0);
     CHECK(peltzivar_reason(clash, PELTZIVAR_RULE_PUNCTUATION_DIFFERS, 0, text, sizeof text));
     CHECK(strcmp(text, "the digit separator 'a' and the base prefix 'a' are the same") == 0);
     CHECK(peltzivar_reason(sign, PELTZIVAR_RULE_DIGIT_SEPARATOR_IS_PUNCTUATION, 1, text, sizeof text));
-    CHECK(strcmp(text, "the digit separator '-' is a sign") == 0);
+    CHECK(strcmp(text, "the digit separator '-' is a sign (+ or -)") == 0);
     CHECK(peltzivar_reason(ZERO, PELTZIVAR_RULE_COUNT, 0, text, sizeof text) == 0 && *text == 0);
     CHECK(peltzivar_reason(ZERO, UINT8_MAX, 0, text, sizeof text) == 0 && *text == 0);
 
@@ -222,28 +237,100 @@ static void test_reasons(void) {
     CHECK(is_word(peltzivar_rule_mask(PELTZIVAR_RULE_COUNT), 0, 0) && is_word(peltzivar_rule_mask(UINT8_MAX), 0, 0));
 }
 
-/* The settings without effect of fields: one alone, each at its index. */
-static void test_unused(void) {
+/* The slot of the reason with this text; PELTZIVAR_CANDIDATE_COUNT if there is none. */
+static uint8_t slot_of(peltzivar_word word, const char *reason) {
+    char text[PELTZIVAR_TEXT_SIZE];
+    uint8_t index = 0;
+    while (index < PELTZIVAR_CANDIDATE_COUNT) {
+        peltzivar_word_reason(word, index, text, sizeof text);
+        if (strcmp(text, reason) == 0) break;
+        index++;
+    }
+    return index;
+}
+
+/* Masks of reasons, and the edits that mend them. */
+static void test_blame(void) {
+    static const uint8_t mantissa = PELTZIVAR_FIELD_COUNT - 3, prefix = PELTZIVAR_FIELD_COUNT - 5;
+    const peltzivar_word radix = {0xC, 0x0000250000000000}, based = {0xC, 0x0008250000000000};
+    const peltzivar_word digit = {0x0000000000000C00, 0x0000100061000000}, five = {0xC, 0x00000A0000000035};
+    const char *const sentence = "the mantissa radix 37 is not between 2 and 36";
+    const uint8_t index = slot_of(radix, sentence);
+    CHECK(index < PELTZIVAR_CANDIDATE_COUNT && is_word(peltzivar_word_reason_mask(radix, index), 0xFF0000000000, 0));
+    for (int rule = 0; rule < 256; rule++) {
+        CHECK(peltzivar_word_reason_breaks(radix, index, (uint8_t)rule) == (rule < 3));
+        const bool is_broken = rule < 3 && rule != PELTZIVAR_RULE_EXPONENT_BASE_IN_RANGE;
+        CHECK(peltzivar_word_reason_breaks(based, slot_of(based, sentence), (uint8_t)rule) == is_broken);
+    }
+    peltzivar_edit edits[PELTZIVAR_MAX_MENDING_EDITS];
+    peltzivar_word word;
+    CHECK(peltzivar_word_reason_mend(radix, index, mantissa, edits) == 3);
+    CHECK(peltzivar_edit_word(radix, edits, 3, &word) && is_word(word, 0x00000A0000000000, 0xC));
+    CHECK(peltzivar_word_reason_mend(based, slot_of(based, sentence), mantissa, edits) == 2);
+    CHECK(peltzivar_edit_word(based, edits, 2, &word) && is_word(word, 0x00080A0000000000, 0xC));
+
+    /* The radix is 10 already. */
+    const uint8_t of_five = slot_of(five, "the digit separator '5' is a digit in radix 10");
+    CHECK(is_word(peltzivar_word_reason_mask(five, of_five), 0x0000FF00000000FF, 0));
+    CHECK(peltzivar_word_reason_mend(five, of_five, mantissa, edits) == 0);
+    CHECK(peltzivar_word_reason_mend(five, of_five, prefix - 1, edits) == 1);
+
+    const uint8_t of_prefix = slot_of(digit, "the base prefix 'a' is a digit in radix 16");
+    CHECK(is_word(peltzivar_word_reason_mask(digit, of_prefix), 0x0000FF00FF000000, 0));
+    CHECK(peltzivar_word_reason_mend(digit, of_prefix, prefix, edits) == 1);
+    CHECK(edits[0].setter == PELTZIVAR_SET_BASE_PREFIX && edits[0].value == 0);
+    const uint8_t of_flags = slot_of(digit, "no_special and case_sensitive_special cannot both be set");
+    CHECK(is_word(peltzivar_word_reason_mask(digit, of_flags), 0, 0xC00));
+    CHECK(peltzivar_word_reason_mend(digit, of_flags, PELTZIVAR_SET_NO_SPECIAL, edits) == 1);
+    CHECK(edits[0].setter == PELTZIVAR_SET_NO_SPECIAL && edits[0].value == 0);
+    for (int at = 0; at < 256; at++) {
+        edits[0] = (peltzivar_edit){7, 9};
+        const bool has_edit = at == PELTZIVAR_SET_NO_SPECIAL || at == PELTZIVAR_SET_CASE_SENSITIVE_SPECIAL;
+        CHECK(peltzivar_word_reason_mend(digit, of_flags, (uint8_t)at, edits) == has_edit);
+        CHECK(has_edit || (edits[0].setter == 7 && edits[0].value == 9));
+        CHECK(peltzivar_word_reason_mend(digit, PELTZIVAR_CANDIDATE_COUNT, (uint8_t)at, edits) == 0);
+        CHECK(peltzivar_word_reason_mend(digit, UINT8_MAX, (uint8_t)at, edits) == 0);
+    }
+    const uint8_t of_bits = slot_of(RESERVED, "reserved bits are set: 0x80000000");
+    CHECK(is_word(peltzivar_word_reason_mask(RESERVED, of_bits), 0, 0x80000000));
+}
+
+/* The notes on fields: each in its slot, with its mask. */
+static void test_notes(void) {
     static const struct {
-        peltzivar_edit edit;
+        peltzivar_edit edits[2];
+        uint8_t index;
         const char *text;
-    } rows[PELTZIVAR_UNUSED] = {
-        {{PELTZIVAR_SET_DIGIT_SEPARATOR, '_'}, "the digit separator '_' has no effect: no flag allows one"},
-        {{PELTZIVAR_SET_SPECIAL_DIGIT_SEPARATOR, 1},
-         "the digit separator flags have no effect: there is no digit separator"},
-        {{PELTZIVAR_SET_CASE_SENSITIVE_BASE_PREFIX, 1},
-         "case_sensitive_base_prefix has no effect: there is no base prefix"},
-        {{PELTZIVAR_SET_CASE_SENSITIVE_BASE_SUFFIX, 1},
-         "case_sensitive_base_suffix has no effect: there is no base suffix"},
+        peltzivar_word mask;
+    } rows[] = {
+        {{{PELTZIVAR_SET_DIGIT_SEPARATOR, '_'}, {PELTZIVAR_SET_RADIX, 10}}, 0,
+         "no number can have the digit separator '_': no flag allows one", {0x00001FFF00000000, 0xFF}},
+        {{{PELTZIVAR_SET_DIGIT_SEPARATOR, '\''}, {PELTZIVAR_SET_RADIX, 10}}, 0,
+         "no number can have the digit separator 39: no flag allows one", {0x00001FFF00000000, 0xFF}},
+        {{{PELTZIVAR_SET_SPECIAL_DIGIT_SEPARATOR, 1}, {PELTZIVAR_SET_RADIX, 10}}, 0,
+         "the digit separator flags allow nothing: there is no digit separator", {0x00001FFF00000000, 0xFF}},
+        {{{PELTZIVAR_SET_CASE_SENSITIVE_BASE_PREFIX, 1}, {PELTZIVAR_SET_RADIX, 10}}, 1,
+         "case_sensitive_base_prefix changes nothing: there is no base prefix", {0x10000, 0xFF000000}},
+        {{{PELTZIVAR_SET_CASE_SENSITIVE_BASE_PREFIX, 1}, {PELTZIVAR_SET_BASE_PREFIX, '$'}}, 1,
+         "case_sensitive_base_prefix changes nothing: the base prefix '$' is not a letter", {0x10000, 0xFF000000}},
+        {{{PELTZIVAR_SET_CASE_SENSITIVE_BASE_SUFFIX, 1}, {PELTZIVAR_SET_RADIX, 10}}, 2,
+         "case_sensitive_base_suffix changes nothing: there is no base suffix", {0x20000, 0xFF00000000}},
+        {{{PELTZIVAR_SET_CASE_SENSITIVE_BASE_SUFFIX, 1}, {PELTZIVAR_SET_BASE_SUFFIX, '~'}}, 2,
+         "case_sensitive_base_suffix changes nothing: the base suffix '~' is not a letter", {0x20000, 0xFF00000000}},
+        /* A reason blames the prefix, so it has no note. */
+        {{{PELTZIVAR_SET_CASE_SENSITIVE_BASE_PREFIX, 1}, {PELTZIVAR_SET_BASE_PREFIX, '5'}}, 1, "", {0, 0}},
     };
     char text[PELTZIVAR_TEXT_SIZE];
-    for (int row = 0; row < PELTZIVAR_UNUSED; row++) {
+    for (size_t row = 0; row < sizeof rows / sizeof *rows; row++) {
         peltzivar_fields fields = PELTZIVAR_NEW_FIELDS;
-        CHECK(peltzivar_edit_fields(&fields, &rows[row].edit, 1));
+        CHECK(peltzivar_edit_fields(&fields, rows[row].edits, 2));
         for (int index = 0; index < 256; index++) {
+            const bool is_here = index == rows[row].index;
             memset(text, '#', sizeof text);
-            const size_t len = peltzivar_unused(&fields, (uint8_t)index, text, sizeof text);
-            CHECK(is_text(index == row ? rows[row].text : "", len, text));
+            const size_t len = peltzivar_note(&fields, (uint8_t)index, text, sizeof text);
+            CHECK(is_text(is_here ? rows[row].text : "", len, text));
+            const peltzivar_word mask = peltzivar_note_mask(&fields, (uint8_t)index);
+            CHECK(is_word(mask, is_here ? rows[row].mask.high : 0, is_here ? rows[row].mask.low : 0));
         }
     }
 }
@@ -321,19 +408,35 @@ static void test_settings(void) {
         {"mantissa_radix=16", PELTZIVAR_SETTING_READ, {PELTZIVAR_SET_MANTISSA_RADIX, 16}},
         {"no_special=true", PELTZIVAR_SETTING_READ, {PELTZIVAR_SET_NO_SPECIAL, 1}},
         {"base_prefix=none", PELTZIVAR_SETTING_READ, {PELTZIVAR_SET_BASE_PREFIX, 0}},
-        {"", PELTZIVAR_SETTING_UNKNOWN_NAME, {7, 9}},
+        {"base_prefix='x'", PELTZIVAR_SETTING_READ, {PELTZIVAR_SET_BASE_PREFIX, 'x'}},
+        {"base_suffix='''", PELTZIVAR_SETTING_READ, {PELTZIVAR_SET_BASE_SUFFIX, '\''}},
+        {"digit_separator=0x5f", PELTZIVAR_SETTING_READ, {PELTZIVAR_SET_DIGIT_SEPARATOR, '_'}},
+        {"mantissa_radix=0x10", PELTZIVAR_SETTING_READ, {PELTZIVAR_SET_MANTISSA_RADIX, 16}},
+        {"", PELTZIVAR_SETTING_NO_EQUALS, {7, 9}},
+        {"radix", PELTZIVAR_SETTING_NO_EQUALS, {7, 9}},
+        {"\xFF", PELTZIVAR_SETTING_UNKNOWN_NAME, {7, 9}},
+        {"radix=\xFF", PELTZIVAR_SETTING_UNKNOWN_NAME, {7, 9}},
         {"no_special =true", PELTZIVAR_SETTING_UNKNOWN_NAME, {7, 9}},
         {"\xFF=1", PELTZIVAR_SETTING_UNKNOWN_NAME, {7, 9}},
         {"no_special=1", PELTZIVAR_SETTING_BAD_VALUE, {7, 9}},
         {"no_special= true", PELTZIVAR_SETTING_BAD_VALUE, {7, 9}},
-        {"radix", PELTZIVAR_SETTING_BAD_VALUE, {7, 9}},
+        {"no_special=256", PELTZIVAR_SETTING_BAD_VALUE, {7, 9}},
+        {"radix=", PELTZIVAR_SETTING_BAD_VALUE, {7, 9}},
         {"mantissa_radix=none", PELTZIVAR_SETTING_BAD_VALUE, {7, 9}},
+        {"base_prefix=''", PELTZIVAR_SETTING_BAD_VALUE, {7, 9}},
+        {"base_prefix='ab'", PELTZIVAR_SETTING_BAD_VALUE, {7, 9}},
+        {"base_prefix='\xC3\xA9'", PELTZIVAR_SETTING_BAD_VALUE, {7, 9}},
+        {"base_prefix=0x", PELTZIVAR_SETTING_BAD_VALUE, {7, 9}},
+        {"base_prefix=0xg1", PELTZIVAR_SETTING_BAD_VALUE, {7, 9}},
+        {"base_prefix=0x100", PELTZIVAR_SETTING_OUT_OF_RANGE, {7, 9}},
         {"mantissa_radix=256", PELTZIVAR_SETTING_OUT_OF_RANGE, {7, 9}},
     };
     for (size_t row = 0; row < sizeof rows / sizeof *rows; row++) {
         peltzivar_edit edit = {7, 9};
         CHECK(peltzivar_edit_of_text(rows[row].text, strlen(rows[row].text), &edit) == rows[row].wanted);
         CHECK(edit.setter == rows[row].edit.setter && edit.value == rows[row].edit.value);
+        const size_t len = peltzivar_setting_error(rows[row].text, strlen(rows[row].text), NULL, 0);
+        CHECK((len == 0) == (rows[row].wanted == PELTZIVAR_SETTING_READ));
     }
     char text[PELTZIVAR_TEXT_SIZE];
     for (size_t row = 0; row < 3; row++) {
@@ -356,6 +459,81 @@ static void test_settings(void) {
     CHECK(is_word(peltzivar_edit_mask((peltzivar_edit){PELTZIVAR_SET_EXPONENT_RADIX + 1, 1}), 0, 0));
 }
 
+/* The sentence of a refused setting. */
+static void test_setting_errors(void) {
+    static const struct {
+        const char *text, *sentence;
+    } rows[] = {
+        {"radix=16", ""},
+        {"radix", "expected NAME=VALUE"},
+        {"colour=7", "unknown setting name"},
+        {"\xFF", "unknown setting name"},
+        {"no_special=1", "no_special takes `true` or `false`"},
+        {"radix=256", "radix takes a number, 2 to 36 in a lawful format"},
+        {"exponent_base=ten", "exponent_base takes a number, 2 to 36 in a lawful format, or `none`"},
+        {"base_prefix=x", "base_prefix takes a character such as '_', a number from 0 to 255, or `none`"},
+    };
+    char text[PELTZIVAR_TEXT_SIZE];
+    for (size_t row = 0; row < sizeof rows / sizeof *rows; row++) {
+        memset(text, '#', sizeof text);
+        const size_t len = peltzivar_setting_error(rows[row].text, strlen(rows[row].text), text, sizeof text);
+        CHECK(is_text(rows[row].sentence, len, text));
+    }
+    memset(text, '#', sizeof text);
+    CHECK(peltzivar_setting_error("no_special=1", 12, text, 11) == strlen("no_special takes `true` or `false`"));
+    CHECK(strcmp(text, "no_special") == 0 && text[11] == '#');
+}
+
+/* A word as text, the word of a text, and a word as Rust code. */
+static void test_word_texts(void) {
+    const peltzivar_word word = {0x12ab, 0x0A0A10000000005F};
+    char text[PELTZIVAR_SOURCE_SIZE];
+    memset(text, '#', sizeof text);
+    CHECK(is_text("0x0A0A10000000005F00000000000012AB", peltzivar_text_of_word(word, text, sizeof text), text));
+    const struct {
+        const char *text;
+        peltzivar_error wanted;
+    } rows[] = {
+        {"", PELTZIVAR_EMPTY}, {"0x", PELTZIVAR_EMPTY}, {"12", PELTZIVAR_INVALID_DIGIT},
+        {"0x12 4", PELTZIVAR_INVALID_DIGIT}, {"0x1\xFF", PELTZIVAR_INVALID_DIGIT},
+        {"0x000000000000000000000000000000000", PELTZIVAR_OVERFLOW},
+    };
+    peltzivar_word read = {1, 2};
+    for (size_t row = 0; row < sizeof rows / sizeof *rows; row++) {
+        CHECK(peltzivar_word_of_text(rows[row].text, strlen(rows[row].text), &read) == rows[row].wanted);
+        CHECK(is_word(read, 2, 1));
+    }
+    CHECK(peltzivar_word_of_text(text, strlen(text), &read) == PELTZIVAR_SUCCESS);
+    CHECK(is_word(read, word.high, word.low));
+    CHECK(!peltzivar_word_of_text("0xaBc]", 5, &read) && is_word(read, 0, 0xABC));
+
+    memset(text, '#', sizeof text);
+    const char *code = "NumberFormatBuilder::new().mantissa_radix(16).build_unchecked()";
+    CHECK(is_text(code, peltzivar_source((peltzivar_word){0xC, 0x0000100000000000}, text, sizeof text), text));
+    /* The longest text: each flag that a new builder does not have, neither of those that it has, and large bytes. */
+    const peltzivar_word longest = {0x00001FFF0003FFF3, 0xFFFFFFFFFF0000FF};
+    CHECK(peltzivar_source(longest, text, 0) == 1294 && strcmp(code, text) == 0);
+    CHECK(peltzivar_source(longest, text, sizeof text) == strlen(text) && strlen(text) == 1294);
+}
+
+/* A flag is that of its setter, a group has one if any of its flags is set, and other setters have none. */
+static void test_flag(void) {
+    for (uint8_t flag = 0; flag < PELTZIVAR_SET_REQUIRED_DIGITS; flag++) {
+        const peltzivar_edit set = {flag, 1};
+        peltzivar_word word;
+        CHECK(peltzivar_edit_word(ZERO, &set, 1, &word));
+        for (uint8_t setter = 0; setter < PELTZIVAR_SET_REQUIRED_DIGITS; setter++) {
+            CHECK(peltzivar_flag(word, setter) == (setter == flag));
+        }
+    }
+    CHECK(peltzivar_flag(PELTZIVAR_STANDARD, PELTZIVAR_SET_REQUIRED_DIGITS));
+    CHECK(!peltzivar_flag(PELTZIVAR_STANDARD, PELTZIVAR_SET_DIGIT_SEPARATOR_FLAGS));
+    const peltzivar_word ones = {UINT64_MAX, UINT64_MAX};
+    for (int setter = 0; setter < 256; setter++) {
+        CHECK(peltzivar_flag(ones, (uint8_t)setter) == (setter < PELTZIVAR_SET_DIGIT_SEPARATOR));
+    }
+}
+
 /* A null pointer beside a length of 0 is an empty array. */
 static void test_null(void) {
     peltzivar_fields fields = PELTZIVAR_NEW_FIELDS;
@@ -370,10 +548,13 @@ static void test_null(void) {
     CHECK(peltzivar_setter_name(PELTZIVAR_SET_RADIX, NULL, 0) == strlen("radix"));
     CHECK(peltzivar_setter_of_name(NULL, 0) == PELTZIVAR_NO_SETTER);
     peltzivar_edit edit;
-    CHECK(peltzivar_edit_of_text(NULL, 0, &edit) == PELTZIVAR_SETTING_UNKNOWN_NAME);
+    CHECK(peltzivar_edit_of_text(NULL, 0, &edit) == PELTZIVAR_SETTING_NO_EQUALS);
+    CHECK(peltzivar_setting_error(NULL, 0, NULL, 0) == strlen("expected NAME=VALUE"));
     CHECK(peltzivar_text_of_edit((peltzivar_edit){PELTZIVAR_SET_RADIX, 16}, NULL, 0) == strlen("radix=16"));
-    CHECK(peltzivar_reason(ZERO, 0, 0, NULL, 0) == strlen("the mantissa radix 0 is not 2 to 36"));
-    CHECK(peltzivar_unused(&PELTZIVAR_NEW_FIELDS, 0, NULL, 0) == 0);
+    CHECK(peltzivar_reason(ZERO, 0, 0, NULL, 0) == strlen("the mantissa radix 0 is not between 2 and 36"));
+    CHECK(peltzivar_word_reason(ZERO, 0, NULL, 0) == strlen("the mantissa radix 0 is not between 2 and 36"));
+    CHECK(peltzivar_note(&PELTZIVAR_NEW_FIELDS, 0, NULL, 0) == 0);
+    CHECK(peltzivar_text_of_word(ZERO, NULL, 0) == 34 && peltzivar_word_of_text(NULL, 0, &word) == PELTZIVAR_EMPTY);
 }
 
 int main(void) {
@@ -385,10 +566,14 @@ int main(void) {
     test_rules();
     test_one_rule_each();
     test_reasons();
-    test_unused();
+    test_blame();
+    test_notes();
     test_bytes();
     test_texts();
     test_settings();
+    test_setting_errors();
+    test_word_texts();
+    test_flag();
     test_null();
     return failed;
 }

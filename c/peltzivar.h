@@ -146,8 +146,9 @@ enum {
 #define PELTZIVAR_FIELD_COUNT (PELTZIVAR_SET_REQUIRED_DIGITS + 6)
 
 /* Success (0) or one of 48 errors: 1 to 19 are parse errors, 20 to 36 format errors, 37 to 48 option errors. The
- * calls below return only success and format errors; the others are for parsers and writers that use this library.
- * Two rules share PELTZIVAR_INVALID_SPECIAL; to find out which one is broken, call peltzivar_keeps_rule. */
+ * calls below return only success, format errors and, from peltzivar_word_of_text, three parse errors; the others are
+ * for parsers and writers that use this library. Two rules share PELTZIVAR_INVALID_SPECIAL; to find out which one is
+ * broken, call peltzivar_keeps_rule. */
 typedef uint32_t peltzivar_error;
 enum {
     PELTZIVAR_SUCCESS = 0,
@@ -230,20 +231,25 @@ enum {
     PELTZIVAR_RULE_RESERVED_BITS_ARE_ZERO /* the bits of no field are 0 */
 };
 
-/* The number of rules, the most reasons why one rule is broken, and the most settings that peltzivar_unused names. */
+/* The number of rules, the most reasons why one rule is broken, the number of slots for all reasons of a word, the
+ * most edits that mend one field, and the most notes on fields. */
 #define PELTZIVAR_RULE_COUNT 16
-#define PELTZIVAR_REASONS 3
-#define PELTZIVAR_UNUSED 4
+#define PELTZIVAR_MAX_REASONS 3
+#define PELTZIVAR_CANDIDATE_COUNT 24
+#define PELTZIVAR_MAX_MENDING_EDITS 3
+#define PELTZIVAR_MAX_NOTES 3
 
-/* The bytes that hold any text of this library and its final 0. */
+/* The bytes that hold any text of this library and its final 0, and those that hold a text of peltzivar_source. */
 #define PELTZIVAR_TEXT_SIZE 256
+#define PELTZIVAR_SOURCE_SIZE 2048
 
 /* The results of peltzivar_edit_of_text. */
 enum {
     PELTZIVAR_SETTING_READ = 0,
     PELTZIVAR_SETTING_UNKNOWN_NAME = 1,
     PELTZIVAR_SETTING_BAD_VALUE = 2,
-    PELTZIVAR_SETTING_OUT_OF_RANGE = 3
+    PELTZIVAR_SETTING_OUT_OF_RANGE = 3,
+    PELTZIVAR_SETTING_NO_EQUALS = 4
 };
 
 /* Returns the version of the library, in the form of PELTZIVAR_VERSION_NUMBER. If its major or minor part differs
@@ -270,7 +276,7 @@ PELTZIVAR_MUST_USE PELTZIVAR_API bool peltzivar_build(
 
 /* Packs the fields as peltzivar_pack does. If the word is lawful, writes it to *out and returns PELTZIVAR_SUCCESS.
  * If not, returns the error of the first rule that it breaks and leaves *out unchanged. A digit separator that no
- * flag allows is dropped without an error; peltzivar_unused names it. */
+ * flag allows is dropped without an error; peltzivar_note reports it. */
 PELTZIVAR_MUST_USE PELTZIVAR_API peltzivar_error peltzivar_build_strict(
     const peltzivar_fields *fields, peltzivar_word *out);
 
@@ -353,6 +359,34 @@ PELTZIVAR_API peltzivar_error peltzivar_rule_error(uint8_t rule);
  * broken rule if its peltzivar_edit_mask has a bit in common with this mask. */
 PELTZIVAR_API peltzivar_word peltzivar_rule_mask(uint8_t rule);
 
+/* Returns whether the flag of a flag setter is set in the word, or for a group setter whether any flag of its group
+ * is; false for any other number. */
+PELTZIVAR_API bool peltzivar_flag(peltzivar_word format, uint8_t setter);
+
+/* Returns the bits of a word that the reason in a slot blames (peltzivar_word_reason writes its text), or 0 if there
+ * is no such reason. A setting is to blame if its peltzivar_edit_mask has a bit in common with this mask. The reason
+ * is true of each word that has the same bits under the mask. */
+PELTZIVAR_API peltzivar_word peltzivar_word_reason_mask(peltzivar_word format, uint8_t index);
+
+/* Returns the first rule that the reason in a slot breaks, or PELTZIVAR_RULE_COUNT if there is no such reason. */
+PELTZIVAR_API uint8_t peltzivar_word_reason_rule(peltzivar_word format, uint8_t index);
+
+/* Returns whether the reason in a slot breaks the rule; false if there is no such reason or rule. A mantissa radix
+ * also breaks the rules of an exponent base and an exponent radix that are 0. */
+PELTZIVAR_API bool peltzivar_word_reason_breaks(peltzivar_word format, uint8_t index, uint8_t rule);
+
+/* Writes edits that mend one field for the reason in a slot, and returns their number. They clear a flag or an
+ * optional byte, or set the mantissa radix to 10. After peltzivar_edit_word with them, each rule is kept that only
+ * this reason broke, and so is each rule that was kept. The field is an index in the order of the bits of a word, 0
+ * to PELTZIVAR_FIELD_COUNT - 1: the flags as in PELTZIVAR_SET_*, then the six bytes. If no such edits mend the field,
+ * or if there is no such reason or field, returns 0 and leaves the array unchanged. Edits behind the returned number
+ * are unspecified. */
+PELTZIVAR_API size_t peltzivar_word_reason_mend(
+    peltzivar_word format, uint8_t index, uint8_t field, peltzivar_edit edits[PELTZIVAR_MAX_MENDING_EDITS]);
+
+/* Returns the bits of a word that a note of peltzivar_note describes, or 0 if there is no such note. */
+PELTZIVAR_API peltzivar_word peltzivar_note_mask(const peltzivar_fields *fields, uint8_t index);
+
 /* Returns whether a byte is a digit of the mantissa radix or of the exponent radix. */
 PELTZIVAR_API bool peltzivar_is_digit(peltzivar_word format, uint8_t byte);
 
@@ -395,7 +429,23 @@ PELTZIVAR_API uint8_t peltzivar_digit_to_char_const(uint32_t digit, uint32_t rad
  *
  * Each call writes ASCII text with a final 0, as snprintf does: at most len bytes with the 0, the front of a
  * longer text, nothing if len is 0. It returns the length of the whole text without the 0. The text is empty if
- * there is no such error, setter, rule or index. PELTZIVAR_TEXT_SIZE bytes are always enough. */
+ * there is no such error, setter, rule or index. PELTZIVAR_TEXT_SIZE bytes are always enough, except for
+ * peltzivar_source, which needs up to PELTZIVAR_SOURCE_SIZE. */
+
+/* Writes a word as `0x` and 32 hexadecimal digits with capital letters. */
+PELTZIVAR_API size_t peltzivar_text_of_word(peltzivar_word format, char *text, size_t len);
+
+/* Parses `0x` and 1 to 32 hexadecimal digits of either case, writes the word to *out and returns PELTZIVAR_SUCCESS.
+ * Otherwise leaves *out unchanged and returns PELTZIVAR_EMPTY if the text ends before its first digit,
+ * PELTZIVAR_OVERFLOW if a 33rd digit is the first byte that does not fit, or PELTZIVAR_INVALID_DIGIT if another byte
+ * is, or if the text is not UTF-8. The index of that byte is not returned. The text has len bytes and no final 0. */
+PELTZIVAR_MUST_USE PELTZIVAR_API peltzivar_error peltzivar_word_of_text(
+    const char *text, size_t len, peltzivar_word *out);
+
+/* Writes the builder expression of a word: the Rust code that builds it, such as
+ * "NumberFormatBuilder::new().mantissa_radix(16).build_unchecked()". The code makes the word itself if and only if
+ * peltzivar_is_built returns true. */
+PELTZIVAR_API size_t peltzivar_source(peltzivar_word format, char *text, size_t len);
 
 /* Writes the description of an error: what is wrong, between single quotes and without an index. */
 PELTZIVAR_API size_t peltzivar_description(peltzivar_error error, char *text, size_t len);
@@ -404,17 +454,24 @@ PELTZIVAR_API size_t peltzivar_description(peltzivar_error error, char *text, si
  * no class. Any other error than a parse error has no index: pass 0. */
 PELTZIVAR_API size_t peltzivar_text(peltzivar_error error, size_t index, char *text, size_t len);
 
-/* Writes one reason why a word breaks a rule, such as "the base prefix 'b' is a digit of radix 16". The index is 0
- * to PELTZIVAR_REASONS - 1; try them all, since any of the texts may be empty. All of them are empty if and only
+/* Writes one reason why a word breaks a rule, such as "the base prefix 'b' is a digit in radix 16". The index is 0
+ * to PELTZIVAR_MAX_REASONS - 1; try them all, since any of the texts may be empty. All of them are empty if and only
  * if the word keeps the rule or there is no such rule. */
 PELTZIVAR_API size_t peltzivar_reason(peltzivar_word format, uint8_t rule, uint8_t index, char *text, size_t len);
 
-/* Writes one setting that no number can show, such as "the digit separator '_' has no effect: no flag allows one".
- * It is not an error, and rules may still read the setting. The index is 0 to PELTZIVAR_UNUSED - 1; any of the
- * texts may be empty. They name a digit separator that no flag allows, digit separator flags without a digit
- * separator, and a case-sensitivity flag without its base prefix or base suffix. For a word, pass what
- * peltzivar_fields_of returns. */
-PELTZIVAR_API size_t peltzivar_unused(const peltzivar_fields *fields, uint8_t index, char *text, size_t len);
+/* Writes the reason in a slot of a word, such as "no_special and case_sensitive_special cannot both be set". The
+ * index is 0 to PELTZIVAR_CANDIDATE_COUNT - 1; try them all, since any of the texts may be empty. Each cause of
+ * broken rules has one slot, in the order of the first rule that it breaks. All texts are empty if and only if the
+ * word is lawful. */
+PELTZIVAR_API size_t peltzivar_word_reason(peltzivar_word format, uint8_t index, char *text, size_t len);
+
+/* Writes one note on fields, such as "no number can have the digit separator '_': no flag allows one". It is not
+ * an error: the fields of a lawful word may have notes. The index is 0 to PELTZIVAR_MAX_NOTES - 1; any of the texts
+ * may be empty. There are notes on a digit separator that no flag allows, on digit separator flags without a digit
+ * separator, and on a case-sensitivity flag whose base prefix or base suffix is absent or not a letter, and no
+ * others. A field that a reason blames has no note. Packing drops a digit separator that no flag allows, so pass
+ * the fields themselves and not those of the packed word. For a word, pass what peltzivar_fields_of returns. */
+PELTZIVAR_API size_t peltzivar_note(const peltzivar_fields *fields, uint8_t index, char *text, size_t len);
 
 /* Writes the name of a setter: its constant in lower case without PELTZIVAR_SET_, such as "digit_separator". */
 PELTZIVAR_API size_t peltzivar_setter_name(uint8_t setter, char *text, size_t len);
@@ -424,14 +481,20 @@ PELTZIVAR_API size_t peltzivar_setter_name(uint8_t setter, char *text, size_t le
 PELTZIVAR_API uint8_t peltzivar_setter_of_name(const char *name, size_t len);
 
 /* Parses a setting NAME=VALUE, split at the first `=`, writes its edit to *out and returns PELTZIVAR_SETTING_READ,
- * which is 0. Otherwise leaves *out unchanged and returns PELTZIVAR_SETTING_UNKNOWN_NAME if no setter has the name,
- * PELTZIVAR_SETTING_BAD_VALUE if the setter does not take the value, or PELTZIVAR_SETTING_OUT_OF_RANGE if the value
- * is a number above 255 or with more than three digits.
+ * which is 0. Otherwise leaves *out unchanged and returns PELTZIVAR_SETTING_NO_EQUALS if the text has no `=`,
+ * PELTZIVAR_SETTING_UNKNOWN_NAME if no setter has the name, PELTZIVAR_SETTING_OUT_OF_RANGE if the setter takes a byte
+ * and the value is a number above 255 or with too many digits, or PELTZIVAR_SETTING_BAD_VALUE if the setter does not
+ * take the value for another reason.
  *
- * A flag setter takes `true` or `false`. A byte setter takes a decimal number, and except for mantissa_radix and
- * radix also `none`, which like 0 means absent. No blank is skipped. A text without `=` is a name with an empty
- * value. The text has len bytes and no final 0. Text that is not UTF-8 gives PELTZIVAR_SETTING_UNKNOWN_NAME. */
+ * A flag setter takes `true` or `false`. A byte setter takes an ASCII character between two `'`, or `0x` and one or
+ * two hexadecimal digits, or one to three decimal digits, and except for mantissa_radix and radix also `none`, which
+ * like 0 means absent. No blank is skipped. The text has len bytes and no final 0. Text that is not UTF-8 gives
+ * PELTZIVAR_SETTING_UNKNOWN_NAME. */
 PELTZIVAR_MUST_USE PELTZIVAR_API uint32_t peltzivar_edit_of_text(const char *text, size_t len, peltzivar_edit *out);
+
+/* Writes to `to`, which has to_len bytes, why peltzivar_edit_of_text refuses a text of len bytes, such as "no_special
+ * takes `true` or `false`". The written text is empty if peltzivar_edit_of_text reads the text. */
+PELTZIVAR_API size_t peltzivar_setting_error(const char *text, size_t len, char *to, size_t to_len);
 
 /* Writes an edit as NAME=VALUE, which peltzivar_edit_of_text parses to an edit that does the same. The value is
  * `true` for any value except 0 of a flag setter, and `none` for an absent byte. */

@@ -1,11 +1,11 @@
-/* Reads a file of settings, one NAME = VALUE a line, and prints the word that they make, and the settings without
- * effect; or each line that cannot be read, and why; or why each broken rule is broken, and the lines that wrote its
- * fields.
+/* Reads a file of settings, one NAME = VALUE a line, and prints the word that they make; or each problem and each note
+ * after the lines to which it belongs. A line that begins with `#` is a comment. The file may have any bytes.
  *
  *     cc -Wall -Wextra -Werror settings.c libpeltzivar_c.a -o settings
  *     ./settings hexadecimal.txt
  *
- * The status is 0 if the word is lawful, 1 if it is not, and 2 if the file or one of its lines cannot be read. */
+ * The status is 0 if the word is lawful, 1 if it is not, and 2 if the file cannot be read, if a line is not a setting,
+ * or if a later line leaves nothing of a setting. */
 #include "peltzivar.h"
 
 #include <errno.h>
@@ -14,11 +14,14 @@
 #include <stdlib.h>
 #include <string.h>
 
+/* The settings of which something is left, at most one of each setter, and the path of their file. */
 static struct {
     peltzivar_edit edit;
     size_t line;
-} *settings;
+    bool is_named;
+} settings[PELTZIVAR_SET_EXPONENT_RADIX + 2];
 static size_t count;
+static const char *path;
 
 /* Prints text, each byte that is not printable ASCII as `\x1b`. */
 static void print_bytes(FILE *to, const char *text, size_t len) {
@@ -30,16 +33,15 @@ static void print_bytes(FILE *to, const char *text, size_t len) {
 }
 
 /* Prints what errno says of a file, and returns the status. */
-static int failure(const char *path) {
+static int failure(const char *file) {
     const char *const why = strerror(errno);
-    fputs("settings: ", stderr);
-    print_bytes(stderr, path, strlen(path));
+    print_bytes(stderr, file, strlen(file));
     fprintf(stderr, ": %s\n", why);
     return 2;
 }
 
 /* Returns the bytes of a file, which the caller frees, and writes their number to *len. Returns null if it cannot. */
-static char *read_file(const char *path, size_t *len) {
+static char *read_file(size_t *len) {
     FILE *const file = fopen(path, "rb");
     if (!file) return NULL;
     char *bytes = NULL;
@@ -60,90 +62,143 @@ static char *read_file(const char *path, size_t *len) {
     return NULL;
 }
 
-static bool is_blank(char byte) {
-    return byte == ' ' || byte == '\t' || byte == '\r';
+/* Moves the ends of a text over these blanks. */
+static void trim(const char **start, const char **end, const char *blanks) {
+    while (*start < *end && memchr(blanks, **start, strlen(blanks))) ++*start;
+    while (*start < *end && memchr(blanks, (*end)[-1], strlen(blanks))) --*end;
 }
 
-/* Moves the text from `start` to `end`, without blanks at its ends, to `to`, and returns the end of the moved text. */
-static char *move(char *to, const char *start, const char *end) {
-    while (start < end && is_blank(*start)) start++;
-    while (start < end && is_blank(end[-1])) end--;
-    memmove(to, start, (size_t)(end - start));
+/* Copies a text without blanks at its ends, and returns the end of the copy. */
+static char *copy(char *to, const char *start, const char *end) {
+    trim(&start, &end, " \t\v\f\r");
+    memcpy(to, start, (size_t)(end - start));
     return to + (end - start);
 }
 
-/* Reads a line in its place: nothing, or a setting, with blanks where you like, and a comment from `#` on. If the line
- * cannot be read, prints why and returns false. */
-static bool read_line(char *line, const char *end, size_t number, peltzivar_fields *fields) {
-    static const char *const whys[] = {"", "no such setting", "no value for it", "a number above 255"};
-    const char *const comment = memchr(line, '#', (size_t)(end - line));
-    if (comment) end = comment;
+/* Prints as a question the setter name that shares most pairs of letters with an unknown name, if it is like it. */
+static void print_suggestion(const char *name, size_t len) {
+    char text[PELTZIVAR_TEXT_SIZE], nearest[PELTZIVAR_TEXT_SIZE] = "";
+    size_t most = 50;
+    for (uint8_t setter = 0; setter <= PELTZIVAR_SET_EXPONENT_RADIX; setter++) {
+        const size_t text_len = peltzivar_setter_name(setter, text, sizeof text);
+        size_t pairs = 0;
+        for (size_t i = 0; i + 1 < text_len; i++) {
+            size_t at = 0;
+            while (at + 1 < len && memcmp(name + at, text + i, 2) != 0) at++;
+            pairs += at + 1 < len;
+        }
+        if (200 * pairs / (len + text_len) < most) continue;
+        most = 200 * pairs / (len + text_len);
+        memcpy(nearest, text, text_len + 1);
+    }
+    if (*nearest) printf("; did you mean %s?", nearest);
+}
+
+/* Returns the bits of `a` that `b` does not have. */
+static peltzivar_word without(peltzivar_word a, peltzivar_word b) {
+    return (peltzivar_word){a.low & ~b.low, a.high & ~b.high};
+}
+
+/* Adds a setting. Returns false, and prints which, if it leaves nothing of others. It may refine a group. */
+static bool add(peltzivar_edit edit, size_t line) {
+    char name[PELTZIVAR_TEXT_SIZE];
+    size_t kept = 0;
+    for (size_t i = 0; i < count; i++) {
+        const peltzivar_word rest = without(peltzivar_edit_mask(settings[i].edit), peltzivar_edit_mask(edit));
+        if (rest.low | rest.high) {
+            settings[kept++] = settings[i];
+            continue;
+        }
+        peltzivar_setter_name(settings[i].edit.setter, name, sizeof name);
+        print_bytes(stdout, path, strlen(path));
+        printf(": lines %zu, %zu: %s is set twice\n", settings[i].line, line, name);
+    }
+    const bool is_new = kept == count;
+    settings[kept].edit = edit;
+    settings[kept].line = line;
+    count = kept + 1;
+    return is_new;
+}
+
+/* Reads a line: nothing, a comment, or a setting, which it joins in `to`. Returns false, and prints why, if the line
+ * is not one of these or leaves nothing of an earlier one. */
+static bool read_line(const char *line, const char *end, size_t number, char *to, peltzivar_fields *fields) {
+    char why[PELTZIVAR_TEXT_SIZE] = "the line is not ASCII";
+    peltzivar_edit edit;
+    bool is_ascii = true;
+    trim(&line, &end, " \t\f\r");
+    if (line == end || *line == '#') return true;
+    for (const char *byte = line; byte < end; byte++) is_ascii &= (unsigned char)*byte < 128;
     const char *const equals = memchr(line, '=', (size_t)(end - line));
-    char *last = move(line, line, equals ? equals : end);
+    char *const name_end = copy(to, line, equals ? equals : end);
+    char *last = name_end;
     if (equals) {
         *last++ = '=';
-        last = move(last, equals + 1, end);
+        last = copy(last, equals + 1, end);
     }
-    const size_t len = (size_t)(last - line);
-    if (len == 0) return true;
-    const uint32_t why = peltzivar_edit_of_text(line, len, &settings[count].edit);
-    settings[count].line = number;
-    if (why == PELTZIVAR_SETTING_READ) return peltzivar_edit_fields(fields, &settings[count++].edit, 1);
-    printf("line %zu: ", number);
-    print_bytes(stdout, line, len);
-    printf(": %s\n", whys[why]);
+    const uint32_t error = peltzivar_edit_of_text(to, (size_t)(last - to), &edit);
+    if (is_ascii && !error) return add(edit, number) & peltzivar_edit_fields(fields, &edit, 1);
+    if (is_ascii) peltzivar_setting_error(to, (size_t)(last - to), why, sizeof why);
+    print_bytes(stdout, path, strlen(path));
+    printf(": line %zu: ", number);
+    print_bytes(stdout, line, (size_t)(end - line));
+    printf(": %s", why);
+    if (is_ascii && error == PELTZIVAR_SETTING_UNKNOWN_NAME) print_suggestion(to, (size_t)(name_end - to));
+    fputc('\n', stdout);
     return false;
 }
 
-/* Prints why the word breaks a rule, and which lines wrote fields that the rule reads. */
-static void print_rule(peltzivar_word word, uint8_t rule) {
-    char text[PELTZIVAR_TEXT_SIZE];
-    const peltzivar_word read = peltzivar_rule_mask(rule);
-    for (uint8_t index = 0; index < PELTZIVAR_REASONS; index++) {
-        if (peltzivar_reason(word, rule, index, text, sizeof text)) printf("%s\n", text);
+/* Prints a sentence after the lines that write bits under a mask which no later line writes. */
+static void print_located(peltzivar_word mask, const char *sentence) {
+    size_t named = 0;
+    for (size_t i = count; i-- > 0;) {
+        const peltzivar_word rest = without(mask, peltzivar_edit_mask(settings[i].edit));
+        settings[i].is_named = rest.low != mask.low || rest.high != mask.high;
+        named += settings[i].is_named;
+        mask = rest;
     }
+    print_bytes(stdout, path, strlen(path));
+    const char *before = named == 1 ? ": line " : ": lines ";
     for (size_t i = 0; i < count; i++) {
-        const peltzivar_word written = peltzivar_edit_mask(settings[i].edit);
-        if (!(written.low & read.low || written.high & read.high)) continue;
-        peltzivar_text_of_edit(settings[i].edit, text, sizeof text);
-        printf("    line %zu: %s\n", settings[i].line, text);
+        if (!settings[i].is_named) continue;
+        printf("%s%zu", before, settings[i].line);
+        before = ", ";
     }
+    printf(": %s\n", sentence);
 }
 
-/* Prints the word of the fields if it is lawful, why it breaks rules if not, and settings without effect. Returns the
- * status. */
-static int print_format(const peltzivar_fields *fields) {
+/* Prints the word if all lines are read and it is lawful, and each reason and note. Returns the status. */
+static int print_format(const peltzivar_fields *fields, bool is_read) {
     char text[PELTZIVAR_TEXT_SIZE];
     const peltzivar_word word = peltzivar_pack(fields);
     const bool is_lawful = !peltzivar_format_error(word);
-    if (is_lawful) printf("0x%016" PRIX64 "%016" PRIX64 "\n", word.high, word.low);
-    for (uint8_t rule = 0; rule < PELTZIVAR_RULE_COUNT; rule++) {
-        if (!peltzivar_keeps_rule(word, rule)) print_rule(word, rule);
+    if (is_read && is_lawful) printf("0x%016" PRIX64 "%016" PRIX64 "\n", word.high, word.low);
+    for (uint8_t index = 0; index < PELTZIVAR_CANDIDATE_COUNT; index++) {
+        if (!peltzivar_word_reason(word, index, text, sizeof text)) continue;
+        print_located(peltzivar_word_reason_mask(word, index), text);
     }
-    for (uint8_t index = 0; index < PELTZIVAR_UNUSED; index++) {
-        if (peltzivar_unused(fields, index, text, sizeof text)) printf("%s\n", text);
+    for (uint8_t index = 0; index < PELTZIVAR_MAX_NOTES; index++) {
+        if (peltzivar_note(fields, index, text, sizeof text)) print_located(peltzivar_note_mask(fields, index), text);
     }
-    return is_lawful ? 0 : 1;
+    return is_read ? !is_lawful : 2;
 }
 
 int main(int argc, char **argv) {
-    size_t len, lines = 1;
-    char *const text = argc == 2 ? read_file(argv[1], &len) : NULL;
-    if (!text) return argc == 2 ? failure(argv[1]) : (fputs("settings: name one file\n", stderr), 2);
-    for (size_t i = 0; i < len; i++) lines += text[i] == '\n';
-    settings = calloc(lines, sizeof *settings);
-    if (!settings) return failure(argv[1]);
+    if (argc != 2) return fputs("settings: name one file\n", stderr), 2;
+    size_t len;
+    path = argv[1];
+    char *const text = read_file(&len), *const scratch = text ? malloc(len + 1) : NULL;
+    if (!scratch) return failure(path);
     peltzivar_fields fields = PELTZIVAR_NEW_FIELDS;
     bool is_read = true;
-    char *line = text;
-    for (size_t number = 1; number <= lines; number++) {
-        char *const newline = memchr(line, '\n', len - (size_t)(line - text));
-        char *const end = newline ? newline : text + len;
-        is_read &= read_line(line, end, number, &fields);
+    const char *line = text, *const end = text + len;
+    for (size_t number = 1; line < end; number++) {
+        const char *const newline = memchr(line, '\n', (size_t)(end - line));
+        is_read &= read_line(line, newline ? newline : end, number, scratch, &fields);
         line = newline ? newline + 1 : end;
     }
-    const int status = is_read ? print_format(&fields) : 2;
-    free(settings);
+    const int status = print_format(&fields, is_read);
+    free(scratch);
     free(text);
     return fflush(stdout) ? failure("standard output") : status;
 }

@@ -17,13 +17,15 @@ static FILE *printed;
 
 enum { MOST_LINES = 3000, MOST_BYTES = 20000 };
 
-/* A random file: its bytes, what has to be printed of lines that cannot be read, the fields that the other lines write,
- * and the edit of each line. */
+/* A random file: its path and bytes, what has to be printed of it, the fields that its settings write, the edit of each
+ * line, the last line that writes each bit of a word, and whether each line is a setting of which something is left. */
 static struct {
+    const char *path;
     FILE *file, *wanted;
     peltzivar_fields fields;
     peltzivar_edit edits[MOST_LINES + 1];
-    bool is_read;
+    size_t writers[128];
+    bool is_left[MOST_LINES + 1], is_read;
 } made;
 
 static uint64_t state = 1;
@@ -42,8 +44,11 @@ static void write_blanks(void) {
 
 /* Writes a line with this name and value, or only the name, and adds what has to be printed if it cannot be read. */
 static void write_setting(
-    size_t line, const char *name, size_t name_len, const char *value, size_t value_len, int why) {
-    static const char *const whys[] = {"", "no such setting", "no value for it", "a number above 255"};
+    size_t line, const char *name, size_t name_len, const char *value, size_t value_len, const char *why) {
+    char *text;
+    size_t len, start = 0;
+    FILE *const file = made.file;
+    made.file = open_memstream(&text, &len);
     write_blanks();
     fwrite(name, 1, name_len, made.file);
     write_blanks();
@@ -53,66 +58,105 @@ static void write_setting(
         fwrite(value, 1, value_len, made.file);
         write_blanks();
     }
-    if (!why) return;
-    made.is_read = false;
-    fprintf(made.wanted, "line %zu: ", line);
-    for (size_t i = 0; i < name_len + (value ? 1 + value_len : 0); i++) {
-        const int byte = (unsigned char)(i < name_len ? name[i] : i == name_len ? '=' : value[i - name_len - 1]);
+    fclose(made.file);
+    made.file = file;
+    fwrite(text, 1, len, file);
+    made.is_read &= !why;
+    while (start < len && strchr(" \t\r", text[start]) && text[start]) start++;
+    while (len > start && strchr(" \t\r", text[len - 1]) && text[len - 1]) len--;
+    if (why) fprintf(made.wanted, "%s: line %zu: ", made.path, line);
+    for (; why && start < len; start++) {
+        const int byte = (unsigned char)text[start];
         fprintf(made.wanted, byte < 32 || byte > 126 ? "\\x%02x" : "%c", byte);
     }
-    fprintf(made.wanted, ": %s\n", whys[why]);
+    if (why) fprintf(made.wanted, ": %s\n", why);
+    free(text);
+}
+
+/* Notes the bits that a line writes, and adds the sentences of the lines of which it leaves nothing. */
+static void want_setting(size_t line) {
+    char name[PELTZIVAR_TEXT_SIZE];
+    const peltzivar_word mask = peltzivar_edit_mask(made.edits[line]);
+    for (int bit = 0; bit < 128; bit++) {
+        if ((bit < 64 ? mask.low : mask.high) >> (bit % 64) & 1) made.writers[bit] = line;
+    }
+    for (size_t first = 1; first < line; first++) {
+        const peltzivar_word old = peltzivar_edit_mask(made.edits[first]);
+        if (!made.is_left[first] || (old.low & mask.low) != old.low || (old.high & mask.high) != old.high) continue;
+        peltzivar_setter_name(made.edits[first].setter, name, sizeof name);
+        fprintf(made.wanted, "%s: lines %zu, %zu: %s is set twice\n", made.path, first, line, name);
+        made.is_left[first] = made.is_read = false;
+    }
+    made.is_left[line] = true;
 }
 
 /* Writes a line whose setting can be read. */
 static void write_good(size_t line) {
+    static const char *const forms[] = {"%zu", "%03zu", "0x%zx", "0x%02zX"};
     const size_t setter = below(PELTZIVAR_SET_EXPONENT_RADIX + 1), value = below(2) ? below(256) : 0;
     const bool is_flag = setter < PELTZIVAR_SET_DIGIT_SEPARATOR;
     const bool is_radix = setter == PELTZIVAR_SET_MANTISSA_RADIX || setter == PELTZIVAR_SET_RADIX;
     char name[PELTZIVAR_TEXT_SIZE], text[8];
     peltzivar_setter_name((uint8_t)setter, name, sizeof name);
-    snprintf(text, sizeof text, below(2) ? "%zu" : "%03zu", value);
+    snprintf(text, sizeof text, forms[below(4)], value);
+    if (value > ' ' && value <= '~' && below(2)) snprintf(text, sizeof text, "'%c'", (char)value);
     if (is_flag) strcpy(text, value ? "true" : "false");
     if (!is_flag && !is_radix && !value && below(2)) strcpy(text, "none");
-    write_setting(line, name, strlen(name), text, strlen(text), 0);
+    write_setting(line, name, strlen(name), text, strlen(text), NULL);
     made.edits[line] = (peltzivar_edit){(uint8_t)setter, (uint8_t)value};
     made.is_read &= peltzivar_edit_fields(&made.fields, &made.edits[line], 1);
+    want_setting(line);
 }
 
 /* Writes a line whose setting cannot be read. */
 static void write_bad(size_t line) {
     static const char bytes[MOST_BYTES];
+    static const char no_special[] = "no_special takes `true` or `false`";
+    static const char radix[] = "radix takes a number, 2 to 36 in a lawful format";
+    static const char base_prefix[] = "base_prefix takes a character such as '_', a number from 0 to 255, or `none`";
+    static const char base_suffix[] = "base_suffix takes a character such as '_', a number from 0 to 255, or `none`";
+    static const char exponent_base[] = "exponent_base takes a number, 2 to 36 in a lawful format, or `none`";
+    static const char unknown[] = "unknown setting name", no_equals[] = "expected NAME=VALUE";
+    static const char not_ascii[] = "the line is not ASCII";
     static const struct {
         const char *name, *value;
         size_t value_len;
-        int why;
+        const char *why;
     } rows[] = {
-        {"no_special", "1", 1, 2},  {"no_special", "", 0, 2},       {"no_special", "true\0", 5, 2},
-        {"radix", NULL, 0, 2},      {"radix", "1 6", 3, 2},         {"radix", "none", 4, 2},
-        {"radix", "2\0\n", 2, 2},   {"base_prefix", "0x7", 3, 2},   {"base_prefix", "-1", 2, 2},
-        {"radix", "256", 3, 3},     {"base_suffix", "0010", 4, 3},  {"exponent_base", "99999999999999999999", 20, 3},
-        {"Radix", "2", 1, 1},       {"colour", "7", 1, 1},          {"radix 2", NULL, 0, 1},
-        {"", "", 0, 1},             {"", "radix=2", 7, 1},          {"\xEF\xBB\xBFradix", "2", 1, 1},
-        {"~\x7F\x1B[31m", NULL, 0, 1},   {"radix", "\xFF", 1, 1},
+        {"no_special", "1", 1, no_special},         {"no_special", "", 0, no_special},
+        {"no_special", "true\0", 5, no_special},    {"no_special", "256", 3, no_special},
+        {"radix", "1 6", 3, radix},                 {"radix", "none", 4, radix},
+        {"radix", "2\0\n", 2, radix},               {"radix", "256", 3, radix},
+        {"base_prefix", "0x", 2, base_prefix},      {"base_prefix", "0xg", 3, base_prefix},
+        {"base_prefix", "0x100", 5, base_prefix},   {"base_prefix", "-1", 2, base_prefix},
+        {"base_suffix", "0010", 4, base_suffix},    {"base_suffix", "''", 2, base_suffix},
+        {"base_suffix", "'hh'", 4, base_suffix},    {"base_suffix", "'\xC3\xA9'", 4, not_ascii},
+        {"exponent_base", "", 0, exponent_base},    {"exponent_base", "99999999999999999999", 20, exponent_base},
+        {"Radix", "2", 1, "unknown setting name; did you mean radix?"},                 {"colour", "7", 1, unknown},
+        {"", "", 0, unknown},                       {"", "radix=2", 7, unknown},
+        {"\xEF\xBB\xBFradix", "2", 1, not_ascii},   {"radix", "\xFF", 1, not_ascii},
+        {"\xFF", NULL, 0, not_ascii},                 {"radix", NULL, 0, no_equals},
+        {"radix 2", NULL, 0, no_equals},            {"~\x7F\x1B[31m", NULL, 0, no_equals},
     };
     const size_t row = below(sizeof rows / sizeof *rows + 2);
     if (row < sizeof rows / sizeof *rows) {
         const size_t name_len = strlen(rows[row].name);
         write_setting(line, rows[row].name, name_len, rows[row].value, rows[row].value_len, rows[row].why);
     } else if (row % 2) {
-        write_setting(line, bytes, 1 + below(9), "2", 1, 1);
+        write_setting(line, bytes, 1 + below(9), "2", 1, unknown);
     } else {
-        write_setting(line, bytes, 1 + below(50) * below(50) * 8, NULL, 0, 1);
+        write_setting(line, bytes, 1 + below(50) * below(50) * 8, NULL, 0, no_equals);
     }
 }
 
-/* Writes a line without its end: blanks, or a setting; and a comment or none. */
+/* Writes a line without its end: blanks, a comment, or a setting. */
 static void write_line(size_t line, bool has_bad) {
     made.edits[line].setter = PELTZIVAR_NO_SETTER;
     const size_t kind = below(has_bad ? 4 : 3);
     if (kind == 0) write_blanks();
     else if (kind == 3) write_bad(line);
     else write_good(line);
-    if (below(3) == 0) {
+    if (kind == 0 && below(3) == 0) {
         fputc('#', made.file);
         for (size_t i = below(2) ? below(30) : below(1000); i > 0; i--) {
             const int byte = (int)below(256);
@@ -122,29 +166,51 @@ static void write_line(size_t line, bool has_bad) {
     if (below(3) == 0) fputc('\r', made.file);
 }
 
-/* Returns whether the text that was printed of a file without a bad line is right: it begins with the word if that is
- * lawful, and each line that it names has its own setting. */
-static bool is_printed(char *text, peltzivar_word word) {
-    char wanted[2 * PELTZIVAR_TEXT_SIZE], setting[PELTZIVAR_TEXT_SIZE];
-    snprintf(wanted, sizeof wanted, "0x%016" PRIX64 "%016" PRIX64 "\n", word.high, word.low);
-    if (!peltzivar_format_error(word) != !strncmp(text, wanted, strlen(wanted))) return false;
-    for (char *row = strtok(text, "\n"); row; row = strtok(NULL, "\n")) {
-        size_t line;
-        if (sscanf(row, "    line %zu: ", &line) != 1) continue;
-        if (line > MOST_LINES) return false;
-        peltzivar_text_of_edit(made.edits[line], setting, sizeof setting);
-        snprintf(wanted, sizeof wanted, "    line %zu: %s", line, setting);
-        if (!*setting || strcmp(row, wanted)) return false;
+/* Adds a sentence after the lines that have to be named for a mask: the last that writes each of its bits. */
+static void want_located(peltzivar_word mask, const char *sentence) {
+    static bool named[MOST_LINES + 1];
+    size_t lines = 0, last = 0;
+    for (int bit = 0; bit < 128; bit++) {
+        const uint64_t half = bit < 64 ? mask.low : mask.high;
+        const size_t line = half >> (bit % 64) & 1 ? made.writers[bit] : 0;
+        if (line == 0 || named[line]) continue;
+        named[line] = true;
+        lines++;
+        last = line > last ? line : last;
     }
-    return true;
+    fprintf(made.wanted, "%s: line%s", made.path, lines == 1 ? "" : "s");
+    for (size_t line = 1, before = 0; line <= last; line++) {
+        if (named[line]) fprintf(made.wanted, before++ ? ", %zu" : " %zu", line);
+        named[line] = false;
+    }
+    fprintf(made.wanted, ": %s\n", sentence);
+}
+
+/* Adds what has to be printed of the fields, and returns the status. */
+static int want_format(void) {
+    char text[PELTZIVAR_TEXT_SIZE];
+    const peltzivar_word word = peltzivar_pack(&made.fields);
+    const bool is_lawful = !peltzivar_format_error(word);
+    if (made.is_read && is_lawful) fprintf(made.wanted, "0x%016" PRIX64 "%016" PRIX64 "\n", word.high, word.low);
+    for (uint8_t index = 0; index < PELTZIVAR_CANDIDATE_COUNT; index++) {
+        if (!peltzivar_word_reason(word, index, text, sizeof text)) continue;
+        want_located(peltzivar_word_reason_mask(word, index), text);
+    }
+    for (uint8_t index = 0; index < PELTZIVAR_MAX_NOTES; index++) {
+        if (!peltzivar_note(&made.fields, index, text, sizeof text)) continue;
+        want_located(peltzivar_note_mask(&made.fields, index), text);
+    }
+    return !made.is_read ? 2 : is_lawful ? 0 : 1;
 }
 
 /* Writes a random file. */
-static void write_file(const char *path) {
-    made.file = fopen(path, "wb");
-    if (!made.file) exit(failure(path));
+static void write_file(void) {
+    made.file = fopen(made.path, "wb");
+    if (!made.file) exit(failure(made.path));
     made.fields = PELTZIVAR_NEW_FIELDS;
     made.is_read = true;
+    memset(made.writers, 0, sizeof made.writers);
+    memset(made.is_left, 0, sizeof made.is_left);
     const size_t lines = below(50) ? below(20) : below(MOST_LINES);
     const bool has_bad = below(2);
     for (size_t line = 1; line <= lines; line++) {
@@ -155,22 +221,22 @@ static void write_file(const char *path) {
 }
 
 /* Reads a random file, and returns whether status and text are right. A file that is not read right stays. */
-static bool is_right(char *path) {
-    char *arguments[] = {"settings", path}, *text, *wanted;
+static bool is_right(char *file) {
+    char *arguments[] = {"settings", file}, *text, *wanted;
     size_t text_len, wanted_len;
     made.wanted = open_memstream(&wanted, &wanted_len);
     printed = open_memstream(&text, &text_len);
-    write_file(path);
+    made.path = file;
+    write_file();
     count = 0;
     const int status = settings_main(2, arguments);
+    const int wanted_status = want_format();
     fclose(printed);
     fclose(made.wanted);
-    const peltzivar_word word = peltzivar_pack(&made.fields);
-    const bool right = made.is_read ? status == (peltzivar_format_error(word) ? 1 : 0) && is_printed(text, word)
-                                    : status == 2 && strcmp(text, wanted) == 0;
+    const bool right = status == wanted_status && strcmp(text, wanted) == 0;
     free(text);
     free(wanted);
-    if (right) remove(path);
+    if (right) remove(file);
     return right;
 }
 

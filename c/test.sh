@@ -1,6 +1,6 @@
 #!/usr/bin/env bash
-# Tests the calls of peltzivar.h from C, C++ and Python, also under the address and undefined behaviour sanitizers and
-# under valgrind; and the library that `make install` installs, from another folder.
+# Tests the names and calls of peltzivar.h from C, C++ and Python, also under the address and undefined behaviour
+# sanitizers and under valgrind; and the library that `make install` installs, from another folder.
 #
 #     c/test.sh            the plain library, built twice: with rustc's checks of numbers and pointers, and without
 #     c/test.sh ARCHIVE    another library, such as the proved one: `rt lib` in crates/lexical_c makes out/liblexical_c.a
@@ -18,7 +18,7 @@ trap 'rm -rf "$work"' EXIT
 
 has cc || { counted 0; exit; }
 declare -A here=()
-for tool in nm readelf gcc g++ clang clang++ python3 valgrind make pkg-config cmake; do
+for tool in nm readelf gcc g++ clang clang++ python3 mypy valgrind make pkg-config cmake; do
     if has $tool; then here[$tool]=yes; fi
 done
 
@@ -62,51 +62,63 @@ example() {
 cat > "$work/good.txt" << 'END'
 # Hexadecimal numbers, grouped by `_`.
 mantissa_radix = 16
-digit_separator= 95   # `_`
+digit_separator= 95
+  # `_`
 
 	internal_digit_separator =true
 case_sensitive_base_prefix=true
 END
 printf 'radix = 300\nno_special = 1\ncolour = 7\nradix\nradix = 2\nmantissa_radix 16' > "$work/unreadable.txt"
-unreadable="line 1: radix=300: a number above 255
-line 2: no_special=1: no value for it
-line 3: colour=7: no such setting
-line 4: radix: no value for it
-line 6: mantissa_radix 16: no such setting"
-printf '# 0\0\r\nradix=2\0\r\n\r\n\x1b[2J\xff = 1\r\n\xef\xbb\xbfradix=2\r\nbase_prefix\r=\t256\r' > "$work/bytes.txt"
-bytes='line 2: radix=2\x00: no value for it
-line 4: \x1b[2J\xff=1: no such setting
-line 5: \xef\xbb\xbfradix=2: no such setting
-line 6: base_prefix=256: a number above 255'
+unreadable="$work/unreadable.txt: line 1: radix = 300: radix takes a number, 2 to 36 in a lawful format
+$work/unreadable.txt: line 2: no_special = 1: no_special takes \`true\` or \`false\`
+$work/unreadable.txt: line 3: colour = 7: unknown setting name
+$work/unreadable.txt: line 4: radix: expected NAME=VALUE
+$work/unreadable.txt: line 6: mantissa_radix 16: expected NAME=VALUE"
+printf '# 0\0\r\nradix=2\0\r\n\r\n\x1b[2J\xff = 1\r\n\xef\xbb\xbfradix=2\r\nbase_prefix\r=\t256\r\n\vradix\v=\v1 6\v' > "$work/bytes.txt"
+bytes="$work/bytes.txt: line 2: radix=2\\x00: radix takes a number, 2 to 36 in a lawful format
+$work/bytes.txt: line 4: \\x1b[2J\\xff = 1: the line is not ASCII
+$work/bytes.txt: line 5: \\xef\\xbb\\xbfradix=2: the line is not ASCII
+$work/bytes.txt: line 6: base_prefix\\x0d=\\x09256: base_prefix takes a character such as '_', a number from 0 to 255, or \`none\`
+$work/bytes.txt: line 7: \\x0bradix\\x0b=\\x0b1 6\\x0b: radix takes a number, 2 to 36 in a lawful format"
 printf 'radix = 2\r\nno_special=true\r\n\r\nspecial_digit_separator=true\r' > "$work/crlf.txt"
-crlf="no_special and special_digit_separator exclude each other
-    line 2: no_special=true
-    line 4: special_digit_separator=true
-the digit separator flags have no effect: there is no digit separator"
+crlf="$work/crlf.txt: lines 2, 4: no_special and special_digit_separator cannot both be set"
 {
     printf '#%0100000d\n' 0
-    for ((line = 2; line <= 20000; line++)); do echo 'radix = 16'; done
+    for ((line = 2; line <= 20000; line++)); do echo '# radix = 16'; done
     printf '%100000snonsense%100000s\n' ' ' ' '
     printf 'base_suffix%0300d=h' 0
 } > "$work/long.txt"
-long="line 20001: nonsense: no such setting
-line 20002: base_suffix$(printf %0300d 0)=h: no such setting"
+long="$work/long.txt: line 20001: nonsense: expected NAME=VALUE
+$work/long.txt: line 20002: base_suffix$(printf %0300d 0)=h: unknown setting name"
 : > "$work/empty.txt"
 good="0x000010000000005F000000070001000C
-case_sensitive_base_prefix has no effect: there is no base prefix"
+$work/good.txt: line 7: case_sensitive_base_prefix changes nothing: there is no base prefix"
 cat > "$work/unlawful.txt" << 'END'
 base_prefix = 98
 mantissa_radix = 16
 no_special = true
 special_digit_separator = true
 END
-unlawful="the base prefix 'b' is a digit of radix 16
-    line 1: base_prefix=98
-    line 2: mantissa_radix=16
-no_special and special_digit_separator exclude each other
-    line 3: no_special=true
-    line 4: special_digit_separator=true
-the digit separator flags have no effect: there is no digit separator"
+unlawful="$work/unlawful.txt: lines 1, 2: the base prefix 'b' is a digit in radix 16
+$work/unlawful.txt: lines 3, 4: no_special and special_digit_separator cannot both be set"
+cat > "$work/twice.txt" << 'END'
+radix = 16
+internal_digit_separator = true
+integer_internal_digit_separator = false
+digit_separator = '_'
+mantissa_radix = 10
+base-prefix = 'x'
+prefix = 'x'
+digits = true
+trailing = true
+required_sign = true
+END
+twice="$work/twice.txt: lines 1, 5: radix is set twice
+$work/twice.txt: line 6: base-prefix = 'x': unknown setting name; did you mean base_prefix?
+$work/twice.txt: line 7: prefix = 'x': unknown setting name; did you mean base_prefix?
+$work/twice.txt: line 8: digits = true: unknown setting name
+$work/twice.txt: line 9: trailing = true: unknown setting name; did you mean trailing_digit_separator?
+$work/twice.txt: line 10: required_sign = true: unknown setting name; did you mean required_exponent_sign?"
 # settings PROGRAM: what the reader of a file of settings prints.
 settings() {
     prints 0 "$good" "$1" "$work/good.txt"
@@ -114,13 +126,14 @@ settings() {
     prints 2 "$unreadable" "$1" "$work/unreadable.txt"
     prints 2 "$bytes" "$1" "$work/bytes.txt"
     prints 1 "$crlf" "$1" "$work/crlf.txt"
+    prints 2 "$twice" "$1" "$work/twice.txt"
     prints 2 "$long" "$1" "$work/long.txt"
     prints 0 0x00000A0000000000000000000000000C "$1" "$work/empty.txt"
-    prints 2 "settings: nothing\\x1b[2J: No such file or directory" "$1" $'nothing\e[2J'
-    prints 2 "settings: .: Is a directory" "$1" .
+    prints 2 "nothing\\x1b[2J: No such file or directory" "$1" $'nothing\e[2J'
+    prints 2 ".: Is a directory" "$1" .
     prints 2 "settings: name one file" "$1"
     if [ -e /dev/full ]; then
-        prints 2 "settings: standard output: No space left on device" bash -c "'$1' '$work/good.txt' > /dev/full"
+        prints 2 "standard output: No space left on device" bash -c "'$1' '$work/good.txt' > /dev/full"
     fi
 }
 
@@ -130,6 +143,30 @@ headers() {
     for standard in "${@:3}"; do
         passes "$1" -std="$standard" $strict -c -o "$work/object" $2
     done
+}
+
+# names: the header has the names, numbers and types of the sources, and can be included twice, and in two files.
+names() {
+    ./header_test.py > "$work/names.c" &&
+        cc -std=c11 $strict -I. -c "$work/names.c" -o "$work/first" &&
+        cc -std=c11 $strict -I. -DMAIN "$work/names.c" "$work/first" -o "$work/names" && "$work/names"
+}
+
+# faulty CHANGE..: with each of these changes of the header, what `names` compiles does not compile.
+faulty() {
+    local change
+    mkdir "$work/faulty"
+    for change in "$@"; do
+        sed "$change" peltzivar.h > "$work/faulty/peltzivar.h"
+        ! cmp -s peltzivar.h "$work/faulty/peltzivar.h" || return
+        ! cc -std=c11 -I"$work/faulty" -c "$work/names.c" -o "$work/first" 2> /dev/null || return
+    done
+}
+
+# imports: for a DLL, and only for one, the calls are imported.
+imports() {
+    cc -D_WIN32 -DPELTZIVAR_SHARED -E peltzivar.h | grep -qF '__declspec(dllimport) uint32_t peltzivar_version' &&
+        ! cc -D_WIN32 -E peltzivar.h | grep -q declspec
 }
 
 # warns COMPILER..: a result that is an error must not be ignored.
@@ -142,6 +179,15 @@ warns() {
 # compilers: the header in each language that it is said to be.
 compilers() {
     local compiler
+    if [ "${here[python3]:-}" ]; then
+        passes names
+        passes faulty 's/_t base_suffix;/_t base_prefix2;/' 's/uint8_t base_prefix;/uint16_t base_prefix;/' \
+            's/setter, value;/value, setter;/' 's/low, high;/high, low;/' 's/_OVERFLOW = 1,/_OVERFLOW = 2,/' \
+            's/^typedef uint32_t peltzivar_error/typedef int peltzivar_error/' 's/MAX_NOTES 3/MAX_NOTES 4/' \
+            's/_COUNT (\(.*\) + 6)/_COUNT \1 + 6/'
+        passes ./header_test.py --comments
+    fi
+    passes imports
     headers cc 'header.c' c99 c11 c17
     if [ "${here[clang]:-}" ]; then headers clang 'header.c' c99 c11 c17; fi
     if [ "${here[gcc]:-}" ]; then headers gcc '-include ./peltzivar.h -x c /dev/null' c89; fi
@@ -170,6 +216,31 @@ exports() {
     diff <(nm -gD --defined-only "$1" | cut -d' ' -f3 | sort) <(calls)
 }
 
+# python SHARED: the rows in Python.
+python() {
+    local -x PELTZIVAR_LIBRARY=$1 PYTHONDONTWRITEBYTECODE=1
+    passes python3 -m unittest ./peltzivar_test.py
+    shows "$page" "python3 example.py" python3 example.py
+    prints 2 "radix=none: radix takes a number, 2 to 36 in a lawful format" python3 example.py no_special=true radix=none
+    prints 2 "mantissa_radix: expected NAME=VALUE" python3 example.py mantissa_radix
+}
+
+# pythons SHARED: the module in each older version of Python from 3.9 on. One that is not here is named, and not counted.
+pythons() {
+    local minor newest
+    newest=$(python3 -c 'import sys; print(sys.version_info.minor)')
+    for ((minor = 9; minor < newest; minor++)); do
+        if "python3.$minor" -c '' 2> /dev/null; then
+            passes env PELTZIVAR_LIBRARY="$1" PYTHONDONTWRITEBYTECODE=1 "python3.$minor" -m unittest ./peltzivar_test.py
+        else
+            echo "not tried: python3.$minor"
+        fi
+    done
+    if [ "${here[mypy]:-}" ]; then
+        passes mypy --strict --python-version 3.9 --cache-dir "$work/mypy" peltzivar.py example.py
+    fi
+}
+
 # library ARCHIVE SHARED: the rows over a library in its two forms.
 library() {
     local options defined=${without:+-DWITHOUT_VERSION}
@@ -192,9 +263,7 @@ library() {
     if [ "${here[g++]:-}" ]; then
         passes g++ -std=c++17 $strict header.cpp "$1" -o "$work/header" && passes "$work/header"
     fi
-    if [ "${here[python3]:-}" ]; then
-        shows "$page" "python3 example.py ./libpeltzivar_c.so" python3 example.py "$2"
-    fi
+    if [ "${here[python3]:-}" ] && [ -z "${without:-}" ]; then python "$2"; fi
     if [ "${here[nm]:-}" ]; then
         passes declares nm -g --defined-only "$1"
         passes declares nm -gD --defined-only "$2"
@@ -249,6 +318,18 @@ END
     fi
 }
 
+# versions: a library of another version, whose three numbers differ, returns its number.
+versions() {
+    tar -C .. --exclude=target -cf - rust | tar -C "$work" -xf - &&
+        sed -i 's/\(^version\|, version\) = "[0-9.]*"/\1 = "3.5.17"/' "$work/rust/Cargo.toml" &&
+        env CARGO_TARGET_DIR="$work/version" cargo build --offline --quiet --release \
+            --manifest-path "$work/rust/Cargo.toml" --package peltzivar-capi &&
+        cc -I. -x c - -x none "$work/version/release/libpeltzivar_c.a" -o "$work/versions" << 'END' && "$work/versions"
+#include "peltzivar.h"
+int main(void) { return peltzivar_version() != 0x030511; }
+END
+}
+
 # installed: what `make install` writes, and `make uninstall` removes.
 installed() {
     local prefix=$work/prefix top version soname files
@@ -269,7 +350,10 @@ installed() {
     rm -r "$work/make"
     passes hides "$top" "$prefix"/lib/* "$prefix"/lib/pkgconfig/*
     if [ "${here[nm]:-}" ]; then passes exports "$prefix/lib/libpeltzivar_c.so"; fi
-    if [ "${here[readelf]:-}" ]; then compares "$soname" "$(dynamic SONAME "$prefix/lib/libpeltzivar_c.so")" SONAME; fi
+    if [ "${here[readelf]:-}" ]; then
+        compares "$soname" "$(dynamic SONAME "$prefix/lib/libpeltzivar_c.so")" SONAME
+        passes grep -c 'NEEDED.*libc\.' <(readelf -d "$prefix/lib/libpeltzivar_c.so")
+    fi
     if [ "${here[pkg-config]:-}" ]; then
         mkdir "$work/elsewhere"
         cp example.c "$work/elsewhere"
@@ -283,7 +367,7 @@ if [ "$given" ]; then
     without=peltzivar_version
     passes cc -shared -o "$work/library.so" -Wl,--whole-archive "$given" -Wl,--no-whole-archive &&
         library "$given" "$work/library.so"
-    counted 79
+    counted 77
     exit
 fi
 compilers
@@ -294,6 +378,8 @@ if has cargo; then
         passes cargo build --offline --quiet --release --manifest-path ../rust/Cargo.toml --package peltzivar-capi &&
             library "$work/$checks"/release/libpeltzivar_c.{a,so}
     done
+    passes versions
+    if [ "${here[python3]:-}" ]; then pythons "$work/false/release/libpeltzivar_c.so"; fi
     if [ "${here[make]:-}" ]; then installed; fi
 fi
-counted 245
+counted 258

@@ -5,6 +5,8 @@
 - Each block of code is a piece of a file; `..` stands for lines that it leaves out.
 - Each name with a `_` or `::` is in some code, but for those of the changelog, and each word of FORMAT.md.
 - check_format.py compares FORMAT.md, check_header.py the header of C, and check_clauses.py the clauses in PROVED.md.
+- c/peltzivar.py is what c/make_python.py writes.
+- check_prose.py compares sentences: the fields of FORMAT's example, exit statuses, and the least version of Rust.
 - check_definitions.py follows the definitions that headline calls cite, and compares the reading lists in PROVED.md.
 - DIFFERENCES.md names each public name that the Rust crate does not have.
 - A format word outside of a block of code can be pasted: it has no `_`.
@@ -14,6 +16,8 @@
   tables and code.
 - No proof reaches a fact by two positions.
 - README has at most 800 words, and its ratios of time are those of bench/README.md.
+- README has a command of cargo that runs something, one that runs all tests, and `rt ci`; `.ci/run` calls its tests.
+- `.ci/run`, or a script that it calls, calls each script that is a test by its name.
 
 The last line counts the lines of the pages, the words of README, and transcripts (which the tests of numfmt, of rust/ and
 of c/ run, but for lines `$ cc ..`) and blocks of code (which are compared here).
@@ -24,21 +28,25 @@ import sys
 
 TOP = pathlib.Path(__file__).resolve().parent.parent
 sys.dont_write_bytecode = True
-sys.path.append(str(TOP / "rust/tools"))
+sys.path += [str(TOP / "rust/tools"), str(TOP / "c")]
 import check_clauses
 import check_definitions
 import check_format
 import check_header
+import check_prose
 import erase
+import make_python
 
 PAGES = sorted(page for folder in (".", "docs", "compare", "bench", "rust") for page in (TOP / folder).glob("*.md"))
 SOURCES = [("crates", "*.rt"), ("crates", "*.antt"), ("rust", "*.rs"), ("rust", "*.toml"), ("c", "*.[chp]*")]
 LANGUAGES = ["rust", "antt", "c", "python", "toml"]
 LIBRARIES = ["lexical_base", "lexical_flags", "lexical_builder", "lexical_util"]
 # How many must-fail edits and tests there are at least.
-LEAST_EDITS, LEAST_TESTS = 52, 77
+LEAST_EDITS, LEAST_TESTS = 64, 115
 # How many words README has at most.
 MOST_WORDS = 800
+# How a command of README begins.
+STARTS = ["cd rust && cargo run ", "cd rust && cargo test", "rt ci"]
 # What only the Rust crate has.
 NOT_HERE = ["format::JSON"]
 WORDS = {"six": "6", "seven": "7", "eight": "8", "nine": "9", "ten": "10", "eleven": "11", "twelve": "12"}
@@ -163,6 +171,17 @@ def layout():
         yield f"crates: {wide} lines of over 120 columns"
 
 
+def not_exported():
+    """Returns the public names of `format_flags` that `lexical_util::format` does not export."""
+    source = (TOP / "crates/lexical_flags/src/format_flags.rt").read_text()
+    lists = re.findall(r"^pub use [\w:]+::\{(.*?)\};", source, re.M | re.S)
+    names = {*re.findall(r"\w+", " ".join(lists)), *re.findall(r"^pub (?:const fn|const) (\w+)", source, re.M)}
+    exports = (TOP / "crates/lexical_util/src/format.rt").read_text()
+    exports = re.search(r"^pub use lexical_flags::format_flags::\{(.*?)\};", exports, re.M | re.S)[1]
+    exported = re.findall(r"\w+", exports)
+    yield from (f"not exported by lexical_util::format: {name}" for name in sorted(names - {*exported}))
+
+
 def substituted(text):
     """Returns whether the rows of the eraser's tables are not as many as the page says."""
     counts = {"texts": len(erase.SUBSTITUTIONS + erase.EVERYWHERE), "items in place": len(erase.ITEMS)}
@@ -180,6 +199,30 @@ def readme(text):
     for row in re.findall(r"^\| .* \| \d\.\d\d \| \d\.\d\d \|$", text, re.M):
         if not any(line.startswith(row) for line in measured):
             yield f"not in bench/README.md: {row}"
+
+
+def commands(text):
+    """Returns which commands README lacks, and which of its tests are called neither by `.ci/run` nor by its script."""
+    shown = re.findall(r"^    \$ (.*)$", text, re.M)
+    for start in STARTS:
+        if not any(command.startswith(start) for command in shown):
+            yield f"has no command: {start}"
+    run = (TOP / ".ci/run").read_text()
+    script = "rust/tools/test.sh"
+    scripts = {"cd rust && ": (TOP / script).read_text() if f"start {script}" in run else "", "": run}
+    for folder, command in re.findall(r"^(cd \w+ && )?((?:cargo test|rt ci).*)$", "\n".join(shown), re.M):
+        if not re.search(rf"^ *(passes )?{re.escape(command)}( \||$)", scripts.get(folder, ""), re.M):
+            yield f".ci/run does not call: {folder}{command}"
+
+
+def not_called():
+    """Returns the tests that neither `.ci/run` nor a script that it runs calls."""
+    scripts = [(TOP / name).read_text() for name in (".ci/run", "rust/tools/test.sh", "c/test.sh")]
+    calls = re.sub(r"^ *#.*", "", "\n".join(scripts), flags=re.M)
+    for folder in sorted(path.name for path in TOP.iterdir() if path.is_dir() and path.name != ".git"):
+        for path in files_of(folder, "*test.*"):
+            if path.suffix in (".py", ".sh") and f"/{path.name}" not in calls:
+                yield f"{path.relative_to(TOP)}: neither .ci/run nor what it runs calls this test"
 
 
 def counted():
@@ -201,6 +244,7 @@ def main():
     for page in PAGES:
         text = page.read_text()
         found = [*broken_links(page, text), *unquoted(text, files), *wrong_counts(text, wanted)]
+        found += check_prose.prose(page.name, text)
         if page.name != "CHANGELOG.md":
             found += unknown_names(text, words)
         found += [f"has a `_`: {word}" for word in re.findall(r"0x[0-9A-F]{8}_\w*", FENCED.sub("", text))]
@@ -211,13 +255,13 @@ def main():
         if page.name == "PROVED.md":
             found += [*check_clauses.clauses(), *substituted(text)]
         if page == TOP / "README.md":
-            found += readme(text)
+            found += [*readme(text), *commands(text)]
         if page.name == "DIFFERENCES.md":
             found += added_names(text)
         for it in found:
             print(f"{page.relative_to(TOP)}: {it}")
         wrong += len(found)
-    others = (*check_definitions.definitions(), *not_run(), *layout())
+    others = (*check_definitions.definitions(), *not_exported(), *not_run(), *not_called(), *layout())
     for it in (*(f"c/peltzivar.h: {it}" for it in check_header.header(wanted)), *others):
         print(it)
         wrong += 1

@@ -1,9 +1,10 @@
-"""What of the tables of clauses in PROVED.md differs from the contracts in crates/*/src.
+"""Compares the clauses that PROVED.md names with the contracts in crates/*/src.
 
-A row stands on the functions that its first cell names in backquotes, as `name`, `Type::name` or `name` of `Type`, or by words
-of TOLD. Each clause that it names is one of theirs. A row of a crate also names each of theirs, and each named clause of a
-public function of the libraries is named by some row. The public functions of the libraries that have premises, by
-`requires`, are those that the page names.
+A row of a table describes the functions that its first cell names in backquotes, as `name`, `Type::name` or `name` of `Type`,
+or by words of TOLD; a paragraph that begins with a name in bold describes the functions that it names before its verb, and
+has their clauses in brackets. Each clause that it names is one of theirs, and each of theirs is named. Each named clause of a
+public function of the libraries is named somewhere. The page names the public functions of the libraries that have premises
+(`requires`).
 """
 import pathlib
 import re
@@ -69,11 +70,15 @@ def premised():
 
 
 def rows(page):
-    """Returns (section, cells) of each row of the page's tables with a column of clauses."""
+    """Returns (section, cells) of each row of the page's tables with a column of clauses, and of each call in bold."""
     for section in re.split(r"^## ", (TOP / "docs" / page).read_text(), flags=re.M)[1:]:
+        for call in re.split(r"^(?=\*\*`)", section, flags=re.M)[1:]:
+            head = re.match(r".*? (?=returns|changes)", call, re.S)[0]
+            yield "", [head, call, " ".join(re.findall(r"\((`\w+`(?:, `\w+`)*)\)", call))]
         for table in re.findall(r"^\| .*Clauses? \|.*\n\|[-|]*\|\n((?:\|.*\n)+)", section, re.M):
             for row in table.splitlines():
-                yield section.split("\n", 1)[0].strip("`"), [cell.strip() for cell in row.strip("|").split(" |")]
+                crate = re.match(r"Other calls of `(\w+)`", section)
+                yield crate[1] if crate else "", [cell.strip() for cell in row.strip("|").split(" |")]
 
 
 def named(cell, section, known):
@@ -91,7 +96,7 @@ def named(cell, section, known):
 
 def premises():
     """Returns the public functions with premises that the page does not name, and those without that it does."""
-    told = re.search(r"have premises, and no other:(.*?)\.", (TOP / "docs/PROVED.md").read_text(), re.S)[1]
+    told = re.search(r"have premises,\s+and\s+no\s+others:(.*?)\.", (TOP / "docs/PROVED.md").read_text(), re.S)[1]
     told, known = set(re.findall(r"`(\w+)`", told)), set(premised())
     yield from (f"public, and has premises: {name}" for name in sorted(known - told))
     yield from (f"no public function that has premises: {name}" for name in sorted(told - known))

@@ -95,6 +95,17 @@ def meanings():
             yield f"`{name}` is about something else: {meaning}"
 
 
+def first_lines():
+    """Returns the constants and getters of plain Rust whose first line does not have the meaning of their flag."""
+    for path in ("format_flags", "format_builder/getters", "view/getters", "feature_format"):
+        text = (CRATES.parent / f"rust/src/{path}.rs").read_text()
+        found = re.findall(r"((?: *///.*\n)+)(?: *#.*\n)* *(?:pub const (?:fn )?)?(?:get_)?(\w+)\b", text)
+        docs = {name.lower(): " ".join(comment.replace("///", "").split()) for comment, name in found}
+        for _, name, meaning in FLAGS:
+            if not re.search(rf"a parser {re.escape(meaning)}[ :,]", docs.get(name, "")):
+                yield f"rust/src/{path}.rs: `{name}` does not say: {meaning}"
+
+
 def pointers():
     """Returns the constants and getters that point to another setter than that of their field."""
     for path in POINTING:
@@ -115,7 +126,7 @@ def demand(number, error, word):
         return f"the {field} is 0 or punctuation"
     if error == "Punctuation":
         cases = [bit for bit, name, _ in FLAGS if re.fullmatch("case_sensitive_base_.*", name)]
-        both = "a letter counts in both cases unless its flag {} or {} is set".format(*cases)
+        both = "a prefix or suffix that is a letter has both cases unless its flag {} or {} is set".format(*cases)
         return f"no two of these three share a byte; {both}"
     if not {*flags} <= {bit for bit, _, _ in FLAGS}:
         return "the reserved bits are 0"
@@ -148,7 +159,7 @@ def drawing():
 
 def format_page():
     """Returns what differs."""
-    yield from (*tables(), *meanings(), *pointers(), *drawing())
+    yield from (*tables(), *meanings(), *first_lines(), *pointers(), *drawing())
     for number, text, error, word in RULES:
         if demand(number, error, word) != text:
             yield f"rule {number} demands another thing: {text}"

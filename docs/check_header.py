@@ -1,5 +1,5 @@
 """What of c/peltzivar.h differs from the exports of lexical_c and the one written by hand, from the tables of setters and
-outcomes, from the version, and from the length of texts."""
+outcomes, from the version, and from the lengths of texts."""
 import pathlib
 import re
 
@@ -18,8 +18,8 @@ TYPES = {
     "NumberedEdit": "peltzivar_edit",
     "ErrorNumber": "peltzivar_error",
 }
-# The slices that are texts in C.
-TEXTS = ("name", "text")
+# The slices that are texts in C. A call with two of them reads `text` and writes `to`.
+TEXTS = ("name", "text", "to")
 
 
 def argument(name, kind):
@@ -29,7 +29,8 @@ def argument(name, kind):
     if length:
         return f"{kind} {name}[PELTZIVAR_{length}]"
     const = "const " if reference == "&" else ""
-    return f"{const}{kind} {'*' if reference else ''}{name}{', size_t len' if slice_of else ''}"
+    size = (", size_t to_len" if name == "to" else ", size_t len") if slice_of else ""
+    return f"{const}{kind} {'*' if reference else ''}{name}{size}"
 
 
 def prototypes():
@@ -80,8 +81,10 @@ def constants():
     for part, value in zip(("MAJOR", "MINOR", "PATCH"), parts):
         yield f"#define PELTZIVAR_VERSION_{part} {value}\n"
     yield f"#define PELTZIVAR_VERSION_NUMBER 0x{bytes(parts).hex()}\n"
-    texts = (TOP / "crates/lexical_c/src/texts.rt").read_text()
-    yield f"#define PELTZIVAR_TEXT_SIZE {re.search(r'^const ROOM: usize = (.*);', texts, re.M)[1]}\n"
+    paths = ("lexical_base/src/error/short_text.rt", "lexical_c/src/word_texts.rt")
+    short_text, source = ((TOP / "crates" / path).read_text() for path in paths)
+    yield f"#define PELTZIVAR_TEXT_SIZE {re.search(r'ensures short { length self.now < (.*) }', short_text)[1]}\n"
+    yield f"#define PELTZIVAR_SOURCE_SIZE {re.search(r'ensures short { result < (.*) }', source)[1]}\n"
 
 
 def header(wanted):

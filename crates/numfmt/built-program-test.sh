@@ -11,12 +11,12 @@
 #                                      Rust's std opens /dev/null in place of a closed output, and aborts where memory fails
 # shellcheck disable=SC2016 # the backquotes in patterns are those of pages
 set -u
-program=${1:+$(realpath -m "$1")} least=4109
+program=${1:+$(realpath -m "$1")} least=4108
 cd "$(dirname "$0")" || exit
 # shellcheck source=../../.ci/rows.sh
 . ../../.ci/rows.sh
 if [ -z "$program" ]; then
-    program=out/numfmt least=4260
+    program=out/numfmt least=4259
     if ! [ -x "$program" ] || [ -n "$(find ../*/src -name '*.rt' -newer "$program")" ]; then
         rt run > /dev/null 2>&1 || { echo "rt run failed"; exit 1; }
     fi
@@ -107,6 +107,8 @@ shown() {
         '') ;;
         *'rt run' | *'cargo run') [ -z "$3" ] || compares "$3" "$("$program" 2>&1)"$'\n' "in $1" ;;
         'numfmt '* | 'out/numfmt '*) compares "$3" "$("$program" "${words[@]:1}" 2>&1)"$'\n' "${words[@]:1}" "in $1" ;;
+        # rust/tools/test.sh and .ci/run call these; docs/check.py tests that they do.
+        'cd rust && cargo run --example '* | 'cd rust && cargo test' | 'rt ci') ;;
         *) compares "a command that can be tried" "$2" "in $1" ;;
     esac
 }
@@ -192,70 +194,77 @@ responds 0      "$new.required_integer_digits(true).special_digit_separator(true
 .digit_separator(NonZeroU8::new(1)).base_prefix(NonZeroU8::new(2)).base_suffix(NonZeroU8::new(3))\
 .mantissa_radix(4).exponent_base(NonZeroU8::new(5)).exponent_radix(NonZeroU8::new(6)).build_unchecked()" \
         source 0x0605040302000001000010000000000D
-responds 1      "$new.digit_separator(NonZeroU8::new(95)).build_unchecked()" \
+lost="// This code makes another word, without"
+responds 1      "$lost the digit separator '_': no flag allows one
+$new.digit_separator(NonZeroU8::new(95)).build_unchecked()" \
         source 0x00000A000000005F000000000000000C
-responds 1      "$new.build_unchecked()" \
+responds 1      "$lost the reserved bits 0x80000000
+$new.build_unchecked()" \
         source 0x00000A0000000000000000008000000C
-responds 1      "$new$ones_calls.digit_separator(NonZeroU8::new(255)).base_prefix(NonZeroU8::new(255))\
+responds 1      "$lost the reserved bits 0xFFFF000000000000000000
+$lost the digit separator 10: no flag allows one
+$new.digit_separator(NonZeroU8::new(10)).build_unchecked()" \
+        source 0x00000A0000FFFF0A000000000000000C
+responds 1      "$lost the reserved bits 0xFFFF00FFFFE000FFFC0000
+$new$ones_calls.digit_separator(NonZeroU8::new(255)).base_prefix(NonZeroU8::new(255))\
 .base_suffix(NonZeroU8::new(255)).mantissa_radix(255).exponent_base(NonZeroU8::new(255))\
 .exponent_radix(NonZeroU8::new(255)).build_unchecked()" \
         source $ones
 responds 0      "$new.no_special(true).mantissa_radix(16).build_unchecked()" \
         source 0x0000100000000000000000000000040C
 
-# A lawful word whose settings all have an effect: nothing is printed.
+# A lawful word without notes: nothing is printed.
 for word in $standard $decimal $hexadecimal 0x00000A000000005F000000010000000C; do
     compares "status 0" "$("$program" explain "$word" 2>&1; echo "status $?")" explain "$word"
 done
-error="lexical number format error:"
-responds 1      "$error 'invalid base prefix character'
-    base_prefix=98
-    mantissa_radix=16
-    exponent_radix=10
-    the base prefix 'b' is a digit of radix 16
-the digit separator '_' has no effect: no flag allows one" \
+error="    error: lexical number format error:"
+responds 1      "the base prefix 'b' is a digit in radix 16
+$error 'invalid base prefix character'
+    field: base_prefix=98
+    field: mantissa_radix=16
+    mend: base_prefix=none
+    mend: mantissa_radix=10
+note: no number can have the digit separator '_': no flag allows one" \
         explain $prefix_b
-responds 1      "$error 'invalid digit separator: must be ASCII and not a digit or a \`+/-\` sign'
-    digit_separator=53
-    mantissa_radix=10
-    exponent_radix=none
-    the digit separator '5' is a digit of radix 10
+responds 1      "the digit separator '5' is a digit in radix 10
+$error 'invalid digit separator: must be ASCII and not a digit or a \`+/-\` sign'
+    field: digit_separator=53
+    field: mantissa_radix=10
+    mend: digit_separator=none
+no_exponent_notation and required_exponent_notation cannot both be set
 $error 'exponent flags set while disabling exponent notation'
-    no_exponent_notation=true
-    required_exponent_notation=true
-    no_exponent_notation and required_exponent_notation exclude each other
-the digit separator '5' has no effect: no flag allows one" \
+    field: no_exponent_notation=true
+    field: required_exponent_notation=true
+    mend: no_exponent_notation=false
+    mend: required_exponent_notation=false" \
         explain 0x00000A0000000035000000000000404C
-responds 1      "$error 'invalid radix for mantissa digits'
-    mantissa_radix=0
-    the mantissa radix 0 is not 2 to 36
+responds 1      "the mantissa radix 0 is not between 2 and 36
+$error 'invalid radix for mantissa digits'
 $error 'invalid exponent base'
-    mantissa_radix=0
-    exponent_base=none
-    the exponent base 0 is not 2 to 36
 $error 'invalid radix for exponent digits'
-    mantissa_radix=0
-    exponent_radix=none
-    the exponent radix 0 is not 2 to 36" \
+    field: mantissa_radix=0
+    mend: radix=10 exponent_base=none exponent_radix=none" \
         explain 0xC
-responds 1      "$error 'invalid punctuation: multiple characters overlap'
-    case_sensitive_base_prefix=true
-    case_sensitive_base_suffix=false
-    digit_separator=none
-    base_prefix=120
-    base_suffix=88
-    the base prefix 'x' and the base suffix 'X' differ only in case, which counts only if both are case-sensitive" \
+responds 1      "the base prefix 'x' and the base suffix 'X' differ only in case, and they are not both case-sensitive
+$error 'invalid punctuation: multiple characters overlap'
+    field: case_sensitive_base_suffix=false
+    field: base_prefix=120
+    field: base_suffix=88
+    mend: base_prefix=none
+    mend: base_suffix=none" \
         explain 0x0A0A0A5878000000000000000001000C
-responds 1      "$error 'invalid flags enabled without the format feature'
-    a reserved bit is set" \
+responds 1      "reserved bits are set: 0x80000000
+$error 'invalid flags enabled without the format feature'" \
         explain $reserved
-responds 1      "the digit separator '_' has no effect: no flag allows one" \
+responds 0      "note: no number can have the digit separator '_': no flag allows one" \
         explain $unused_separator
-responds 1      "the digit separator flags have no effect: there is no digit separator" \
+responds 0      "note: the digit separator flags allow nothing: there is no digit separator" \
         explain 0x00000A0000000000000000010000000C
-responds 1      "case_sensitive_base_prefix has no effect: there is no base prefix
-case_sensitive_base_suffix has no effect: there is no base suffix" \
+responds 0      "note: case_sensitive_base_prefix changes nothing: there is no base prefix
+note: case_sensitive_base_suffix changes nothing: there is no base suffix" \
         explain 0x00000A0000000000000000000003000C
+responds 0      "note: case_sensitive_base_prefix changes nothing: the base prefix '\$' is not a letter" \
+        explain 0x00000A0024000000000000000001000C
 
 #       reason                        arguments
 refuses "unknown command"             ""
@@ -300,6 +309,9 @@ refuses "bad edit"                    edit 0xC radix=16 radix
 refuses "bad edit"                    edit $standard radix=
 refuses "bad edit"                    edit $standard radix=0010
 refuses "bad edit"                    edit $standard radix=none
+refuses "bad edit"                    edit $standard "base_prefix='x'"
+refuses "bad edit"                    edit $standard base_prefix=0x78
+refuses "bad edit"                    edit $standard base_prefix
 refuses "bad edit"                    edit $standard =true
 refuses "bad edit"                    edit $standard no_special=True
 refuses "bad edit"                    edit $standard no_special=true=
@@ -326,12 +338,6 @@ while read -r edit bits; do
     done
     responds 0 "$(printf '0x%016X%016X' "$high" "$low")" edit 0x100000000000 "$edit"
 done < <(edits_of_format)
-
-# The last column of FORMAT.md's table of rules is what `explain` says first of the smallest word, after its error and fields.
-while IFS='|' read -r _ _ _ _ word why _; do
-    word=$(tr -d ' `' <<< "$word")
-    compares "   $why" "$("$program" explain "$word" | grep -v = | sed -n 2p) " explain "$word" "in FORMAT.md"
-done < <(grep -E '^\| [0-9]+ \| .* \| `Invalid\w+` \| `0x' ../../docs/FORMAT.md)
 
 # The word at the end of each row of MIGRATING.md's table: the columns `check` and `migrate` begin with what is seen of it.
 while IFS='|' read -r _ _ check migrate _ word _; do
@@ -383,7 +389,7 @@ fails edit 0xC radix
 python3 every_word.py > "$folder/runs"
 compares "status 0" "status $?" "(every_word.py)"
 # shellcheck disable=SC2094 # the program writes to a file what the loop reads from it
-while IFS= read -r -d '$' run; do
+while IFS= read -r -d '' run; do
     arguments=${run%%$'\n'*}
     read -ra words <<< "$arguments"
     "$program" "${words[@]}" >&3 2>&3

@@ -2,8 +2,8 @@
 """Prints what `built-program-test.sh` tries: arguments of numfmt, and the text and status that they call for.
 
 Words with each bit alone, with all but each, and with each value of each byte are shown and written as Rust code; the
-normal forms of the first two are printed; and a word that breaks each rule is checked. Names, bits and rules are read
-from docs/FORMAT.md, whose text says the rest; the texts of outcomes are those that the Rust crate printed.
+normal forms of the first two are printed; and the smallest word that breaks each rule is checked and explained. Names,
+bits, rules and sentences are read from docs/FORMAT.md; the texts of outcomes are those that the Rust crate printed.
 """
 import re
 from pathlib import Path
@@ -16,7 +16,7 @@ FLAGS = [(1 << int(bit), name, default == "true")
          for bit, name, default in re.findall(r"^\| (\d+) \| `(\w+)` \| (true|false) \|", FORMAT, re.M)]
 BYTES = [(int(bit), name, int(default))
          for bit, name, default in re.findall(r"^\| (\d+) to \d+ \| `(\w+)` \| (\d+) \|", FORMAT, re.M)]
-RULES = re.findall(r"^\| \d+ \| .* \| `(Invalid\w+)` \| `(\w+)` \|", FORMAT, re.M)
+RULES = re.findall(r"^\| \d+ \| (.*) \| `(Invalid\w+)` \| `(\w+)` \| (.*) \|$", FORMAT, re.M)
 TEXTS = dict(re.findall(r"^printed 0 (\w+) (.*)", RECORDED, re.M))
 
 FLAG_MASK = sum(flag for flag, _, _ in FLAGS)
@@ -55,7 +55,8 @@ def edit(word):
 
 
 def source(word):
-    """A call for each field in which the word differs from a new builder; status 1 if no builder makes the word."""
+    """A call for each field in which the word differs from a new builder. If no builder makes the word, comments name
+    what is lost, and the status is 1."""
     text = "NumberFormatBuilder::new()"
     for flag, name, default in FLAGS:
         if bool(word & flag) != default:
@@ -65,8 +66,33 @@ def source(word):
         if value != default:
             text += f".{name}({value})" if name == "mantissa_radix" else f".{name}(NonZeroU8::new({value}))"
     reserved = word & ~(FLAG_MASK | sum(255 << bit for bit, _, _ in BYTES))
-    unused = fields(word)["digit_separator"] and not word & SEPARATOR_FLAGS
-    return int(bool(reserved or unused)), [text + ".build_unchecked()"]
+    separator = fields(word)["digit_separator"] if not word & SEPARATOR_FLAGS else 0
+    lost = [f"the reserved bits 0x{reserved:X}"] if reserved else []
+    if separator:
+        shown = f"'{chr(separator)}'" if 33 <= separator <= 126 and separator != 39 else separator
+        lost.append(f"the digit separator {shown}: no flag allows one")
+    comments = [f"// This code makes another word, without {it}" for it in lost]
+    return int(bool(lost)), [*comments, text + ".build_unchecked()"]
+
+
+def explain(rule):
+    """The only reason of a smallest word: its sentence, errors, and the fields that the rule or the sentence names."""
+    demand, error, word, sentence = rule
+    word, numbers = int(word, 16), re.findall(r"\d+", demand) if re.match("flag|not both flags", demand) else []
+    names = {name: bool(word & flag) for flag, name, _ in FLAGS if str(flag.bit_length() - 1) in numbers}
+    names |= {name: value for name, value in fields(word).items() if name.replace("_", " ") in sentence}
+    # The absent exponent bytes of the word 0 follow its mantissa radix.
+    errors = [error] if word else [error for _, error, _, _ in RULES[:3]]
+    lines = [sentence] + [f"    error: {TEXTS[error]}" for error in errors]
+    for name, value in names.items():
+        text = str(value).lower() if isinstance(value, bool) else value
+        lines.append(f"    field: {name}={text}")
+    for name, value in names.items():
+        if name == "mantissa_radix":
+            lines.append("    mend: radix=10 exponent_base=none exponent_radix=none")
+        elif value:
+            lines.append(f"    mend: {name}={'false' if value is True else 'none'}")
+    return 1, lines
 
 
 def runs():
@@ -76,9 +102,11 @@ def runs():
     for command, words in (show, bits + values), (source, bits + values), (edit, bits):
         for word in words:
             yield f"{command.__name__} {text_of(word)}", command(word)
-    for error, word in RULES:
+    for rule in RULES:
+        _, error, word, _ = rule
         yield f"check {word}", (1, [TEXTS[error]])
+        yield f"explain {word}", explain(rule)
 
 
 for arguments, (status, lines) in runs():
-    print(arguments, *lines, f"status {status}", sep="\n", end="\n$")
+    print(arguments, *lines, f"status {status}", sep="\n", end="\n\0")

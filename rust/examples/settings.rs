@@ -1,112 +1,101 @@
-//! Reads a file of settings, `name = value` a line, and prints the format that they make; or all that is wrong with them,
-//! each with its lines.
-//!
-//!     cargo run --example settings -- examples/settings.txt
+//! Reads a file of settings, `NAME = VALUE` a line, and prints the format, or problems and notes with their lines:
+//! `cargo run --example settings -- examples/settings.txt`. The file may have any bytes.
 
-use peltzivar::edits::{apply_all, Edit, SettingError, SETTER_NAMES};
-use peltzivar::format::{broken_rules, NumberFormatBuilder, DIGIT_SEPARATOR_FLAG_MASK};
-use peltzivar::reasons::{reasons_of, unused_fields, Unused};
-use peltzivar::word::FormatView;
-use std::process::ExitCode;
+use peltzivar::{Edit, Format, NumberFormatBuilder, SettingError};
+use std::{fmt::Display, process::ExitCode};
 
-/// A line of the file that sets something.
-struct Setting<'a> {
-    number: usize,
-    line: &'a str,
-    edit: Edit,
-}
-
-/// The edit that a line writes, or `None` if it is empty or a comment. A byte is a number, or a character in quotes.
-fn edit(line: &str) -> Option<Result<Edit, String>> {
-    let (name, value) = line.split_once('=').unwrap_or((line, ""));
-    let value = match value.trim().as_bytes() {
-        [b'\'', byte, b'\''] => byte.to_string(),
-        _ => value.trim().to_string(),
+/// Returns the setter name that shares most pairs of letters with an unknown name, if it is like it, as a question.
+fn suggestion(name: &str) -> String {
+    let likeness = |other: &str| {
+        let pairs = (2..=other.len()).map(|end| &other[end - 2..end]);
+        200 * pairs.filter(|pair| name.contains(pair)).count() / (name.len() + other.len())
     };
-    let edit = Edit::from_setting(name.trim(), &value).map_err(|error| match error {
-        SettingError::UnknownName => format!("{error}{}", nearest(name.trim())),
-        SettingError::BadValue => format!("{error}; here also a character, as '_' or 'x'"),
-        SettingError::OutOfRange => error.to_string(),
-    });
-    (!line.is_empty() && !line.starts_with('#')).then_some(edit)
-}
-
-/// The setting whose name begins like another for longest, if that is four letters or more, as the end of a sentence.
-fn nearest(name: &str) -> String {
-    let alike = |other: &str| {
-        let pairs = name.bytes().zip(other.bytes());
-        pairs.take_while(|(a, b)| a == b).count()
-    };
-    match SETTER_NAMES.iter().max_by_key(|other| alike(other)) {
-        Some(near) if alike(near) >= 4 => format!("; did you mean {near}?"),
+    match Edit::NAMES.iter().max_by_key(|other| likeness(other)) {
+        Some(near) if likeness(near) >= 50 => format!("; did you mean {near}?"),
         _ => String::new(),
     }
 }
 
-/// The lines that write one of these bits of a format, such as ` (line 2: mantissa_radix = 16)`.
-fn lines(settings: &[Setting], bits: u128) -> String {
-    let about = settings
-        .iter()
-        .filter(|setting| setting.edit.mask() & bits != 0);
-    let about: Vec<String> = about
-        .map(|it| format!("line {}: {}", it.number, it.line))
-        .collect();
-    if about.is_empty() {
-        String::new()
-    } else {
-        format!(" ({})", about.join(", "))
-    }
+/// Parses a line. Blanks around name and value are ignored.
+fn edit_from_line(line: &[u8]) -> Result<Edit, String> {
+    let text = line.is_ascii().then(|| String::from_utf8_lossy(line));
+    let text = text.ok_or("the line is not ASCII")?;
+    let Some((name, value)) = text.split_once('=') else {
+        return text
+            .parse()
+            .map_err(|error: SettingError| error.to_string());
+    };
+    let name = name.trim();
+    Edit::from_setting(name, value.trim()).map_err(|error| match error.name() {
+        Some(_) => error.to_string(),
+        None => format!("{error}{}", suggestion(name)),
+    })
 }
 
-/// The format that a file of settings makes of a new builder, and all that is to be said of it. What is not set keeps its
-/// default: exponent base and exponent radix follow the mantissa radix.
-fn format_of(file: &str) -> (u128, Vec<String>) {
-    let (mut settings, mut said) = (Vec::new(), Vec::new());
-    for (number, line) in (1..).zip(file.lines().map(str::trim)) {
-        match edit(line) {
-            Some(Ok(edit)) => settings.push(Setting { number, line, edit }),
-            Some(Err(error)) => said.push(format!("line {number}: {line}: {error}")),
-            None => {}
+/// Returns the edits of a file with their lines, and its problems: lines that are not settings, and settings of which a
+/// later one leaves nothing. A later setting may refine a group.
+fn read(file: &[u8]) -> (Vec<(usize, Edit)>, Vec<String>) {
+    let (mut settings, mut problems) = (Vec::<(usize, Edit)>::new(), Vec::new());
+    let lines = file.split(|byte| *byte == b'\n').map(<[u8]>::trim_ascii);
+    for (number, line) in (1..).zip(lines) {
+        match edit_from_line(line) {
+            _ if line.is_empty() || line.starts_with(b"#") => {}
+            Ok(edit) => {
+                while let Some(index) = settings
+                    .iter()
+                    .position(|it| it.1.mask() & !edit.mask() == 0)
+                {
+                    let (first, old) = settings.remove(index);
+                    let name = old.name();
+                    problems.push(format!("lines {first}, {number}: {name} is set twice"));
+                }
+                settings.push((number, edit));
+            }
+            Err(error) => {
+                let text = line.escape_ascii().to_string().replace("\\'", "'");
+                problems.push(format!("line {number}: {text}: {error}"));
+            }
         }
     }
-    let edits: Vec<Edit> = settings.iter().map(|setting| setting.edit).collect();
-    let builder = apply_all(NumberFormatBuilder::new(), &edits);
-    let format = builder.build_unchecked();
-    for rule in broken_rules(format).into_iter().flatten() {
-        for reason in reasons_of(rule, format).into_iter().flatten() {
-            said.push(format!("{reason}{}", lines(&settings, rule.mask())));
+    (settings, problems)
+}
+
+/// Returns a sentence after the lines that write bits under a mask which no later line writes.
+fn located(settings: &[(usize, Edit)], mut mask: u128, sentence: impl Display) -> String {
+    let mut lines = Vec::new();
+    for (number, edit) in settings.iter().rev() {
+        if edit.mask() & mask != 0 {
+            lines.insert(0, number.to_string());
         }
+        mask &= !edit.mask();
     }
-    for unused in unused_fields(&builder).into_iter().flatten() {
-        let bits = match unused {
-            Unused::NotAllowed(edit) => edit.mask(),
-            Unused::NoSeparator => DIGIT_SEPARATOR_FLAG_MASK,
-            Unused::NoByte(flag, _) => Edit::Flag(flag, true).mask(),
-        };
-        said.push(format!("{unused}{}", lines(&settings, bits)));
-    }
-    (format, said)
+    let noun = if lines.len() == 1 { "line" } else { "lines" };
+    format!("{noun} {}: {sentence}", lines.join(", "))
+}
+
+/// Returns the format of a file, or its problems and notes. Fields that no setting writes keep their defaults.
+pub fn format_of(file: &[u8]) -> Result<Format, Vec<String>> {
+    let (settings, mut problems) = read(file);
+    let builder: NumberFormatBuilder = settings.iter().map(|(_, edit)| *edit).collect();
+    let reasons = builder.view().reasons();
+    problems.extend(reasons.map(|it| located(&settings, it.mask(), it)));
+    problems.extend(builder.notes().map(|it| located(&settings, it.mask(), it)));
+    builder
+        .build_format()
+        .ok()
+        .filter(|_| problems.is_empty())
+        .ok_or(problems)
 }
 
 fn main() -> ExitCode {
-    let Some(path) = std::env::args().nth(1) else {
-        eprintln!("name a file of settings");
-        return ExitCode::FAILURE;
-    };
-    let settings = match std::fs::read_to_string(&path) {
-        Ok(settings) => settings,
-        Err(error) => {
-            eprintln!("{path}: {error}");
-            return ExitCode::FAILURE;
-        }
-    };
-    let (format, said) = format_of(&settings);
-    if said.is_empty() {
-        println!("{:#?}", FormatView::new(format));
-        return ExitCode::SUCCESS;
+    let path = std::path::PathBuf::from(std::env::args_os().nth(1).unwrap_or_default());
+    let file = std::fs::read(&path).map_err(|error| vec![error.to_string()]);
+    let format = file.and_then(|file| format_of(&file));
+    if let Ok(format) = format {
+        println!("{format:#?}");
     }
-    for sentence in said {
-        eprintln!("{path}: {sentence}");
+    for problem in format.as_ref().err().into_iter().flatten() {
+        println!("{}: {problem}", path.display());
     }
-    ExitCode::FAILURE
+    ExitCode::from(u8::from(format.is_err()))
 }

@@ -2,6 +2,7 @@
 
 //! Tests of single bytes and of slices of bytes: allowed ASCII and letters.
 
+use crate::chunks::{Chunks, SplitChunks};
 use crate::lanes::Simd;
 
 /// Returns whether the byte `c` is ASCII that a number format may use.
@@ -39,7 +40,7 @@ pub fn is_valid_letter_slice(slc: &[u8]) -> bool {
 // It looks at 32 bytes at a time, and then at the rest, fewer than 32.
 #[inline(always)]
 fn all_in_ranges(bytes: &[u8], mask: u8, first: (u8, u8), second: (u8, u8)) -> bool {
-    let (chunks, rest) = bytes.as_chunks::<32>();
+    let (chunks, rest) = bytes.split_chunks::<32>();
     chunks_in_ranges(chunks, mask, first, second) & rest_in_ranges(rest, mask, first, second)
 }
 
@@ -48,8 +49,8 @@ fn all_in_ranges(bytes: &[u8], mask: u8, first: (u8, u8), second: (u8, u8)) -> b
 // It takes blocks of 16, one after another, and stops at the first that fails. A test after each chunk
 // would take as long as all else.
 #[inline(always)]
-fn chunks_in_ranges(chunks: &[[u8; 32]], mask: u8, first: (u8, u8), second: (u8, u8)) -> bool {
-    let (blocks, rest) = chunks.as_chunks::<16>();
+fn chunks_in_ranges(chunks: Chunks<'_, 32>, mask: u8, first: (u8, u8), second: (u8, u8)) -> bool {
+    let (blocks, rest) = chunks.split_chunks::<16>();
     for block in blocks {
         if !block_in_ranges(block, mask, first, second) {
             return false;
@@ -61,7 +62,7 @@ fn chunks_in_ranges(chunks: &[[u8; 32]], mask: u8, first: (u8, u8), second: (u8,
 // Whether every byte of a few chunks of `N` bytes is in one of the ranges, with one test after the last.
 #[inline(always)]
 fn block_in_ranges<const N: usize>(
-    block: &[[u8; N]],
+    block: Chunks<'_, N>,
     mask: u8,
     first: (u8, u8),
     second: (u8, u8),
@@ -99,7 +100,7 @@ fn max_distance<const N: usize>(
 // as many, and the others one by one.
 #[inline(always)]
 fn rest_in_ranges(bytes: &[u8], mask: u8, first: (u8, u8), second: (u8, u8)) -> bool {
-    let (halves, rest) = bytes.as_chunks::<16>();
+    let (halves, rest) = bytes.split_chunks::<16>();
     block_in_ranges(halves, mask, first, second) & bytes_in_ranges(rest, mask, first, second)
 }
 

@@ -1,18 +1,33 @@
-//! What `{:?}` prints of a builder and of a view: the format word, and each field that differs from a new builder's.
+//! What `{:?}` prints of a builder, a view and a format: the format word, each field that differs from a new builder's,
+//! and the reserved bits and broken rules, if there are any.
 
 use core::fmt;
 
 use crate::edits::{edits_of, Edit};
 use crate::feature_format::NumberFormat;
 use crate::format_builder::{NumberFormatBuilder, OptionU8};
-use crate::format_flags::DIGIT_SEPARATOR_SHIFT;
+use crate::format_flags::{Rule, DIGIT_SEPARATOR_SHIFT};
+use crate::lawful::Format;
 use crate::view::FormatView;
 
-/// A byte as its character; a byte of 0 is absent.
-fn character(byte: OptionU8) -> char {
-    char::from(byte.map_or(0, |byte| byte.get()))
+/// A byte that is printed as its character if it is ASCII that can be seen, and as a number if not.
+struct Character(u8);
+
+impl fmt::Debug for Character {
+    fn fmt(&self, f: &mut fmt::Formatter<'_>) -> fmt::Result {
+        if self.0.is_ascii_graphic() {
+            fmt::Debug::fmt(&char::from(self.0), f)
+        } else {
+            fmt::Debug::fmt(&self.0, f)
+        }
+    }
 }
 
+fn character(byte: OptionU8) -> Character {
+    Character(number(byte))
+}
+
+/// A byte as a number; an absent byte is 0.
 fn number(byte: OptionU8) -> u8 {
     byte.map_or(0, |byte| byte.get())
 }
@@ -33,7 +48,24 @@ fn write(f: &mut fmt::Formatter<'_>, name: &str, word: u128, fields: u128) -> fm
             Edit::ExponentRadix(radix) => text.field("exponent_radix", &number(radix)),
         };
     }
+    let reserved = word & Rule::ReservedBitsAreZero.mask();
+    if reserved != 0 {
+        text.field("reserved_bits", &format_args!("{reserved:#X}"));
+    }
+    let view = FormatView::new(word);
+    if !view.is_valid() {
+        text.field("broken_rules", &BrokenRules(view));
+    }
     text.finish()
+}
+
+/// The rules that a word breaks, as a list.
+struct BrokenRules(FormatView);
+
+impl fmt::Debug for BrokenRules {
+    fn fmt(&self, f: &mut fmt::Formatter<'_>) -> fmt::Result {
+        f.debug_list().entries(self.0.broken_rules()).finish()
+    }
 }
 
 /// Writes the word that the builder packs and its fields, also a digit separator that it does not pack.
@@ -53,6 +85,12 @@ impl fmt::Debug for NumberFormatBuilder {
 impl fmt::Debug for FormatView {
     fn fmt(&self, f: &mut fmt::Formatter<'_>) -> fmt::Result {
         write(f, "FormatView", self.word(), self.word())
+    }
+}
+
+impl fmt::Debug for Format {
+    fn fmt(&self, f: &mut fmt::Formatter<'_>) -> fmt::Result {
+        write(f, "Format", self.word(), self.word())
     }
 }
 

@@ -1,269 +1,627 @@
 // Made by rust/tools/erase.py from crates/*/specs: change those files.
 
-//! What the words mean that the parts `Proved` of the documentation cite.
+//! The terms of the parts `Proved`: all definitions that their clauses use, and that these use.
 //!
-//! `f x` is `f` of `x`, `raw` a word's fields, `.now` the value that an argument points to, `×` "and", `⊎` "or" and
-//! `→ ⊥` "not". All other definitions are in `crates/*/specs` of the repository.
+//! `f x` is `f` applied to `x`. `.now` is the value that a reference points to, and a builder means the record of
+//! its fields. Names such as `edits.Flag` or `rules.PunctuationDiffers` are variants of `Edit`, `FlagSetter`,
+//! `Rule` or `Error`; `layout.` names a flag or a byte.
 //!
-//! # `Flag`
+//! # Sets of bytes
+//!
+//! ## `ByteSet`
+//!
+//! A set of bytes, given by the test of its members.
+//!
+//! ```text
+//! ByteSet : Type 0
+//! ByteSet = ℕ → Bool
+//! ```
+//!
+//! ## `between`
+//!
+//! The bytes from `low` to `high`, including both.
+//!
+//! ```text
+//! between : ℕ → ℕ → ByteSet
+//! between low high byte = nat_le low byte && nat_le byte high
+//! ```
+//!
+//! ## `allowed_ascii`
+//!
+//! Allowed ASCII: tab to carriage return, and space to tilde.
+//!
+//! ```text
+//! allowed_ascii : ByteSet
+//! allowed_ascii byte = between 9 13 byte || between 32 126 byte
+//! ```
+//!
+//! # Digits and their values
+//!
+//! ## `digit_characters`
+//!
+//! The 36 digit characters, each at the index of its value.
+//!
+//! ```text
+//! digit_characters : List ℕ
+//! digit_characters = codes "0123456789ABCDEFGHIJKLMNOPQRSTUVWXYZ"
+//! ```
+//!
+//! ## `uppercase`
+//!
+//! The uppercase letter of a lowercase letter, and any other byte unchanged.
+//!
+//! ```text
+//! uppercase : ℕ → ℕ
+//! uppercase byte = if between 97 122 byte then byte - 32 else byte
+//! ```
+//!
+//! ## `byte_value`
+//!
+//! The value of a byte: the index of its uppercase form among the digit characters, and 255 for any other byte.
+//!
+//! ```text
+//! byte_value : ℕ → ℕ
+//! byte_value byte = unwrap_or (position (λ character. character == uppercase byte) digit_characters) 255
+//! ```
+//!
+//! ## `digits_of`
+//!
+//! The digits of a radix. A radix above 36 has those of radix 36.
+//!
+//! ```text
+//! digits_of : ℕ → ByteSet
+//! digits_of radix byte = nat_lt (byte_value byte) (min radix 36)
+//! ```
+//!
+//! # The flags and bytes of a format word, and their bits
+//!
+//! ## `part`
+//!
+//! `part word s n` is the number in the n bits of `word` from bit s up.
+//!
+//! ```text
+//! part : ℕ → ℕ → ℕ → ℕ
+//! part word s n = word / 2 ^ s % 2 ^ n
+//! ```
+//!
+//! ## `Flag`
 //!
 //! The 31 flags.
 //!
 //! ```text
-//! pub data Flag : Type 0 where
+//! data Flag : Type 0 where
 //!   required_integer_digits : Flag
 //!   required_fraction_digits : Flag
 //!   required_exponent_digits : Flag
-//! ..
+//!   required_mantissa_digits : Flag
+//!   no_positive_mantissa_sign : Flag
+//!   ..
 //!   special_digit_separator : Flag
 //! ```
 //!
-//! # `bit`
+//! ## `Byte`
+//!
+//! The six bytes.
+//!
+//! ```text
+//! data Byte : Type 0 where
+//!   digit_separator : Byte
+//!   base_prefix : Byte
+//!   base_suffix : Byte
+//!   mantissa_radix : Byte
+//!   exponent_base : Byte
+//!   exponent_radix : Byte
+//! ```
+//!
+//! ## `bit`
 //!
 //! The bit of each flag.
 //!
 //! ```text
-//! abbrev pub bit : Flag → ℕ
+//! bit : Flag → ℕ
 //! bit required_integer_digits = 0
 //! bit required_fraction_digits = 1
 //! bit required_exponent_digits = 2
-//! ..
+//! bit required_mantissa_digits = 3
+//! bit no_positive_mantissa_sign = 4
+//!   ..
 //! bit special_digit_separator = 44
 //! ```
 //!
-//! # `IsClean`
+//! ## `shift`
+//!
+//! The lowest bit of each byte.
+//!
+//! ```text
+//! shift : Byte → ℕ
+//! shift digit_separator = 64
+//! shift base_prefix = 88
+//! shift base_suffix = 96
+//! shift mantissa_radix = 104
+//! shift exponent_base = 112
+//! shift exponent_radix = 120
+//! ```
+//!
+//! ## `base_flags`
+//!
+//! The flags from bit 0 up.
+//!
+//! ```text
+//! base_flags : List Flag
+//! base_flags =
+//!     required_integer_digits ∷ required_fraction_digits ∷ required_exponent_digits ∷ required_mantissa_digits ∷
+//!     no_positive_mantissa_sign ∷ required_mantissa_sign ∷ no_exponent_notation ∷ no_positive_exponent_sign ∷
+//!     required_exponent_sign ∷ no_exponent_without_fraction ∷ no_special ∷ case_sensitive_special ∷
+//!     no_integer_leading_zeros ∷ no_float_leading_zeros ∷ required_exponent_notation ∷ case_sensitive_exponent ∷
+//!     case_sensitive_base_prefix ∷ case_sensitive_base_suffix ∷ []
+//! ```
+//!
+//! ## `required_digits`
+//!
+//! The flags that require digits.
+//!
+//! ```text
+//! required_digits : List Flag
+//! required_digits =
+//!     required_integer_digits ∷ required_fraction_digits ∷ required_exponent_digits ∷ required_mantissa_digits ∷ []
+//! ```
+//!
+//! ## `internal_digit_separator`
+//!
+//! The flags that allow a digit separator between digits.
+//!
+//! ```text
+//! internal_digit_separator : List Flag
+//! internal_digit_separator =
+//!     integer_internal_digit_separator ∷ fraction_internal_digit_separator ∷ exponent_internal_digit_separator ∷ []
+//! ```
+//!
+//! ## `leading_digit_separator`
+//!
+//! The flags that allow a digit separator before digits.
+//!
+//! ```text
+//! leading_digit_separator : List Flag
+//! leading_digit_separator =
+//!     integer_leading_digit_separator ∷ fraction_leading_digit_separator ∷ exponent_leading_digit_separator ∷ []
+//! ```
+//!
+//! ## `trailing_digit_separator`
+//!
+//! The flags that allow a digit separator after digits.
+//!
+//! ```text
+//! trailing_digit_separator : List Flag
+//! trailing_digit_separator =
+//!     integer_trailing_digit_separator ∷ fraction_trailing_digit_separator ∷ exponent_trailing_digit_separator ∷ []
+//! ```
+//!
+//! ## `consecutive_digit_separator`
+//!
+//! The flags that allow several digit separators in a row.
+//!
+//! ```text
+//! consecutive_digit_separator : List Flag
+//! consecutive_digit_separator =
+//!     integer_consecutive_digit_separator ∷ fraction_consecutive_digit_separator ∷
+//!     exponent_consecutive_digit_separator ∷ []
+//! ```
+//!
+//! ## `digit_separator_flags`
+//!
+//! The flags from bit 32 up: all that allow a digit separator somewhere.
+//!
+//! ```text
+//! digit_separator_flags : List Flag
+//! digit_separator_flags =
+//!     internal_digit_separator ++ leading_digit_separator ++ trailing_digit_separator ++
+//!     consecutive_digit_separator ++ special_digit_separator ∷ []
+//! ```
+//!
+//! ## `integer_digit_separator_flags`
+//!
+//! The digit separator flags of the integer.
+//!
+//! ```text
+//! integer_digit_separator_flags : List Flag
+//! integer_digit_separator_flags =
+//!     integer_internal_digit_separator ∷ integer_leading_digit_separator ∷
+//!     integer_trailing_digit_separator ∷ integer_consecutive_digit_separator ∷ []
+//! ```
+//!
+//! ## `fraction_digit_separator_flags`
+//!
+//! The digit separator flags of the fraction.
+//!
+//! ```text
+//! fraction_digit_separator_flags : List Flag
+//! fraction_digit_separator_flags =
+//!     fraction_internal_digit_separator ∷ fraction_leading_digit_separator ∷
+//!     fraction_trailing_digit_separator ∷ fraction_consecutive_digit_separator ∷ []
+//! ```
+//!
+//! ## `exponent_digit_separator_flags`
+//!
+//! The digit separator flags of the exponent.
+//!
+//! ```text
+//! exponent_digit_separator_flags : List Flag
+//! exponent_digit_separator_flags =
+//!     exponent_internal_digit_separator ∷ exponent_leading_digit_separator ∷
+//!     exponent_trailing_digit_separator ∷ exponent_consecutive_digit_separator ∷ []
+//! ```
+//!
+//! ## `flags`
+//!
+//! All flags, in the order of their bits.
+//!
+//! ```text
+//! flags : List Flag
+//! flags = base_flags ++ digit_separator_flags
+//! ```
+//!
+//! ## `bytes`
+//!
+//! All bytes, in the order of their bits.
+//!
+//! ```text
+//! bytes : List Byte
+//! bytes = digit_separator ∷ base_prefix ∷ base_suffix ∷ mantissa_radix ∷ exponent_base ∷ exponent_radix ∷ []
+//! ```
+//!
+//! ## `IsClean`
 //!
 //! `IsClean word` holds if the reserved bits of `word`, the bits of no field, are 0.
 //!
 //! ```text
-//! pub record IsClean (word : ℕ) : Type 0 where
-//!   pub below_separator_flags : part word 18 14 ≡ 0
-//!   pub below_separator : part word 45 19 ≡ 0
-//!   pub below_prefix : part word 72 16 ≡ 0
+//! record IsClean (word : ℕ) : Type 0 where
+//!   below_separator_flags : part word 18 14 ≡ 0
+//!   below_separator : part word 45 19 ≡ 0
+//!   below_prefix : part word 72 16 ≡ 0
 //! ```
 //!
-//! # `OptionsFit`
+//! # A format as a record of its fields, and how a word holds one
 //!
-//! Both bytes are punctuation, and their roles share no byte with each other or with a role that the format names.
-//!
-//! ```text
-//! pub record OptionsFit (word exponent_byte point_byte : ℕ) : Type 0 where
-//!   pub exponent_is_punctuation : IsPunctuation (raw word) exponent_byte
-//!   pub point_is_punctuation : IsPunctuation (raw word) point_byte
-//!   pub apart : Disjoint (exponent (raw word) exponent_byte) (point point_byte)
-//!   pub exponent_is_new : AllByRecursion (Disjoint (exponent (raw word) exponent_byte)) (format_roles (raw word))
-//!   pub point_is_new : AllByRecursion (Disjoint (point point_byte)) (format_roles (raw word))
-//! ```
-//!
-//! # `OptionsHaveOneRole`
-//!
-//! Both bytes are allowed ASCII, and no byte plays two of the seven roles.
-//!
-//! ```text
-//! pub record OptionsHaveOneRole (word exponent_byte point_byte : ℕ) : Type 0 where
-//!   pub exponent_is_text : IsTrue (allowed_ascii exponent_byte)
-//!   pub point_is_text : IsTrue (allowed_ascii point_byte)
-//!   pub roles : AreDisjoint (seven_roles (raw word) exponent_byte point_byte)
-//! ```
-//!
-//! # `SomeOptionsFit`
-//!
-//! Some exponent character and decimal point fit.
-//!
-//! ```text
-//! pub record SomeOptionsFit (word : ℕ) : Type 0 where
-//!   pub exponent_byte : ℕ
-//!   pub point_byte : ℕ
-//!   pub fit : OptionsHaveOneRole word exponent_byte point_byte
-//! ```
-//!
-//! # `Record`
+//! ## `Record`
 //!
 //! The fields of a format: a truth value for each flag, and a number for each byte, which is 0 if the byte is absent.
 //!
 //! ```text
-//! pub record Record : Type 0 where
-//!   pub flag : Flag → Bool
-//!   pub byte : Byte → ℕ
+//! record Record : Type 0 where
+//!   flag : Flag → Bool
+//!   byte : Byte → ℕ
 //! ```
 //!
-//! # `raw`
+//! ## `set_byte`
+//!
+//! `set_byte r b value` is `r` with `value` as its byte `b`.
+//!
+//! ```text
+//! set_byte : Record → Byte → ℕ → Record
+//! set_byte r b value = record r { byte = λ c. if shift c == shift b then value else r.byte c }
+//! ```
+//!
+//! ## `raw`
 //!
 //! `raw word` is the record of the fields of `word`.
 //!
 //! ```text
-//! abbrev pub raw : ℕ → Record
+//! raw : ℕ → Record
 //! raw word = record { flag = λ f. part word (bit f) 1 == 1; byte = λ b. part word (shift b) 8 }
 //! ```
 //!
-//! # `fill`
+//! ## `effective`
+//!
+//! `effective byte mantissa_radix` is the exponent byte `byte`, or the mantissa radix if `byte` is 0.
+//!
+//! ```text
+//! effective : ℕ → ℕ → ℕ
+//! effective byte mantissa_radix = if byte == 0 then mantissa_radix else byte
+//! ```
+//!
+//! ## `effective_exponent_base`
+//!
+//! The effective exponent base.
+//!
+//! ```text
+//! effective_exponent_base : Record → ℕ
+//! effective_exponent_base r = effective (r.byte layout.exponent_base) (r.byte layout.mantissa_radix)
+//! ```
+//!
+//! ## `effective_exponent_radix`
+//!
+//! The effective exponent radix.
+//!
+//! ```text
+//! effective_exponent_radix : Record → ℕ
+//! effective_exponent_radix r = effective (r.byte layout.exponent_radix) (r.byte layout.mantissa_radix)
+//! ```
+//!
+//! ## `fill`
 //!
 //! `fill r` is `r` with the effective exponent base and radix as its exponent bytes.
 //!
 //! ```text
-//! abbrev pub fill : Record → Record
+//! fill : Record → Record
 //! fill r =
 //!     set_byte (set_byte r layout.exponent_base (effective_exponent_base r)) layout.exponent_radix (effective_exponent_radix r)
 //! ```
 //!
-//! # `SeparatorAllowedOrAbsent`
+//! ## `separator_allowed`
+//!
+//! `separator_allowed r` is true if some flag of `r` allows a digit separator.
+//!
+//! ```text
+//! separator_allowed : Record → Bool
+//! separator_allowed r = list_any r.flag digit_separator_flags
+//! ```
+//!
+//! ## `SeparatorAllowedOrAbsent`
 //!
 //! `SeparatorAllowedOrAbsent r` holds if some flag of `r` allows a digit separator, or `r` has none.
 //!
 //! ```text
-//! abbrev pub SeparatorAllowedOrAbsent : Record → Type 0
+//! SeparatorAllowedOrAbsent : Record → Type 0
 //! SeparatorAllowedOrAbsent r = IsTrue (separator_allowed r) ⊎ (r.byte layout.digit_separator ≡ 0)
 //! ```
 //!
-//! # `trim`
+//! ## `trim`
 //!
 //! `trim r` is `r` with its digit separator set to 0 if no flag of `r` allows one.
 //!
 //! ```text
-//! abbrev pub trim : Record → Record
+//! trim : Record → Record
 //! trim r = set_byte r layout.digit_separator (if separator_allowed r then r.byte layout.digit_separator else 0)
 //! ```
 //!
-//! # `pack`
+//! ## `flag_bits`
+//!
+//! What a flag adds to a word.
+//!
+//! ```text
+//! flag_bits : Record → Flag → ℕ
+//! flag_bits r f = if r.flag f then 2 ^ bit f else 0
+//! ```
+//!
+//! ## `byte_bits`
+//!
+//! What a byte adds to a word.
+//!
+//! ```text
+//! byte_bits : Record → Byte → ℕ
+//! byte_bits r b = r.byte b * 2 ^ shift b
+//! ```
+//!
+//! ## `word_of`
+//!
+//! `word_of r` is the sum of the fields of `r`, each at its bits.
+//!
+//! ```text
+//! word_of : Record → ℕ
+//! word_of r = sum_by (flag_bits r) flags + sum_by (byte_bits r) bytes
+//! ```
+//!
+//! ## `pack`
 //!
 //! `pack r` is the word of `r` after `trim`.
 //!
 //! ```text
-//! abbrev pub pack : Record → ℕ
+//! pack : Record → ℕ
 //! pack r = word_of (trim r)
 //! ```
 //!
-//! # `IsBuilt`
+//! ## `IsBuilt`
 //!
 //! `IsBuilt word` holds if the reserved bits of `word` are 0, and it has no digit separator unless a flag allows one.
 //!
 //! ```text
-//! pub record IsBuilt (word : ℕ) : Type 0 where
-//!   pub clean : IsClean word
-//!   pub separator_used : SeparatorAllowedOrAbsent (raw word)
+//! record IsBuilt (word : ℕ) : Type 0 where
+//!   clean : IsClean word
+//!   separator_used : SeparatorAllowedOrAbsent (raw word)
 //! ```
 //!
-//! # `HasBytes`
+//! ## `HasBytes`
 //!
 //! `HasBytes r` holds if each byte of `r` is between 0 and 255.
 //!
 //! ```text
-//! pub record HasBytes (r : Record) : Type 0 where
-//!   pub each : (b : Byte) → r.byte b < 256
+//! record HasBytes (r : Record) : Type 0 where
+//!   each : (b : Byte) → r.byte b < 256
 //! ```
 //!
-//! # `IsErrorOf`
+//! # The record of a new builder, and that of one radix
 //!
-//! `IsErrorOf word error` holds if `error` is the error of the first rule that `word` breaks, or `Success`.
-//!
-//! ```text
-//! unfoldable pub IsErrorOf : ℕ → Error → Type 0
-//! IsErrorOf word error = IsFirstError rules_in_order word error
-//! ```
-//!
-//! # `Lawful`
-//!
-//! `Lawful word` holds if all of these parts do. Proof search does not unfold this name.
-//!
-//! ```text
-//! unfoldable pub Lawful : ℕ → Type 0
-//! Lawful word = LawfulParts word
-//! ```
-//!
-//! # `new_record`
+//! ## `new_record`
 //!
 //! The record of a new builder: mantissa radix 10, and digits required in the mantissa and the exponent.
 //!
 //! ```text
-//! abbrev pub new_record : Record
+//! new_record : Record
 //! new_record = record {
 //!   flag = λ f. bit f == bit layout.required_exponent_digits || bit f == bit layout.required_mantissa_digits;
 //!   byte = λ b. if shift b == shift layout.mantissa_radix then 10 else 0;
 //! }
 //! ```
 //!
-//! # `Write`
+//! # A byte that may be absent, as an option and as a number
+//!
+//! ## `byte_of_option`
+//!
+//! The byte, or 0 if it is absent.
+//!
+//! ```text
+//! byte_of_option : Option ℕ → ℕ
+//! byte_of_option None = 0
+//! byte_of_option (Some byte) = byte
+//! ```
+//!
+//! ## `option_of_byte`
+//!
+//! The byte as an option, absent if it is 0.
+//!
+//! ```text
+//! option_of_byte : ℕ → Option ℕ
+//! option_of_byte byte = if byte == 0 then None else Some byte
+//! ```
+//!
+//! # Writes of fields, and the record that they leave
+//!
+//! ## `Write`
 //!
 //! A field and its new value.
 //!
 //! ```text
-//! pub data Write : Type 0 where
+//! data Write : Type 0 where
 //!   write_flag : Flag → Bool → Write
 //!   write_byte : Byte → ℕ → Write
 //! ```
 //!
-//! # `IsLegal`
+//! ## `IsLegal`
 //!
 //! `IsLegal write` holds if the value fits its field: a byte is between 0 and 255.
 //!
 //! ```text
-//! abbrev pub IsLegal : Write → Type 0
+//! IsLegal : Write → Type 0
 //! IsLegal (write_flag f value) = ⊤
 //! IsLegal (write_byte b value) = value < 256
 //! ```
 //!
-//! # `after`
+//! ## `write_flags`
+//!
+//! The writes of one value to several flags.
+//!
+//! ```text
+//! write_flags : List Flag → Bool → List Write
+//! write_flags fs value = map (λ f. write_flag f value) fs
+//! ```
+//!
+//! ## `flag_written`
+//!
+//! `flag_written write f` is `Some value` if `write` writes `value` to the flag `f`, and `None` otherwise.
+//!
+//! ```text
+//! flag_written : Write → Flag → Option Bool
+//! flag_written (write_flag g value) f = if bit g == bit f then Some value else None
+//! flag_written (write_byte b value) f = None
+//! ```
+//!
+//! ## `byte_written`
+//!
+//! `byte_written write b` is `Some value` if `write` writes `value` to the byte `b`, and `None` otherwise.
+//!
+//! ```text
+//! byte_written : Write → Byte → Option ℕ
+//! byte_written (write_flag f value) b = None
+//! byte_written (write_byte c value) b = if shift c == shift b then Some value else None
+//! ```
+//!
+//! ## `last_flag`
+//!
+//! The last value that some writes give a flag, or `None` if they do not write it.
+//!
+//! ```text
+//! last_flag : List Write → Flag → Option Bool
+//! last_flag writes f = last_or None (filter_map (λ x. flag_written x f) writes)
+//! ```
+//!
+//! ## `last_byte`
+//!
+//! The last value that some writes give a byte, or `None` if they do not write it.
+//!
+//! ```text
+//! last_byte : List Write → Byte → Option ℕ
+//! last_byte writes b = last_or None (filter_map (λ x. byte_written x b) writes)
+//! ```
+//!
+//! ## `after`
 //!
 //! `after r writes` is the record in which each field has the value of the last write to it, or else its value in `r`.
 //!
 //! ```text
-//! unfoldable pub after : Record → List Write → Record
+//! after : Record → List Write → Record
 //! after r writes =
 //!     record { flag = λ f. unwrap_or (last_flag writes f) (r.flag f); byte = λ b. unwrap_or (last_byte writes b) (r.byte b) }
 //! ```
 //!
-//! # `SameWrites`
+//! ## `changes`
+//!
+//! `changes r write` is true if `write` gives its field another value than `r` has.
+//!
+//! ```text
+//! changes : Record → Write → Bool
+//! changes r (write_flag f value) = not (beq (r.flag f) value)
+//! changes r (write_byte b value) = not (r.byte b == value)
+//! ```
+//!
+//! ## `SameWrites`
 //!
 //! `SameWrites writes others` holds if both lists write the same fields, each with the same last value.
 //!
 //! ```text
-//! pub record SameWrites (writes others : List Write) : Type 0 where
-//!   pub same_flags : (f : Flag) → last_flag writes f ≡ last_flag others f
-//!   pub same_bytes : (b : Byte) → last_byte writes b ≡ last_byte others b
+//! record SameWrites (writes others : List Write) : Type 0 where
+//!   same_flags : (f : Flag) → last_flag writes f ≡ last_flag others f
+//!   same_bytes : (b : Byte) → last_byte writes b ≡ last_byte others b
 //! ```
 //!
-//! # `all_writes`
+//! # The writes of an edit, and the word that results if writes are applied to a word
 //!
-//! The writes of some edits, in order.
+//! ## `flags_of`
+//!
+//! `flags_of setter` lists the flags that `setter` writes.
 //!
 //! ```text
-//! abbrev pub all_writes : List Edit → List Write
+//! flags_of : FlagSetter → List Flag
+//! flags_of setters.RequiredIntegerDigits = layout.required_integer_digits ∷ []
+//! flags_of setters.RequiredFractionDigits = layout.required_fraction_digits ∷ []
+//! flags_of setters.RequiredExponentDigits = layout.required_exponent_digits ∷ []
+//! flags_of setters.RequiredMantissaDigits = layout.required_mantissa_digits ∷ []
+//! flags_of setters.NoPositiveMantissaSign = layout.no_positive_mantissa_sign ∷ []
+//!   ..
+//! flags_of setters.ExponentDigitSeparatorFlags = layout.exponent_digit_separator_flags
+//! ```
+//!
+//! ## `writes_of`
+//!
+//! `writes_of edit` lists the writes of `edit`: one for each field that it writes.
+//!
+//! ```text
+//! writes_of : Edit → List Write
+//! writes_of (edits.Flag setter value) = write_flags (flags_of setter) value
+//! writes_of (edits.DigitSeparator byte) = write_byte layout.digit_separator (byte_of_option byte) ∷ []
+//! writes_of (edits.BasePrefix byte) = write_byte layout.base_prefix (byte_of_option byte) ∷ []
+//! writes_of (edits.BaseSuffix byte) = write_byte layout.base_suffix (byte_of_option byte) ∷ []
+//! writes_of (edits.MantissaRadix radix) = write_byte layout.mantissa_radix radix ∷ []
+//! writes_of (edits.Radix radix) = write_byte layout.mantissa_radix radix ∷ []
+//! writes_of (edits.ExponentBase base) = write_byte layout.exponent_base (byte_of_option base) ∷ []
+//! writes_of (edits.ExponentRadix radix) = write_byte layout.exponent_radix (byte_of_option radix) ∷ []
+//! ```
+//!
+//! ## `all_writes`
+//!
+//! `all_writes list` lists the writes of all edits in `list`, in order.
+//!
+//! ```text
+//! all_writes : List Edit → List Write
 //! all_writes list = flat_map writes_of list
 //! ```
 //!
-//! # `edited`
+//! ## `edited`
 //!
-//! `edited word writes` is the word that results if the fields of `word` are filled, written in order, trimmed and packed.
+//! `edited word writes` is the word that results if the fields of `word` are filled, `writes` are applied to them in order, and the record is packed.
 //!
 //! ```text
-//! abbrev pub edited : ℕ → List Write → ℕ
+//! edited : ℕ → List Write → ℕ
 //! edited word writes = pack (after (fill (raw word)) writes)
 //! ```
 //!
-//! # `any_flag`
+//! # The words that setter calls build, and the single-field setter calls that build a word
 //!
-//! True if any of these flags is set.
+//! ## `IsEditOf`
 //!
-//! ```text
-//! unfoldable pub any_flag : ℕ → List Flag → Bool
-//! any_flag word fs = list_any (raw word).flag fs
-//! ```
-//!
-//! # `bits_of`
-//!
-//! The sum of the bits of those of these flags that are set.
+//! `IsEditOf write edit` holds if `edit` calls the setter of a single field, and its only write is `write`.
 //!
 //! ```text
-//! unfoldable pub bits_of : ℕ → List Flag → ℕ
-//! bits_of word fs = sum_by (flag_bits (raw word)) fs
-//! ```
-//!
-//! # `IsEditOf`
-//!
-//! `IsEditOf write edit` holds if `edit` calls the setter of one field to do `write`.
-//!
-//! ```text
-//! abbrev pub IsEditOf : Write → Edit → Type 0
+//! IsEditOf : Write → Edit → Type 0
 //! IsEditOf (write_flag f value) (edits.Flag setter flag) = (flags_of setter ≡ f ∷ []) × (flag ≡ value)
 //! IsEditOf (write_flag f value) _ = ⊥
 //! IsEditOf (write_byte layout.digit_separator value) edit = edit ≡ edits.DigitSeparator (option_of_byte value)
@@ -274,67 +632,543 @@
 //! IsEditOf (write_byte layout.exponent_radix value) edit = edit ≡ edits.ExponentRadix (option_of_byte value)
 //! ```
 //!
-//! # `needed_writes`
+//! ## `field_writes`
 //!
-//! The writes of the fields in which a record differs from a new builder.
+//! `field_writes r` lists a write for each field of `r`, with its value in `r`, in the order of the bits.
 //!
 //! ```text
-//! abbrev pub needed_writes : Record → List Write
+//! field_writes : Record → List Write
+//! field_writes r = map (λ f. write_flag f (r.flag f)) flags ++ map (λ b. write_byte b (r.byte b)) bytes
+//! ```
+//!
+//! ## `needed_writes`
+//!
+//! `needed_writes r` lists the field writes of `r` that change a new builder.
+//!
+//! ```text
+//! needed_writes : Record → List Write
 //! needed_writes r = filter (changes new_record) (field_writes r)
 //! ```
 //!
-//! # `other_writes`
+//! ## `other_writes`
 //!
-//! The writes of the other fields.
+//! `other_writes r` lists the field writes of `r` that do not change a new builder.
 //!
 //! ```text
-//! abbrev pub other_writes : Record → List Write
+//! other_writes : Record → List Write
 //! other_writes r = filter (λ write. not (changes new_record write)) (field_writes r)
 //! ```
 //!
-//! # `IsBuiltByWrites`
+//! ## `IsBuiltByWrites`
 //!
-//! `IsBuiltByWrites word` holds if some legal writes to a new builder make `word`.
+//! `IsBuiltByWrites word` holds if a new builder packs into `word` after some legal writes.
 //!
 //! ```text
-//! pub record IsBuiltByWrites (word : ℕ) : Type 0 where
-//!   pub writes : List Write
-//!   pub legal : All IsLegal writes
-//!   pub makes : pack (after new_record writes) ≡ word
+//! record IsBuiltByWrites (word : ℕ) : Type 0 where
+//!   writes : List Write
+//!   legal : All IsLegal writes
+//!   makes : pack (after new_record writes) ≡ word
 //! ```
 //!
-//! # `normal_form_of`
+//! # Lists any two of whose elements are related
+//!
+//! ## `ArePairwise`
+//!
+//! `ArePairwise R xs` holds if `R` relates each entry of `xs` to every later one.
+//!
+//! ```text
+//! ArePairwise : {X : Type 0} → (X → X → Type 0) → List X → Type 0
+//! ArePairwise R [] = ⊤
+//! ArePairwise R (x ∷ xs) = AllByRecursion (R x) xs × ArePairwise R xs
+//! ```
+//!
+//! # The roles that bytes play in the numbers of a format, each as the set of the bytes that play it
+//!
+//! ## `are_disjoint`
+//!
+//! `are_disjoint A B` is true if none of the 256 bytes is in both sets.
+//!
+//! ```text
+//! are_disjoint : ByteSet → ByteSet → Bool
+//! are_disjoint A B = list_all (λ byte. not (A byte && B byte)) (range_with_len 0 256)
+//! ```
+//!
+//! ## `Disjoint`
+//!
+//! `Disjoint A B` holds if no byte is in both sets.
+//!
+//! ```text
+//! Disjoint : ByteSet → ByteSet → Type 0
+//! Disjoint A B = IsTrue (are_disjoint A B)
+//! ```
+//!
+//! ## `AreDisjoint`
+//!
+//! `AreDisjoint sets` holds if no byte is in two of `sets`.
+//!
+//! ```text
+//! AreDisjoint : List ByteSet → Type 0
+//! AreDisjoint sets = ArePairwise Disjoint sets
+//! ```
+//!
+//! ## `other_case`
+//!
+//! `other_case byte` is a letter in the other case, and any other byte unchanged.
+//!
+//! ```text
+//! other_case : ℕ → ℕ
+//! other_case byte = if between 65 90 byte then byte + 32 else if between 97 122 byte then byte - 32 else byte
+//! ```
+//!
+//! ## `cased`
+//!
+//! `cased case_sensitive byte` is the set with `byte` and, unless it is case-sensitive, the other case of `byte`. It is empty if `byte` is 0, which means absent.
+//!
+//! ```text
+//! cased : Bool → ℕ → ByteSet
+//! cased case_sensitive byte c = not (byte == 0) && ((c == byte) || (not case_sensitive && (c == other_case byte)))
+//! ```
+//!
+//! ## `digits`
+//!
+//! The digits of the mantissa and of the exponent.
+//!
+//! ```text
+//! digits : Record → ByteSet
+//! digits r byte = digits_of (r.byte layout.mantissa_radix) byte || digits_of (effective_exponent_radix r) byte
+//! ```
+//!
+//! ## `signs`
+//!
+//! The signs + and -.
+//!
+//! ```text
+//! signs : ByteSet
+//! signs byte = (byte == 43) || (byte == 45)
+//! ```
+//!
+//! ## `separator`
+//!
+//! The digit separator.
+//!
+//! ```text
+//! separator : Record → ByteSet
+//! separator r = cased true (r.byte layout.digit_separator)
+//! ```
+//!
+//! ## `prefix`
+//!
+//! The base prefix.
+//!
+//! ```text
+//! prefix : Record → ByteSet
+//! prefix r = cased (r.flag layout.case_sensitive_base_prefix) (r.byte layout.base_prefix)
+//! ```
+//!
+//! ## `suffix`
+//!
+//! The base suffix.
+//!
+//! ```text
+//! suffix : Record → ByteSet
+//! suffix r = cased (r.flag layout.case_sensitive_base_suffix) (r.byte layout.base_suffix)
+//! ```
+//!
+//! ## `exponent`
+//!
+//! The exponent character, which an options type chooses and not the format.
+//!
+//! ```text
+//! exponent : Record → ℕ → ByteSet
+//! exponent r chosen = cased (r.flag layout.case_sensitive_exponent) chosen
+//! ```
+//!
+//! ## `point`
+//!
+//! The decimal point, which an options type chooses and not the format.
+//!
+//! ```text
+//! point : ℕ → ByteSet
+//! point chosen = cased true chosen
+//! ```
+//!
+//! ## `format_roles`
+//!
+//! The roles of the bytes that a format names.
+//!
+//! ```text
+//! format_roles : Record → List ByteSet
+//! format_roles r = separator r ∷ prefix r ∷ suffix r ∷ []
+//! ```
+//!
+//! ## `five_roles`
+//!
+//! The five roles of a format.
+//!
+//! ```text
+//! five_roles : Record → List ByteSet
+//! five_roles r = digits r ∷ signs ∷ format_roles r
+//! ```
+//!
+//! ## `seven_roles`
+//!
+//! The five roles of a format, the exponent character and the decimal point.
+//!
+//! ```text
+//! seven_roles : Record → ℕ → ℕ → List ByteSet
+//! seven_roles r exponent_byte point_byte = exponent r exponent_byte ∷ point point_byte ∷ five_roles r
+//! ```
+//!
+//! # The rules of a format word, and the error of the first that it breaks
+//!
+//! ## `IsRadix`
+//!
+//! `IsRadix radix` holds if numbers can be written in `radix`.
+//!
+//! ```text
+//! IsRadix : ℕ → Type 0
+//! IsRadix radix = (2 ≤ radix) × (radix ≤ 36)
+//! ```
+//!
+//! ## `IsPunctuation`
+//!
+//! `IsPunctuation r byte` holds if `byte` is allowed ASCII and neither a digit of `r` nor a sign.
+//!
+//! ```text
+//! IsPunctuation : Record → ℕ → Type 0
+//! IsPunctuation r byte = IsTrue (allowed_ascii byte) × (IsTrue (digits r byte) → ⊥) × (IsTrue (signs byte) → ⊥)
+//! ```
+//!
+//! ## `IsAbsentOrPunctuation`
+//!
+//! `IsAbsentOrPunctuation r byte` holds if `byte` is absent or punctuation.
+//!
+//! ```text
+//! IsAbsentOrPunctuation : Record → ℕ → Type 0
+//! IsAbsentOrPunctuation r byte = (byte ≡ 0) ⊎ IsPunctuation r byte
+//! ```
+//!
+//! ## `IsTextOrNone`
+//!
+//! `IsTextOrNone byte` holds if `byte` is absent or allowed ASCII.
+//!
+//! ```text
+//! IsTextOrNone : ℕ → Type 0
+//! IsTextOrNone byte = (byte ≡ 0) ⊎ IsTrue (allowed_ascii byte)
+//! ```
+//!
+//! ## `lacks_position`
+//!
+//! The flags of a part of a number allow separators in a row, but none between, before or after digits.
+//!
+//! ```text
+//! lacks_position : Bool → Bool → Bool → Bool → Bool
+//! lacks_position consecutive internal leading trailing = consecutive && not (internal || leading || trailing)
+//! ```
+//!
+//! ## `contradict`
+//!
+//! `contradict rule r` is true if the flags of `r` that `rule` reads contradict each other.
+//!
+//! ```text
+//! contradict : Rule → Record → Bool
+//! contradict rules.ExponentFlagsAgree r = r.flag no_exponent_notation && r.flag required_exponent_notation
+//! contradict rules.MantissaSignFlagsAgree r = r.flag no_positive_mantissa_sign && r.flag required_mantissa_sign
+//! contradict rules.ExponentSignFlagsAgree r = r.flag no_positive_exponent_sign && r.flag required_exponent_sign
+//! contradict rules.SpecialCaseFlagsAgree r = r.flag no_special && r.flag case_sensitive_special
+//! contradict rules.SpecialSeparatorFlagsAgree r = r.flag no_special && r.flag special_digit_separator
+//! contradict rules.IntegerConsecutiveIsAllowed r =
+//!     lacks_position (r.flag integer_consecutive_digit_separator) (r.flag integer_internal_digit_separator)
+//!     (r.flag integer_leading_digit_separator) (r.flag integer_trailing_digit_separator)
+//! contradict rules.FractionConsecutiveIsAllowed r =
+//!     lacks_position (r.flag fraction_consecutive_digit_separator) (r.flag fraction_internal_digit_separator)
+//!     (r.flag fraction_leading_digit_separator) (r.flag fraction_trailing_digit_separator)
+//! contradict rules.ExponentConsecutiveIsAllowed r =
+//!     lacks_position (r.flag exponent_consecutive_digit_separator) (r.flag exponent_internal_digit_separator)
+//!     (r.flag exponent_leading_digit_separator) (r.flag exponent_trailing_digit_separator)
+//! contradict _ r = false
+//! ```
+//!
+//! ## `Demands`
+//!
+//! `Demands rule r` holds if the fields of `r` keep `rule`. The rule for reserved bits reads no field: `Holds` has it.
+//!
+//! ```text
+//! Demands : Rule → Record → Type 0
+//! Demands rules.MantissaRadixInRange r = IsRadix (r.byte layout.mantissa_radix)
+//! Demands rules.ExponentBaseInRange r = IsRadix (effective_exponent_base r)
+//! Demands rules.ExponentRadixInRange r = IsRadix (effective_exponent_radix r)
+//! Demands rules.DigitSeparatorIsPunctuation r = IsAbsentOrPunctuation r (r.byte layout.digit_separator)
+//! Demands rules.BasePrefixIsPunctuation r = IsAbsentOrPunctuation r (r.byte layout.base_prefix)
+//! Demands rules.BaseSuffixIsPunctuation r = IsAbsentOrPunctuation r (r.byte layout.base_suffix)
+//! Demands rules.PunctuationDiffers r = AreDisjoint (format_roles r)
+//! Demands rule r = IsFalse (contradict rule r)
+//! ```
+//!
+//! ## `Holds`
+//!
+//! `Holds rule word` holds if `word` keeps `rule`.
+//!
+//! ```text
+//! Holds : Rule → ℕ → Type 0
+//! Holds rules.ReservedBitsAreZero word = IsClean word
+//! Holds rule word = Demands rule (raw word)
+//! ```
+//!
+//! ## `error_of`
+//!
+//! The error of each rule.
+//!
+//! ```text
+//! error_of : Rule → Error
+//! error_of rules.MantissaRadixInRange = errors.InvalidMantissaRadix
+//! error_of rules.ExponentBaseInRange = errors.InvalidExponentBase
+//! error_of rules.ExponentRadixInRange = errors.InvalidExponentRadix
+//! error_of rules.DigitSeparatorIsPunctuation = errors.InvalidDigitSeparator
+//! error_of rules.BasePrefixIsPunctuation = errors.InvalidBasePrefix
+//! error_of rules.BaseSuffixIsPunctuation = errors.InvalidBaseSuffix
+//! error_of rules.PunctuationDiffers = errors.InvalidPunctuation
+//! error_of rules.ExponentFlagsAgree = errors.InvalidExponentFlags
+//! error_of rules.MantissaSignFlagsAgree = errors.InvalidMantissaSign
+//! error_of rules.ExponentSignFlagsAgree = errors.InvalidExponentSign
+//! error_of rules.SpecialCaseFlagsAgree = errors.InvalidSpecial
+//! error_of rules.SpecialSeparatorFlagsAgree = errors.InvalidSpecial
+//! error_of rules.IntegerConsecutiveIsAllowed = errors.InvalidConsecutiveIntegerDigitSeparator
+//! error_of rules.FractionConsecutiveIsAllowed = errors.InvalidConsecutiveFractionDigitSeparator
+//! error_of rules.ExponentConsecutiveIsAllowed = errors.InvalidConsecutiveExponentDigitSeparator
+//! error_of rules.ReservedBitsAreZero = errors.InvalidFlags
+//! ```
+//!
+//! ## `radix_rules`
+//!
+//! The radix rules, in their order.
+//!
+//! ```text
+//! radix_rules : List Rule
+//! radix_rules = rules.MantissaRadixInRange ∷ rules.ExponentBaseInRange ∷ rules.ExponentRadixInRange ∷ []
+//! ```
+//!
+//! ## `punctuation_rules`
+//!
+//! The punctuation rules, in their order.
+//!
+//! ```text
+//! punctuation_rules : List Rule
+//! punctuation_rules =
+//!     rules.DigitSeparatorIsPunctuation ∷ rules.BasePrefixIsPunctuation ∷ rules.BaseSuffixIsPunctuation ∷ rules.PunctuationDiffers ∷ []
+//! ```
+//!
+//! ## `flag_rules`
+//!
+//! The flag rules, in their order.
+//!
+//! ```text
+//! flag_rules : List Rule
+//! flag_rules =
+//!     rules.ExponentFlagsAgree ∷ rules.MantissaSignFlagsAgree ∷ rules.ExponentSignFlagsAgree ∷
+//!     rules.SpecialCaseFlagsAgree ∷ rules.SpecialSeparatorFlagsAgree ∷
+//!     rules.IntegerConsecutiveIsAllowed ∷ rules.FractionConsecutiveIsAllowed ∷
+//!     rules.ExponentConsecutiveIsAllowed ∷ []
+//! ```
+//!
+//! ## `rules_in_order`
+//!
+//! All rules, in their order.
+//!
+//! ```text
+//! rules_in_order : List Rule
+//! rules_in_order = radix_rules ++ punctuation_rules ++ flag_rules ++ rules.ReservedBitsAreZero ∷ []
+//! ```
+//!
+//! ## `ErrorUnless`
+//!
+//! `ErrorUnless demand own next error` holds if `demand` fails and `error` is `own`, or if `demand` holds and `next error` does.
+//!
+//! ```text
+//! ErrorUnless : Type 0 → Error → (Error → Type 0) → Error → Type 0
+//! ErrorUnless demand own next error = ((demand → ⊥) × (error ≡ own)) ⊎ (demand × next error)
+//! ```
+//!
+//! ## `IsFirstError`
+//!
+//! `IsFirstError rules word error` holds if `error` is the error of the first of `rules` that `word` breaks, or `Success`.
+//!
+//! ```text
+//! IsFirstError : List Rule → ℕ → Error → Type 0
+//! IsFirstError [] word error = error ≡ errors.Success
+//! IsFirstError (rule ∷ rules) word error = ErrorUnless (Holds rule word) (error_of rule) (IsFirstError rules word) error
+//! ```
+//!
+//! ## `IsErrorOf`
+//!
+//! `IsErrorOf word error` holds if `error` is the error of the first rule that `word` breaks, or `Success`.
+//!
+//! ```text
+//! IsErrorOf : ℕ → Error → Type 0
+//! IsErrorOf word error = IsFirstError rules_in_order word error
+//! ```
+//!
+//! ## `LawfulParts`
+//!
+//! What makes a word lawful: radixes in range, flags that agree, allowed ASCII, no byte with two roles, no reserved bit.
+//!
+//! ```text
+//! record LawfulParts (word : ℕ) : Type 0 where
+//!   mantissa_radix : IsRadix ((raw word).byte layout.mantissa_radix)
+//!   exponent_base : IsRadix (effective_exponent_base (raw word))
+//!   exponent_radix : IsRadix (effective_exponent_radix (raw word))
+//!   flags : AllByRecursion (λ rule. Holds rule word) flag_rules
+//!   digit_separator : IsTextOrNone ((raw word).byte layout.digit_separator)
+//!   base_prefix : IsTextOrNone ((raw word).byte layout.base_prefix)
+//!   base_suffix : IsTextOrNone ((raw word).byte layout.base_suffix)
+//!   roles : AreDisjoint (five_roles (raw word))
+//!   clean : IsClean word
+//! ```
+//!
+//! ## `Lawful`
+//!
+//! `Lawful word` holds if all parts of `LawfulParts word` do, that is, if `word` keeps every rule.
+//!
+//! ```text
+//! Lawful : ℕ → Type 0
+//! Lawful word = LawfulParts word
+//! ```
+//!
+//! # An exponent character and a decimal point, which an options type chooses for a format
+//!
+//! ## `OptionsFit`
+//!
+//! `OptionsFit` holds if both bytes are punctuation, and their roles share no byte with each other or a role of `word`.
+//!
+//! ```text
+//! record OptionsFit (word exponent_byte point_byte : ℕ) : Type 0 where
+//!   exponent_is_punctuation : IsPunctuation (raw word) exponent_byte
+//!   point_is_punctuation : IsPunctuation (raw word) point_byte
+//!   apart : Disjoint (exponent (raw word) exponent_byte) (point point_byte)
+//!   exponent_is_new : AllByRecursion (Disjoint (exponent (raw word) exponent_byte)) (format_roles (raw word))
+//!   point_is_new : AllByRecursion (Disjoint (point point_byte)) (format_roles (raw word))
+//! ```
+//!
+//! ## `OptionsHaveOneRole`
+//!
+//! `OptionsHaveOneRole` holds if both bytes are allowed ASCII, and no byte plays two of the seven roles.
+//!
+//! ```text
+//! record OptionsHaveOneRole (word exponent_byte point_byte : ℕ) : Type 0 where
+//!   exponent_is_text : IsTrue (allowed_ascii exponent_byte)
+//!   point_is_text : IsTrue (allowed_ascii point_byte)
+//!   roles : AreDisjoint (seven_roles (raw word) exponent_byte point_byte)
+//! ```
+//!
+//! ## `SomeOptionsFit`
+//!
+//! `SomeOptionsFit word` holds if there are an exponent character and a decimal point that fit `word`.
+//!
+//! ```text
+//! record SomeOptionsFit (word : ℕ) : Type 0 where
+//!   exponent_byte : ℕ
+//!   point_byte : ℕ
+//!   fit : OptionsHaveOneRole word exponent_byte point_byte
+//! ```
+//!
+//! # The flags of a word that are in a list of flags
+//!
+//! ## `any_flag`
+//!
+//! `any_flag word fs` is true if at least one of the flags `fs` is set in `word`.
+//!
+//! ```text
+//! any_flag : ℕ → List Flag → Bool
+//! any_flag word fs = list_any (raw word).flag fs
+//! ```
+//!
+//! ## `bits_of`
+//!
+//! `bits_of word fs` is the number with the bits of the flags in `fs` that are set in `word`.
+//!
+//! ```text
+//! bits_of : ℕ → List Flag → ℕ
+//! bits_of word fs = sum_by (flag_bits (raw word)) fs
+//! ```
+//!
+//! # Normal forms, and equivalent words, which have the same normal form
+//!
+//! ## `normal_form_of`
 //!
 //! `normal_form_of word` is `word` edited by no writes.
 //!
 //! ```text
-//! abbrev pub normal_form_of : ℕ → ℕ
+//! normal_form_of : ℕ → ℕ
 //! normal_form_of word = edited word []
 //! ```
 //!
-//! # `SameFormat`
+//! ## `SameFormat`
 //!
-//! `SameFormat r s` holds if `r` and `s` are equivalent: their fields are equal, the exponent bytes by their effective values, and the separators if a flag allows one.
-//!
-//! ```text
-//! pub record SameFormat (r s : Record) : Type 0 where
-//!   pub flags : (f : Flag) → r.flag f ≡ s.flag f
-//!   pub base_prefix : r.byte layout.base_prefix ≡ s.byte layout.base_prefix
-//!   pub base_suffix : r.byte layout.base_suffix ≡ s.byte layout.base_suffix
-//!   pub mantissa_radix : r.byte layout.mantissa_radix ≡ s.byte layout.mantissa_radix
-//!   pub exponent_base : effective_exponent_base r ≡ effective_exponent_base s
-//!   pub exponent_radix : effective_exponent_radix r ≡ effective_exponent_radix s
-//!   pub digit_separator : IsTrue (separator_allowed r) → r.byte layout.digit_separator ≡ s.byte layout.digit_separator
-//! ```
-//!
-//! # `IsNormal`
-//!
-//! `IsNormal word` holds if the reserved bits of `word` are 0, it has a separator only if a flag allows one, and an exponent byte is 0 only if the mantissa radix is 0 too.
+//! `SameFormat r s` holds if `r` and `s` are equivalent: their flags, prefix, suffix, mantissa radix and effective exponent bytes are equal, and so are their separators if a flag of `r` allows one.
 //!
 //! ```text
-//! pub record IsNormal (word : ℕ) : Type 0 where
-//!   pub clean : IsClean word
-//!   pub separator_used : SeparatorAllowedOrAbsent (raw word)
-//!   pub exponent_base : (raw word).byte layout.exponent_base ≡ 0 → (raw word).byte layout.mantissa_radix ≡ 0
-//!   pub exponent_radix : (raw word).byte layout.exponent_radix ≡ 0 → (raw word).byte layout.mantissa_radix ≡ 0
+//! record SameFormat (r s : Record) : Type 0 where
+//!   flags : (f : Flag) → r.flag f ≡ s.flag f
+//!   base_prefix : r.byte layout.base_prefix ≡ s.byte layout.base_prefix
+//!   base_suffix : r.byte layout.base_suffix ≡ s.byte layout.base_suffix
+//!   mantissa_radix : r.byte layout.mantissa_radix ≡ s.byte layout.mantissa_radix
+//!   exponent_base : effective_exponent_base r ≡ effective_exponent_base s
+//!   exponent_radix : effective_exponent_radix r ≡ effective_exponent_radix s
+//!   digit_separator : IsTrue (separator_allowed r) → r.byte layout.digit_separator ≡ s.byte layout.digit_separator
 //! ```
+//!
+//! ## `IsNormal`
+//!
+//! `IsNormal word` holds if the reserved bits of `word` are 0, its separator is absent unless a flag allows one, and its exponent bytes are not 0 unless the mantissa radix is 0 too.
+//!
+//! ```text
+//! record IsNormal (word : ℕ) : Type 0 where
+//!   clean : IsClean word
+//!   separator_used : SeparatorAllowedOrAbsent (raw word)
+//!   exponent_base : (raw word).byte layout.exponent_base ≡ 0 → (raw word).byte layout.mantissa_radix ≡ 0
+//!   exponent_radix : (raw word).byte layout.exponent_radix ≡ 0 → (raw word).byte layout.mantissa_radix ≡ 0
+//! ```
+//!
+//! # Names of the prover's library
+//!
+//! | Name | Meaning |
+//! |---|---|
+//! | `ℕ` | The natural numbers. |
+//! | `Bool` | The truth values `true` and `false`. |
+//! | `List` | `[]` is the empty list, `x ∷ xs` is `x` followed by `xs`, and `xs ++ ys` is `xs` followed by `ys`. |
+//! | `Option` | As in Rust: `None`, or `Some value`. |
+//! | `≡` | `x ≡ y` holds if both are equal, and `x ≢ y` if they are not. |
+//! | `↔` | If and only if. |
+//! | `→` | `A → B` holds if `B` follows from `A`, and `(x : T) → A` holds if `A` does for every `x` of the type `T`. Between types it is the type of functions. |
+//! | `×` | And; `.0` and `.1` are the two parts. |
+//! | `⊎` | Or. |
+//! | `⊤` | It always holds. |
+//! | `⊥` | It never holds. |
+//! | `λ` | `λ x. t` is the function that returns `t` for `x`. |
+//! | `+` | Addition, and `*`, `/`, `%` and `^` are multiplication, division without remainder, remainder and power. |
+//! | `-` | Subtraction, which returns 0 if the second number is larger. |
+//! | `<` | `a < b` holds if `a` is less than `b`, and `a ≤ b` if it is at most `b`. |
+//! | `==` | `x == y` is the truth value of `x ≡ y`; `beq` is the same for truth values. |
+//! | `&&` | `a && b` is true if both are, `a \|\| b` if one is, and `not a` if `a` is false. |
+//! | `if` | `if b then x else y` is `x` if `b` is true, and `y` otherwise. |
+//! | `nat_le` | `nat_le a b` is the truth value of `a ≤ b`, and `nat_lt a b` the one of `a < b`. |
+//! | `min` | `min a b` is the smaller of two numbers. |
+//! | `IsTrue` | `IsTrue b` holds if `b` is `true`, and `IsFalse b` if it is `false`. |
+//! | `OkIff` | `OkIff result P x` holds if `result` is `Ok x` and `P` holds, or if it is an `Err` and `P` does not. |
+//! | `IfOk` | `IfOk result P` holds if `result` is an `Err`, or if it is `Ok x` and `P` holds for `x`. |
+//! | `IfErr` | `IfErr result P` holds if `result` is an `Ok`, or if it is `Err x` and `P` holds for `x`. |
+//! | `All` | `All P xs` holds if `P` holds for each entry of `xs`; `AllByRecursion` is the same. |
+//! | `AllZip` | `AllZip P xs ys` holds if both lists have one length and `P` holds for each two entries at one index. |
+//! | `length` | The number of entries of a list. |
+//! | `take` | `take n xs` is the list of the first `n` entries of `xs`. |
+//! | `range_with_len` | `range_with_len start n` is the list of the `n` numbers from `start` up. |
+//! | `map` | `map f xs` is the list of `f x` for each `x` in `xs`. |
+//! | `flat_map` | `flat_map f xs` joins the lists `f x` for each `x` in `xs`. |
+//! | `filter` | `filter p xs` is the list of each `x` in `xs` for which `p x` is true. |
+//! | `filter_map` | `filter_map f xs` is the list of each `y` for which `f x` is `Some y`, for `x` in `xs`. |
+//! | `list_any` | `list_any p xs` is true if `p x` is for some `x` in `xs`, and `list_all p xs` if it is for each. |
+//! | `sum_by` | `sum_by f xs` is the sum of `f x` for each `x` in `xs`. |
+//! | `last_or` | `last_or option xs` is `Some` of the last entry of `xs`, or `option` if `xs` is empty. |
+//! | `position` | `position p xs` is `Some` of the index of the first entry for which `p` is true, or `None`. |
+//! | `unwrap_or` | `unwrap_or option x` is the value in `option`, or `x` if it is `None`. |
+//! | `codes` | `codes text` is the list of the bytes of a text. |

@@ -12,7 +12,7 @@
 const DIGIT_CHARACTERS: [u8; 36] = *b"0123456789ABCDEFGHIJKLMNOPQRSTUVWXYZ";
 
 // The value of each byte, at its index.
-const VALUES: [u8; 256] = [
+const VALUES: [u32; 256] = [
     255, 255, 255, 255, 255, 255, 255, 255, 255, 255, 255, 255, 255, 255, 255, 255, 255, 255, 255,
     255, 255, 255, 255, 255, 255, 255, 255, 255, 255, 255, 255, 255, 255, 255, 255, 255, 255, 255,
     255, 255, 255, 255, 255, 255, 255, 255, 255, 255, 0, 1, 2, 3, 4, 5, 6, 7, 8, 9, 255, 255, 255,
@@ -31,7 +31,7 @@ const VALUES: [u8; 256] = [
 // The value of `c`: 0 to 35 for a digit character, and 255 for any other byte.
 #[inline(always)]
 const fn byte_value(c: u8) -> u32 {
-    VALUES[c as usize] as u32
+    VALUES[c as usize]
 }
 
 /// Returns the value of the byte `c`, for a caller that knows that `c` is a digit of `radix`.
@@ -80,8 +80,7 @@ pub const fn char_is_digit_const(c: u8, radix: u32) -> bool {
 ///
 /// # Panics
 ///
-/// A call with a `digit` of 36 or more is not proved. In plain Rust it returns some byte, or panics if
-/// overflow is checked.
+/// It may panic if `digit` is 36 or more and overflow is checked. If it does not, it then returns some byte.
 #[must_use]
 #[inline(always)]
 pub const fn digit_to_char_const(digit: u32, radix: u32) -> u8 {
@@ -118,7 +117,7 @@ pub const fn char_is_digit(c: u8, radix: u32) -> bool {
 ///
 /// # Panics
 ///
-/// A call with a `digit` of 36 or more is not proved. In plain Rust it panics.
+/// If `digit` is 36 or more.
 #[must_use]
 #[inline(always)]
 pub const fn digit_to_char(digit: u32) -> u8 {

@@ -6,8 +6,8 @@ use crate::error::Error;
 use crate::format_builder::{NumberFormatBuilder, OptionU8};
 use crate::format_flags::{check, FLAG_MASK};
 
-// Calls `$rows!` with `$args`, a row for each flag, and a row for each group of flags. A row has the
-// variant of `FlagSetter`, and the name that the setter and, for a flag, the getter have.
+// Calls `$rows!` with `$args`, a row for each flag, and a row for each group of flags. A row has the variant of
+// `FlagSetter` and the name of the setter. Each flag's getter has the same name.
 macro_rules! with_setters {
     ($rows:ident $args:tt) => {
         $rows! {
@@ -65,14 +65,16 @@ mod numbers;
 mod text;
 
 pub use listing::{edits_of, field_edits_of, is_built};
+pub(crate) use listing::{raw_exponent_base, raw_exponent_radix};
 pub use numbers::{
     setter_name_of_number, setter_number_of_name, Argument, ArgumentKind, SETTER_NAMES,
 };
-pub use text::{byte_from_text, SettingError};
+pub use text::{byte_from_decimal, SettingError};
 
-/// A builder setter that takes a `bool`: one for each flag, and one for each of the nine groups of
-/// flags. A variant stands for the setter that its line names.
-#[derive(Debug, Clone, Copy, PartialEq, Eq, Hash)]
+/// A builder setter that takes a `bool`: one for each flag, and one for each of the nine groups of flags. The comment
+/// of a variant is the name of its setter.
+#[derive(Debug, Clone, Copy, PartialEq, Eq, Hash, PartialOrd, Ord)]
+#[non_exhaustive]
 pub enum FlagSetter {
     /// `required_integer_digits`
     RequiredIntegerDigits,
@@ -157,27 +159,27 @@ pub enum FlagSetter {
 }
 
 /// A setter call of a builder, with its argument.
-#[derive(Debug, Clone, Copy, PartialEq, Eq, Hash)]
+#[derive(Debug, Clone, Copy, PartialEq, Eq, Hash, PartialOrd, Ord)]
 pub enum Edit {
     /// Writes a flag, or every flag of a group.
     Flag(FlagSetter, bool),
-    /// Writes the digit separator; with `None` the format has none.
+    /// Writes the digit separator. `None` means that the format has no digit separator.
     DigitSeparator(OptionU8),
-    /// Writes the base prefix; with `None` the format has none.
+    /// Writes the base prefix. `None` means that the format has no base prefix.
     BasePrefix(OptionU8),
-    /// Writes the base suffix; with `None` the format has none.
+    /// Writes the base suffix. `None` means that the format has no base suffix.
     BaseSuffix(OptionU8),
-    /// Writes the mantissa radix, 0 to 255; a lawful format has 2 to 36.
+    /// Writes the mantissa radix, 0 to 255. In a lawful format it is between 2 and 36.
     MantissaRadix(u8),
-    /// Writes the mantissa radix too: the setter `radix` is another name of it.
+    /// Writes the mantissa radix too: the setter `radix` is another name of the setter `mantissa_radix`.
     Radix(u8),
-    /// Writes the exponent base; with `None` the mantissa radix is used.
+    /// Writes the exponent base. `None` means the mantissa radix.
     ExponentBase(OptionU8),
-    /// Writes the exponent radix; with `None` the mantissa radix is used.
+    /// Writes the exponent radix. `None` means the mantissa radix.
     ExponentRadix(OptionU8),
 }
 
-// The variants as an array: the flags and then the groups.
+// The variants as an array: the flags, then the groups.
 macro_rules! variants {
     (() { $($Flag:ident $flag:ident;)* } { $($Group:ident $group:ident;)* }) => {
         [$(FlagSetter::$Flag,)* $(FlagSetter::$Group,)*]
@@ -186,10 +188,12 @@ macro_rules! variants {
 
 const FLAGS: usize = u128::count_ones(FLAG_MASK) as usize;
 
-/// How many fields a word has: the flags and six bytes.
+/// The number of fields of a word: the flags and six bytes.
+#[doc(hidden)]
 pub const FIELD_COUNT: usize = FLAGS + 6;
 
-/// All setters, in the order of the variants: those of the flags, and those of nine groups.
+/// All setters that take a `bool`, in the order of the variants: the flag setters, then the nine group setters.
+#[doc(hidden)]
 pub const SETTERS: [FlagSetter; FLAGS + 9] = with_setters!(variants());
 
 /// Applies one edit: calls the setter that it names.
@@ -208,7 +212,7 @@ pub const fn apply(builder: NumberFormatBuilder, edit: Edit) -> NumberFormatBuil
     }
 }
 
-// Calls the setter of a flag or of a group.
+// Calls a flag setter or a group setter.
 #[inline(always)]
 const fn apply_flag(
     builder: NumberFormatBuilder,
@@ -227,14 +231,18 @@ const fn apply_flag(
     with_setters!(call_setter(builder, setter, flag))
 }
 
-/// Applies `edits` in order, as the setter calls that they stand for would be made.
+/// Applies `edits` to a builder in order, each as one setter call.
 ///
-/// To make a format of settings, apply them to a new builder and pack it strictly: exponent base and
-/// exponent radix then follow the mantissa radix, unless a setting writes them.
+/// To build a format from settings, apply them to a new builder and pack it with `build_strict`. The exponent base and
+/// the exponent radix then follow the mantissa radix, unless a setting writes them.
 ///
 /// # Proved
 ///
-/// For all arguments; [`definitions`](crate::definitions) has the words.
+/// For all arguments:
+///
+/// - The result has the builder's fields [`after`](crate::definitions#after) the writes of all edits
+///   ([`all_writes`](crate::definitions#all_writes)).
+/// - Each value fits its field ([`IsLegal`](crate::definitions#islegal)).
 ///
 /// ```text
 /// ensures fields { result ≡ after builder (all_writes edits.now) }
@@ -250,23 +258,19 @@ pub const fn apply_all(mut builder: NumberFormatBuilder, edits: &[Edit]) -> Numb
     builder
 }
 
-/// Applies `edits` in order to any word, lawful or not, and returns the new word.
+/// Applies `edits` in order to a format word, lawful or not, and returns the new word.
 ///
-/// This is for a finished format. An edit of the mantissa radix leaves exponent base and exponent radix
-/// as they were, also if they followed the old mantissa radix: for a fresh format see [`apply_all`].
+/// Use this for a finished format. An edit of the mantissa radix does not change the exponent base and the exponent
+/// radix, even if they followed the old mantissa radix. To build a new format, use [`apply_all`].
 ///
 /// 1. The fields of `format` are read.
-/// 2. An exponent base or exponent radix of 0 is set to the mantissa radix.
-/// 3. Each edit overwrites its fields: of several edits of one field the last counts. An edit to
-///    `None` leaves an exponent byte 0.
-/// 4. The digit separator is set to 0 if no flag allows one anywhere, and the fields are packed. The
-///    reserved bits are 0.
+/// 2. An exponent base or exponent radix of 0 is replaced by the mantissa radix.
+/// 3. Each edit is applied. If several edits write the same field, the last one wins. An exponent byte that an edit
+///    sets to `None` stays 0.
+/// 4. The digit separator is set to 0 if no flag allows one, and the fields are packed. The reserved bits are 0.
 ///
-/// Pass all edits in one call. Two calls are not always one call with both lists: the first drops a
-/// digit separator that no flag allows yet, and the second fills an exponent byte that the first set to
-/// `None`.
-///
-/// In plain Rust:
+/// Pass all edits in one call. Two calls can give a different word than one call with both lists: the first call drops
+/// a digit separator whose flag is not set yet, and the second fills an exponent byte that the first set to `None`.
 ///
 /// ```
 /// use peltzivar::edits::{edit_word, Edit, FlagSetter};
@@ -279,7 +283,19 @@ pub const fn apply_all(mut builder: NumberFormatBuilder, edits: &[Edit]) -> Numb
 ///
 /// # Proved
 ///
-/// For all arguments; [`definitions`](crate::definitions) has the words.
+/// For all arguments:
+///
+/// - The result is [`edited`](crate::definitions#edited) from the word and the writes of all edits
+///   ([`all_writes`](crate::definitions#all_writes)).
+/// - Its fields ([`raw`](crate::definitions#raw)) are those of the word, filled
+///   ([`fill`](crate::definitions#fill)), overwritten in order ([`after`](crate::definitions#after)), and trimmed
+///   ([`trim`](crate::definitions#trim)).
+/// - Its reserved bits are 0 ([`IsClean`](crate::definitions#isclean)).
+/// - No other word without reserved bits has these fields.
+/// - Legal writes ([`IsLegal`](crate::definitions#islegal)) that give each field the same last value
+///   ([`SameWrites`](crate::definitions#samewrites)) give the same result. So edits of different fields can be in
+///   any order, and a group is its flags in any order.
+/// - Each value fits its field.
 ///
 /// ```text
 /// ensures word { result ≡ edited format (all_writes edits.now) }
@@ -290,8 +306,8 @@ pub const fn apply_all(mut builder: NumberFormatBuilder, edits: &[Edit]) -> Numb
 /// ensures unique { (other : ℕ) → other < 2 ^ 128 → IsClean other
 ///     → raw other ≡ trim (after (fill (raw format)) (all_writes edits.now)) → other ≡ result }
 ///
-/// // Only the last write of each field counts: setters of different fields may change places,
-/// // and a group setter is its single setters in any order.
+/// // Only the last write to each field matters. So edits of different fields can be in any order, and a group edit
+/// // equals the edits of its flags in any order.
 /// ensures same_writes { (writes : List Write) → All IsLegal writes
 ///     → SameWrites writes (all_writes edits.now) → edited format writes ≡ result }
 ///
@@ -302,14 +318,32 @@ pub const fn edit_word(format: u128, edits: &[Edit]) -> u128 {
     apply_all(NumberFormatBuilder::rebuild(format), edits).build_unchecked()
 }
 
-/// Returns the normal form of any word: the canonical one among the words that mean the same.
+/// Returns the normal form of a word, lawful or not: the canonical word among all equivalent words.
 ///
-/// Each exponent byte holds its effective value, there is a digit separator only if a flag allows one
-/// somewhere, and the reserved bits are 0.
+/// In the normal form, each exponent byte is its effective value, the digit separator is absent unless a flag allows
+/// one, and the reserved bits are 0.
 ///
 /// # Proved
 ///
-/// For all arguments; [`definitions`](crate::definitions) has the words.
+/// For all arguments:
+///
+/// - The result is the word edited by no writes ([`normal_form_of`](crate::definitions#normal_form_of)).
+/// - Its fields ([`raw`](crate::definitions#raw)) are those of the word, filled
+///   ([`fill`](crate::definitions#fill)) and trimmed ([`trim`](crate::definitions#trim)).
+/// - Its reserved bits are 0 ([`IsClean`](crate::definitions#isclean)).
+/// - No other word without reserved bits has these fields.
+/// - The normal form of a normal form is itself.
+/// - A word is its own normal form if and only if it [`IsNormal`](crate::definitions#isnormal).
+/// - Word and normal form are equivalent ([`SameFormat`](crate::definitions#sameformat)).
+/// - In each list of flags, [`any_flag`](crate::definitions#any_flag) is set in both or in neither.
+/// - Each list of flags has the same bits in both ([`bits_of`](crate::definitions#bits_of)).
+/// - The normal form of a [`Lawful`](crate::definitions#lawful) word is lawful.
+/// - If neither a reserved bit nor a separator is dropped ([`IsClean`](crate::definitions#isclean),
+///   [`SeparatorAllowedOrAbsent`](crate::definitions#separatorallowedorabsent)), both words have the same error
+///   ([`IsErrorOf`](crate::definitions#iserrorof)).
+/// - If no separator is dropped, both words give the same word when they are
+///   [`edited`](crate::definitions#edited).
+/// - The result [`IsNormal`](crate::definitions#isnormal).
 ///
 /// ```text
 /// ensures word { result ≡ normal_form_of format }
@@ -324,19 +358,19 @@ pub const fn edit_word(format: u128, edits: &[Edit]) -> u128 {
 /// ensures idempotent { normal_form_of result ≡ result }
 /// ensures unchanged { (result ≡ format) ↔ IsNormal format }
 ///
-/// // It means the same: all fields agree, except a separator that no flag allows, and so do all
-/// // groups of flags.
+/// // Both words are equivalent: their effective fields are equal, except for a separator that no flag allows, and so
+/// // are their flags in each list of flags.
 /// ensures same { SameFormat (raw format) (raw result) }
 /// ensures groups { (fs : List Flag) → any_flag format fs ≡ any_flag result fs }
 /// ensures flags { (fs : List Flag) → bits_of format fs ≡ bits_of result fs }
 ///
-/// // That of a lawful word is lawful. If no reserved bit and no separator is dropped, both words
-/// // break the same rule first, or none.
+/// // The normal form of a lawful word is lawful. If neither a reserved bit nor a separator is dropped, both words have
+/// // the same error.
 /// ensures lawful { Lawful format → Lawful result }
 /// ensures error { IsClean format → SeparatorAllowedOrAbsent (raw format)
 ///     → (error : Error) → IsErrorOf format error ↔ IsErrorOf result error }
 ///
-/// // If no separator is dropped, it does not matter which of the two is edited.
+/// // If no separator is dropped, both words give the same word when they are edited.
 /// ensures edits { SeparatorAllowedOrAbsent (raw format) → (writes : List Write) → All IsLegal writes
 ///     → edited result writes ≡ edited format writes }
 /// ensures normal { IsNormal result }
@@ -347,14 +381,16 @@ pub const fn normal_form(format: u128) -> u128 {
     NumberFormatBuilder::rebuild(format).build_unchecked()
 }
 
-/// Returns the normal form of `format` if that is lawful, and else the error of the normal form.
+/// Returns the normal form of `format` if the normal form is lawful.
 ///
-/// This is for words that were stored by `lexical-util`, or by this crate before its rules changed.
-/// Reserved bits, empty exponent bytes, and a digit separator that no flag allows are mended, so none
-/// of these is an error; everything else that is wrong is. The error is never `Success` or
+/// Use this for words that were stored by `lexical-util`, or by this crate before its rules changed. Reserved bits,
+/// absent exponent bytes and a digit separator that no flag allows are not errors, since the normal form has none of
+/// them.
+///
+/// # Errors
+///
+/// If the normal form is not lawful, the error of the first rule that it breaks. This is never `Success` or
 /// `InvalidFlags`.
-///
-/// In plain Rust:
 ///
 /// ```
 /// use peltzivar::{edits::migrate, error::Error};
@@ -366,7 +402,18 @@ pub const fn normal_form(format: u128) -> u128 {
 ///
 /// # Proved
 ///
-/// For all arguments; [`definitions`](crate::definitions) has the words.
+/// For all arguments:
+///
+/// - The result is `Ok` of the normal form ([`normal_form_of`](crate::definitions#normal_form_of)) if and only if
+///   that is [`Lawful`](crate::definitions#lawful).
+/// - Its fields ([`raw`](crate::definitions#raw)) are those of the word, filled
+///   ([`fill`](crate::definitions#fill)) and trimmed ([`trim`](crate::definitions#trim)).
+/// - A word that is returned [`IsNormal`](crate::definitions#isnormal).
+/// - It is equivalent to the given one ([`SameFormat`](crate::definitions#sameformat)).
+/// - An `Err` has the error of the first rule that the normal form breaks
+///   ([`IsErrorOf`](crate::definitions#iserrorof)).
+/// - It is never `Err(Success)`.
+/// - It is never `Err(InvalidFlags)`, since reserved bits are dropped.
 ///
 /// ```text
 /// ensures lawful { OkIff result (Lawful (normal_form_of format)) (normal_form_of format) }
@@ -381,11 +428,16 @@ pub const fn migrate(format: u128) -> Result<u128, Error> {
     check(normal_form(format))
 }
 
-/// Returns whether two words mean the same, that is, have the same normal form.
+/// Returns whether two words are equivalent, that is, have the same normal form.
 ///
 /// # Proved
 ///
-/// For all arguments; [`definitions`](crate::definitions) has the words.
+/// For all arguments:
+///
+/// - The result is true if and only if both words have one normal form
+///   ([`normal_form_of`](crate::definitions#normal_form_of)).
+/// - This holds if and only if their fields ([`raw`](crate::definitions#raw)) express the same format
+///   ([`SameFormat`](crate::definitions#sameformat)).
 ///
 /// ```text
 /// ensures normal_forms { IsTrue result ↔ (normal_form_of a ≡ normal_form_of b) }

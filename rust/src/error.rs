@@ -2,10 +2,8 @@
 
 //! The errors of parsing a number, and of checking a number format or its options.
 //!
-//! A parser or a checker returns one [`Error`], and [`Error::Success`] if nothing is wrong. This
-//! crate only defines them; the crates above return them.
+//! A parser or a checker returns one [`Error`], and [`Error::Success`] if nothing is wrong.
 
-use core::cmp::Ordering;
 use core::fmt;
 
 mod short_text;
@@ -24,7 +22,8 @@ pub use sink::Sink;
 /// then by index. This is a total order, in which two values are equal exactly if they are the same.
 /// Each test `is_..` returns whether the value is of its variant, so exactly one of the 49 returns
 /// true.
-#[derive(Clone, Copy, Debug, PartialEq, Eq, Hash)]
+#[derive(Clone, Copy, Debug, PartialEq, Eq, PartialOrd, Ord, Hash)]
+#[non_exhaustive]
 pub enum Error {
     // Errors of parsing, each with the index of the byte at which it was found.
     /// The number is above the largest of its type.
@@ -137,7 +136,8 @@ pub enum Error {
 }
 
 /// What an [`Error`] is about.
-#[derive(Clone, Copy, Debug, PartialEq, Eq)]
+#[derive(Clone, Copy, Debug, PartialEq, Eq, PartialOrd, Ord, Hash)]
+#[non_exhaustive]
 pub enum Class {
     /// The parsing of a number.
     Parse,
@@ -538,6 +538,7 @@ impl Error {
     /// Returns the rank of the variant: its index in the list of the 49 variants, 0 to 48.
     #[must_use]
     #[inline(always)]
+    #[doc(hidden)]
     pub const fn rank(&self) -> u8 {
         match self {
             Error::Overflow(_) => 0,
@@ -597,6 +598,7 @@ impl Error {
     /// The ranks are those of [`Error::rank`].
     #[must_use]
     #[inline(always)]
+    #[doc(hidden)]
     pub const fn from_rank(rank: u8, index: usize) -> Option<Error> {
         match rank {
             0 => Some(Error::Overflow(index)),
@@ -663,13 +665,8 @@ impl Error {
         }
     }
 
-    // The index of a parse error, and 0 for every other variant.
-    #[inline(always)]
-    fn held_index(&self) -> usize {
-        self.index().copied().unwrap_or(0)
-    }
-
     /// Puts the text that `Display` prints into a sink, whatever options it has. Fails only if the sink does.
+    #[doc(hidden)]
     pub fn put_into<S: Sink>(&self, out: &mut S) -> Result<(), fmt::Error> {
         out.put(self.class().start())?;
         out.put(self.description())?;
@@ -693,21 +690,6 @@ impl Class {
             Class::Options => "lexical options error: ",
             Class::Success => "",
         }
-    }
-}
-
-impl Ord for Error {
-    fn cmp(&self, other: &Error) -> Ordering {
-        match self.rank().cmp(&other.rank()) {
-            Ordering::Equal => self.held_index().cmp(&other.held_index()),
-            order => order,
-        }
-    }
-}
-
-impl PartialOrd for Error {
-    fn partial_cmp(&self, other: &Error) -> Option<Ordering> {
-        Some(self.cmp(other))
     }
 }
 

@@ -127,127 +127,163 @@ macro_rules! methods {
 }
 
 fields! {
-    /// Whether the flag [`required_integer_digits`][NumberFormatBuilder::required_integer_digits] is set.
+    /// Whether a parser refuses `.5`: a float with no digits before its decimal point
+    /// ([setter][NumberFormatBuilder::required_integer_digits]).
     REQUIRED_INTEGER_DIGITS required_integer_digits bool;
-    /// Whether the flag [`required_fraction_digits`][NumberFormatBuilder::required_fraction_digits] is set.
+    /// Whether a parser refuses `1.`: a decimal point with no digits after it
+    /// ([setter][NumberFormatBuilder::required_fraction_digits]).
     REQUIRED_FRACTION_DIGITS required_fraction_digits bool;
-    /// Whether the flag [`required_exponent_digits`][NumberFormatBuilder::required_exponent_digits] is set.
+    /// Whether a parser refuses `1e`: an exponent character with no digits after it
+    /// ([setter][NumberFormatBuilder::required_exponent_digits]).
     REQUIRED_EXPONENT_DIGITS required_exponent_digits bool;
-    /// Whether the flag [`required_mantissa_digits`][NumberFormatBuilder::required_mantissa_digits] is set.
+    /// Whether a parser refuses `.`: a float with no significant digit
+    /// ([setter][NumberFormatBuilder::required_mantissa_digits]).
     REQUIRED_MANTISSA_DIGITS required_mantissa_digits bool;
-    /// Whether any flag of the setter [`required_digits`][NumberFormatBuilder::required_digits] is set.
+    /// Whether any is set of the flags of a group: digits that must be there
+    /// ([setter][NumberFormatBuilder::required_digits]).
     REQUIRED_DIGITS required_digits bool;
-    /// Whether the flag [`no_positive_mantissa_sign`][NumberFormatBuilder::no_positive_mantissa_sign] is set.
+    /// Whether a parser refuses `+1`: a `+` before an integer or a float
+    /// ([setter][NumberFormatBuilder::no_positive_mantissa_sign]).
     NO_POSITIVE_MANTISSA_SIGN no_positive_mantissa_sign bool;
-    /// Whether the flag [`required_mantissa_sign`][NumberFormatBuilder::required_mantissa_sign] is set.
+    /// Whether a parser refuses `1`: an integer or a float with no sign
+    /// ([setter][NumberFormatBuilder::required_mantissa_sign]).
     REQUIRED_MANTISSA_SIGN required_mantissa_sign bool;
-    /// Whether the flag [`no_exponent_notation`][NumberFormatBuilder::no_exponent_notation] is set.
+    /// Whether a parser refuses `1e5`: a float with an exponent ([setter][NumberFormatBuilder::no_exponent_notation]).
     NO_EXPONENT_NOTATION no_exponent_notation bool;
-    /// Whether the flag [`no_positive_exponent_sign`][NumberFormatBuilder::no_positive_exponent_sign] is set.
+    /// Whether a parser refuses `1e+5` ([setter][NumberFormatBuilder::no_positive_exponent_sign]).
     NO_POSITIVE_EXPONENT_SIGN no_positive_exponent_sign bool;
-    /// Whether the flag [`required_exponent_sign`][NumberFormatBuilder::required_exponent_sign] is set.
+    /// Whether a parser refuses `1e5`: an exponent with no sign
+    /// ([setter][NumberFormatBuilder::required_exponent_sign]).
     REQUIRED_EXPONENT_SIGN required_exponent_sign bool;
-    /// Whether the flag [`no_exponent_without_fraction`][NumberFormatBuilder::no_exponent_without_fraction] is set.
+    /// Whether a parser refuses `1e5`, not `1.0e5`: an exponent needs a decimal point, but no digits after it
+    /// ([setter][NumberFormatBuilder::no_exponent_without_fraction]).
     NO_EXPONENT_WITHOUT_FRACTION no_exponent_without_fraction bool;
-    /// Whether the flag [`no_special`][NumberFormatBuilder::no_special] is set.
+    /// Whether a parser refuses `NaN` and `inf`, and every other special value
+    /// ([setter][NumberFormatBuilder::no_special]).
     NO_SPECIAL no_special bool;
-    /// Whether the flag [`case_sensitive_special`][NumberFormatBuilder::case_sensitive_special] is set.
+    /// Whether a parser refuses `nan`, if `NaN` is the spelling
+    /// ([setter][NumberFormatBuilder::case_sensitive_special]).
     CASE_SENSITIVE_SPECIAL case_sensitive_special bool;
-    /// Whether the flag [`no_integer_leading_zeros`][NumberFormatBuilder::no_integer_leading_zeros] is set.
+    /// Whether a parser refuses `01` as an integer, not `0` ([setter][NumberFormatBuilder::no_integer_leading_zeros]).
     NO_INTEGER_LEADING_ZEROS no_integer_leading_zeros bool;
-    /// Whether the flag [`no_float_leading_zeros`][NumberFormatBuilder::no_float_leading_zeros] is set.
+    /// Whether a parser refuses `01.0`, not `0.1` ([setter][NumberFormatBuilder::no_float_leading_zeros]).
     NO_FLOAT_LEADING_ZEROS no_float_leading_zeros bool;
-    /// Whether the flag [`required_exponent_notation`][NumberFormatBuilder::required_exponent_notation] is set.
+    /// Whether a parser refuses `1.0`: a float with no exponent
+    /// ([setter][NumberFormatBuilder::required_exponent_notation]).
     REQUIRED_EXPONENT_NOTATION required_exponent_notation bool;
-    /// Whether the flag [`case_sensitive_exponent`][NumberFormatBuilder::case_sensitive_exponent] is set.
+    /// Whether a parser refuses `1E5`, if the exponent character is `e`
+    /// ([setter][NumberFormatBuilder::case_sensitive_exponent]).
     CASE_SENSITIVE_EXPONENT case_sensitive_exponent bool;
-    /// Whether the flag [`case_sensitive_base_prefix`][NumberFormatBuilder::case_sensitive_base_prefix] is set.
+    /// Whether a parser refuses `0X1F`, if the base prefix is `x`
+    /// ([setter][NumberFormatBuilder::case_sensitive_base_prefix]).
     CASE_SENSITIVE_BASE_PREFIX case_sensitive_base_prefix bool;
-    /// Whether the flag [`case_sensitive_base_suffix`][NumberFormatBuilder::case_sensitive_base_suffix] is set.
+    /// Whether a parser refuses `1FH`, if the base suffix is `h`
+    /// ([setter][NumberFormatBuilder::case_sensitive_base_suffix]).
     CASE_SENSITIVE_BASE_SUFFIX case_sensitive_base_suffix bool;
-    /// Whether the flag [`integer_internal_digit_separator`][NumberFormatBuilder::integer_internal_digit_separator] is set.
+    /// Whether a parser accepts `1_2`: a separator between integer digits
+    /// ([setter][NumberFormatBuilder::integer_internal_digit_separator]).
     INTEGER_INTERNAL_DIGIT_SEPARATOR integer_internal_digit_separator bool;
-    /// Whether the flag [`fraction_internal_digit_separator`][NumberFormatBuilder::fraction_internal_digit_separator] is set.
+    /// Whether a parser accepts `0.1_2`: a separator between fraction digits
+    /// ([setter][NumberFormatBuilder::fraction_internal_digit_separator]).
     FRACTION_INTERNAL_DIGIT_SEPARATOR fraction_internal_digit_separator bool;
-    /// Whether the flag [`exponent_internal_digit_separator`][NumberFormatBuilder::exponent_internal_digit_separator] is set.
+    /// Whether a parser accepts `1e1_2`: a separator between exponent digits
+    /// ([setter][NumberFormatBuilder::exponent_internal_digit_separator]).
     EXPONENT_INTERNAL_DIGIT_SEPARATOR exponent_internal_digit_separator bool;
-    /// Whether any flag of the setter [`internal_digit_separator`][NumberFormatBuilder::internal_digit_separator] is set.
+    /// Whether any is set of the flags of a group: a separator between digits
+    /// ([setter][NumberFormatBuilder::internal_digit_separator]).
     INTERNAL_DIGIT_SEPARATOR internal_digit_separator bool;
-    /// Whether the flag [`integer_leading_digit_separator`][NumberFormatBuilder::integer_leading_digit_separator] is set.
+    /// Whether a parser accepts `_12`: a separator before integer digits
+    /// ([setter][NumberFormatBuilder::integer_leading_digit_separator]).
     INTEGER_LEADING_DIGIT_SEPARATOR integer_leading_digit_separator bool;
-    /// Whether the flag [`fraction_leading_digit_separator`][NumberFormatBuilder::fraction_leading_digit_separator] is set.
+    /// Whether a parser accepts `0._12`: a separator before fraction digits
+    /// ([setter][NumberFormatBuilder::fraction_leading_digit_separator]).
     FRACTION_LEADING_DIGIT_SEPARATOR fraction_leading_digit_separator bool;
-    /// Whether the flag [`exponent_leading_digit_separator`][NumberFormatBuilder::exponent_leading_digit_separator] is set.
+    /// Whether a parser accepts `1e_12`: a separator before exponent digits
+    /// ([setter][NumberFormatBuilder::exponent_leading_digit_separator]).
     EXPONENT_LEADING_DIGIT_SEPARATOR exponent_leading_digit_separator bool;
-    /// Whether any flag of the setter [`leading_digit_separator`][NumberFormatBuilder::leading_digit_separator] is set.
+    /// Whether any is set of the flags of a group: a separator before digits
+    /// ([setter][NumberFormatBuilder::leading_digit_separator]).
     LEADING_DIGIT_SEPARATOR leading_digit_separator bool;
-    /// Whether the flag [`integer_trailing_digit_separator`][NumberFormatBuilder::integer_trailing_digit_separator] is set.
+    /// Whether a parser accepts `12_`: a separator after integer digits
+    /// ([setter][NumberFormatBuilder::integer_trailing_digit_separator]).
     INTEGER_TRAILING_DIGIT_SEPARATOR integer_trailing_digit_separator bool;
-    /// Whether the flag [`fraction_trailing_digit_separator`][NumberFormatBuilder::fraction_trailing_digit_separator] is set.
+    /// Whether a parser accepts `0.12_`: a separator after fraction digits
+    /// ([setter][NumberFormatBuilder::fraction_trailing_digit_separator]).
     FRACTION_TRAILING_DIGIT_SEPARATOR fraction_trailing_digit_separator bool;
-    /// Whether the flag [`exponent_trailing_digit_separator`][NumberFormatBuilder::exponent_trailing_digit_separator] is set.
+    /// Whether a parser accepts `1e12_`: a separator after exponent digits
+    /// ([setter][NumberFormatBuilder::exponent_trailing_digit_separator]).
     EXPONENT_TRAILING_DIGIT_SEPARATOR exponent_trailing_digit_separator bool;
-    /// Whether any flag of the setter [`trailing_digit_separator`][NumberFormatBuilder::trailing_digit_separator] is set.
+    /// Whether any is set of the flags of a group: a separator after digits
+    /// ([setter][NumberFormatBuilder::trailing_digit_separator]).
     TRAILING_DIGIT_SEPARATOR trailing_digit_separator bool;
-    /// Whether the flag [`integer_consecutive_digit_separator`][NumberFormatBuilder::integer_consecutive_digit_separator] is set.
+    /// Whether a parser accepts `1__2` if it accepts `1_2`, `__12` if `_12`, and `12__` if `12_`
+    /// ([setter][NumberFormatBuilder::integer_consecutive_digit_separator]).
     INTEGER_CONSECUTIVE_DIGIT_SEPARATOR integer_consecutive_digit_separator bool;
-    /// Whether the flag [`fraction_consecutive_digit_separator`][NumberFormatBuilder::fraction_consecutive_digit_separator] is set.
+    /// Whether a parser accepts `0.1__2` if it accepts `0.1_2`, `0.__12` if `0._12`, and `0.12__` if `0.12_`
+    /// ([setter][NumberFormatBuilder::fraction_consecutive_digit_separator]).
     FRACTION_CONSECUTIVE_DIGIT_SEPARATOR fraction_consecutive_digit_separator bool;
-    /// Whether the flag [`exponent_consecutive_digit_separator`][NumberFormatBuilder::exponent_consecutive_digit_separator] is set.
+    /// Whether a parser accepts `1e1__2` if it accepts `1e1_2`, `1e__12` if `1e_12`, and `1e12__` if `1e12_`
+    /// ([setter][NumberFormatBuilder::exponent_consecutive_digit_separator]).
     EXPONENT_CONSECUTIVE_DIGIT_SEPARATOR exponent_consecutive_digit_separator bool;
-    /// Whether any flag of the setter [`consecutive_digit_separator`][NumberFormatBuilder::consecutive_digit_separator] is set.
+    /// Whether any is set of the flags of a group: several separators in a row, where one is allowed
+    /// ([setter][NumberFormatBuilder::consecutive_digit_separator]).
     CONSECUTIVE_DIGIT_SEPARATOR consecutive_digit_separator bool;
-    /// Whether the flag [`special_digit_separator`][NumberFormatBuilder::special_digit_separator] is set.
+    /// Whether a parser accepts `N__a_N_` for `NaN`: separators before, between and after letters, also in a row
+    /// ([setter][NumberFormatBuilder::special_digit_separator]).
     SPECIAL_DIGIT_SEPARATOR special_digit_separator bool;
-    /// The digit separator, even if no flag allows one; 0 if there is none.
+    /// The [digit separator][NumberFormatBuilder::digit_separator], even if no flag allows it, or 0 if it is absent.
     DIGIT_SEPARATOR digit_separator u8;
-    /// The base prefix; 0 if there is none.
+    /// The [base prefix][NumberFormatBuilder::base_prefix], or 0 if it is absent.
     BASE_PREFIX base_prefix u8;
-    /// The base suffix; 0 if there is none.
+    /// The [base suffix][NumberFormatBuilder::base_suffix], or 0 if it is absent.
     BASE_SUFFIX base_suffix u8;
-    /// The radix of the integer and fraction digits.
+    /// The [mantissa radix][NumberFormatBuilder::mantissa_radix], 0 to 255.
     MANTISSA_RADIX mantissa_radix u32;
     /// The radix of the integer and fraction digits, by another name.
     RADIX radix u32;
-    /// The base of the exponent: that of the word, or the mantissa radix if that is 0.
+    /// The [exponent base][NumberFormatBuilder::exponent_base], or the mantissa radix if that byte is 0.
     EXPONENT_BASE exponent_base u32;
-    /// The radix of the exponent's digits: that of the word, or the mantissa radix if that is 0.
+    /// The [exponent radix][NumberFormatBuilder::exponent_radix], or the mantissa radix if that byte is 0.
     EXPONENT_RADIX exponent_radix u32;
 }
 
 methods! {
-    /// Returns whether the format is lawful.
+    /// Returns whether the word is lawful, that is, keeps all rules of [`error`][Self::error].
     is_valid bool;
-    /// Returns the error of the first rule that the format breaks, or [`Error::Success`] if it is lawful.
+    /// Returns the error of the first rule that the word breaks, in the order of [`Rule`][crate::format_flags::Rule],
+    /// or `Success` if it is lawful.
     error Error;
-    /// Returns whether mantissa radix, exponent base and exponent radix are each 2 to 36.
+    /// Returns whether the mantissa radix, the exponent base and the exponent radix are all between 2 and 36.
     is_valid_radix bool;
-    /// Returns the error of the first of these three that is not 2 to 36, or [`Error::Success`].
+    /// Returns the error of the first of mantissa radix, exponent base and exponent radix that is not between 2 and 36,
+    /// or `Success` if all three are.
     error_radix Error;
-    /// Returns whether the digit separator is not 0.
+    /// Returns whether the digit separator byte is not 0.
     has_digit_separator bool;
-    /// Returns whether the base prefix is not 0.
+    /// Returns whether the base prefix byte is not 0.
     has_base_prefix bool;
-    /// Returns whether the base suffix is not 0.
+    /// Returns whether the base suffix byte is not 0.
     has_base_suffix bool;
     /// Returns the second power of the mantissa radix.
     radix2 u32;
     /// Returns the fourth power of the mantissa radix.
     radix4 u32;
-    /// Returns the eighth power of the mantissa radix, modulo 2^32.
+    /// Returns the eighth power of the mantissa radix modulo 2^32.
     radix8 u32;
-    /// Returns the word with all bits but those of flags cleared.
+    /// Returns the flags of the word, with all other bits 0.
     flags u128;
-    /// Returns the word with all bits but those of [`INTERFACE_FLAG_MASK`][crate::format_flags::INTERFACE_FLAG_MASK] cleared.
+    /// Returns the bits of the word under [`INTERFACE_FLAG_MASK`][crate::format_flags::INTERFACE_FLAG_MASK], with all
+    /// other bits 0.
     interface_flags u128;
-    /// Returns the word with all bits but those of digit separator flags cleared.
+    /// Returns the digit separator flags of the word, with all other bits 0.
     digit_separator_flags u128;
-    /// Returns the word with all bits but those of [`EXPONENT_FLAG_MASK`][crate::format_flags::EXPONENT_FLAG_MASK] cleared.
+    /// Returns the bits of the word under [`EXPONENT_FLAG_MASK`][crate::format_flags::EXPONENT_FLAG_MASK], with all
+    /// other bits 0.
     exponent_flags u128;
-    /// Returns the word with all bits but the digit separator flags of the integer cleared.
+    /// Returns the digit separator flags of the integer, with all other bits 0.
     integer_digit_separator_flags u128;
-    /// Returns the word with all bits but the digit separator flags of the fraction cleared.
+    /// Returns the digit separator flags of the fraction, with all other bits 0.
     fraction_digit_separator_flags u128;
-    /// Returns the word with all bits but the digit separator flags of the exponent cleared.
+    /// Returns the digit separator flags of the exponent, with all other bits 0.
     exponent_digit_separator_flags u128;
 }

@@ -1,19 +1,26 @@
-//! The format word as a const argument, as `lexical-util` has it, and all names of [`format_builder`][crate::format_builder]
-//! and [`format_flags`][crate::format_flags].
+//! All names of number formats in one module, as `lexical-util` has it: [`format_builder`][crate::format_builder],
+//! [`format_flags`][crate::format_flags] and the types that read a word.
 //!
-//! For a word that is known only when the program runs, [`word`][crate::word] has the same calls with the word as an
-//! argument. The formats that `lexical-util` has ready made are not here.
+//! For a word that is known only when the program runs, use [`FormatView`], or [`Format`] if it has to be lawful. The
+//! ready made formats of `lexical-util` are not here; `examples/recipes.rs` has some to copy.
 
-#[doc(inline)]
+#[doc(no_inline)]
 pub use crate::feature_format::NumberFormat;
-#[doc(inline)]
+#[doc(no_inline)]
 pub use crate::format_builder::*;
-#[doc(inline)]
+#[doc(no_inline)]
 pub use crate::format_flags::*;
+#[doc(no_inline)]
+pub use crate::lawful::Format;
+#[doc(no_inline)]
+pub use crate::mend::Mend;
+#[doc(no_inline)]
+pub use crate::view::FormatView;
 #[doc(inline)]
 pub use crate::word::STANDARD;
 
 use crate::error::Error;
+use crate::refusal::Refusal;
 
 /// Returns whether the format is lawful: whether [`format_error`] returns `Success`.
 #[must_use]
@@ -43,7 +50,9 @@ impl NumberFormatBuilder {
     /// assert_eq!(FORMAT, 0x00000A00_0000005F_00000007_0000000C);
     /// ```
     ///
-    /// The compiler's error has the text of the first broken rule, here `invalid digit separator`:
+    /// The compiler's error has the description of the first broken rule, and the first reason. Here it is `'invalid
+    /// digit separator: must be ASCII and not a digit or a `+/-` sign': the digit separator '5' is a digit in radix
+    /// 10`:
     ///
     /// ```compile_fail,E0080
     /// use core::num::NonZeroU8;
@@ -58,13 +67,14 @@ impl NumberFormatBuilder {
     ///
     /// # Panics
     ///
-    /// If the format is not lawful, with the text of the error that [`build_strict`][Self::build_strict] returns.
+    /// If the format is not lawful. To get a `Result`, call [`build_strict`][Self::build_strict] or
+    /// [`build_format`][Self::build_format].
     #[must_use]
     #[track_caller]
     pub const fn build_or_panic(&self) -> u128 {
         match self.build_strict() {
             Ok(word) => word,
-            Err(error) => panic!("{}", error.description()),
+            Err(_) => panic!("{}", Refusal::of(self.build_unchecked()).text()),
         }
     }
 }

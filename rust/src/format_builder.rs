@@ -61,8 +61,6 @@ pub type OptionU8 = Option<NonZeroU8>;
 /// of different fields can be called in any order, and of several calls for one field the last
 /// counts.
 ///
-/// In plain Rust:
-///
 /// ```
 /// use peltzivar::format_builder::{NonZeroU8, NumberFormatBuilder};
 ///
@@ -144,7 +142,15 @@ impl NumberFormatBuilder {
     ///
     /// # Proved
     ///
-    /// For all arguments; [`definitions`](crate::definitions) has the words.
+    /// For all arguments:
+    ///
+    /// - The result is the packed word ([`pack`](crate::definitions#pack)) of the builder's fields.
+    /// - Its fields ([`raw`](crate::definitions#raw)) are those of the builder, without a separator that no flag
+    ///   allows ([`trim`](crate::definitions#trim)).
+    /// - Its reserved bits are 0 ([`IsClean`](crate::definitions#isclean)).
+    /// - Each byte of the builder is between 0 and 255 ([`HasBytes`](crate::definitions#hasbytes)).
+    /// - Other fields pack into the same word if and only if they are the same after
+    ///   [`trim`](crate::definitions#trim).
     ///
     /// ```text
     /// ensures word { result ≡ pack self.now }
@@ -175,12 +181,20 @@ impl NumberFormatBuilder {
     /// Packs the fields into a format word. Returns the word if it is lawful, or else what is
     /// wrong with it, which is never `Success`. The builder is not changed.
     ///
-    /// In `lexical-util` it panics with the description of the error. So does `build_or_panic` in plain Rust,
-    /// which is for constants, where a `Result` cannot be unwrapped.
+    /// In `lexical-util` it panics with the description of the error. So does
+    /// [`build_or_panic`][Self::build_or_panic], which is for constants, where a `Result` cannot be unwrapped.
     ///
     /// # Proved
     ///
-    /// For all arguments; [`definitions`](crate::definitions) has the words.
+    /// For all arguments:
+    ///
+    /// - The result is `Ok` of the packed word ([`pack`](crate::definitions#pack)) if and only if that word is
+    ///   [`Lawful`](crate::definitions#lawful).
+    /// - The fields ([`raw`](crate::definitions#raw)) of that word are those of the builder after
+    ///   [`trim`](crate::definitions#trim).
+    /// - An `Err` has the error of the first rule that the word breaks ([`IsErrorOf`](crate::definitions#iserrorof)).
+    /// - It is never `Err(Success)`.
+    /// - It is never `Err(InvalidFlags)`, since the builder sets no reserved bit.
     ///
     /// ```text
     /// ensures lawful { OkIff result (Lawful (pack self.now)) (pack self.now) }
@@ -200,7 +214,9 @@ impl NumberFormatBuilder {
     ///
     /// # Proved
     ///
-    /// For all arguments; [`definitions`](crate::definitions) has the words.
+    /// For all arguments:
+    ///
+    /// - The result is the packed word ([`pack`](crate::definitions#pack)) of the builder's fields.
     ///
     /// ```text
     /// ensures { result ≡ pack self.now }
@@ -211,6 +227,46 @@ impl NumberFormatBuilder {
         self.build_unchecked()
     }
 
+    /// Returns a builder with the fields of a format word as they are written. An exponent base or
+    /// exponent radix of 0 stays absent, so it follows a later change of the mantissa radix;
+    /// [`rebuild`][Self::rebuild] replaces it by the mantissa radix. The digit separator is read even
+    /// if no flag allows one. The reserved bits are dropped.
+    ///
+    /// ```
+    /// use peltzivar::format_builder::NumberFormatBuilder;
+    ///
+    /// // Digits in hexadecimal, and the exponent bytes absent.
+    /// let hexadecimal = 0x00001000_00000000_00000000_0000000C;
+    /// let octal = NumberFormatBuilder::from_word(hexadecimal).mantissa_radix(8).build_unchecked();
+    /// assert_eq!(octal, 0x00000800_00000000_00000000_0000000C);
+    /// ```
+    ///
+    /// # Proved
+    ///
+    /// For all arguments:
+    ///
+    /// - The result has the fields of the word ([`raw`](crate::definitions#raw)).
+    ///
+    /// ```text
+    /// ensures { result ≡ raw word }
+    /// ```
+    #[must_use]
+    #[inline(always)]
+    pub const fn from_word(word: u128) -> Self {
+        let upper = (word >> 64) as u64;
+        NumberFormatBuilder {
+            flags: builder_flags(word),
+            bytes: [
+                (upper % 256) as u8,
+                ((upper >> PREFIX_SHIFT) % 256) as u8,
+                ((upper >> SUFFIX_SHIFT) % 256) as u8,
+                ((upper >> MANTISSA_SHIFT) % 256) as u8,
+                ((upper >> BASE_SHIFT) % 256) as u8,
+                (upper >> RADIX_SHIFT) as u8,
+            ],
+        }
+    }
+
     /// Returns a builder with the fields of a format word, to be changed and packed again. An
     /// exponent base or exponent radix of 0 becomes the mantissa radix, so that a later change
     /// of the mantissa radix does not change it; if the mantissa radix is 0 too, it stays 0. The
@@ -218,7 +274,10 @@ impl NumberFormatBuilder {
     ///
     /// # Proved
     ///
-    /// For all arguments; [`definitions`](crate::definitions) has the words.
+    /// For all arguments:
+    ///
+    /// - The result has the fields of the word ([`raw`](crate::definitions#raw)), with exponent bytes that are filled
+    ///   ([`fill`](crate::definitions#fill)).
     ///
     /// ```text
     /// ensures { result ≡ fill (raw format) }
@@ -249,6 +308,7 @@ impl NumberFormatBuilder {
     /// above the flags are ignored.
     #[must_use]
     #[inline(always)]
+    #[doc(hidden)]
     pub const fn from_parts(flags: u32, bytes: [u8; 6]) -> Self {
         NumberFormatBuilder {
             flags: flags & (LOW_FLAGS | SEPARATOR_FLAGS),
@@ -260,6 +320,7 @@ impl NumberFormatBuilder {
     /// mantissa radix, exponent base and exponent radix, each 0 if it is absent.
     #[must_use]
     #[inline(always)]
+    #[doc(hidden)]
     pub const fn to_parts(&self) -> (u32, [u8; 6]) {
         (self.flags, self.bytes)
     }

@@ -1,7 +1,6 @@
 // Made by rust/tools/erase.py from crates/lexical_flags/src/format_flags.rt: change that file.
 
 //! The layout of a format word: the bits of each flag and byte, and the functions that read them.
-//! The tests of the validity rules, whose file is `format_flags/rules.rt`, are re-exported.
 //!
 //! A format word is a `u128`. Flags stand from bit 0 up and from bit 32 up; six bytes stand from bit 64
 //! up: digit separator, base prefix, base suffix, mantissa radix, exponent base and exponent radix. The
@@ -20,114 +19,149 @@ pub use crate::format_flags::rules::{
 
 // FLAGS OTHER THAN DIGIT SEPARATOR FLAGS
 
-/// The [flag][crate::format_builder::NumberFormatBuilder::required_integer_digits].
+/// If set, a parser refuses `.5`: a float with no digits before its decimal point
+/// ([setter][crate::format_builder::NumberFormatBuilder::required_integer_digits]).
 pub const REQUIRED_INTEGER_DIGITS: u128 = 0x1;
 
-/// The [flag][crate::format_builder::NumberFormatBuilder::required_fraction_digits].
+/// If set, a parser refuses `1.`: a decimal point with no digits after it
+/// ([setter][crate::format_builder::NumberFormatBuilder::required_fraction_digits]).
 pub const REQUIRED_FRACTION_DIGITS: u128 = 0x2;
 
-/// The [flag][crate::format_builder::NumberFormatBuilder::required_exponent_digits].
+/// If set, a parser refuses `1e`: an exponent character with no digits after it
+/// ([setter][crate::format_builder::NumberFormatBuilder::required_exponent_digits]).
 pub const REQUIRED_EXPONENT_DIGITS: u128 = 0x4;
 
-/// The [flag][crate::format_builder::NumberFormatBuilder::required_mantissa_digits].
+/// If set, a parser refuses `.`: a float with no significant digit
+/// ([setter][crate::format_builder::NumberFormatBuilder::required_mantissa_digits]).
 pub const REQUIRED_MANTISSA_DIGITS: u128 = 0x8;
 
-/// Mask of the [group][crate::format_builder::NumberFormatBuilder::required_digits].
+/// Mask of the flags of a group: digits that must be there
+/// ([setter][crate::format_builder::NumberFormatBuilder::required_digits]).
 pub const REQUIRED_DIGITS: u128 = 0xF;
 
-/// The [flag][crate::format_builder::NumberFormatBuilder::no_positive_mantissa_sign].
+/// If set, a parser refuses `+1`: a `+` before an integer or a float
+/// ([setter][crate::format_builder::NumberFormatBuilder::no_positive_mantissa_sign]).
 pub const NO_POSITIVE_MANTISSA_SIGN: u128 = 0x10;
 
-/// The [flag][crate::format_builder::NumberFormatBuilder::required_mantissa_sign].
+/// If set, a parser refuses `1`: an integer or a float with no sign
+/// ([setter][crate::format_builder::NumberFormatBuilder::required_mantissa_sign]).
 pub const REQUIRED_MANTISSA_SIGN: u128 = 0x20;
 
-/// The [flag][crate::format_builder::NumberFormatBuilder::no_exponent_notation].
+/// If set, a parser refuses `1e5`: a float with an exponent
+/// ([setter][crate::format_builder::NumberFormatBuilder::no_exponent_notation]).
 pub const NO_EXPONENT_NOTATION: u128 = 0x40;
 
-/// The [flag][crate::format_builder::NumberFormatBuilder::no_positive_exponent_sign].
+/// If set, a parser refuses `1e+5` ([setter][crate::format_builder::NumberFormatBuilder::no_positive_exponent_sign]).
 pub const NO_POSITIVE_EXPONENT_SIGN: u128 = 0x80;
 
-/// The [flag][crate::format_builder::NumberFormatBuilder::required_exponent_sign].
+/// If set, a parser refuses `1e5`: an exponent with no sign
+/// ([setter][crate::format_builder::NumberFormatBuilder::required_exponent_sign]).
 pub const REQUIRED_EXPONENT_SIGN: u128 = 0x100;
 
-/// The [flag][crate::format_builder::NumberFormatBuilder::no_exponent_without_fraction].
+/// If set, a parser refuses `1e5`, not `1.0e5`: an exponent needs a decimal point, but no digits after it
+/// ([setter][crate::format_builder::NumberFormatBuilder::no_exponent_without_fraction]).
 pub const NO_EXPONENT_WITHOUT_FRACTION: u128 = 0x200;
 
-/// The [flag][crate::format_builder::NumberFormatBuilder::no_special].
+/// If set, a parser refuses `NaN` and `inf`, and every other special value
+/// ([setter][crate::format_builder::NumberFormatBuilder::no_special]).
 pub const NO_SPECIAL: u128 = 0x400;
 
-/// The [flag][crate::format_builder::NumberFormatBuilder::case_sensitive_special].
+/// If set, a parser refuses `nan`, if `NaN` is the spelling
+/// ([setter][crate::format_builder::NumberFormatBuilder::case_sensitive_special]).
 pub const CASE_SENSITIVE_SPECIAL: u128 = 0x800;
 
-/// The [flag][crate::format_builder::NumberFormatBuilder::no_integer_leading_zeros].
+/// If set, a parser refuses `01` as an integer, not `0`
+/// ([setter][crate::format_builder::NumberFormatBuilder::no_integer_leading_zeros]).
 pub const NO_INTEGER_LEADING_ZEROS: u128 = 0x1000;
 
-/// The [flag][crate::format_builder::NumberFormatBuilder::no_float_leading_zeros].
+/// If set, a parser refuses `01.0`, not `0.1`
+/// ([setter][crate::format_builder::NumberFormatBuilder::no_float_leading_zeros]).
 pub const NO_FLOAT_LEADING_ZEROS: u128 = 0x2000;
 
-/// The [flag][crate::format_builder::NumberFormatBuilder::required_exponent_notation].
+/// If set, a parser refuses `1.0`: a float with no exponent
+/// ([setter][crate::format_builder::NumberFormatBuilder::required_exponent_notation]).
 pub const REQUIRED_EXPONENT_NOTATION: u128 = 0x4000;
 
-/// The [flag][crate::format_builder::NumberFormatBuilder::case_sensitive_exponent].
+/// If set, a parser refuses `1E5`, if the exponent character is `e`
+/// ([setter][crate::format_builder::NumberFormatBuilder::case_sensitive_exponent]).
 pub const CASE_SENSITIVE_EXPONENT: u128 = 0x8000;
 
-/// The [flag][crate::format_builder::NumberFormatBuilder::case_sensitive_base_prefix].
+/// If set, a parser refuses `0X1F`, if the base prefix is `x`
+/// ([setter][crate::format_builder::NumberFormatBuilder::case_sensitive_base_prefix]).
 pub const CASE_SENSITIVE_BASE_PREFIX: u128 = 0x1_0000;
 
-/// The [flag][crate::format_builder::NumberFormatBuilder::case_sensitive_base_suffix].
+/// If set, a parser refuses `1FH`, if the base suffix is `h`
+/// ([setter][crate::format_builder::NumberFormatBuilder::case_sensitive_base_suffix]).
 pub const CASE_SENSITIVE_BASE_SUFFIX: u128 = 0x2_0000;
 
 // DIGIT SEPARATOR FLAGS
 
-/// The [flag][crate::format_builder::NumberFormatBuilder::integer_internal_digit_separator].
+/// If set, a parser accepts `1_2`: a separator between integer digits
+/// ([setter][crate::format_builder::NumberFormatBuilder::integer_internal_digit_separator]).
 pub const INTEGER_INTERNAL_DIGIT_SEPARATOR: u128 = 0x1_0000_0000;
 
-/// The [flag][crate::format_builder::NumberFormatBuilder::fraction_internal_digit_separator].
+/// If set, a parser accepts `0.1_2`: a separator between fraction digits
+/// ([setter][crate::format_builder::NumberFormatBuilder::fraction_internal_digit_separator]).
 pub const FRACTION_INTERNAL_DIGIT_SEPARATOR: u128 = 0x2_0000_0000;
 
-/// The [flag][crate::format_builder::NumberFormatBuilder::exponent_internal_digit_separator].
+/// If set, a parser accepts `1e1_2`: a separator between exponent digits
+/// ([setter][crate::format_builder::NumberFormatBuilder::exponent_internal_digit_separator]).
 pub const EXPONENT_INTERNAL_DIGIT_SEPARATOR: u128 = 0x4_0000_0000;
 
-/// The [flag][crate::format_builder::NumberFormatBuilder::integer_leading_digit_separator].
+/// If set, a parser accepts `_12`: a separator before integer digits
+/// ([setter][crate::format_builder::NumberFormatBuilder::integer_leading_digit_separator]).
 pub const INTEGER_LEADING_DIGIT_SEPARATOR: u128 = 0x8_0000_0000;
 
-/// The [flag][crate::format_builder::NumberFormatBuilder::fraction_leading_digit_separator].
+/// If set, a parser accepts `0._12`: a separator before fraction digits
+/// ([setter][crate::format_builder::NumberFormatBuilder::fraction_leading_digit_separator]).
 pub const FRACTION_LEADING_DIGIT_SEPARATOR: u128 = 0x10_0000_0000;
 
-/// The [flag][crate::format_builder::NumberFormatBuilder::exponent_leading_digit_separator].
+/// If set, a parser accepts `1e_12`: a separator before exponent digits
+/// ([setter][crate::format_builder::NumberFormatBuilder::exponent_leading_digit_separator]).
 pub const EXPONENT_LEADING_DIGIT_SEPARATOR: u128 = 0x20_0000_0000;
 
-/// The [flag][crate::format_builder::NumberFormatBuilder::integer_trailing_digit_separator].
+/// If set, a parser accepts `12_`: a separator after integer digits
+/// ([setter][crate::format_builder::NumberFormatBuilder::integer_trailing_digit_separator]).
 pub const INTEGER_TRAILING_DIGIT_SEPARATOR: u128 = 0x40_0000_0000;
 
-/// The [flag][crate::format_builder::NumberFormatBuilder::fraction_trailing_digit_separator].
+/// If set, a parser accepts `0.12_`: a separator after fraction digits
+/// ([setter][crate::format_builder::NumberFormatBuilder::fraction_trailing_digit_separator]).
 pub const FRACTION_TRAILING_DIGIT_SEPARATOR: u128 = 0x80_0000_0000;
 
-/// The [flag][crate::format_builder::NumberFormatBuilder::exponent_trailing_digit_separator].
+/// If set, a parser accepts `1e12_`: a separator after exponent digits
+/// ([setter][crate::format_builder::NumberFormatBuilder::exponent_trailing_digit_separator]).
 pub const EXPONENT_TRAILING_DIGIT_SEPARATOR: u128 = 0x100_0000_0000;
 
-/// The [flag][crate::format_builder::NumberFormatBuilder::integer_consecutive_digit_separator].
+/// If set, a parser accepts `1__2` if it accepts `1_2`, `__12` if `_12`, and `12__` if `12_`
+/// ([setter][crate::format_builder::NumberFormatBuilder::integer_consecutive_digit_separator]).
 pub const INTEGER_CONSECUTIVE_DIGIT_SEPARATOR: u128 = 0x200_0000_0000;
 
-/// The [flag][crate::format_builder::NumberFormatBuilder::fraction_consecutive_digit_separator].
+/// If set, a parser accepts `0.1__2` if it accepts `0.1_2`, `0.__12` if `0._12`, and `0.12__` if `0.12_`
+/// ([setter][crate::format_builder::NumberFormatBuilder::fraction_consecutive_digit_separator]).
 pub const FRACTION_CONSECUTIVE_DIGIT_SEPARATOR: u128 = 0x400_0000_0000;
 
-/// The [flag][crate::format_builder::NumberFormatBuilder::exponent_consecutive_digit_separator].
+/// If set, a parser accepts `1e1__2` if it accepts `1e1_2`, `1e__12` if `1e_12`, and `1e12__` if `1e12_`
+/// ([setter][crate::format_builder::NumberFormatBuilder::exponent_consecutive_digit_separator]).
 pub const EXPONENT_CONSECUTIVE_DIGIT_SEPARATOR: u128 = 0x800_0000_0000;
 
-/// Mask of the [group][crate::format_builder::NumberFormatBuilder::internal_digit_separator].
+/// Mask of the flags of a group: a separator between digits
+/// ([setter][crate::format_builder::NumberFormatBuilder::internal_digit_separator]).
 pub const INTERNAL_DIGIT_SEPARATOR: u128 = 0x7_0000_0000;
 
-/// Mask of the [group][crate::format_builder::NumberFormatBuilder::leading_digit_separator].
+/// Mask of the flags of a group: a separator before digits
+/// ([setter][crate::format_builder::NumberFormatBuilder::leading_digit_separator]).
 pub const LEADING_DIGIT_SEPARATOR: u128 = 0x38_0000_0000;
 
-/// Mask of the [group][crate::format_builder::NumberFormatBuilder::trailing_digit_separator].
+/// Mask of the flags of a group: a separator after digits
+/// ([setter][crate::format_builder::NumberFormatBuilder::trailing_digit_separator]).
 pub const TRAILING_DIGIT_SEPARATOR: u128 = 0x1C0_0000_0000;
 
-/// Mask of the [group][crate::format_builder::NumberFormatBuilder::consecutive_digit_separator].
+/// Mask of the flags of a group: several separators in a row, where one is allowed
+/// ([setter][crate::format_builder::NumberFormatBuilder::consecutive_digit_separator]).
 pub const CONSECUTIVE_DIGIT_SEPARATOR: u128 = 0xE00_0000_0000;
 
-/// The [flag][crate::format_builder::NumberFormatBuilder::special_digit_separator].
+/// If set, a parser accepts `N__a_N_` for `NaN`: separators before, between and after letters, also in a row
+/// ([setter][crate::format_builder::NumberFormatBuilder::special_digit_separator]).
 pub const SPECIAL_DIGIT_SEPARATOR: u128 = 0x1000_0000_0000;
 
 // BYTES
@@ -186,19 +220,23 @@ pub const FLAG_MASK: u128 = 0x1FFF_0003_FFFF;
 /// the character), leading zeros of floats, and digit separators (except in special values).
 pub const INTERFACE_FLAG_MASK: u128 = 0xFFF_0000_63CF;
 
-/// Mask of the [group][crate::format_builder::NumberFormatBuilder::digit_separator_flags].
+/// Mask of the flags of a group: every separator, also in special values
+/// ([setter][crate::format_builder::NumberFormatBuilder::digit_separator_flags]).
 pub const DIGIT_SEPARATOR_FLAG_MASK: u128 = 0x1FFF_0000_0000;
 
 /// Mask of the flags of exponents, without [`CASE_SENSITIVE_EXPONENT`].
 pub const EXPONENT_FLAG_MASK: u128 = 0x924_0000_43C4;
 
-/// Mask of the [group][crate::format_builder::NumberFormatBuilder::integer_digit_separator_flags].
+/// Mask of the flags of a group: separators in the integer
+/// ([setter][crate::format_builder::NumberFormatBuilder::integer_digit_separator_flags]).
 pub const INTEGER_DIGIT_SEPARATOR_FLAG_MASK: u128 = 0x249_0000_0000;
 
-/// Mask of the [group][crate::format_builder::NumberFormatBuilder::fraction_digit_separator_flags].
+/// Mask of the flags of a group: separators in the fraction
+/// ([setter][crate::format_builder::NumberFormatBuilder::fraction_digit_separator_flags]).
 pub const FRACTION_DIGIT_SEPARATOR_FLAG_MASK: u128 = 0x492_0000_0000;
 
-/// Mask of the [group][crate::format_builder::NumberFormatBuilder::exponent_digit_separator_flags].
+/// Mask of the flags of a group: separators in the exponent
+/// ([setter][crate::format_builder::NumberFormatBuilder::exponent_digit_separator_flags]).
 pub const EXPONENT_DIGIT_SEPARATOR_FLAG_MASK: u128 = 0x924_0000_0000;
 
 // Mask of the reserved bits: all but the flags, the digit separator, and what stands from the base
@@ -271,8 +309,7 @@ pub const fn exponent_radix(format: u128) -> u32 {
 ///
 /// # Panics
 ///
-/// A call with another `shift` is not proved. In plain Rust it returns some number, or panics if overflow
-/// is checked.
+/// If `shift` is not in that range and overflow is checked. Without that check it then returns some number.
 #[must_use]
 #[inline(always)]
 pub const fn radix_from_flags(format: u128, mask: u128, shift: i32) -> u32 {

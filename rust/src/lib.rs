@@ -1,8 +1,8 @@
-//! Number formats in a `u128`: how a number may be written, as 31 flags and six bytes, built field by field, read, checked
-//! and edited.
+//! Number formats in a `u128`: how a number may be written, as 31 flags and six bytes, built field by field, read,
+//! checked and edited.
 //!
-//! A format is for parsers and writers of numbers. It is a [`u128`], the *format word*, so it can be a const argument. A
-//! word that breaks no rule is *lawful*: each radix is 2 to 36, no two flags contradict, each byte is text with one
+//! A format is for parsers and writers of numbers. It is a [`u128`], the *format word*, so it can be a const argument.
+//! A word that breaks no rule is *lawful*: each radix is 2 to 36, no two flags contradict, each byte is text with one
 //! meaning, and no reserved bit is set.
 //!
 //! ```
@@ -32,13 +32,15 @@
 //!
 //! | To | Use |
 //! |---|---|
-//! | write a format down as a constant | [`format::NumberFormatBuilder`], and its [`build_or_panic`][format::NumberFormatBuilder::build_or_panic] |
-//! | read settings when the program runs | [`edits::apply_all`] on a new builder, then [`build_strict`][format::NumberFormatBuilder::build_strict] |
-//! | read a word that is known when the program is compiled | [`format::NumberFormat`] |
-//! | read a word that is known only when the program runs | [`word::FormatView`] |
-//! | say what is wrong with settings, and which have no effect | [`format::broken_rules`], [`reasons`] |
-//! | change a finished format, or compare two | [`edits::edit_word`], [`edits::same_format`] |
-//! | take words that `lexical-util` wrote | [`edits::migrate`] |
+//! | write a format as a constant | [`NumberFormatBuilder`], and its [`build_or_panic`][NumberFormatBuilder::build_or_panic] |
+//! | take a checked format as an argument | [`Format`], or `impl Into<Format>` |
+//! | read the fields of any word, lawful or not | [`FormatView`]; [`NumberFormat`] for a word that is known when the program is compiled |
+//! | parse settings | [`Edit`], by `str::parse`; [`collect`][Iterator::collect] the edits into a builder, and call [`build_format`][NumberFormatBuilder::build_format] |
+//! | report all that is wrong with a word, and what mends it | [`FormatView::reasons`], [`Reason::mask`], [`FormatView::mends`], [`FormatView::notes`] |
+//! | derive a format from another | [`NumberFormatBuilder::from`], or [`edits::edit_word`] |
+//! | compare two formats | [`Format::normal_form`], [`edits::same_format`] |
+//! | store words as text | `Display` and `FromStr` of [`Format`] and [`FormatView`] |
+//! | convert words that `lexical-util` stored | [`edits::migrate`] |
 //!
 //! # From `lexical-util`
 //!
@@ -49,21 +51,24 @@
 //! - A letter that is base prefix, base suffix or exponent character stands for both its cases unless a flag says that
 //!   case counts, and a reserved bit makes a word unlawful.
 //! - The slice tests of [`ascii`] are not `const`, and `build` is not deprecated.
-//! - The formats that `lexical-util` has ready made, such as `JSON`, are not here.
+//! - The formats that `lexical-util` has ready made, such as `JSON`, are not here: copy one from `examples/recipes.rs`.
 //!
-//! [`word`], [`edits`] and [`reasons`] are new.
+//! [`Format`], [`FormatView`], [`edits`] and [`reasons`] are new.
 //!
 //! # What is proved
 //!
-//! The library is written in Rattle, Rust with contracts, and a prover has accepted every function. `tools/erase.py` in
-//! the repository leaves out what only the prover reads; the rest, but for a few imports and derives, are the files that
-//! begin with `Made by`. Written by hand are `format`, `feature_format`, `{:?}` of builders and views, and lanes of bytes in place of
-//! `std::simd`. Nothing is proved when you build this crate: you trust the eraser and `rustc`.
+//! The library is written in Rattle, Rust with contracts, and a prover has accepted every function. A program of the
+//! repository removes what only the prover reads; the files that begin with `Made by` are the rest. The parts `Proved`
+//! below state the contracts, and [`definitions`] has the terms that they use. Written by hand are [`Format`], the
+//! iterators, the conversions, text and `{:?}` of words, [`NumberFormat`], and lanes and chunks of bytes. Nothing is
+//! proved when you build this crate: you trust that program, the parts that are written by hand, and `rustc`.
 #![no_std]
 #![forbid(unsafe_code)]
 
 pub mod ascii;
+mod chunks;
 mod debug;
+#[cfg(doc)]
 pub mod definitions;
 #[allow(clippy::redundant_pattern_matching, reason = "as it is proved")]
 pub mod digit;
@@ -79,38 +84,38 @@ pub mod format;
 pub mod format_builder;
 pub mod format_flags;
 mod lanes;
-pub mod numeral;
+mod lawful;
+mod lists;
+mod mend;
+mod numeral;
 pub mod reasons;
+mod refusal;
+pub mod source;
+mod text;
 mod view;
+#[doc(hidden)]
 pub mod word;
+#[doc(hidden)]
+pub mod word_text;
 
-impl core::error::Error for error::Error {}
-
-impl core::error::Error for edits::SettingError {}
-
-impl core::str::FromStr for edits::Edit {
-    type Err = edits::SettingError;
-
-    /// Calls [`Edit::from_text`][edits::Edit::from_text].
-    fn from_str(text: &str) -> Result<Self, Self::Err> {
-        Self::from_text(text)
-    }
-}
-
-impl core::str::FromStr for edits::FlagSetter {
-    type Err = edits::SettingError;
-
-    /// Returns the setter of this name.
-    ///
-    /// # Errors
-    ///
-    /// [`SettingError::UnknownName`][edits::SettingError::UnknownName] if no flag or group setter has the name.
-    fn from_str(name: &str) -> Result<Self, Self::Err> {
-        edits::setter_number_of_name(name.as_bytes())
-            .and_then(|number| edits::SETTERS.get(usize::from(number)).copied())
-            .ok_or(edits::SettingError::UnknownName)
-    }
-}
+#[doc(no_inline)]
+pub use edits::{Edit, FlagSetter, SettingError};
+#[doc(no_inline)]
+pub use error::Error;
+#[doc(no_inline)]
+pub use feature_format::NumberFormat;
+#[doc(no_inline)]
+pub use format_builder::NumberFormatBuilder;
+#[doc(no_inline)]
+pub use format_flags::Rule;
+#[doc(inline)]
+pub use lawful::Format;
+#[doc(inline)]
+pub use mend::Mend;
+#[doc(no_inline)]
+pub use reasons::{Note, Reason};
+#[doc(inline)]
+pub use view::FormatView;
 
 #[cfg(doctest)]
 #[doc = include_str!("../README.md")]

@@ -4,9 +4,8 @@
 
 use crate::digit::char_to_digit;
 
-/// Parses `digits` as a number in `radix`: `Some` if they are 1 to `most` digit characters of this
-/// radix, and else `None`. The radix is at most 16 and `most` at most 32, so that the number fits a
-/// `u128`.
+/// Parses `digits` as a number in `radix`: returns `Some` if they are 1 to `most` digits of this radix, and `None`
+/// otherwise. The radix must be at most 16 and `most` at most 32, so that the number fits a `u128`.
 #[must_use]
 pub fn read_numeral(digits: &[u8], radix: u32, most: usize) -> Option<u128> {
     if digits.is_empty() || digits.len() > most {

@@ -8,7 +8,7 @@ use crate::format_flags as flags;
 use crate::format_flags::{format_error_impl, radix_error_impl};
 use crate::word::STANDARD;
 
-// Whether the word of a view has any bit of a mask.
+// Is true if the word of a view has a bit of a mask.
 macro_rules! has_any {
     ($view:ident, $MASK:ident) => {
         $view.format & flags::$MASK != 0
@@ -17,18 +17,17 @@ macro_rules! has_any {
 
 mod getters;
 
-/// A format word, to be read field by field and checked.
+/// A view of a format word, which reads the fields of the word and checks it.
 ///
-/// Every getter works on any word, lawful or not. The word is a value, which may be known only when the
-/// program runs; in `lexical-util` it is a const generic argument of the type, and each field is also an
-/// associated constant.
-#[derive(Clone, Copy, PartialEq, Eq, Hash)]
+/// Every getter works on any word, lawful or not. The word may be known only when the program runs. For a word that is
+/// known when it is compiled, [`NumberFormat`][crate::feature_format::NumberFormat] has each field also as a constant.
+#[derive(Clone, Copy, PartialEq, Eq, Hash, PartialOrd, Ord)]
 pub struct FormatView {
     format: u128,
 }
 
 impl Default for FormatView {
-    /// Returns the view of the standard format, which is what a new builder packs.
+    /// Returns the view of the standard format, the word into which a new builder packs.
     #[inline(always)]
     fn default() -> Self {
         FormatView { format: STANDARD }
@@ -45,7 +44,7 @@ impl FormatView {
         FormatView { format }
     }
 
-    /// Returns the word. `lexical-util` has no such function, since its word is part of the type.
+    /// Returns the word.
     #[must_use]
     #[inline(always)]
     pub const fn word(&self) -> u128 {
@@ -54,32 +53,46 @@ impl FormatView {
 
     // CHECKS
 
-    /// Returns whether the word is lawful, that is, breaks none of the rules of
-    /// [`error`][Self::error].
+    /// Returns whether the word is lawful, that is, keeps all rules of [`error`][Self::error].
     #[must_use]
     #[inline(always)]
     pub const fn is_valid(&self) -> bool {
         self.error().is_success()
     }
 
-    /// Returns the error of the first rule that the word breaks, in the order of
-    /// [`format_error_impl`], or `Success` if it is lawful.
+    /// Returns the error of the first rule that the word breaks, in the order of [`Rule`][crate::format_flags::Rule],
+    /// or `Success` if it is lawful.
+    ///
+    /// # Proved
+    ///
+    /// For all arguments:
+    ///
+    /// - The result is the error of the first rule that the word breaks, or `Success`
+    ///   ([`IsErrorOf`](crate::definitions#iserrorof)).
+    /// - It is `Success` if and only if the word is [`Lawful`](crate::definitions#lawful).
+    /// - No other error is the word's.
+    ///
+    /// ```text
+    /// ensures first { IsErrorOf self.now result }
+    /// ensures lawful { (result ≡ Error.Success) ↔ Lawful self.now }
+    /// ensures unique { (other : Error) → IsErrorOf self.now other → other ≡ result }
+    /// ```
     #[must_use]
     #[inline(always)]
     pub const fn error(&self) -> Error {
         format_error_impl(self.format)
     }
 
-    /// Returns whether the mantissa radix, the exponent base and the exponent radix are each 2 to
-    /// 36; an exponent byte of 0 counts as the mantissa radix.
+    /// Returns whether the mantissa radix, the exponent base and the exponent radix are all between 2 and 36. An
+    /// exponent byte of 0 means the mantissa radix.
     #[must_use]
     #[inline(always)]
     pub const fn is_valid_radix(&self) -> bool {
         self.error_radix().is_success()
     }
 
-    /// Returns the error of the first of mantissa radix, exponent base and exponent radix that is
-    /// not 2 to 36, or `Success` if there is none.
+    /// Returns the error of the first of mantissa radix, exponent base and exponent radix that is not between 2 and 36,
+    /// or `Success` if all three are.
     #[must_use]
     #[inline(always)]
     pub const fn error_radix(&self) -> Error {
@@ -88,7 +101,8 @@ impl FormatView {
 
     // BYTES
 
-    /// Returns the [digit separator][NumberFormatBuilder::digit_separator], allowed or not; 0 if there is none.
+    /// Returns the [digit separator][NumberFormatBuilder::digit_separator], even if no flag allows it, or 0 if it is
+    /// absent.
     #[must_use]
     #[inline(always)]
     pub const fn digit_separator(&self) -> u8 {
@@ -102,7 +116,7 @@ impl FormatView {
         has_any!(self, DIGIT_SEPARATOR)
     }
 
-    /// Returns the [base prefix][NumberFormatBuilder::base_prefix], 0 if there is none.
+    /// Returns the [base prefix][NumberFormatBuilder::base_prefix], or 0 if it is absent.
     #[must_use]
     #[inline(always)]
     pub const fn base_prefix(&self) -> u8 {
@@ -116,7 +130,7 @@ impl FormatView {
         has_any!(self, BASE_PREFIX)
     }
 
-    /// Returns the [base suffix][NumberFormatBuilder::base_suffix], 0 if there is none.
+    /// Returns the [base suffix][NumberFormatBuilder::base_suffix], or 0 if it is absent.
     #[must_use]
     #[inline(always)]
     pub const fn base_suffix(&self) -> u8 {
@@ -132,14 +146,14 @@ impl FormatView {
 
     // RADIXES
 
-    /// Returns the [mantissa radix][NumberFormatBuilder::mantissa_radix]: 0 to 255, and 2 to 36 if lawful.
+    /// Returns the [mantissa radix][NumberFormatBuilder::mantissa_radix], 0 to 255. In a lawful word it is between 2 and 36.
     #[must_use]
     #[inline(always)]
     pub const fn mantissa_radix(&self) -> u32 {
         flags::mantissa_radix(self.format)
     }
 
-    /// Returns the same as `mantissa_radix`.
+    /// Returns the mantissa radix, as [`mantissa_radix`][Self::mantissa_radix] does.
     #[must_use]
     #[inline(always)]
     pub const fn radix(&self) -> u32 {
@@ -162,8 +176,7 @@ impl FormatView {
         square * square
     }
 
-    /// Returns the eighth power of the mantissa radix modulo 2^32. It is exact up to radix 15; for
-    /// 16 it is 0.
+    /// Returns the eighth power of the mantissa radix modulo 2^32. It is exact up to radix 15, and 0 for radix 16.
     #[must_use]
     #[inline(always)]
     pub const fn radix8(&self) -> u32 {
@@ -171,16 +184,16 @@ impl FormatView {
         fourth.wrapping_mul(fourth)
     }
 
-    /// Returns the [exponent base][NumberFormatBuilder::exponent_base], or the mantissa radix if that byte is 0; 2 to
-    /// 36 if lawful.
+    /// Returns the [exponent base][NumberFormatBuilder::exponent_base], or the mantissa radix if that byte is 0. In a
+    /// lawful word it is between 2 and 36.
     #[must_use]
     #[inline(always)]
     pub const fn exponent_base(&self) -> u32 {
         flags::exponent_base(self.format)
     }
 
-    /// Returns the [exponent radix][NumberFormatBuilder::exponent_radix], or the mantissa radix if that byte is 0; 2 to
-    /// 36 if lawful.
+    /// Returns the [exponent radix][NumberFormatBuilder::exponent_radix], or the mantissa radix if that byte is 0. In a
+    /// lawful word it is between 2 and 36.
     #[must_use]
     #[inline(always)]
     pub const fn exponent_radix(&self) -> u32 {
@@ -189,8 +202,8 @@ impl FormatView {
 
     // DIGITS
 
-    /// Returns whether `byte` is a digit of numbers in this format: a digit of the mantissa radix or
-    /// of the exponent radix. Letters are digits in both cases.
+    /// Returns whether `byte` is a digit of the mantissa radix or of the exponent radix. A letter is a digit in both
+    /// cases.
     #[must_use]
     #[inline(always)]
     pub const fn is_digit(&self, byte: u8) -> bool {
@@ -199,19 +212,22 @@ impl FormatView {
 
     // BUILDERS
 
-    /// Returns a new builder, the same for every word.
+    /// Returns a new builder, which does not depend on the word.
     #[must_use]
     #[inline(always)]
     pub const fn builder() -> NumberFormatBuilder {
         NumberFormatBuilder::new()
     }
 
-    /// Returns a builder with the fields of the word; an exponent base or exponent radix of 0
-    /// becomes the mantissa radix.
+    /// Returns a builder with the fields of the word. An exponent base or exponent radix of 0 becomes the mantissa
+    /// radix.
     ///
     /// # Proved
     ///
-    /// For all arguments; [`definitions`](crate::definitions) has the words.
+    /// For all arguments:
+    ///
+    /// - The result has the fields of the word ([`raw`](crate::definitions#raw)), with exponent bytes that are filled
+    ///   ([`fill`](crate::definitions#fill)).
     ///
     /// ```text
     /// ensures { result ≡ fill (raw self.now) }

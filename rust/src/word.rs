@@ -4,17 +4,15 @@
 //! `format_flags` and `format_builder`.
 
 use crate::error::Error;
-#[doc(inline)]
 pub use crate::format_builder::{NonZeroU8, NumberFormatBuilder, OptionU8};
-#[doc(inline)]
 pub use crate::format_flags::{
-    base_prefix, base_suffix, broken_rules, check, digit_separator, exponent_base, exponent_radix,
-    format_error_impl, is_clean, is_digit, is_valid_base_prefix, is_valid_base_suffix,
-    is_valid_digit_separator, is_valid_exponent_flags, is_valid_options_punctuation,
-    is_valid_punctuation, is_valid_radix, mantissa_radix, options_error, radix_error_impl,
-    radix_from_flags, Rule, BASE_PREFIX, BASE_PREFIX_SHIFT, BASE_SUFFIX, BASE_SUFFIX_SHIFT,
-    CASE_SENSITIVE_BASE_PREFIX, CASE_SENSITIVE_BASE_SUFFIX, CASE_SENSITIVE_EXPONENT,
-    CASE_SENSITIVE_SPECIAL, CONSECUTIVE_DIGIT_SEPARATOR, DIGIT_SEPARATOR,
+    base_prefix, base_suffix, broken_rules, check, clashes, digit_separator, exponent_base,
+    exponent_radix, format_error_impl, is_clean, is_digit, is_separator_allowed,
+    is_valid_base_prefix, is_valid_base_suffix, is_valid_digit_separator, is_valid_exponent_flags,
+    is_valid_options_punctuation, is_valid_punctuation, is_valid_radix, mantissa_radix,
+    options_error, radix_error_impl, radix_from_flags, Rule, BASE_PREFIX, BASE_PREFIX_SHIFT,
+    BASE_SUFFIX, BASE_SUFFIX_SHIFT, CASE_SENSITIVE_BASE_PREFIX, CASE_SENSITIVE_BASE_SUFFIX,
+    CASE_SENSITIVE_EXPONENT, CASE_SENSITIVE_SPECIAL, CONSECUTIVE_DIGIT_SEPARATOR, DIGIT_SEPARATOR,
     DIGIT_SEPARATOR_FLAG_MASK, DIGIT_SEPARATOR_SHIFT, EXPONENT_BASE, EXPONENT_BASE_SHIFT,
     EXPONENT_CONSECUTIVE_DIGIT_SEPARATOR, EXPONENT_DIGIT_SEPARATOR_FLAG_MASK, EXPONENT_FLAG_MASK,
     EXPONENT_INTERNAL_DIGIT_SEPARATOR, EXPONENT_LEADING_DIGIT_SEPARATOR, EXPONENT_RADIX,
@@ -32,12 +30,10 @@ pub use crate::format_flags::{
     REQUIRED_INTEGER_DIGITS, REQUIRED_MANTISSA_DIGITS, REQUIRED_MANTISSA_SIGN, RULES,
     SPECIAL_DIGIT_SEPARATOR, TRAILING_DIGIT_SEPARATOR,
 };
-#[doc(inline)]
 pub use crate::view::FormatView;
 
-/// The standard format: radix 10, digits required in the mantissa and in an exponent, and nothing
-/// else. It is what a new builder packs; its exponent base and exponent radix are 0, that is, they
-/// follow the mantissa radix.
+/// The standard format: the radix is 10, and digits are required in the mantissa and in an exponent. A new builder
+/// packs into this word. Its exponent base and exponent radix are absent, so they follow the mantissa radix.
 pub const STANDARD: u128 = 0x00000A00_00000000_00000000_0000000C;
 
 /// Returns whether `format` is lawful, as [`FormatView::is_valid`] does.
@@ -49,16 +45,6 @@ pub const fn format_is_valid(format: u128) -> bool {
 
 /// Returns the error of the first rule that `format` breaks, or `Success`, as [`FormatView::error`]
 /// does.
-///
-/// # Proved
-///
-/// For all arguments; [`definitions`](crate::definitions) has the words.
-///
-/// ```text
-/// ensures first { IsErrorOf format result }
-/// ensures lawful { (result ≡ Error.Success) ↔ Lawful format }
-/// ensures unique { (other : Error) → IsErrorOf format other → other ≡ result }
-/// ```
 #[must_use]
 #[inline(always)]
 pub const fn format_error(format: u128) -> Error {

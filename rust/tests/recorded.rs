@@ -1,4 +1,5 @@
-//! Replays what `lexical-util` 1.0.7 returned. The form of a line is told in `crates/recorded/src/reading.rt`.
+//! Compares the plain Rust with files of other folders: with results that `lexical-util` 1.0.7 returned, whose lines
+//! `crates/recorded/src/reading.rt` describes, and with the proved table of digits.
 
 mod outcomes;
 
@@ -119,13 +120,33 @@ fn keeps(line: &str) -> Option<bool> {
     })
 }
 
+/// Returns the text of a file in `crates/`.
+fn text_of(file: &str) -> String {
+    let path = format!("{}/../crates/{file}", env!("CARGO_MANIFEST_DIR"));
+    std::fs::read_to_string(path).expect("a file of the repository")
+}
+
+/// The proved table has bytes, and that of the plain Rust numbers of 32 bits.
+#[test]
+fn each_byte_has_the_digit_value_of_the_proved_table() {
+    let source = text_of("lexical_base/src/digit.rt");
+    let (_, table) = source
+        .split_once("const VALUES: [u8; 256] = [")
+        .expect("the table");
+    let (table, _) = table.split_once(']').expect("its end");
+    let values: Vec<u8> = table
+        .split(',')
+        .flat_map(|value| value.trim().parse())
+        .collect();
+    assert_eq!(values.len(), 256);
+    for (byte, value) in (0..=255).zip(values) {
+        assert_eq!(char_to_digit(byte, 256), Some(value.into()), "{byte}");
+    }
+}
+
 #[test]
 fn recorded_results_are_kept() {
-    let path = concat!(
-        env!("CARGO_MANIFEST_DIR"),
-        "/../crates/recorded/data/results.txt"
-    );
-    let text = std::fs::read_to_string(path).expect("the recorded results");
+    let text = text_of("recorded/data/results.txt");
     let mut counts = COUNTS.map(|(kind, _)| (kind, 0));
     for line in text.lines() {
         // Behind ` crate: ` stands what the Rust crate returns where this library differs on purpose.

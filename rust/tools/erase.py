@@ -11,15 +11,19 @@ other words stay, in their order, but for
 - paths: those of the crates, and the two modules in MODULES with the type of the view;
 - exports to C, where a slice becomes a pointer and a length.
 
-Added is `#[must_use]`, and for the functions in SHOWN their clauses as documentation. The layout is rustfmt's. A ghost
-form that is not known here is refused with file and line; then no file is changed. `erase_test.py` compares the words of
-each file with those of its source.
+Added is `#[must_use]`, and in the library the attributes in HIDDEN, GROWING and DERIVED; documentation.py changes its
+documentation. The layout is rustfmt's. Refused with file and line are a word of GHOST that is left over, a clause
+without braces, an item of a file without counterpart that plain Rust would lose, and a public call with a premise and
+without a part `# Panics`; then no file is changed. `erase_test.py` compares the words of each file with those of its
+source.
 """
 import pathlib
 import re
 import subprocess
 import sys
-import textwrap
+
+sys.dont_write_bytecode = True
+import documentation
 
 RUST = pathlib.Path(__file__).resolve().parent.parent
 CRATES = RUST.parent / "crates"
@@ -39,7 +43,8 @@ PLACES = {
 }
 
 # The files that have no counterpart: roots, which are written by hand, laws, examples, and what core has.
-LEFT_OUT = re.compile(r"(lib|main|laws|examples|format_builder/non_zero)\.rt|laws/.*")
+IN_CORE = "format_builder/non_zero.rt"
+LEFT_OUT = re.compile(rf"(lib|main|laws|examples)\.rt|{IN_CORE}|laws/.*")
 
 # In plain Rust `format` and `feature_format` have the word as a const argument, as in the Rust crate, and are written
 # by hand. What takes it as an argument has names of its own.
@@ -49,8 +54,15 @@ VIEW = ("NumberFormat", "FormatView")
 # What is another text in plain Rust: file, text, text in its place. Each is one line.
 COMPARED = "#[derive(Clone, Copy, PartialEq, Eq, Hash)]"
 SUBSTITUTIONS = [
-    ("ascii.rt", "use std::simd::prelude::*;", "use crate::lanes::Simd;"),
-    ("error.rt", "#[derive(Clone, Copy, Debug)]", "#[derive(Clone, Copy, Debug, PartialEq, Eq, Hash)]"),
+    # Rust has `as_chunks` of slices from 1.88 on.
+    ("ascii.rt", "use std::simd::prelude::*;", "use crate::chunks::{Chunks, SplitChunks}; use crate::lanes::Simd;"),
+    ("ascii.rt", "chunks: &[[u8; 32]]", "chunks: Chunks<'_, 32>"),
+    ("ascii.rt", "block: &[[u8; N]]", "block: Chunks<'_, N>"),
+    # LLVM gathers entries of 32 bits, and inserts those of 8 bits one by one.
+    ("digit.rt", "const VALUES: [u8; 256] = [", "const VALUES: [u32; 256] = ["),
+    ("digit.rt", "VALUES[c as usize] as u32", "VALUES[c as usize]"),
+    ("error.rt", "use std::cmp::Ordering;", ""),
+    ("error.rt", "#[derive(Clone, Copy, Debug)]", "#[derive(Clone, Copy, Debug, PartialEq, Eq, PartialOrd, Ord, Hash)]"),
     ("short_text.rt", "#[derive(Drop)]", "#[derive(Clone, Copy)]"),
     ("sink.rt", "impl<W: fmt::Write> Sink for fmt::Formatter<W> {", "impl Sink for fmt::Formatter<'_> {"),
     ("format_builder.rt", "#[derive(Drop)]", COMPARED),
@@ -61,35 +73,74 @@ SUBSTITUTIONS = [
     ("output.rt", "write_fmt<D: Display + Drop>(&mut self, text: D) -> io::Result<()> {", "write_fmt(&mut self, text: Arguments<'_>) -> io::Result<()> {"),
     ("output.rt", "write_fmt<D: Display + Drop>(&mut self, text: D)", "write_fmt(&mut self, text: Arguments<'_>)"),
     # C may leave unset what a call writes, so there is no reference to it: rust/capi/src/outputs.rs.
-    ("outcomes.rt", "*out = Word::new(word);", "out.write(Word::new(word));"),
     ("texts.rt", "out[..count].copy_from_slice(&text[..count]);", "crate::outputs::write_bytes(&mut out[..count], &text[..count]);"),
     ("texts.rt", "out[count] = 0;", "out[count].write(0);"),
 ]
 
 # The same, in every file and as often as it stands there.
 EVERYWHERE = [
+    (".as_chunks::<", ".split_chunks::<"),
     ("fn fmt<W: fmt::Write>(&self, f: &mut fmt::Formatter<W>)", "fn fmt(&self, f: &mut fmt::Formatter<'_>)"),
     ("out: &mut Word", "out: crate::outputs::Out<Word>"),
+    ("*out = Word::new(word);", "out.write(Word::new(word));"),
     ("*out = Word::new(builder.build_unchecked());", "out.write(Word::new(builder.build_unchecked()));"),
     ("out: &mut NumberedEdit", "out: crate::outputs::Out<NumberedEdit>"),
     ("*out = NumberedEdit::new(&edit);", "out.write(NumberedEdit::new(&edit));"),
     ("edits: &mut [NumberedEdit; FIELD_COUNT]", "mut edits: crate::outputs::Out<[NumberedEdit; FIELD_COUNT]>"),
     ("edits[index] = NumberedEdit::new(&list[index]);", "edits.write_at(index, NumberedEdit::new(&list[index]));"),
+    ("edits: &mut [NumberedEdit; MAX_MENDING_EDITS]", "edits: crate::outputs::Out<[NumberedEdit; MAX_MENDING_EDITS]>"),
+    ("*edits = numbered;", "edits.write(numbered);"),
     ("out: &mut [u8]", "out: &mut crate::outputs::Buffer"),
 ]
 
 # Items in place of which plain Rust has a derive.
-ITEMS = [("error.rt", "impl PartialEq for Error"), ("error.rt", "impl Eq for Error")]
+ITEMS = [("error.rt", f"impl {trait} for Error") for trait in ("PartialEq", "Eq", "Ord", "PartialOrd")]
 
-# The functions whose clauses say more than the sentences above them: their documentation has them.
-SHOWN = {
-    "apply_all", "edit_word", "edits_of", "is_built", "migrate", "normal_form", "same_format",
-    "build", "build_strict", "build_unchecked", "rebuild",
-    "format_error", "format_error_impl", "is_valid_options_punctuation",
-}  # fmt: skip
+# Plumbing of C, of numfmt and of constants: it stays public, and the documentation does not show it. For each file its
+# names; `Enum::*` is all variants of an enum that is shown without them.
+HIDDEN = {
+    "error.rt": "rank from_rank put_into",
+    "error/short_text.rt": "Piece EMPTY_PIECE ShortText put_into",
+    "error/sink.rt": "Sink",
+    "format_flags/all_rules.rt": "RULES if_broken broken_rules",
+    "format_flags/rules.rt": "clashes options_error radix_error_impl format_error_impl check",
+    "format_builder.rt": "from_parts to_parts",
+    "edits.rt": "FIELD_COUNT SETTERS",
+    "edits/listing.rt": "field_edits_of",
+    "edits/numbers.rt": "SETTER_NAMES Argument ArgumentKind of argument_of_byte new setter_number argument"
+    " argument_byte from_number from_name setter_name_of_number setter_number_of_name byte",
+    "edits/text.rt": "SettingError::* from_text text byte_from_decimal",
+    "reasons.rt": "MAX_REASONS CANDIDATE_COUNT reasons reasons_of",
+    "reasons/mask.rt": "rules",
+    "reasons/mending.rt": "MAX_MENDING_EDITS mend",
+    "reasons/note.rt": "MAX_NOTES notes notes_of_fields",
+    "reasons/text.rt": "text",
+    "source.rt": "put_into",
+}
+
+# Enums that may grow.
+GROWING = {"Error", "Class", "Rule", "Reason", "Note", "FlagSetter"}
+
+# What a type derives in plain Rust besides.
+DERIVED = {
+    "Class": "PartialOrd, Ord, Hash",
+    "Rule": "PartialOrd, Ord",
+    "Reason": "Hash",
+    "Note": "Hash",
+    "SettingError": "Hash",
+    "FlagSetter": "PartialOrd, Ord",
+    "Edit": "PartialOrd, Ord",
+    "FormatView": "PartialOrd, Ord",
+}
+
+# Words that begin an item that plain Rust would lose if a file without counterpart had it.
+ITEM_WORDS = {"impl", "struct", "enum", "union", "trait", "static", "type", "macro_rules", "extern"}
 
 # Words that stand in no code of plain Rust here: a ghost form that was not left out.
-GHOST = {"ghost", "requires", "ensures", "tactic", "prove", "invariant", "measure", "Model", "Drop", "laws", "rt", "alloc"}
+GHOST = {
+    "ghost", "requires", "ensures", "tactic", "prove", "invariant", "measure", "Model", "Drop", "laws", "rt", "alloc",
+    "decreases", "assume",
+}  # fmt: skip
 
 # The reasons of each `unsafe` in an export to C, where the caller keeps to c/peltzivar.h.
 NO_MANGLE = "// SAFETY: no other library has names that begin with `peltzivar_`."
@@ -108,12 +159,12 @@ class Refused(Exception):
 class Source:
     """The tokens of a file, comments included, and the changes that make plain Rust of it."""
 
-    def __init__(self, path, text):
-        self.path, self.text = path, text
+    def __init__(self, path, text, name=""):
+        # The name is the file's in a library, from `src/` on, and empty for other crates.
+        self.path, self.text, self.name = path, text, name
         self.tokens = list(TOKEN.finditer(text))
         self.words = [token[0] for token in self.tokens] + [""] * 8
         self.changes, self.laws = [], set()
-        self.defined, self.cited = set(), set()
 
     def refuse(self, index, what):
         at = self.tokens[min(index, len(self.tokens) - 1)].start()
@@ -141,9 +192,7 @@ class Source:
         """The index behind the ghost item that begins at an index, or the index itself if there is none."""
         start = index + 1 if self.stands(index, "pub", "ghost") else index
         if self.stands(start, "ghost", "use") or self.stands(start, "use", "std", ":", ":", "marker", ":", ":", "Model"):
-            end = self.words.index(";", start) + 1
-            self.defined |= set(self.words[start:end])
-            return end
+            return self.words.index(";", start) + 1
         if self.words[start] == "ghost" and self.words[start + 2] in "=:" and self.words[start + 3] == "{":
             end = self.behind(start + 3)
             if self.words[end] != ";":
@@ -196,8 +245,13 @@ class Source:
         while self.words[end - 1].startswith("//"):
             end -= 1
         while self.words[body] in ("requires", "ensures") or self.words[body].startswith("//"):
-            named = 0 if self.words[body + 1] == "{" else 1
-            body = body + 1 if self.words[body].startswith("//") else self.behind(body + 1 + named)
+            if self.words[body].startswith("//"):
+                body += 1
+                continue
+            opening = body + 1 if self.words[body + 1] == "{" else body + 2
+            if self.words[opening] != "{":
+                self.refuse(body, "a clause has no braces")
+            body = self.behind(opening)
         if self.words[body] not in ("{", ";"):
             self.refuse(body, "no clause is known that begins so")
         start = self.tokens[end - 1].end()
@@ -218,23 +272,40 @@ class Source:
             above -= 1
             while self.words[above] != "#":
                 above -= 1
-        if clauses and self.words[index + 1] in SHOWN:
-            self.document(above, clauses)
+        name = self.words[index + 1]
+        self.premises(above, clauses)
+        if name in documentation.PROVED.get(self.name, ()):
+            self.document(above, name, clauses)
         if '"C"' in self.words[start:index]:
             self.export(above, start, body)
         elif re.search(r"\) -> (?!(io::)?Result<)", self.text[self.tokens[start].start() : self.tokens[body].start()]):
             self.changes.append((self.tokens[above].start(),) * 2 + ("#[must_use]\n",))
 
-    def document(self, above, clauses):
-        """Adds clauses to the documentation above an index."""
-        if not self.words[above - 1].startswith("///"):
+    def comment(self, above):
+        """The words of the documentation above an index."""
+        start = above
+        while self.words[start - 1].startswith("///"):
+            start -= 1
+        return " ".join(self.words[start:above])
+
+    def premises(self, above, clauses):
+        """Refuses a call with a premise if its module is public, and its documentation does not state when it panics."""
+        if re.search(r"^ *requires\b", clauses, re.M) and not self.is_private() and "# Panics" not in self.comment(above):
+            self.refuse(above, "a public call has a premise, and its documentation has no part `# Panics`")
+
+    def is_private(self):
+        """Whether the file is a private module of plain Rust, none of whose names is at its root."""
+        root = (RUST / "src/lib.rs").read_text()
+        is_named = f"\npub use {self.path.stem}::" in root
+        return f"\nmod {self.path.stem};\n" in root and not is_named
+
+    def document(self, above, name, clauses):
+        """Adds what is proved of a call to the documentation above an index."""
+        if not self.comment(above):
             self.refuse(above, "a function whose clauses are shown has no documentation")
-        self.cited |= self.defined & set(re.findall(r"\w+", clauses))
-        clauses = textwrap.dedent(clauses.strip("\n").rstrip())
-        text = f"\n# Proved\n\nFor all arguments; [`definitions`](crate::definitions) has the words.\n\n```text\n{clauses}\n```"
-        lines = "".join(f"\n/// {line}".rstrip(" ") for line in text.split("\n"))
+        lines = documentation.proved(self.name, name, clauses).split("\n")
         at = self.tokens[above - 1].end()
-        self.changes.append((at, at, lines))
+        self.changes.append((at, at, "".join(f"\n/// {line}".rstrip(" ") for line in lines)))
 
     def export(self, above, start, body):
         """An export to C has a pointer and a length for each slice, and makes the slice of them. Each `unsafe` has its reason."""
@@ -248,6 +319,28 @@ class Source:
             text = "{2}\nlet {0} = unsafe {{ crate::slices::of{1}({0}, {0}_len) }};"
             made = (text.format(name, *(("_mut", BUFFER) if mutable else ("", ARRAY))) for name, mutable, _ in slices)
             self.changes.append((end + 1, end + 1, "\n" + "\n".join(made)))
+
+    def check_left_out(self, modules):
+        """Refuses what a file without counterpart must not have, since plain Rust would lose it. `modules` names the
+        modules that plain Rust has."""
+        index, root = 0, {"lib": ITEM_WORDS | {"fn"}, "main": ITEM_WORDS | {"pub"}}.get(self.path.stem)
+        while index < len(self.tokens):
+            word, next_word = self.words[index : index + 2]
+            if (end := self.ghost_item(index)) > index:
+                index = end
+            elif word == "mod" and (next_word not in modules or self.words[index + 2] != ";"):
+                self.refuse(index, "plain Rust has no such module")
+            elif word == "pub" and next_word in ("mod", "use"):
+                index += 1
+            elif word in (root or ITEM_WORDS) or (word == "const" and next_word != "fn"):
+                self.refuse(index, "plain Rust would lose this item")
+            elif word == "fn" and not root:
+                body = self.function(index)
+                index = self.behind(body)
+                if not re.fullmatch(r"\{([\w:]+\(\);)*\}", "".join(self.words[body:index])):
+                    self.refuse(body, "this function is not a law, and plain Rust would lose it")
+            else:
+                index = self.behind(index) if word == "{" else index + 1
 
     def erase(self):
         """Returns the plain Rust, before renaming and layout."""
@@ -273,7 +366,7 @@ class Source:
         return text + self.text[last:]
 
 
-def source_of(path):
+def source_of(path, name):
     """The source with the substitutions made. Each is of one line, so that lines keep their numbers."""
     text = path.read_text()
     for file, old, new in [*SUBSTITUTIONS, *((file, item, item) for file, item in ITEMS)]:
@@ -283,7 +376,7 @@ def source_of(path):
             text = text.replace(old, new)
     for old, new in EVERYWHERE:
         text = text.replace(old, new)
-    return Source(path, text)
+    return Source(path, text, name)
 
 
 def renamed(text, root, std):
@@ -294,60 +387,96 @@ def renamed(text, root, std):
     return re.sub(rf"\b{VIEW[0]}\b", VIEW[1], text)
 
 
-def definitions(cited):
-    """The text of the module `definitions`: those that the clauses cite, as they stand in specs/."""
-    parts = []
-    for crate in [name for name, place in PLACES.items() if place == LIBRARY]:
-        for path in sorted((CRATES / crate / "specs").glob("*.antt")):
-            for block in path.read_text().split("\n\n"):
-                found = re.search(r"^(?:abbrev |unfoldable )?pub (?:record |data )?(\w+)", block, re.M)
-                if found and found[1] in cited:
-                    words = " ".join(line[3:] for line in block.splitlines() if line.startswith("-- "))
-                    code = [line for line in block.splitlines() if not line.startswith("-- ")]
-                    shown = code if len(code) < 16 else [*code[:4], "..", code[-1]]
-                    parts.append("\n".join([f"# `{found[1]}`", "", words, "", "```text", *shown, "```"]))
-    head = (
-        "What the words mean that the parts `Proved` of the documentation cite.\n\n"
-        "`f x` is `f` of `x`, `raw` a word's fields, `.now` the value that an argument points to, `×` \"and\", `⊎` \"or\" and\n"
-        "`→ ⊥` \"not\". All other definitions are in `crates/*/specs` of the repository."
-    )
-    return "\n".join(f"//! {line}".rstrip() for line in "\n\n".join([head, *parts]).split("\n")) + "\n"
+class Attributes:
+    """What HIDDEN, GROWING and DERIVED add to the library, and which of their rows were used."""
+
+    def __init__(self):
+        self.used = set()
+
+    def of_file(self, text, name):
+        hidden = HIDDEN.get(name, "").split()
+        # Each name has one page, which its module has.
+        text = text.replace("#[doc(inline)]\n", "")
+        text = re.sub(r"^( *)(?=pub (?:const fn|fn|const|enum|struct|trait|type) (\w+))",
+                      lambda it: self.mark(it, it[2] in hidden, (name, it[2]), "#[doc(hidden)]"), text, flags=re.M)
+        text = re.sub(r"^( *)(?=pub enum (\w+))",
+                      lambda it: self.mark(it, it[2] in GROWING, it[2], "#[non_exhaustive]"), text, flags=re.M)
+        pattern = re.compile(r"^pub enum (\w+) \{\n.*?^\}", re.M | re.S)
+        text = pattern.sub(lambda it: self.variants(it, hidden, name), text)
+        pattern = r"#\[derive\(([\w, ]+)\)\](?=(?:\s*#\[[^]]*\])*\s*pub (?:enum|struct) (\w+))"
+        return re.sub(pattern, self.derive, text)
+
+    def mark(self, found, is_marked, row, attribute):
+        self.used |= {row} if is_marked else set()
+        return f"{found[1]}{attribute}\n{found[1]}" if is_marked else found[1]
+
+    def variants(self, found, hidden, name):
+        row = f"{found[1]}::*"
+        if row not in hidden:
+            return found[0]
+        self.used.add((name, row))
+        return re.sub(r"^    (?=[A-Z])", "    #[doc(hidden)]\n    ", found[0], flags=re.M)
+
+    def derive(self, found):
+        more = DERIVED.get(found[2], "")
+        self.used |= {f"{found[2]}: {more}"} if more else set()
+        return f"#[derive({found[1]}{', ' if more else ''}{more})]"
+
+    def unused(self):
+        rows = {(file, name) for file, names in HIDDEN.items() for name in names.split()}
+        return sorted(map(str, (rows | {*GROWING} | {f"{name}: {more}" for name, more in DERIVED.items()}) - self.used))
 
 
 def laid_out(text):
     return subprocess.run(["rustfmt", "--config-path", RUST], input=text, stdout=subprocess.PIPE, text=True, check=True).stdout
 
 
+def modules_of(folder):
+    """The names of the modules of the sources that a root of plain Rust has, and of those that have no counterpart."""
+    text = "".join(path.read_text() for path in RUST.joinpath(folder).glob("*.rs") if path.stem in ("lib", "main"))
+    sources = {made: name for name, made in MODULES.items()} if folder == LIBRARY[0] else {}
+    return {sources.get(name, name) for name in re.findall(r"^(?:pub )?mod (\w+);", text, re.M)} | {"laws", "examples"}
+
+
 def made_files():
     """Each file that is made, with its text."""
-    files, cited = {}, set()
+    files, sources, comments, attributes = {}, "", documentation.Comments(), Attributes()
     for crate, (folder, root, std) in PLACES.items():
         top = CRATES / crate / "src"
         for path in sorted(top.rglob("*.rt")):
             name = path.relative_to(top)
             if LEFT_OUT.fullmatch(str(name)):
+                if str(name) != IN_CORE:
+                    Source(path, path.read_text()).check_left_out(modules_of(folder))
                 continue
             first, *rest = name.with_suffix(".rs").parts
             if crate == "lexical_util":
                 stem, dot, ending = first.partition(".")
                 first = MODULES.get(stem, stem) + dot + ending
-            source = source_of(path)
-            text = renamed(source.erase(), root, std)
-            cited |= source.cited
+            sources += path.read_text()
+            is_library = PLACES[crate] == LIBRARY
+            text = renamed(source_of(path, str(name) if is_library else "").erase(), root, std)
+            if is_library:
+                text = attributes.of_file(comments.of_file(text, name), str(name))
             head = f"{MADE} from crates/{crate}/src/{name}: change that file.\n\n"
             files[RUST.joinpath(folder, first, *rest)] = laid_out(head + text)
     for file, old, _ in SUBSTITUTIONS:
         if not any(path.name == file.replace(".rt", ".rs") or path.stem == MODULES.get(file[:-3]) for path in files):
             raise Refused(f"{file} is no source, and this is to stand in it: {old}")
+    for old, _ in EVERYWHERE:
+        if old not in sources:
+            raise Refused(f"no source has this text of EVERYWHERE: {old}")
+    if unused := attributes.unused() + comments.unused():
+        raise Refused(f"rows of tables that stand for nothing: {', '.join(unused)}")
     head = f"{MADE} from crates/*/specs: change those files.\n\n"
-    files[RUST / "src/definitions.rs"] = laid_out(head + definitions(cited))
+    files[RUST / "src/definitions.rs"] = laid_out(head + documentation.definitions())
     return files
 
 
 def main():
     try:
         files = made_files()
-    except Refused as refused:
+    except (Refused, documentation.Unfit) as refused:
         sys.exit(f"rust/tools/erase.py: {refused}")
     stale = [path for path, text in files.items() if not path.exists() or path.read_text() != text]
     gone = [it for it in RUST.glob("**/src/**/*.rs") if it not in files and it.read_text().startswith(MADE)]

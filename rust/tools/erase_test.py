@@ -112,6 +112,34 @@ def plain(words, file):
     return kept
 
 
+ITEM = ["fn", "const", "enum", "struct", "trait", "type"]
+
+
+def with_attributes(words, name):
+    """The words with the attributes of the tables HIDDEN, GROWING and DERIVED."""
+    hidden, found, derived, variants = erase.HIDDEN.get(name, "").split(), [], None, set()
+    for at, word in enumerate(words):
+        if words[at : at + 2] == ["pub", "enum"] and f"{words[at + 2]}::*" in hidden:
+            start = at + 4
+            while words[start] != "}":
+                variants.add(start)
+                start = until(words, start, ",", "}")
+                start += words[start] == ","
+        found += ["#", "[", "doc", "(", "hidden", ")", "]"] * (at in variants)
+        if words[at : at + 3] == ["#", "[", "derive"]:
+            derived = len(found) + 4
+        if word == "pub" and words[at + 1] in ITEM:
+            kind, item = (words[at + 1], words[at + 2]) if words[at + 2] != "fn" else ("fn", words[at + 3])
+            more = erase.DERIVED.get(item, "").split(", ") if kind in ("enum", "struct") else [""]
+            if more != [""]:
+                end = close(found, derived - 1) - 1
+                found[end:end] = [it for name in more for it in (",", name)]
+            found += ["#", "[", "doc", "(", "hidden", ")", "]"] * (item in hidden)
+            found += ["#", "[", "non_exhaustive", "]"] * (kind == "enum" and item in erase.GROWING)
+        found.append(word)
+    return words_of(" ".join(found).replace("# [ doc ( inline ) ] ", "") + "\n")
+
+
 def wanted_words(path, place):
     """The words that the made file of a source has to have."""
     text = path.read_text()
@@ -128,20 +156,48 @@ def wanted_words(path, place):
         if words[at - 3 : at] == [root, ":", ":"]:
             words[at] = erase.MODULES.get(words[at], words[at])
         words[at] = erase.VIEW[1] if words[at] == erase.VIEW[0] else words[at]
-    return words
+    is_library = place == erase.LIBRARY
+    return with_attributes(words, str(path).rpartition("/src/")[2]) if is_library else words
+
+
+LET = r"let \w+ = unsafe \{ crate : : slices : : \w+ \( \w+ , \w+ \) \} ; "
+EXPORT = re.compile(rf'unsafe extern "C" fn (\w+) \( (.*?) \) ((?:- > \w+ )?)\{{ ((?:{LET})*)')
+POINTER = re.compile(r"(\w+) : \* (const|mut) (\w+) , \1_len : usize")
+IMPORT = re.compile(r"(?:# \[ [^\]]* \] )*(?:pub (?:\( \w+ \) )?)?(?:use [^;]*|mod \w+) ;")
+
+
+def with_slices(export):
+    """An export with a slice in place of each pointer and length, if its body begins with one `let` for each, and the
+    export itself if not."""
+    name, arguments, result, lets = export.groups()
+    wanted = ""
+    for argument, kind, _ in POINTER.findall(arguments):
+        of = "of_mut" if kind == "mut" else "of"
+        wanted += f"let {argument} = unsafe {{ crate : : slices : : {of} ( {argument} , {argument}_len ) }} ; "
+    if not wanted or lets != wanted:
+        return export[0]
+    arguments = POINTER.sub(lambda m: f"{m[1]} : & {'mut ' * (m[2] == 'mut')}[ {m[3]} ]", arguments)
+    return f'extern "C" fn {name} ( {arguments} ) {result}{{ '
+
+
+def import_of(text):
+    """An import with the items in braces in their order, which is rustfmt's."""
+    def in_order(found):
+        return f"<{', '.join(sorted(found[1].split(' , ')))}>"
+
+    while (found := re.sub(r"\{ ([^{}]*?) (?:, )?\}", in_order, text)) != text:
+        text = found
+    return text
 
 
 def normal(words, is_made=False):
     """The imports, sorted, and the other words without what rustfmt and the eraser add."""
     text = " ".join(words)
     if is_made:
-        text = text.replace("# [ must_use ] ", "").replace('unsafe extern "C"', 'extern "C"')
-        text = re.sub(r"let (\w+) = unsafe \{ crate : : slices : : of(_mut)? \( \1 , \1_len \) \} ; ", "", text)
-        text = re.sub(r"(\w+) : \* (?:const|(mut)) (\w+) , \1_len : usize", lambda m: f"{m[1]} : & {m[2] or ''} [ {m[3]} ]", text)
-    text = re.sub(r" +", " ", re.sub(r", (?=[)\]}])", "", text))
-    imports = re.findall(r"(?:pub )?use [^;]*;|mod \w+ ;", text)
-    rest = re.sub(r"(?:pub )?use [^;]*;|mod \w+ ;", "", text)
-    return sorted(sorted(words_of(it)) for it in imports), rest.split()
+        text = EXPORT.sub(with_slices, text.replace("# [ must_use ] ", ""))
+    imports = sorted(import_of(it) for it in IMPORT.findall(text))
+    rest = re.sub(r" +", " ", re.sub(r", (?=[)\]}])", "", IMPORT.sub("", text)))
+    return imports, rest.split()
 
 
 def same_words(wanted, made):
@@ -177,8 +233,8 @@ def are_same(wanted, made):
     return wanted[0] == made[0] and same_words(wanted[1], made[1])
 
 
-def made_files():
-    """Each source with the words that its made file has to have, and those that it has."""
+def pairs():
+    """Each source with its made file, and its place."""
     for crate, place in erase.PLACES.items():
         top = erase.CRATES / crate / "src"
         for path in sorted(top.rglob("*.rt")):
@@ -187,14 +243,18 @@ def made_files():
                 first, *rest = name.with_suffix(".rs").parts
                 if crate == "lexical_util":
                     first = erase.MODULES.get(first.removesuffix(".rs"), first.removesuffix(".rs")) + first[-3:] * first.endswith(".rs")
-                made = erase.RUST.joinpath(place[0], first, *rest)
-                yield made, wanted_words(path, place), words_of(made.read_text())
+                yield path, erase.RUST.joinpath(place[0], first, *rest), place
+
+
+def made_files():
+    """Each made file with the words that it has to have, and those that it has."""
+    for path, made, place in pairs():
+        yield made, wanted_words(path, place), words_of(made.read_text())
 
 
 def faults(made, chance):
     """Some faults in the words of a made file: a word less, a word twice, a statement less."""
-    # An export without `unsafe` does not compile.
-    names = [at for at, word in enumerate(made) if word[0].isalnum() and word != "unsafe"]
+    names = [at for at, word in enumerate(made) if word[0].isalnum()]
     for at in chance.sample(names, min(8, len(names))):
         yield f"without {made[at]} at {at}", made[:at] + made[at + 1 :]
         yield f"{made[at]} twice at {at}", made[:at] + made[at : at + 1] + made[at:]
@@ -216,7 +276,64 @@ REFUSED = {
     "use crate::laws::facts;\npub fn f() {\n    facts() + 1;\n}\n": "3: a law is used, and not called as a statement",
     "pub fn f() {\n    g(;\n}\n": "3: this closes another bracket",
     "pub fn f() {\n    g();\n": "1: a bracket is not closed",
+    "/// Returns.\npub fn f()\n    requires { x }\n{\n}\n": "2: a public call has a premise",
+    "/// # Examples\n#[inline]\npub const fn f() -> u8\n    ensures { y }\n    requires x { x }\n{\n    1\n}\n":
+    "2: a public call has a premise",
+    "pub fn f() {\n    λ;\n}\n": "2: this is not plain Rust",
+    "ghost x = { y }\npub fn f() {\n}\n": "2: a ghost item does not end with `;`",
+    "pub fn f() -> u8\n    ensures x ≡ 1\n{\n    1\n}\n": "2: a clause has no braces",
+    "pub fn f() -> u8\n    ensures name x\n{\n    1\n}\n": "2: a clause has no braces",
+    "pub fn f() {\n    while x decreases { y } {\n    }\n}\n": "2: this is not plain Rust",
 }
+# The words of the ghost language. A source in which one of them is left is refused.
+GHOST = "ghost requires ensures tactic prove invariant measure Model Drop laws rt alloc decreases assume"
+REFUSED |= {f"pub fn f() {{\n    x.{word};\n}}\n": "2: this is not plain Rust" for word in GHOST.split()}
+
+# Files without counterpart, with the module `ascii` in plain Rust, each with the refusal, or nothing.
+LAW = "pub fn f()\n    ensures { x }\n{\n    g::h();\n}\n"
+LEFT_OUT = [
+    ("lib.rt", "#![tactic(auto)]\npub mod ascii;\nmod laws;\npub use a::{b};\nghost use c;\n", ""),
+    ("lib.rt", "pub mod other;\n", "1: plain Rust has no such module"),
+    ("lib.rt", "mod ascii {\n}\n", "1: plain Rust has no such module"),
+    ("lib.rt", "pub mod ascii;\nimpl Default for X {\n}\n", "2: plain Rust would lose this item"),
+    ("lib.rt", "macro_rules! x {\n}\n", "1: plain Rust would lose this item"),
+    ("lib.rt", "pub const X: u8 = 1;\n", "1: plain Rust would lose this item"),
+    ("lib.rt", "pub fn f() {\n}\n", "1: plain Rust would lose this item"),
+    ("main.rt", "mod ascii;\nfn main() {\n    let x = Y { z: 1 };\n}\n", ""),
+    ("main.rt", "pub fn f() {\n}\n", "1: plain Rust would lose this item"),
+    ("main.rt", "mod other;\n", "1: plain Rust has no such module"),
+    ("main.rt", "#[derive(Clone)]\nstruct X;\n", "2: plain Rust would lose this item"),
+    ("main.rt", "enum X {\n}\n", "1: plain Rust would lose this item"),
+    ("main.rt", "trait X {\n}\n", "1: plain Rust would lose this item"),
+    ("main.rt", "static X: u8 = 1;\n", "1: plain Rust would lose this item"),
+    ("main.rt", "type X = u8;\n", "1: plain Rust would lose this item"),
+    ("laws.rt", f"pub mod examples;\n{LAW}", ""),
+    ("laws.rt", f"{LAW}impl X {{\n}}\n", "6: plain Rust would lose this item"),
+    ("laws.rt", "pub fn f() -> u8 {\n    1\n}\n", "1: this function is not a law"),
+    ("laws.rt", "pub fn f() {\n    g(1);\n}\n", "1: this function is not a law"),
+    ("laws.rt", "union X {\n}\n", "1: plain Rust would lose this item"),
+    ("examples.rt", "#[no_mangle]\npub extern fn f() {\n}\n", "2: plain Rust would lose this item"),
+]
+
+
+def refusal(call, path, text, *arguments, name=""):
+    """The refusal of a text, or nothing."""
+    try:
+        call(erase.Source(pathlib.Path(path), text, name), *arguments)
+    except erase.Refused as refused:
+        return str(refused)
+    return ""
+
+
+def refusals():
+    """Each source that the eraser has to refuse or to accept, with the refusal that it needs, and its own."""
+    for text, says in REFUSED.items():
+        yield text, says, refusal(erase.Source.erase, "f.rt", text)
+    text, says = "pub fn migrate() -> u8\n    ensures { x }\n{\n    1\n}\n", "1: a function whose clauses are shown has no"
+    yield text, says, refusal(erase.Source.erase, "edits.rt", text, name="edits.rt")
+    for path, text, says in LEFT_OUT:
+        modules = {"ascii", "laws", "examples"}
+        yield f"{path}: {text}", says, refusal(erase.Source.check_left_out, path, text, modules)
 
 
 def main():
@@ -229,15 +346,14 @@ def main():
                 passed += 1
             else:
                 failed.append(f"{name}: {'not found: ' + what if what else 'not the words of its source'}")
-    for text, says in REFUSED.items():
-        try:
-            erased = erase.Source(pathlib.Path("f.rt"), text).erase()
-            failed.append(f"not refused: {text!r} -> {erased!r}")
-        except erase.Refused as refused:
-            passed += says in str(refused)
-            failed += [f"{refused}, and not {says}"] * (says not in str(refused))
+    for text, wanted, says in refusals():
+        if says == "" if wanted == "" else wanted in says:
+            passed += 1
+        else:
+            failed.append(f"{text!r}\n  wanted: {wanted or 'no refusal'}\n  got:    {says or 'no refusal'}")
     print(*failed, f"{passed} passed, {len(failed)} failed", sep="\n")
     return bool(failed)
 
 
-sys.exit(main())
+if __name__ == "__main__":
+    sys.exit(main())

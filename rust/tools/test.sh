@@ -1,7 +1,7 @@
 #!/usr/bin/env bash
 # Tests the plain Rust with cargo and python3, without the kit: that erase.py makes it of the proved sources; its tests,
-# examples and lints; the names that are otherwise in the Rust crate; its documentation, layout and package; the examples
-# of its page, and numfmt.
+# examples and lints, also with the least version of Rust; the names that differ from the Rust crate, and its own; its
+# documentation, layout and package; that it stands in for lexical-util; the examples of README and RUST, and numfmt.
 #
 # The last line is `N passed, M failed, K skipped`; the exit status is 1 if a row failed, or fewer were tried than before.
 set -u
@@ -16,16 +16,40 @@ has cargo || { counted 0; exit; }
 if has rustfmt && has python3; then
     passes tools/erase.py --check
     passes tools/erase_test.py
+    passes tools/erase_docs_test.py
+    passes tools/erase_tables_test.py
 fi
-if has python3; then passes ../compare/names.py --check ../docs/RUST.md; fi
+if has python3; then
+    passes ../compare/names.py --check ../docs/RUST.md
+    passes tools/public_test.py
+fi
 if has cargo-fmt; then passes cargo fmt --all --check; fi
 if has cargo-clippy; then passes cargo clippy --quiet --workspace --all-targets -- -D warnings; fi
-passes cargo test --quiet
+passes cargo test
+# The least version of Rust, where the PATH has it, as Debian's package `rustc-web` of this version puts it there.
+least=$(sed -n 's/^rust-version = "\(.*\)"$/\1/p' Cargo.toml)
+found=
+for compiler in $(type -ap rustc); do
+    if [[ -z $found && $("$compiler" --version) == "rustc $least."* ]]; then found=$(dirname "$compiler"); fi
+done
+if [ "$found" ]; then
+    passes env CARGO_TARGET_DIR="$work/least" RUSTC="$found/rustc" RUSTDOC="$found/rustdoc" \
+        "$found/cargo" test --quiet --workspace --lib --bins --tests
+else
+    skips "rustc $least"
+fi
 passes env RUSTDOCFLAGS=-Dwarnings cargo doc --quiet --no-deps --workspace
+if has python3; then passes tools/check_doc.py "$CARGO_TARGET_DIR/doc"; fi
+passes tools/dropping_in_test.sh
 passes cargo package --quiet --package peltzivar --allow-dirty
+shows ../README.md "cd rust && cargo run" cargo run --quiet
 shows ../docs/RUST.md "cargo run --example" cargo run --quiet --example
 prints 0 "$(cat ../crates/numfmt/stdout)" cargo run --quiet
+# A file that may grow by 4 bytes only: the first write is short, and the second fails.
+head -c 1020 /dev/zero > "$work/short"
+short="trap '' XFSZ; ulimit -f 1; '$CARGO_TARGET_DIR/debug/numfmt' show 0xC >> '$work/short'"
+compares 3 "$(bash -c "$short"; echo $?)" "$short"
 if has cc && has python3; then
     passes ../crates/numfmt/built-program-test.sh "$CARGO_TARGET_DIR/debug/numfmt"
 fi
-counted 13
+counted 22

@@ -315,12 +315,15 @@ fn set(builder: NumberFormatBuilder, call: &SetterCall) -> NumberFormatBuilder {
 }
 
 /// The word of a call and the position of `Success`, or 0 and the position of the error with whose description it
-/// panics.
+/// panics; here a reason follows.
 fn word_or_panic(call: impl FnOnce() -> u128) -> (u128, u32) {
     match panics::caught(call) {
         Ok(word) => (word, rules::SUCCESS),
         Err(text) => {
-            let said = |position: &u32| error_at(*position, 0).description() == text;
+            let said = |position: &u32| {
+                let rest = text.strip_prefix(error_at(*position, 0).description());
+                rest.is_some_and(|rest| rest.is_empty() || rest.starts_with(": "))
+            };
             (0, (0..49).find(said).expect("a panic with a description"))
         }
     }

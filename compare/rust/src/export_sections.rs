@@ -199,9 +199,14 @@ fn reason(random: &mut Random) -> (Word, u8, u8) {
     (random.word().into(), random.below(18) as u8, random.below(5) as u8)
 }
 
-/// Fields, and the number of a setting without effect, sometimes of none.
-fn unused(random: &mut Random) -> (CFields, u8) {
-    (fields(random), random.below(6) as u8)
+/// A word, and an index of a slot of its reasons, sometimes of none.
+fn word_reason(random: &mut Random) -> (Word, u8) {
+    (random.word().into(), random.below(26) as u8)
+}
+
+/// Fields, and the index of a note, sometimes of none.
+fn note(random: &mut Random) -> (CFields, u8) {
+    (fields(random), random.below(5) as u8)
 }
 
 /// Random inputs beside lists of edits.
@@ -230,7 +235,11 @@ fn name(random: &mut Random) -> Vec<u8> {
 /// A name with a value, mostly of a setting.
 fn setting(random: &mut Random) -> Vec<u8> {
     let mut text = name(random);
-    text.extend(random.pick(&["=true", "=false", "=none", "=0", "=16", "=255", "=256", "=0016", "=", "", "=x"]).bytes());
+    let values = [
+        "=true", "=false", "=none", "=0", "=16", "=255", "=256", "=0016", "=", "", "=x", "='x'", "='''", "='xy'", "=0x7F",
+        "=0x100", "=0x",
+    ];
+    text.extend(random.pick(&values).bytes());
     text
 }
 
@@ -291,6 +300,25 @@ const COMPARED: &[(&str, Compare)] = compared! {
     });
     rule_error: on_bytes(|it, rule| unsafe { (it.rule_error)(rule) });
     rule_mask: on_bytes(|it, rule| unsafe { (it.rule_mask)(rule) });
+    word_reason_mask: on_words(|it, word| {
+        (0..26).map(|index| unsafe { (it.word_reason_mask)(word, index) }).collect::<Vec<Word>>()
+    });
+    word_reason_rule: on_words(|it, word| {
+        (0..26).map(|index| unsafe { (it.word_reason_rule)(word, index) }).collect::<Vec<u8>>()
+    });
+    word_reason_breaks: on_words(|it, word| {
+        let slots = (0..26).flat_map(|index| (0..18).map(move |rule| (index, rule)));
+        slots.map(|(index, rule)| unsafe { (it.word_reason_breaks)(word, index, rule) }).collect::<Vec<u8>>()
+    });
+    word_reason_mend: on_random(word_reason, |it, (word, index)| {
+        let mend = |field| {
+            let mut edits = [[UNTOUCHED; 2]; 3];
+            let count = unsafe { (it.word_reason_mend)(*word, *index, field, &mut edits) };
+            (count, edits[..count].to_vec())
+        };
+        (0..40).map(mend).collect::<Vec<(usize, Vec<CEdit>)>>()
+    });
+    note_mask: on_random(note, |it, (fields, index)| unsafe { (it.note_mask)(fields, *index) });
     is_digit: on_random(options, |it, (word, byte, _)| unsafe { (it.is_digit)(*word, *byte) });
     radix_from_flags: on_random(masks, |it, (word, mask, shift)| {
         unsafe { (it.radix_from_flags)(*word, *mask, *shift) }
@@ -313,12 +341,18 @@ const COMPARED: &[(&str, Compare)] = compared! {
     reason: on_texts(reason, |it, (word, rule, index), text, room| unsafe {
         (it.reason)(*word, *rule, *index, text, room)
     });
-    unused: on_texts(unused, |it, (fields, index), text, room| unsafe { (it.unused)(fields, *index, text, room) });
+    word_reason: on_texts(word_reason, |it, (word, index), text, room| unsafe {
+        (it.word_reason)(*word, *index, text, room)
+    });
+    note: on_texts(note, |it, (fields, index), text, room| unsafe { (it.note)(fields, *index, text, room) });
     setter_name: on_texts(setter, |it, setter, text, room| unsafe { (it.setter_name)(*setter, text, room) });
     setter_of_name: on_random(name, |it, name| unsafe { (it.setter_of_name)(name.as_ptr(), name.len()) });
     edit_of_text: on_random(setting, |it, text| {
         let mut edit = [UNTOUCHED; 2];
         (unsafe { (it.edit_of_text)(text.as_ptr(), text.len(), &mut edit) }, edit)
+    });
+    setting_error: on_texts(setting, |it, setting, text, room| unsafe {
+        (it.setting_error)(setting.as_ptr(), setting.len(), text, room)
     });
     text_of_edit: on_texts(edit, |it, (setter, value), text, room| unsafe {
         (it.text_of_edit)(OneEdit(*setter, *value), text, room)

@@ -113,6 +113,11 @@ exports! {
     keeps_rule(Word, u8) -> u8;
     rule_error(u8) -> u32;
     rule_mask(u8) -> Word;
+    word_reason_mask(Word, u8) -> Word;
+    word_reason_rule(Word, u8) -> u8;
+    word_reason_breaks(Word, u8, u8) -> u8;
+    word_reason_mend(Word, u8, u8, &mut [CEdit; 3]) -> usize;
+    note_mask(&CFields, u8) -> Word;
     is_digit(Word, u8) -> u8;
     radix_from_flags(Word, Word, u32) -> u32;
     is_valid_ascii(u8) -> u8;
@@ -129,10 +134,12 @@ exports! {
     description(u32, *mut u8, usize) -> usize;
     text(u32, usize, *mut u8, usize) -> usize;
     reason(Word, u8, u8, *mut u8, usize) -> usize;
-    unused(&CFields, u8, *mut u8, usize) -> usize;
+    word_reason(Word, u8, *mut u8, usize) -> usize;
+    note(&CFields, u8, *mut u8, usize) -> usize;
     setter_name(u8, *mut u8, usize) -> usize;
     setter_of_name(*const u8, usize) -> u8;
     edit_of_text(*const u8, usize, *mut CEdit) -> u32;
+    setting_error(*const u8, usize, *mut u8, usize) -> usize;
     text_of_edit(OneEdit, *mut u8, usize) -> usize;
     edit_mask(OneEdit) -> Word;
 }

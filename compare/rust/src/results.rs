@@ -292,6 +292,7 @@ results! {
     /// a new builder.
     Source {
         status: i32,
+        has_comment: bool,
         calls: usize,
         fields: Fields,
     }

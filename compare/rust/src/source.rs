@@ -24,12 +24,13 @@ fn expressions(tally: &mut Tally, seed: u64) {
 }
 
 /// The calls of the expression, on a new builder, give it the fields of the word, and none is too many.
-/// The status is 0 exactly if that builder packs the word itself.
+/// The status is 0, and no comment is printed first, exactly if that builder packs the word itself.
 fn compare(tally: &mut Tally, program: &str, word: u128) {
     let argument = format!("{word:#X}").replace("0X", "0x");
     let run = Command::new(program).args(["source", &argument]).output().expect("numfmt runs");
     let text = String::from_utf8(run.stdout).expect("numfmt prints UTF-8");
-    let Some(calls) = calls_of(&text) else {
+    let comments: String = text.split_inclusive('\n').take_while(|line| line.starts_with("// ")).collect();
+    let Some(calls) = calls_of(&text[comments.len()..]) else {
         return tally.equal(
             ("source", argument),
             text,
@@ -42,11 +43,13 @@ fn compare(tally: &mut Tally, program: &str, word: u128) {
         ("source", Wide::from(word)),
         Source {
             status: run.status.code().unwrap_or(-1),
+            has_comment: !comments.is_empty(),
             calls: calls.len(),
             fields: built.fields,
         },
         Source {
             status: (built.build_unchecked.number() != word) as i32,
+            has_comment: built.build_unchecked.number() != word,
             calls: wanted.edits,
             fields: wanted.after_edits,
         },

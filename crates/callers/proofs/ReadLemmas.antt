@@ -1,4 +1,4 @@
--- Reading a number byte by byte.
+-- Lemmas on reading a number byte by byte.
 use Rattle.std.proofs.Common.{◌≡◌, ℕ, ◌+◌, ◌*◌, ◌^◌, ◌<◌, ◌≤◌, inl, inr, Bool, true, false, cond}
 use Rattle.std.proofs.Common.{IsTrue, List, [], ◌∷◌, ◌++◌, length, map, take, drop, filter, sym, ap, subst}
 use Rattle.std.proofs.Common.{◌∙◌, arith, append-nil}
@@ -18,7 +18,8 @@ use Rattle.lexical_util.specs.declared.error.Error.TheVariants as errors
 use Rattle.callers.specs.Reading.{is_mantissa_digit, is_read, is_skipped, byte_at, number_read}
 use Rattle.callers.specs.Reading.{IsNumeral, IsReadTo, IsRefusal}
 
--- the number of one byte more, as a test says whether it is a digit
+-- If the byte at index `i` is a digit, then the number of the first `i + 1` bytes is the number of the first `i` bytes
+-- times the radix plus the digit. Otherwise both numbers are equal.
 number-more : (r : Record) (text : List ℕ) (i : ℕ) (test : Bool) → i < length text
     → is_mantissa_digit r (byte_at text i) ≡ test
     → number_read r (take (i + 1) text)
@@ -36,7 +37,7 @@ number-more r text i test inside is = ap (numeral (r.byte layout.mantissa_radix)
       ∙ number_push (r.byte layout.mantissa_radix) (map byte_value front) (byte_value (byte_at text i))
   pushed false = ap (numeral (r.byte layout.mantissa_radix)) (append-nil front)
 
--- more bytes write no smaller number
+-- The number of the first bytes of a text is at most the number of the whole text.
 number-grows : (r : Record) (text : List ℕ) (i : ℕ) → 1 ≤ r.byte layout.mantissa_radix
     → number_read r (take i text) ≤ number_read r text
 number-grows r text i some =
@@ -54,7 +55,7 @@ number-within r text i j some less =
     subst (λ t. number_read r t ≤ number_read r (take j text)) (take-take i j text less)
     (number-grows r (take j text) i some)
 
--- what is known before the byte at an index is looked at
+-- `HasRead r text i number` holds if the first `i` bytes are read, and write `number`, which fits 64 bits.
 pub record HasRead (r : Record) (text : List ℕ) (i number : ℕ) : Type 0 where
   pub sum : number ≡ number_read r (take i text)
   pub read : (k : ℕ) → k < i → IsTrue (is_read r text k)
@@ -63,7 +64,7 @@ pub record HasRead (r : Record) (text : List ℕ) (i number : ℕ) : Type 0 wher
 read_to : (r : Record) (text : List ℕ) (i number : ℕ) → i < length text → HasRead r text i number → IsReadTo r text i
 read_to r text i number inside before = record { inside = inside; read = before.read; fits = before.fits }
 
--- a separator is skipped
+-- If the byte at index `i` is a separator that is skipped, then `i + 1` bytes are read, with the same number.
 pub skipped : (r : Record) (text : List ℕ) (i number : ℕ) → i < length text
     → is_mantissa_digit r (byte_at text i) ≡ false
     → IsTrue (is_skipped r text i) → HasRead r text i number → HasRead r text (i + 1) number
@@ -75,14 +76,14 @@ skipped r text i number inside other here before =
       fits = subst (λ n. n < 2 ^ 64) (sym same) before.fits;
     }
 
--- the number with the digit at an index
+-- If the byte at index `i` is a digit, then the number of `i + 1` bytes is the number before times the radix plus it.
 next : (r : Record) (text : List ℕ) (i number digit : ℕ) → i < length text
     → IsTrue (is_mantissa_digit r (byte_at text i))
     → digit ≡ byte_value (byte_at text i) → HasRead r text i number
     → number * r.byte layout.mantissa_radix + digit ≡ number_read r (take (i + 1) text)
 next r text i number digit inside here is before = rw (is, before.sum) (sym (number-more r text i true inside here))
 
--- a digit is read
+-- If the byte at index `i` is a digit, and the number with this digit fits, then `i + 1` bytes are read.
 pub pushed : (r : Record) (text : List ℕ) (i number digit : ℕ) → i < length text
     → IsTrue (is_mantissa_digit r (byte_at text i))
     → digit ≡ byte_value (byte_at text i) → HasRead r text i number
@@ -96,7 +97,7 @@ pushed r text i number digit inside here is before fits =
       fits = subst (λ n. n < 2 ^ 64) sum fits;
     }
 
--- the number is too large with the digit at an index
+-- If the byte at index `i` is a digit, and the number with this digit does not fit, then the refusal is `Overflow`.
 pub too_large : (r : Record) (text : List ℕ) (i number digit : ℕ) → i < length text
     → IsTrue (is_mantissa_digit r (byte_at text i)) → digit ≡ byte_value (byte_at text i) → HasRead r text i number
     → (number * r.byte layout.mantissa_radix + digit < 2 ^ 64 → ⊥) → IsRefusal r text (errors.Overflow i)
@@ -106,14 +107,14 @@ too_large r text i number digit inside here is before large = (
   subst (λ n. 2 ^ 64 ≤ n) (next r text i number digit inside here is before) (omega (arith, large)),
 )
 
--- the byte at an index is no digit, and no separator that may stand there
+-- If the byte at index `i` is neither a digit nor a separator that is skipped, then the refusal is `InvalidDigit`.
 pub no_digit : (r : Record) (text : List ℕ) (i number : ℕ) → i < length text
     → is_mantissa_digit r (byte_at text i) ≡ false
     → is_skipped r text i ≡ false → HasRead r text i number → IsRefusal r text (errors.InvalidDigit i)
 no_digit r text i number inside other stays before =
     (read_to r text i number inside before, or_from (is_skipped r text i) _ stays other)
 
--- the whole text is read
+-- If the whole text is read, and it is not empty, then it is a numeral.
 pub whole : (r : Record) (text : List ℕ) (i number : ℕ) → length text ≤ i → 1 ≤ length text → HasRead r text i number
     → IsNumeral r text × (number ≡ number_read r text)
 whole r text i number end some before =
@@ -126,12 +127,12 @@ whole r text i number end some before =
       before.sum ∙ all,
     )
 
--- a lawful radix is 2 or more
+-- The mantissa radix of a lawful word is 2 or more.
 radix_some : (word : ℕ) → Lawful word → 2 ≤ (raw word).byte layout.mantissa_radix
 unfolding Lawful
 radix_some word lawful = lawful.mantissa_radix.0
 
--- a text that is refused writes no number
+-- A text that is refused is not a numeral.
 pub no_numeral : (word : ℕ) (text : List ℕ) (e : Error) → Lawful word → IsRefusal (raw word) text e
     → IsNumeral (raw word) text → ⊥
 no_numeral word text (errors.InvalidDigit i) lawful refused is = false≢true (sym refused.1 ∙ is.read i refused.0.inside)
@@ -140,12 +141,12 @@ no_numeral word text (errors.Overflow i) lawful refused is =
 no_numeral word text (errors.Empty i) lawful refused is = omega (arith, refused.1, is.some)
 no_numeral word text _ lawful refused is = absurd refused
 
--- a text is refused for one reason
+-- A text has at most one refusal.
 module _ (word : ℕ) (text : List ℕ) (lawful : Lawful word) where
   abbrev Refuses : Error → Type 0
   Refuses = IsRefusal (raw word) text
 
-  -- nothing is read past a byte that is refused
+  -- Nothing is read past the index in a refusal.
   ends : (error : Error) (j : ℕ) → Refuses error → IsReadTo (raw word) text j → j ≤ held_index error
   ends (errors.InvalidDigit i) j refused reads = elim (cases_lt i j) [
     | inl before ↦ absurd (false≢true (sym refused.1 ∙ reads.read i before))
@@ -161,7 +162,7 @@ module _ (word : ℕ) (text : List ℕ) (lawful : Lawful word) where
   ends (errors.Empty i) j refused reads = absurd (omega (arith, refused.1, reads.inside))
   ends _ j refused reads = absurd refused
 
-  -- a byte that may not stand there is not one at which the number is too large
+  -- A text cannot be refused both for a byte that is not allowed and for a number that is too large.
   digit_or_large : (i j : ℕ) → Refuses (errors.InvalidDigit i) → Refuses (errors.Overflow j) → ⊥
   digit_or_large i j h k =
       let same : j ≡ i = omega (arith, ends (errors.InvalidDigit i) j h k.0, ends (errors.Overflow j) i k h.0) in

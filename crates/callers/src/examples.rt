@@ -1,4 +1,4 @@
-//! For each predicate of the callers' definitions one case that holds and one that does not.
+//! Examples: for each predicate that the callers define, one case that holds and one that does not.
 
 ghost use Rattle.std.specs.Prelude.{codes, Some};
 ghost use Rattle.lexical_util.specs.Record.{raw};
@@ -9,7 +9,7 @@ ghost use Rattle.callers.specs.declared.roles.Role.TheVariants as roles;
 
 use lexical_util::laws::flags;
 
-/// The role of `+` in decimal numbers with the exponent character `e` and the point.
+/// In decimal numbers with the exponent character `e` and the decimal point `.`, the role of `+` is a sign.
 pub fn role_examples()
     ensures sign { IsRoleOf 0x0A0A0A00_00000000_00000000_0000000C 0x65 0x2E 0x2B (Some roles.Sign) }
     ensures other_role { IsRoleOf 0x0A0A0A00_00000000_00000000_0000000C 0x65 0x2E 0x2B (Some roles.Digit) → ⊥ }
@@ -17,13 +17,13 @@ pub fn role_examples()
     flags::role_facts();
 }
 
-/// Texts that are read up to an index, in decimal.
+/// As a decimal number, `12a` is read up to index 2, and `12` ends there.
 pub fn read_examples()
     ensures digit { IsReadTo (raw 0x00000A00_00000000_00000000_0000000C) (codes "12a") 2 }
     ensures end { IsReadTo (raw 0x00000A00_00000000_00000000_0000000C) (codes "12") 2 → ⊥ }
 {}
 
-/// Why a text writes no number in decimal.
+/// As a decimal number, `1a2b` is refused at index 1, and not at index 0.
 pub fn refusal_examples()
     ensures digit { IsRefusal (raw 0x00000A00_00000000_00000000_0000000C) (codes "1a2b") (errors.InvalidDigit 1) }
     ensures digit_read { IsRefusal

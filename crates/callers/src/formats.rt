@@ -1,7 +1,7 @@
-//! Formats of one's own: constants that are proved lawful when they are compiled.
+//! Formats of your own: constants that are proved lawful when they are compiled.
 //!
-//! Each format has a constant and a law, a function that does nothing. A caller that calls the law may
-//! pass the constant where a lawful format is required, and nothing is tested when it runs.
+//! Each format has a constant and a law, a function that does nothing. If you call the law, you may pass the constant
+//! where a lawful format is required. Nothing is tested at run time.
 
 ghost use Rattle.std.specs.Prelude.{◌≡◌, ◌≢◌, ◌↔◌, [], ◌∷◌, IfErr, IsTrue, bit_and, true, false};
 ghost use Rattle.std.specs.Result.{OkIff};
@@ -22,27 +22,27 @@ use lexical_util::laws::flags;
 /// Decimal numbers with `_` between digits, such as `1_000.000_1e1_0`.
 pub const DECIMAL: u128 = 0x0A0A0A00_0000005F_00000007_0000000C;
 
-/// Integers as Rust's source writes them, without a sign: `_` between digits and after them, also
-/// several in a row, such as `1_000` and `1__0_`.
+/// Integers as in Rust's source, without a sign: `_` between digits and after them, also several in a row, such as
+/// `1_000` and `1__0_`.
 pub const RUST_INTEGER: u128 = 0x0A0A0A00_0000005F_00000241_00000459;
 
-/// Hexadecimal floats, such as `0x1.8p-3`: the prefix `x`, digits of radix 16, and always an exponent,
-/// which is written in decimal digits and raises 2.
+/// Hexadecimal floats, such as `0x1.8p-3`: the prefix `x`, digits of radix 16, and a required exponent, which has
+/// decimal digits and the base 2.
 pub const HEXADECIMAL_FLOAT: u128 = 0x0A021000_78000000_00000000_0000400C;
 
 /// Octal numbers with the suffix `o` or `O`, such as `17o`.
 pub const OCTAL: u128 = 0x0808086F_00000000_00000000_0000000C;
 
-/// The decimal point of each of them.
+/// The decimal point of all these formats.
 pub const POINT: u8 = b'.';
 
 /// The exponent character of decimal and octal numbers.
 pub const EXPONENT: u8 = b'e';
 
-/// The exponent character of hexadecimal floats, in which `e` is a digit.
+/// The exponent character of hexadecimal floats, where `e` is a digit.
 pub const HEXADECIMAL_EXPONENT: u8 = b'p';
 
-/// Returns whether a flag of `word` allows a digit separator, by a mask, of which the law tells the flags.
+/// Returns whether a digit separator flag of `word` is set. A law states which flags the mask contains.
 pub fn has_separator_flag(word: u128) -> bool
     ensures { IsTrue result ↔ (bit_and word (mask_of layout.digit_separator_flags) ≢ 0) }
 {
@@ -50,10 +50,10 @@ pub fn has_separator_flag(word: u128) -> bool
     word & DIGIT_SEPARATOR_FLAG_MASK != 0
 }
 
-/// What is known of [`DECIMAL`].
+/// States the properties of [`DECIMAL`].
 #[tactic(auto, unfolding(lexical_util::specs::Unfoldable::on_literals))]
 pub fn decimal_facts()
-    // The format of decimal numbers with two setter calls.
+    // The constant is the format of decimal numbers after two setter calls.
     ensures word { edited 0x0A0A0A00_00000000_00000000_0000000C
         (write_byte layout.digit_separator 0x5F ∷ write_flags layout.internal_digit_separator true) ≡ DECIMAL }
     ensures separator { (raw DECIMAL).byte layout.digit_separator ≡ 0x5F }
@@ -64,7 +64,7 @@ pub fn decimal_facts()
     ensures options { OptionsFit DECIMAL EXPONENT POINT }
 {}
 
-/// What is known of [`RUST_INTEGER`].
+/// States the properties of [`RUST_INTEGER`].
 #[tactic(auto, unfolding(lexical_util::specs::Unfoldable::on_literals))]
 pub fn rust_integer_facts()
     ensures word { edited 0x0A0A0A00_00000000_00000000_0000000C
@@ -81,7 +81,7 @@ pub fn rust_integer_facts()
     ensures options { OptionsFit RUST_INTEGER EXPONENT POINT }
 {}
 
-/// What is known of [`HEXADECIMAL_FLOAT`].
+/// States the properties of [`HEXADECIMAL_FLOAT`].
 #[tactic(auto, unfolding(lexical_util::specs::Unfoldable::on_literals))]
 pub fn hexadecimal_float_facts()
     ensures word { edited 0x10101000_00000000_00000000_0000000C
@@ -97,7 +97,7 @@ pub fn hexadecimal_float_facts()
     ensures options { OptionsFit HEXADECIMAL_FLOAT HEXADECIMAL_EXPONENT POINT }
 {}
 
-/// What is known of [`OCTAL`].
+/// States the properties of [`OCTAL`].
 #[tactic(auto, unfolding(lexical_util::specs::Unfoldable::on_literals))]
 pub fn octal_facts()
     ensures word { edited 0x08080800_00000000_00000000_0000000C (write_byte layout.base_suffix 0x6F ∷ []) ≡ OCTAL }
@@ -109,8 +109,8 @@ pub fn octal_facts()
     ensures options { OptionsFit OCTAL EXPONENT POINT }
 {}
 
-/// Reads a decimal number of 64 bits with `_` between digits, such as `1_000`. The error names the
-/// index of the first byte that may not stand there, as [`read_digits`] does.
+/// Reads a decimal number of 64 bits with `_` between digits, such as `1_000`. The errors are the errors of
+/// [`read_digits`].
 pub fn read_decimal(text: &[u8]) -> Result<u64, Error>
     ensures number { OkIff result (IsNumeral (raw DECIMAL) text.now) (number_read (raw DECIMAL) text.now) }
     ensures refusal { IfErr result (IsRefusal (raw DECIMAL) text.now) }

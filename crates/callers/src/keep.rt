@@ -1,4 +1,4 @@
-//! The word to keep for a stored one, for a reader of configurations.
+//! A reader of configurations that replaces each stored word by its normal form.
 
 ghost use Rattle.std.specs.Prelude.{◌≡◌, ◌≢◌, ◌↔◌, ℕ, Err, IfErr, IfOk, IsErr};
 ghost use Rattle.std.specs.Result.{OkIff};
@@ -10,20 +10,20 @@ use lexical_util::edits::migrate;
 use lexical_util::error::Error;
 use lexical_util::laws;
 
-/// Returns the word to keep for a stored `word`: its normal form if that is lawful, else the first
-/// rule that the normal form breaks. Two words that mean the same are kept as one.
+/// Returns the word to keep for a stored `word`: its normal form. Equivalent words are kept as the same word. If the
+/// normal form is not lawful, returns the error of the first rule that the normal form breaks.
 pub fn keep(word: u128) -> Result<u128, Error>
     ensures value { OkIff result (Lawful (normal_form_of word)) (normal_form_of word) }
     ensures lawful { IfOk result Lawful }
     ensures normal { IfOk result IsNormal }
     ensures same { IfOk result (λ kept. SameFormat (raw word) (raw kept)) }
 
-    // Every word that means the same has this normal form, so it is kept as the same word.
+    // Every equivalent word has this normal form, so it is kept as the same word.
     ensures one { (other : ℕ) → SameFormat (raw word) (raw other) → normal_form_of other ≡ normal_form_of word }
     ensures error { IfErr result (IsErrorOf (normal_form_of word)) }
     ensures not_success { result ≢ Err Error.Success }
 
-    // A word is refused exactly if no lawful word means the same.
+    // A word is refused if and only if no equivalent word is lawful.
     ensures refused { IsErr result ↔ ((other : ℕ) → SameFormat (raw word) (raw other) → Lawful other → ⊥) }
 {
     laws::normal_form_facts();

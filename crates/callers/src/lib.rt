@@ -1,8 +1,8 @@
-//! Callers of `lexical_util`, one for each kind of user, each proved from its public contracts.
+//! Callers of `lexical_util`, one for each kind of user. Each is proved from the public contracts of the library.
 //!
-//! [`digits`] is the smallest: read it first. [`formats`] has formats that are constants, proved lawful,
-//! [`roles`] tells what a byte stands for in a number, [`keep`] says which word to keep for a stored
-//! one, and [`read`] reads whole numbers. docs/CALLING.md explains them.
+//! [`digits`] is the smallest: read it first. [`formats`] defines formats as constants and proves them lawful.
+//! [`roles`] returns the role of a byte in a number, [`keep`] returns the word to keep for a stored word, and [`read`]
+//! reads whole numbers. docs/CALLING.md explains them.
 #![tactic(auto)]
 
 pub mod digits;

@@ -1,4 +1,4 @@
-//! A reader of whole numbers: the digits of any lawful format into a `u64`.
+//! A reader of whole numbers: it reads the digits of any lawful format into a `u64`.
 
 ghost use Rattle.std.specs.Prelude.{◌≡◌, ◌+◌, ◌*◌, ◌<◌, ◌^◌, ◌⊎◌, Err, IfErr, IsTrue, length};
 ghost use Rattle.std.specs.Option.{SomeIff};
@@ -15,20 +15,19 @@ use lexical_util::digit::char_to_digit;
 use lexical_util::error::Error;
 use lexical_util::format::{NumberFormat, check, mantissa_radix};
 
-/// Returns the whole number that `text` writes in the mantissa radix of `format`, which is any
-/// lawful format.
+/// Reads `text` as a whole number in the mantissa radix of `format`, which may be any lawful format.
 ///
-/// A digit separator between two digits is skipped if the flag `integer_internal_digit_separator`
-/// is set, and several in a row if `integer_consecutive_digit_separator` is set too. Anywhere else
-/// the error is `InvalidDigit` with its index, as for any other byte that is no digit. The error is
-/// `Overflow` with the index of the first digit at which the number no longer fits 64 bits, and
-/// `Empty(0)` if there is no byte.
+/// A digit separator between two digits is skipped if the flag `integer_internal_digit_separator` is set, and several
+/// in a row are skipped if `integer_consecutive_digit_separator` is set too.
+///
+/// The error is `InvalidDigit` with the index of the first byte that is neither a digit nor such a separator,
+/// `Overflow` with the index of the first digit at which the number exceeds 64 bits, or `Empty(0)` if `text` is empty.
 pub fn read_digits(format: u128, text: &[u8]) -> Result<u64, Error>
     requires { Lawful format }
     ensures number { OkIff result (IsNumeral (raw format) text.now) (number_read (raw format) text.now) }
     ensures refusal { IfErr result (IsRefusal (raw format) text.now) }
 
-    // A text is refused for one reason alone.
+    // Only one error describes a text that is refused.
     ensures unique { (error : Error) → IsRefusal (raw format) text.now error → result ≡ Err error }
 {
     let mut number: u64 = 0;
@@ -49,8 +48,8 @@ pub fn read_digits(format: u128, text: &[u8]) -> Result<u64, Error>
     }
 }
 
-/// Returns the whole number that `text` writes, as [`read_digits`], for any word. The error is that
-/// of the first rule which `format` breaks, if there is one.
+/// Reads `text` as a whole number, as [`read_digits`] does, for any word `format`. If `format` breaks a rule, the error
+/// is the error of the first broken rule.
 pub fn read_checked(format: u128, text: &[u8]) -> Result<u64, Error>
     ensures number { OkIff result (Lawful format × IsNumeral (raw format) text.now)
         (number_read (raw format) text.now) }
@@ -61,15 +60,15 @@ pub fn read_checked(format: u128, text: &[u8]) -> Result<u64, Error>
     read_digits(format, text)
 }
 
-/// Returns the value of `byte` as a digit of the mantissa, 0 to 35 in a lawful format; `None` if it
-/// is no such digit.
+/// Returns the value of `byte` as a digit of the mantissa, 0 to 35 in a lawful format, or `None` if `byte` is not such
+/// a digit.
 pub fn digit_value(format: u128, byte: u8) -> Option<u32>
     ensures { SomeIff result (IsTrue (is_mantissa_digit (raw format) byte)) (byte_value byte) }
 {
     char_to_digit(byte, mantissa_radix(format))
 }
 
-// The number with one digit more, if that fits.
+// Returns `number` with `digit` appended, or `None` if the result exceeds 64 bits.
 fn push(format: u128, number: u64, digit: u32) -> Option<u64>
     ensures { SomeIff result (number * (raw format).byte layout.mantissa_radix + digit < 2 ^ 64)
         (number * (raw format).byte layout.mantissa_radix + digit) }
@@ -79,7 +78,7 @@ fn push(format: u128, number: u64, digit: u32) -> Option<u64>
         .checked_add(u64::from(digit))
 }
 
-// Whether a digit separator stands at `index`, and may stand there.
+// Returns whether the byte at `index` is a digit separator that is allowed there.
 fn is_skipped(format: u128, text: &[u8], index: usize) -> bool
     requires { index < length text.now }
     ensures { result ≡ is_skipped (raw format) text.now index }
@@ -87,7 +86,7 @@ fn is_skipped(format: u128, text: &[u8], index: usize) -> bool
     is_separator(format, text[index]) && may_stand(format, text, index)
 }
 
-// Whether `byte` is the digit separator.
+// Returns whether `byte` is the digit separator.
 #[tactic(auto, unfolding(lexical_util::specs::Unfoldable::cased))]
 pub(crate) fn is_separator(format: u128, byte: u8) -> bool
     ensures { result ≡ separator (raw format) byte }
@@ -95,7 +94,7 @@ pub(crate) fn is_separator(format: u128, byte: u8) -> bool
     byte != 0 && byte == NumberFormat::new(format).digit_separator()
 }
 
-// Whether a digit separator may stand at `index`.
+// Returns whether a digit separator is allowed at `index`.
 fn may_stand(format: u128, text: &[u8], index: usize) -> bool
     requires { index < length text.now }
     ensures { result ≡ may_stand (raw format) text.now index }
@@ -105,7 +104,7 @@ fn may_stand(format: u128, text: &[u8], index: usize) -> bool
         && is_neighbour(format, byte_at(text, index + 1))
 }
 
-// Whether `byte` may stand beside a digit separator.
+// Returns whether `byte` is allowed next to a digit separator.
 fn is_neighbour(format: u128, byte: u8) -> bool
     ensures { result ≡ is_neighbour (raw format) byte }
 {
@@ -113,7 +112,7 @@ fn is_neighbour(format: u128, byte: u8) -> bool
     digit_value(format, byte).is_some() || in_a_row && is_separator(format, byte)
 }
 
-// The byte at `index`, 0 if there is none.
+// Returns the byte at `index`, or 0 if `text` is not that long.
 fn byte_at(text: &[u8], index: usize) -> u8
     ensures { result ≡ byte_at text.now index }
 {
@@ -123,7 +122,7 @@ fn byte_at(text: &[u8], index: usize) -> u8
     }
 }
 
-// The byte before `index`, 0 if there is none.
+// Returns the byte before `index`, or 0 if `text` has no byte there.
 fn byte_before(text: &[u8], index: usize) -> u8
     ensures { result ≡ byte_before text.now index }
 {

@@ -1,4 +1,4 @@
-//! The role of a byte: what it stands for in the numbers of a format.
+//! The role of a byte in the numbers of a format.
 
 ghost use Rattle.std.specs.Prelude.{◌≡◌, ◌↔◌, ◌⊎◌, IsTrue, IsOk, IfOk, IfErr, Some};
 ghost use Rattle.lexical_util.specs.Record.{raw};
@@ -14,7 +14,7 @@ use lexical_util::format::{NumberFormat, check, is_valid_options_punctuation};
 use lexical_util::format_flags::is_digit;
 use lexical_util::laws;
 
-/// What a byte stands for in a number.
+/// The role of a byte in a number.
 #[derive(Debug, Clone, Copy, PartialEq, Eq)]
 pub enum Role {
     /// A digit of the mantissa or of the exponent.
@@ -33,8 +33,8 @@ pub enum Role {
     Point,
 }
 
-/// Returns the role of `byte` in a lawful format, with an exponent character and a decimal point
-/// that the format accepts; `None` if it has no role. No byte has two.
+/// Returns the role of `byte` in a lawful format, with an exponent character and a decimal point that the format
+/// accepts, or `None` if `byte` has no role. No byte has two roles.
 pub fn role_of(format: u128, exponent: u8, decimal_point: u8, byte: u8) -> Option<Role>
     requires lawful { Lawful format }
     requires accepted { OptionsFit format exponent decimal_point }
@@ -60,8 +60,8 @@ pub fn role_of(format: u128, exponent: u8, decimal_point: u8, byte: u8) -> Optio
     }
 }
 
-/// Returns the role of `byte`, as [`role_of`], for any word and any two bytes. The error is that of
-/// the first rule which `format` breaks, or `InvalidPunctuation` if it does not accept the two bytes.
+/// Returns the role of `byte`, as [`role_of`] does, for any word and any two bytes. The error is the error of the first
+/// rule that `format` breaks, or `InvalidPunctuation` if `format` does not accept the two bytes.
 pub fn checked_role_of(
     format: u128,
     exponent: u8,
@@ -81,7 +81,7 @@ pub fn checked_role_of(
     }
 }
 
-// The role of a byte in whose set it is, in a lawful format with options that it accepts.
+// If `byte` is in the set of a role, then it has this role, in a lawful format with options that the format accepts.
 #[inline(always)]
 fn one_role(format: u128, exponent: u8, decimal_point: u8, byte: u8)
     requires lawful { Lawful format }
@@ -92,14 +92,14 @@ fn one_role(format: u128, exponent: u8, decimal_point: u8, byte: u8)
     laws::flags::role_facts();
 }
 
-// Whether `byte` is a sign.
+// Returns whether `byte` is a sign.
 fn is_sign(byte: u8) -> bool
     ensures { result ≡ signs byte }
 {
     matches!(byte, b'+' | b'-')
 }
 
-// Whether `byte` is the base prefix.
+// Returns whether `byte` is the base prefix.
 fn is_prefix(format: u128, byte: u8) -> bool
     ensures { result ≡ prefix (raw format) byte }
 {
@@ -107,7 +107,7 @@ fn is_prefix(format: u128, byte: u8) -> bool
     is_byte(view.base_prefix(), view.case_sensitive_base_prefix(), byte)
 }
 
-// Whether `byte` is the base suffix.
+// Returns whether `byte` is the base suffix.
 fn is_suffix(format: u128, byte: u8) -> bool
     ensures { result ≡ suffix (raw format) byte }
 {
@@ -115,7 +115,7 @@ fn is_suffix(format: u128, byte: u8) -> bool
     is_byte(view.base_suffix(), view.case_sensitive_base_suffix(), byte)
 }
 
-// Whether `byte` is the exponent character `chosen`.
+// Returns whether `byte` is the exponent character `chosen`.
 fn is_exponent(format: u128, chosen: u8, byte: u8) -> bool
     ensures { result ≡ exponent_set (raw format) chosen byte }
 {
@@ -123,8 +123,8 @@ fn is_exponent(format: u128, chosen: u8, byte: u8) -> bool
     is_byte(chosen, view.case_sensitive_exponent(), byte)
 }
 
-// Whether `byte` is `own`, or the same letter in the other case if `case_sensitive` is false. Nothing
-// is 0, which stands for none.
+// Returns whether `byte` is `own` or, if `case_sensitive` is false, the same letter in the other case. If `own` is 0,
+// which means absent, the result is `false`.
 #[tactic(auto, unfolding(lexical_util::specs::Unfoldable::cased))]
 fn is_byte(own: u8, case_sensitive: bool, byte: u8) -> bool
     ensures { result ≡ cased case_sensitive own byte }

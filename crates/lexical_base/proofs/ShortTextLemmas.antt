@@ -2,9 +2,8 @@
 use Rattle.std.proofs.Common.{◌≡◌, ℕ, zero, suc, ◌+◌, ◌/◌, ◌%◌, ◌≤◌, ◌<◌, ◌==◌, Bool, true, false, if◌then◌else◌, List}
 use Rattle.std.proofs.Common.{◌∷◌, [], ◌++◌, length, codes, length-append, arith}
 use Rattle.std.specs.Fmt.{decimal, digits, digits_onto, digit_glyph}
-use Rattle.lexical_base.specs.Ascii.{between}
 use Rattle.lexical_base.specs.Private.{max_length}
-use Rattle.lexical_base.specs.Additions.ShortTexts.{piece_text, numbered_byte}
+use Rattle.lexical_base.specs.Additions.ShortTexts.{piece_text, numbered_byte, can_be_quoted}
 use Rattle.lexical_base.specs.declared.error.short_text.Piece.{Piece}
 use Rattle.lexical_base.specs.declared.error.short_text.Piece.TheVariants as pieces
 
@@ -13,16 +12,17 @@ chosen : (b : Bool) (xs ys : List ℕ) (m : ℕ) → length xs ≤ m → length 
 chosen true xs ys m first second = first
 chosen false xs ys m first second = second
 
-few_digits : (k n : ℕ) (acc : List ℕ) → length (digits_onto k 10 false n acc) ≤ k + length acc
-few_digits zero n acc = omega arith
-few_digits (suc k) n acc =
-    let last = digit_glyph false (n % 10) in
-    chosen (n / 10 == 0) (last ∷ acc) (digits_onto k 10 false (n / 10) (last ∷ acc)) (suc k + length acc) (omega arith)
-    (omega (arith, few_digits k (n / 10) (last ∷ acc)))
+few_digits : (base : ℕ) (upper : Bool) (k n : ℕ) (acc : List ℕ)
+    → length (digits_onto k base upper n acc) ≤ k + length acc
+few_digits base upper zero n acc = omega arith
+few_digits base upper (suc k) n acc =
+    let last = digit_glyph upper (n % base) in
+    chosen (n / base == 0) (last ∷ acc) (digits_onto k base upper (n / base) (last ∷ acc)) (suc k + length acc)
+    (omega arith) (omega (arith, few_digits base upper k (n / base) (last ∷ acc)))
 
 pub few : (n : ℕ) → length (decimal n) ≤ 64
 unfolding digits
-few n = omega (arith, few_digits 64 n [])
+few n = omega (arith, few_digits 10 false 64 n [])
 
 numbered_fits : (name : List ℕ) (byte : ℕ) → length (numbered_byte name byte) ≤ 4 + length name + 65
 numbered_fits name byte =
@@ -31,8 +31,9 @@ numbered_fits name byte =
 piece_fits : (piece : Piece) → length (piece_text piece) ≤ max_length piece
 piece_fits (pieces.Words words) = omega arith
 piece_fits (pieces.Number number) = few number
+piece_fits (pieces.Hexadecimal number) = omega (arith, few_digits 16 true 32 number [])
 piece_fits (pieces.NumberedByte name byte) = numbered_fits name.now byte
-piece_fits (pieces.QuotedByte name byte) = chosen (between 33 126 byte) _ _ _
+piece_fits (pieces.QuotedByte name byte) = chosen (can_be_quoted byte) _ _ _
     (omega (arith, length-append name.now (codes " '" ++ byte ∷ codes "'"))) (numbered_fits name.now byte)
 
 pub short_text_fits : (a b c d : Piece) {text : List ℕ}

@@ -18,9 +18,10 @@ pub record AreTwoRanges (first second : ℕ × ℕ) : Type 0 where
   pub first_bytes : first.1 < 256
   pub second_bytes : second.1 < 256
 
--- room for it, if a number has at most 64 digits
+-- `max_length piece` is at least the length of the text of `piece`. A decimal number has at most 64 digits here.
 abbrev pub max_length : Piece → ℕ
 max_length (pieces.Words words) = length words.now
 max_length (pieces.Number number) = 64
+max_length (pieces.Hexadecimal number) = 34
 max_length (pieces.NumberedByte name byte) = 4 + length name.now + 65
 max_length (pieces.QuotedByte name byte) = 4 + length name.now + 65

@@ -10,7 +10,7 @@ ghost use Rattle.std.specs.Cmp.{partial_order_from_own_ties};
 ghost use Rattle.std.specs.Cmp.Rules.{comparing};
 ghost use Rattle.std.specs.Ordering.{as_partial_cmp, ordering_reverse};
 ghost use Rattle.std.proofs.Common.{rules};
-ghost use Rattle.lexical_base.specs.Outcomes.{rank_of, index_of, held_index, IsAt, class_of, start_of_class};
+ghost use Rattle.lexical_base.specs.Outcomes.{rank_of, index_of, IsAt, class_of, start_of_class};
 ghost use Rattle.lexical_base.specs.Outcomes.{description_of, printed_text};
 ghost use Rattle.lexical_base.specs.declared.error.Error.TheVariants as errors;
 ghost use Rattle.lexical_base.specs.OutcomeOrder.{compare_outcomes, same_outcome};
@@ -734,14 +734,6 @@ impl Error {
         }
     }
 
-    // The index of a parse error, and 0 for every other variant.
-    #[inline(always)]
-    fn held_index(&self) -> usize
-        ensures { result ≡ held_index self.now }
-    {
-        self.index().copied().unwrap_or(0)
-    }
-
     /// Puts the text that `Display` prints into a sink, whatever options it has. Fails only if the sink does.
     pub fn put_into<S: Sink>(&self, out: &mut S) -> Result<(), fmt::Error>
         ensures text { OnOk result (WritesInCalls S.takes out.old (printed_text self.now) out.new) }
@@ -784,7 +776,8 @@ impl PartialEq for Error {
         ensures value { result ≡ same_outcome self.now other.now }
         ensures equal { IsTrue result ↔ (self.now ≡ other.now) }
     {
-        self.rank() == other.rank() && self.held_index() == other.held_index()
+        self.rank() == other.rank()
+            && self.index().copied().unwrap_or(0) == other.index().copied().unwrap_or(0)
     }
 }
 
@@ -808,7 +801,11 @@ impl Ord for Error {
         ensures reversed { compare_outcomes other.now self.now ≡ ordering_reverse result }
     {
         match self.rank().cmp(&other.rank()) {
-            Ordering::Equal => self.held_index().cmp(&other.held_index()),
+            Ordering::Equal => self
+                .index()
+                .copied()
+                .unwrap_or(0)
+                .cmp(&other.index().copied().unwrap_or(0)),
             order => order,
         }
     }

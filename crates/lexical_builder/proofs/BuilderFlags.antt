@@ -1,8 +1,8 @@
--- The flags of a builder: each at its bit, moved to and from a word, and written under a mask.
+-- The flags of a builder: each at its bit, moved to and from a word, and written under a mask; and the bytes of a word.
 use Rattle.std.proofs.Common.{ℕ, zero, suc, ◌≡◌, ◌+◌, ◌-◌, ◌*◌, ◌/◌, ◌%◌, ◌^◌, ◌<◌, ◌==◌, min, max, Bool, true, false}
 use Rattle.std.proofs.Common.{if◌then◌else◌, length, map, sum_by, bit_and, bit_or, w32, refl, ap, ◌∙◌, arith}
 use Rattle.std.proofs.Math.Nat.{mod-lt}
-use Rattle.std.proofs.lemmas.Nat.{mod-pow-add, and_mask, or_comm, or_shifted, pow_pos}
+use Rattle.std.proofs.lemmas.Nat.{mod-pow-add, and_mask, or_comm, or_shifted, pow_pos, shr-shr}
 use Rattle.std.proofs.lemmas.Nat.Bits.{and_high, bit_at-zero, bit_at_or, bit_at_and, bit_at_not}
 use Rattle.std.proofs.lemmas.Bool.Decides.{nat_tests}
 use Rattle.lexical_flags.specs.Layout.{part, Flag, bit, flags, base_flags, digit_separator_flags}
@@ -24,6 +24,10 @@ builder_bit-lt _ = omega arith
 pub part-flags_in : (word : ℕ) (f : Flag) → part (flags_in word) (builder_bit f) 1 ≡ part word (bit f) 1
 part-flags_in word layout.required_integer_digits = omega arith
 part-flags_in word _ = omega arith
+
+-- A byte of the upper half of a word is a byte of the word.
+pub part-upper : (word s : ℕ) → part (word / 2 ^ 64) s 8 ≡ part word (64 + s) 8
+part-upper word s = ap (λ n. n % 2 ^ 8) (shr-shr word 64 s)
 
 -- the mask of a flag is moved to the flag's bit
 pub flags_in-mask : (f : Flag) → flags_in (2 ^ bit f) ≡ 2 ^ builder_bit f

@@ -247,6 +247,39 @@ impl NumberFormatBuilder {
         self.build_unchecked()
     }
 
+    /// Returns a builder with the fields of a format word as they are written. An exponent base or
+    /// exponent radix of 0 stays absent, so it follows a later change of the mantissa radix;
+    /// [`rebuild`][Self::rebuild] replaces it by the mantissa radix. The digit separator is read even
+    /// if no flag allows one. The reserved bits are dropped.
+    ///
+    /// In plain Rust:
+    ///
+    /// ```
+    /// use peltzivar::format_builder::NumberFormatBuilder;
+    ///
+    /// // Digits in hexadecimal, and the exponent bytes absent.
+    /// let hexadecimal = 0x00001000_00000000_00000000_0000000C;
+    /// let octal = NumberFormatBuilder::from_word(hexadecimal).mantissa_radix(8).build_unchecked();
+    /// assert_eq!(octal, 0x00000800_00000000_00000000_0000000C);
+    /// ```
+    #[inline(always)]
+    pub const fn from_word(word: u128) -> Self
+        ensures { result ≡ raw word }
+    {
+        let upper = (word >> 64) as u64;
+        NumberFormatBuilder {
+            flags: builder_flags(word),
+            bytes: [
+                (upper % 256) as u8,
+                ((upper >> PREFIX_SHIFT) % 256) as u8,
+                ((upper >> SUFFIX_SHIFT) % 256) as u8,
+                ((upper >> MANTISSA_SHIFT) % 256) as u8,
+                ((upper >> BASE_SHIFT) % 256) as u8,
+                (upper >> RADIX_SHIFT) as u8,
+            ],
+        }
+    }
+
     /// Returns a builder with the fields of a format word, to be changed and packed again. An
     /// exponent base or exponent radix of 0 becomes the mantissa radix, so that a later change
     /// of the mantissa radix does not change it; if the mantissa radix is 0 too, it stays 0. The

@@ -1,4 +1,4 @@
--- The edits that pairs of numbers stand for.
+-- Edits as pairs of a setter number and an argument.
 use Rattle.std.specs.Prelude.{ℕ, Option, IsSome, List, filter_map}
 use Rattle.lexical_util.specs.declared.edits.Edit.{Edit}
 use Rattle.lexical_util.specs.declared.edits.text.SettingError.{SettingError}
@@ -6,24 +6,25 @@ use Rattle.lexical_util.specs.declared.edits.text.SettingError.TheVariants as er
 use Rattle.lexical_util.specs.Additions.SettingNumbers.{edit_of_number, setter_number, argument_byte}
 use Rattle.lexical_c.specs.declared.words.NumberedEdit.{NumberedEdit}
 
--- an edit as the number of its setter and its argument
+-- `encode_edit edit` is the setter number and the argument of `edit`.
 abbrev pub encode_edit : Edit → NumberedEdit
 encode_edit edit = record { setter = setter_number edit; value = argument_byte edit }
 
--- the edit that two numbers stand for
+-- `decode_edit edit` is the edit with this setter number and argument, or `None` if no setter has the number.
 abbrev pub decode_edit : NumberedEdit → Option Edit
 decode_edit edit = edit_of_number edit.setter edit.value
 
--- two numbers the first of which is that of a setter
+-- `HasSetter edit` holds if a setter has the setter number of `edit`.
 abbrev pub HasSetter : NumberedEdit → Type 0
 HasSetter edit = IsSome (decode_edit edit)
 
--- the edits of those that have a setter
+-- `decoded_edits edits` lists the decoded edits of `edits` in order, without the pairs that have no setter.
 abbrev pub decoded_edits : List NumberedEdit → List Edit
 decoded_edits edits = filter_map decode_edit edits
 
--- the number of why a text is no setting
+-- `error_code error` is the number of the setting error `error`.
 abbrev pub error_code : SettingError → ℕ
 error_code errors.UnknownName = 1
-error_code errors.BadValue = 2
-error_code errors.OutOfRange = 3
+error_code (errors.BadValue number) = 2
+error_code (errors.OutOfRange number) = 3
+error_code errors.NoEquals = 4

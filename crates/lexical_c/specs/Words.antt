@@ -1,4 +1,4 @@
--- The numbers and records that the structs which cross to C stand for.
+-- The values of the structs that cross to C.
 use Rattle.std.specs.Prelude.{ℕ, ◌+◌, ◌*◌, ◌^◌, ◌%◌, length}
 use Rattle.lexical_util.specs.Layout.{flags}
 use Rattle.lexical_util.specs.BuilderBits.{builder_record_of_parts}
@@ -6,10 +6,10 @@ use Rattle.lexical_util.specs.Record.{Record}
 use Rattle.lexical_c.specs.declared.words.Word.TheInside as word
 use Rattle.lexical_c.specs.declared.words.Fields as fields
 
--- the number that two halves make
+-- `word_value w` is the number whose halves are in `w`.
 abbrev pub word_value : word.Inside → ℕ
 word_value w = w.low + w.high * 2 ^ 64
 
--- the record of fields that cross; the bits above the flags are ignored
+-- `fields_of f` is the record of the fields in `f`. The bits above the flags are ignored.
 abbrev pub fields_of : fields.Fields → Record
 fields_of f = builder_record_of_parts (f.flags % 2 ^ length flags) f.bytes

@@ -8,7 +8,7 @@ ghost use Rattle.lexical_util.specs.Digits.{byte_value, digit_of, digit_characte
 
 use lexical_util::{ascii, digit};
 
-/// Returns whether a byte is ASCII that a format may use.
+/// Returns whether a byte is allowed ASCII: 9 to 13 or 32 to 126.
 #[unsafe(no_mangle)]
 pub extern "C" fn peltzivar_is_valid_ascii(byte: u8) -> bool
     ensures { IsTrue result ↔ IsTrue (allowed_ascii byte) }
@@ -16,7 +16,7 @@ pub extern "C" fn peltzivar_is_valid_ascii(byte: u8) -> bool
     ascii::is_valid_ascii(byte)
 }
 
-/// Returns whether every byte is ASCII that a format may use.
+/// Returns whether every byte is allowed ASCII: 9 to 13 or 32 to 126.
 #[unsafe(no_mangle)]
 pub extern "C" fn peltzivar_is_valid_ascii_slice(bytes: &[u8]) -> bool
     ensures { IsTrue result ↔ AllPass allowed_ascii bytes.now }
@@ -40,7 +40,7 @@ pub extern "C" fn peltzivar_is_valid_letter_slice(bytes: &[u8]) -> bool
     ascii::is_valid_letter_slice(bytes)
 }
 
-/// Returns the digit that a byte is in a radix, or `u32::MAX` if it is none.
+/// Returns the value of a byte as a digit of a radix, or `u32::MAX` if it is not a digit.
 #[unsafe(no_mangle)]
 pub extern "C" fn peltzivar_char_to_digit(byte: u8, radix: u32) -> u32
     ensures { result ≡ unwrap_or (digit_of byte radix) (2 ^ 32 - 1) }
@@ -56,7 +56,7 @@ pub extern "C" fn peltzivar_char_is_digit(byte: u8, radix: u32) -> bool
     digit::char_is_digit(byte, radix)
 }
 
-/// Returns the digit character of a digit, or 0 for a digit of 36 or more.
+/// Returns the character of a digit, or 0 if the digit is 36 or more.
 #[unsafe(no_mangle)]
 pub extern "C" fn peltzivar_digit_to_char(digit: u32) -> u8
     ensures character { digit < 36 → slice_get digit_characters digit ≡ Some result }
@@ -69,7 +69,7 @@ pub extern "C" fn peltzivar_digit_to_char(digit: u32) -> u8
     }
 }
 
-/// Returns what [`peltzivar_char_to_digit`] returns, by the call for a radix known at compile time.
+/// Returns the result of [`peltzivar_char_to_digit`], by the call for a radix that is known at compile time.
 #[unsafe(no_mangle)]
 pub extern "C" fn peltzivar_char_to_digit_const(byte: u8, radix: u32) -> u32
     ensures { result ≡ unwrap_or (digit_of byte radix) (2 ^ 32 - 1) }
@@ -77,7 +77,7 @@ pub extern "C" fn peltzivar_char_to_digit_const(byte: u8, radix: u32) -> u32
     digit_or_max(digit::char_to_digit_const(byte, radix))
 }
 
-/// Returns the value of a byte that is known to be a digit of a radix.
+/// Returns the value of a byte that is known to be a digit of the radix.
 #[unsafe(no_mangle)]
 pub extern "C" fn peltzivar_char_to_valid_digit_const(byte: u8, radix: u32) -> u32
     ensures small { radix ≤ 10 → result ≡ (byte + 208) % 256 }
@@ -86,7 +86,7 @@ pub extern "C" fn peltzivar_char_to_valid_digit_const(byte: u8, radix: u32) -> u
     digit::char_to_valid_digit_const(byte, radix)
 }
 
-/// Returns what [`peltzivar_char_is_digit`] returns, by the call for a radix known at compile time.
+/// Returns the result of [`peltzivar_char_is_digit`], by the call for a radix that is known at compile time.
 #[unsafe(no_mangle)]
 pub extern "C" fn peltzivar_char_is_digit_const(byte: u8, radix: u32) -> bool
     ensures { IsTrue result ↔ IsSome (digit_of byte radix) }
@@ -94,7 +94,7 @@ pub extern "C" fn peltzivar_char_is_digit_const(byte: u8, radix: u32) -> bool
     digit::char_is_digit_const(byte, radix)
 }
 
-/// Returns the digit character of a digit that is below a radix, or 0 for a digit of 36 or more.
+/// Returns the character of a digit that is below the radix, or 0 if the digit is 36 or more.
 #[unsafe(no_mangle)]
 pub extern "C" fn peltzivar_digit_to_char_const(digit: u32, radix: u32) -> u8
     ensures byte { digit < 36 → result ≡ (if (nat_le radix 10) || (nat_lt digit 10) then 48 + digit else 55 + digit) }
@@ -107,7 +107,7 @@ pub extern "C" fn peltzivar_digit_to_char_const(digit: u32, radix: u32) -> u8
     }
 }
 
-// The digit, or `u32::MAX`, which is no digit of any radix: 255 is one of radixes above 255.
+// Returns the digit, or `u32::MAX`, which is not a digit of any radix. In a radix above 255, 255 is a digit.
 #[inline(always)]
 fn digit_or_max(digit: Option<u32>) -> u32
     ensures { result ≡ unwrap_or digit (2 ^ 32 - 1) }

@@ -1,4 +1,4 @@
-//! Builders, which are structs of fields here, and edits of words.
+//! Edits of builders, which cross to C as structs of fields, and edits of words.
 
 ghost use Rattle.std.specs.Prelude.{◌≡◌, ◌↔◌, ◌++◌, ◌<◌, ◌≤◌, ◌^◌, IsTrue, IsFalse, IsSome, IfSome, List, All, length, map, take};
 ghost use Rattle.lexical_util.specs.Layout.{IsClean, flags};
@@ -19,7 +19,7 @@ use lexical_util::edits::{Edit, FIELD_COUNT, apply, edits_of};
 use lexical_util::format_builder::NumberFormatBuilder;
 use lexical_util::laws::write_facts;
 
-/// Applies the edits to a builder in order. Returns `None` if one of them has no setter.
+/// Applies the edits to a builder in order. Returns `None` if an edit has no setter.
 #[inline(always)]
 pub fn apply_edits(
     mut builder: NumberFormatBuilder,
@@ -38,7 +38,7 @@ pub fn apply_edits(
     Some(builder)
 }
 
-/// Returns the fields of a word, empty exponent bytes filled from its mantissa radix. The bits above the flags are 0.
+/// Returns the fields of a word. An absent exponent byte becomes the mantissa radix. The bits above the flags are 0.
 #[unsafe(no_mangle)]
 pub extern "C" fn peltzivar_fields_of(format: Word) -> Fields
     ensures fields { fields_of result ≡ fill (raw format) }
@@ -47,7 +47,8 @@ pub extern "C" fn peltzivar_fields_of(format: Word) -> Fields
     Fields::new(&NumberFormatBuilder::rebuild(format.number()))
 }
 
-/// Applies the edits to the fields and clears the bits above the flags, or returns `false`: one has no setter.
+/// Applies the edits to the fields, clears the bits above the flags and returns `true`. Returns `false` if an edit has
+/// no setter.
 #[unsafe(no_mangle)]
 pub extern "C" fn peltzivar_edit_fields(fields: &mut Fields, edits: &[NumberedEdit]) -> bool
     ensures accepted { IsTrue result ↔ All HasSetter edits.now }
@@ -73,7 +74,7 @@ pub extern "C" fn peltzivar_pack(fields: &Fields) -> Word
     Word::new(fields.builder().build_unchecked())
 }
 
-/// Writes the word of the edited fields, or returns `false`: an edit has no setter.
+/// Writes the word of the edited fields and returns `true`. Returns `false` if an edit has no setter.
 #[unsafe(no_mangle)]
 pub extern "C" fn peltzivar_build(fields: &Fields, edits: &[NumberedEdit], out: &mut Word) -> bool
     ensures accepted { IsTrue result ↔ All HasSetter edits.now }
@@ -89,7 +90,7 @@ pub extern "C" fn peltzivar_build(fields: &Fields, edits: &[NumberedEdit], out: 
     true
 }
 
-/// Writes the word of the fields if it is lawful, or returns its error.
+/// Writes the word of the fields and returns 0 if the word is lawful. Returns the number of its error otherwise.
 #[unsafe(no_mangle)]
 pub extern "C" fn peltzivar_build_strict(fields: &Fields, out: &mut Word) -> ErrorNumber
     ensures { IsWrittenIfLawful (pack (fields_of fields.now)) result out.old out.new }
@@ -97,7 +98,7 @@ pub extern "C" fn peltzivar_build_strict(fields: &Fields, out: &mut Word) -> Err
     write_if_lawful(fields.builder().build_strict(), out)
 }
 
-/// Writes the edited word, or returns `false`: an edit has no setter.
+/// Writes the edited word and returns `true`. Returns `false` if an edit has no setter.
 #[unsafe(no_mangle)]
 pub extern "C" fn peltzivar_edit_word(format: Word, edits: &[NumberedEdit], out: &mut Word) -> bool
     ensures accepted { IsTrue result ↔ All HasSetter edits.now }
@@ -126,7 +127,7 @@ pub extern "C" fn peltzivar_normal_form(format: Word) -> Word
     Word::new(edits::normal_form(format.number()))
 }
 
-/// Writes the normal form of a word if it is lawful, or returns its error.
+/// Writes the normal form of a word and returns 0 if it is lawful. Returns the number of its error otherwise.
 #[unsafe(no_mangle)]
 pub extern "C" fn peltzivar_migrate(format: Word, out: &mut Word) -> ErrorNumber
     ensures { IsWrittenIfLawful (normal_form_of format) result out.old out.new }
@@ -134,7 +135,7 @@ pub extern "C" fn peltzivar_migrate(format: Word, out: &mut Word) -> ErrorNumber
     write_if_lawful(edits::migrate(format.number()), out)
 }
 
-/// Returns whether two words mean the same, that is, have the same normal form.
+/// Returns whether two words are equivalent: whether they have the same normal form.
 #[unsafe(no_mangle)]
 pub extern "C" fn peltzivar_same_format(a: Word, b: Word) -> bool
     ensures normal_forms { IsTrue result ↔ (normal_form_of a ≡ normal_form_of b) }
@@ -152,7 +153,7 @@ pub extern "C" fn peltzivar_is_built(format: Word) -> bool
     edits::is_built(format.number())
 }
 
-/// Writes one edit for each field, those first that change a new builder, and returns how many these are.
+/// Writes one edit for each field. The edits that change a new builder come first, and their number is returned.
 #[unsafe(no_mangle)]
 pub extern "C" fn peltzivar_edits_of(format: Word, edits: &mut [NumberedEdit; FIELD_COUNT]) -> usize
     ensures numbers { edits.new ≡ map encode_edit (needed_edits (raw format) ++ other_edits (raw format)) }

@@ -1,16 +1,16 @@
-//! Worked examples of what is returned, each a clause of a function with an empty body.
+//! Examples of results. Each is a clause of a function with an empty body.
 
 ghost use Rattle.std.specs.Prelude.{◌≡◌, [], ◌∷◌};
 ghost use Rattle.lexical_util.specs.declared.error.Error.TheVariants as errors;
 ghost use Rattle.lexical_c.specs.Outcomes.{IsCodeOfSome};
 ghost use Rattle.lexical_c.specs.Texts.{IsWritten};
 
-/// The number of an outcome with a property, and a text with its length, as they are returned.
+/// States the number of `Success`, and the result of writing a text into a buffer.
 pub fn returned_examples()
     ensures success { IsCodeOfSome (λ error. error ≡ errors.Success) 0 }
     ensures other_number { IsCodeOfSome (λ error. error ≡ errors.Success) 48 → ⊥ }
 
-    // The front of a longer text.
+    // The front of a longer text is written.
     ensures front { IsWritten (1 ∷ 2 ∷ []) 2 (9 ∷ 9 ∷ []) (1 ∷ 0 ∷ []) }
     ensures other_byte { IsWritten (1 ∷ 2 ∷ []) 2 (9 ∷ 9 ∷ []) (1 ∷ 2 ∷ []) → ⊥ }
 {}

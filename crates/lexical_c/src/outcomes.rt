@@ -12,7 +12,7 @@ use crate::words::Word;
 use lexical_util::error::Error;
 use lexical_util::laws::flags::rule_facts;
 
-/// The number of an error: one more than its rank, and 0 for success.
+/// The number of an outcome: 0 for success, and the rank plus 1 for an error.
 pub type ErrorNumber = u32;
 
 /// Returns the number of an outcome.
@@ -44,7 +44,7 @@ pub fn write_if_lawful(word: Result<u128, Error>, out: &mut Word) -> ErrorNumber
     }
 }
 
-/// Writes an outcome's description.
+/// Writes the description of an outcome.
 #[unsafe(no_mangle)]
 pub extern "C" fn peltzivar_description(error: ErrorNumber, text: &mut [u8]) -> usize
     ensures text { error < outcome_count
@@ -57,7 +57,7 @@ pub extern "C" fn peltzivar_description(error: ErrorNumber, text: &mut [u8]) -> 
     }
 }
 
-/// Writes the text that `Display` prints of an outcome, found at `index` if it is an error of parsing.
+/// Writes the text that `Display` prints for an outcome. A parse error has the index `index`.
 #[unsafe(no_mangle)]
 pub extern "C" fn peltzivar_text(error: ErrorNumber, index: usize, text: &mut [u8]) -> usize
     ensures text { error < outcome_count → IsCodeOfSome (λ outcome. IsAt index outcome
@@ -70,7 +70,7 @@ pub extern "C" fn peltzivar_text(error: ErrorNumber, index: usize, text: &mut [u
     }
 }
 
-// The outcome of a number, at `index` if it is an error of parsing, or `None` if there is no such number.
+// Returns the outcome with a number, or `None` if no outcome has it. A parse error has the index `index`.
 fn outcome(number: ErrorNumber, index: usize) -> Option<Error>
     ensures defined { IsSome result ↔ (number < outcome_count) }
     ensures number { IfSome result (λ error. error_number error ≡ number) }

@@ -1,6 +1,6 @@
 //! The rules of words.
 
-ghost use Rattle.std.specs.Prelude.{◌≡◌, ◌↔◌, ◌<◌, ◌^◌, ◌-◌, ◌/◌, ◌%◌, IsTrue, IsFalse, IfSome, None, []};
+ghost use Rattle.std.specs.Prelude.{◌≡◌, ◌↔◌, ◌<◌, ◌^◌, ◌-◌, ◌/◌, ◌%◌, IsTrue, IsFalse, IfSome, None};
 ghost use Rattle.lexical_util.specs.Layout as layout;
 ghost use Rattle.lexical_util.specs.Roles.{digits};
 ghost use Rattle.lexical_util.specs.Rules.{Lawful, IsErrorOf, IsRadix, IsFirstError, Holds, radix_rules, error_of};
@@ -9,19 +9,14 @@ ghost use Rattle.lexical_util.specs.Record.{raw, effective};
 ghost use Rattle.lexical_util.specs.Common.{common};
 ghost use Rattle.lexical_util.specs.Options.{OptionsFit, OptionsHaveOneRole, SomeOptionsFit, IsOptionsError};
 ghost use Rattle.lexical_c.specs.Outcomes.{IsCodeOfSome, SUCCESS, error_number};
-ghost use Rattle.lexical_c.specs.RuleNumbers.{rule_of, reason_at, unused_at};
-ghost use Rattle.lexical_c.specs.Texts.{IsWritten};
-ghost use Rattle.lexical_c.specs.Words.{fields_of};
+ghost use Rattle.lexical_c.specs.RuleNumbers.{rule_of};
 ghost use Rattle.lexical_util.specs.BrokenRules.{mask_read};
-ghost use Rattle.lexical_util.specs.Additions.ReasonText.{reason_text, unused_text};
 
 use crate::outcomes::{ErrorNumber, error_number};
-use crate::texts::{write_nothing, write_short_text};
-use crate::words::{Fields, Word};
+use crate::words::Word;
 use lexical_util::format::format_error;
 use lexical_util::format_flags as flags;
 use lexical_util::format_flags::{RULES, Rule};
-use lexical_util::reasons::{Unused, reasons_of, unused_fields};
 
 /// Returns the number of the error of the first rule that a word breaks, or 0 if it is lawful.
 #[unsafe(no_mangle)]
@@ -32,7 +27,7 @@ pub extern "C" fn peltzivar_format_error(format: Word) -> ErrorNumber
     error_number(format_error(format.number()))
 }
 
-/// Returns the number of the error of the first of the three radixes that is not 2 to 36, or 0.
+/// Returns the number of the error of the first radix that is not between 2 and 36, or 0 if all three are.
 #[unsafe(no_mangle)]
 pub extern "C" fn peltzivar_radix_error(format: Word) -> ErrorNumber
     ensures { IsCodeOfSome (IsFirstError radix_rules format) result }
@@ -40,7 +35,7 @@ pub extern "C" fn peltzivar_radix_error(format: Word) -> ErrorNumber
     error_number(flags::radix_error_impl(format.number()))
 }
 
-/// Returns whether a number is 2 to 36.
+/// Returns whether a number is between 2 and 36, inclusive.
 #[unsafe(no_mangle)]
 pub extern "C" fn peltzivar_is_valid_radix(radix: u32) -> bool
     ensures { IsTrue result ↔ IsRadix radix }
@@ -56,7 +51,7 @@ pub extern "C" fn peltzivar_is_valid_exponent_flags(format: Word) -> bool
     flags::is_valid_exponent_flags(format.number())
 }
 
-/// Returns whether the digit separator is absent, or allowed ASCII that is no sign and no digit.
+/// Returns whether the digit separator is absent, or allowed ASCII that is neither a sign nor a digit.
 #[unsafe(no_mangle)]
 pub extern "C" fn peltzivar_is_valid_digit_separator(format: Word) -> bool
     ensures { IsTrue result ↔ Holds rules.DigitSeparatorIsPunctuation format }
@@ -64,7 +59,7 @@ pub extern "C" fn peltzivar_is_valid_digit_separator(format: Word) -> bool
     flags::is_valid_digit_separator(format.number())
 }
 
-/// Returns whether the base prefix is absent, or allowed ASCII that is no sign and no digit.
+/// Returns whether the base prefix is absent, or allowed ASCII that is neither a sign nor a digit.
 #[unsafe(no_mangle)]
 pub extern "C" fn peltzivar_is_valid_base_prefix(format: Word) -> bool
     ensures { IsTrue result ↔ Holds rules.BasePrefixIsPunctuation format }
@@ -72,7 +67,7 @@ pub extern "C" fn peltzivar_is_valid_base_prefix(format: Word) -> bool
     flags::is_valid_base_prefix(format.number())
 }
 
-/// Returns whether the base suffix is absent, or allowed ASCII that is no sign and no digit.
+/// Returns whether the base suffix is absent, or allowed ASCII that is neither a sign nor a digit.
 #[unsafe(no_mangle)]
 pub extern "C" fn peltzivar_is_valid_base_suffix(format: Word) -> bool
     ensures { IsTrue result ↔ Holds rules.BaseSuffixIsPunctuation format }
@@ -80,7 +75,7 @@ pub extern "C" fn peltzivar_is_valid_base_suffix(format: Word) -> bool
     flags::is_valid_base_suffix(format.number())
 }
 
-/// Returns whether no byte is two of digit separator, base prefix and base suffix.
+/// Returns whether no two of digit separator, base prefix and base suffix share a byte.
 #[unsafe(no_mangle)]
 pub extern "C" fn peltzivar_is_valid_punctuation(format: Word) -> bool
     ensures { IsTrue result ↔ Holds rules.PunctuationDiffers format }
@@ -102,7 +97,7 @@ pub extern "C" fn peltzivar_is_valid_options_punctuation(
     flags::is_valid_options_punctuation(format.number(), exponent, decimal_point)
 }
 
-/// Returns the number of what is wrong with an exponent character and a decimal point in numbers of a word, or 0.
+/// Returns the number of the error of an exponent character and a decimal point in numbers of a word, or 0 if they fit.
 #[unsafe(no_mangle)]
 pub extern "C" fn peltzivar_options_error(
     format: Word,
@@ -115,7 +110,7 @@ pub extern "C" fn peltzivar_options_error(
     error_number(flags::options_error(format.number(), exponent, decimal_point))
 }
 
-/// Returns whether there is a rule of this number and a word keeps it.
+/// Returns whether a word keeps the rule with this number, or `false` if no rule has it.
 #[unsafe(no_mangle)]
 pub extern "C" fn peltzivar_keeps_rule(format: Word, rule: u8) -> bool
     ensures kept { IfSome (rule_of rule) (λ known. IsTrue result ↔ Holds known format) }
@@ -127,7 +122,7 @@ pub extern "C" fn peltzivar_keeps_rule(format: Word, rule: u8) -> bool
     }
 }
 
-/// Returns the error of a word that breaks this rule first, or 0 if there is no such rule.
+/// Returns the number of the error of words that break this rule first, or 0 if no rule has this number.
 #[unsafe(no_mangle)]
 pub extern "C" fn peltzivar_rule_error(rule: u8) -> ErrorNumber
     ensures error { IfSome (rule_of rule) (λ known. result ≡ error_number (error_of known)) }
@@ -139,7 +134,7 @@ pub extern "C" fn peltzivar_rule_error(rule: u8) -> ErrorNumber
     }
 }
 
-/// Returns the bits of a word that a rule reads, or 0 if there is no such rule.
+/// Returns the bits of a word that a rule reads, or 0 if no rule has this number.
 #[unsafe(no_mangle)]
 pub extern "C" fn peltzivar_rule_mask(rule: u8) -> Word
     ensures mask { IfSome (rule_of rule) (λ known. result ≡ mask_read known) }
@@ -148,35 +143,6 @@ pub extern "C" fn peltzivar_rule_mask(rule: u8) -> Word
     match rule_of(rule) {
         Some(rule) => Word::new(rule.mask()),
         None => Word::new(0),
-    }
-}
-
-/// Writes the reason at an index, of three, for which a word breaks a rule.
-#[unsafe(no_mangle)]
-pub extern "C" fn peltzivar_reason(format: Word, rule: u8, index: u8, text: &mut [u8]) -> usize
-    ensures text { IfSome (reason_at (rule_of rule) format index)
-        (λ reason. IsWritten (reason_text reason) result text.old text.new) }
-    ensures none { reason_at (rule_of rule) format index ≡ None → IsWritten [] result text.old text.new }
-{
-    let Some(rule) = rule_of(rule) else {
-        return write_nothing(text);
-    };
-    match reasons_of(rule, format.number()).get(index as usize) {
-        Some(Some(reason)) => write_short_text(&reason.text(), text),
-        _ => write_nothing(text),
-    }
-}
-
-/// Writes the setting without effect at an index, of four, of fields that are packed.
-#[unsafe(no_mangle)]
-pub extern "C" fn peltzivar_unused(fields: &Fields, index: u8, text: &mut [u8]) -> usize
-    ensures text { IfSome (unused_at (fields_of fields.now) index)
-        (λ setting. IsWritten (unused_text setting) result text.old text.new) }
-    ensures none { unused_at (fields_of fields.now) index ≡ None → IsWritten [] result text.old text.new }
-{
-    match unused_at(fields, index as usize) {
-        Some(setting) => write_short_text(&setting.text(), text),
-        None => write_nothing(text),
     }
 }
 
@@ -202,24 +168,12 @@ pub extern "C" fn peltzivar_radix_from_flags(format: Word, mask: Word, shift: u3
     }
 }
 
-// The rule of a number: that at this index.
-fn rule_of(number: u8) -> Option<Rule>
+/// Returns the rule with this number, its index in the order of the rules, or `None` if no rule has it.
+pub fn rule_of(number: u8) -> Option<Rule>
     ensures { result ≡ rule_of number }
 {
     if (number as usize) < RULES.len() {
         Some(RULES[number as usize])
-    } else {
-        None
-    }
-}
-
-// The setting without effect at an index.
-fn unused_at(fields: &Fields, index: usize) -> Option<Unused>
-    ensures { result ≡ unused_at (fields_of fields.now) index }
-{
-    let settings = unused_fields(&fields.builder());
-    if index < settings.len() {
-        settings[index]
     } else {
         None
     }

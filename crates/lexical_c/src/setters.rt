@@ -1,17 +1,18 @@
-//! The names of setters, and settings as text. A setter crosses as its number.
+//! The names of setters, and settings as text. A setter crosses to C as its number.
 
-ghost use Rattle.std.specs.Prelude.{◌≡◌, [], None, IfSome, IfOk, IfErr, unwrap_or};
+ghost use Rattle.std.specs.Prelude.{◌≡◌, [], None, Err, IfSome, IfOk, IfErr, unwrap_or};
 ghost use Rattle.std.specs.Str.{IsUtf8};
 ghost use Rattle.lexical_util.specs.Additions.SettingNumbers.{setter_name_of_number, setter_number_of_name, mask_of_edit};
-ghost use Rattle.lexical_util.specs.Additions.SettingText.{edit_from_text, setting_text};
+ghost use Rattle.lexical_util.specs.Additions.SettingText.{edit_from_text, setting_text, error_text};
+ghost use Rattle.lexical_util.specs.declared.edits.text.SettingError.TheVariants.{UnknownName};
 ghost use Rattle.lexical_c.specs.Edits.{decode_edit, encode_edit, error_code};
 ghost use Rattle.lexical_c.specs.Texts.{IsWritten};
 
 use crate::texts::{write_nothing, write_short_text, write_text};
 use crate::words::{NumberedEdit, Word};
-use lexical_util::edits::{Edit, setter_name_of_number, setter_number_of_name};
+use lexical_util::edits::{Edit, SettingError, setter_name_of_number, setter_number_of_name};
 
-/// Writes a setter's name.
+/// Writes the name of a setter.
 #[unsafe(no_mangle)]
 pub extern "C" fn peltzivar_setter_name(setter: u8, text: &mut [u8]) -> usize
     ensures text { IfSome (setter_name_of_number setter) (λ name. IsWritten name result text.old text.new) }
@@ -23,7 +24,7 @@ pub extern "C" fn peltzivar_setter_name(setter: u8, text: &mut [u8]) -> usize
     }
 }
 
-/// Returns the number of the setter of this name, or 255 if there is none.
+/// Returns the number of the setter with this name, or 255 if no setter has it.
 #[unsafe(no_mangle)]
 pub extern "C" fn peltzivar_setter_of_name(name: &[u8]) -> u8
     ensures { result ≡ unwrap_or (setter_number_of_name name.now) 255 }
@@ -31,7 +32,7 @@ pub extern "C" fn peltzivar_setter_of_name(name: &[u8]) -> u8
     setter_number_of_name(name).unwrap_or(255)
 }
 
-/// Writes the edit of a text `NAME=VALUE` and returns 0, or returns 1 to 3, which says what is wrong.
+/// Parses a text `NAME=VALUE`, writes the edit and returns 0, or returns the number of the error, 1 to 4.
 #[unsafe(no_mangle)]
 pub extern "C" fn peltzivar_edit_of_text(text: &[u8], out: &mut NumberedEdit) -> u32
     ensures edit { IsUtf8 text.now → IfOk (edit_from_text text.now)
@@ -40,15 +41,49 @@ pub extern "C" fn peltzivar_edit_of_text(text: &[u8], out: &mut NumberedEdit) ->
         (λ error. (result ≡ error_code error) × (out.new ≡ out.old)) }
     ensures no_text { (IsUtf8 text.now → ⊥) → (result ≡ 1) × (out.new ≡ out.old) }
 {
-    let Ok(text) = std::str::from_utf8(text) else {
-        return 1;
-    };
-    match Edit::from_text(text) {
+    match edit_from_bytes(text) {
         Ok(edit) => {
             *out = NumberedEdit::new(&edit);
             0
         }
-        Err(error) => error as u32 + 1,
+        Err(error) => error_code(error),
+    }
+}
+
+/// Writes the sentence that states why [`peltzivar_edit_of_text`] refuses a text, or an empty text if it accepts it.
+#[unsafe(no_mangle)]
+pub extern "C" fn peltzivar_setting_error(text: &[u8], to: &mut [u8]) -> usize
+    ensures refused { IsUtf8 text.now → IfErr (edit_from_text text.now)
+        (λ error. IsWritten (error_text error) result to.old to.new) }
+    ensures read { IsUtf8 text.now → IfOk (edit_from_text text.now) (λ edit. IsWritten [] result to.old to.new) }
+    ensures no_text { (IsUtf8 text.now → ⊥) → IsWritten (error_text UnknownName) result to.old to.new }
+{
+    match edit_from_bytes(text) {
+        Ok(_) => write_nothing(to),
+        Err(error) => write_short_text(&error.text(), to),
+    }
+}
+
+// Parses a text as an edit. No setter has a name that is not UTF-8.
+fn edit_from_bytes(text: &[u8]) -> Result<Edit, SettingError>
+    ensures edit { IsUtf8 text.now → result ≡ edit_from_text text.now }
+    ensures no_text { (IsUtf8 text.now → ⊥) → result ≡ Err UnknownName }
+{
+    match std::str::from_utf8(text) {
+        Ok(text) => Edit::from_text(text),
+        Err(_) => Err(SettingError::UnknownName),
+    }
+}
+
+// Returns the number of a setting error.
+fn error_code(error: SettingError) -> u32
+    ensures { result ≡ error_code error }
+{
+    match error {
+        SettingError::UnknownName => 1,
+        SettingError::BadValue(_) => 2,
+        SettingError::OutOfRange(_) => 3,
+        SettingError::NoEquals => 4,
     }
 }
 

@@ -1,15 +1,17 @@
-//! Texts that are written into a buffer with a 0 at their end.
+//! Texts that are written into a buffer with a final 0.
 
-ghost use Rattle.std.specs.Prelude.{◌≡◌, ◌+◌, ◌≤◌, ◌++◌, List, [], length};
+ghost use Rattle.std.specs.Prelude.{◌≡◌, ◌+◌, ◌<◌, ◌≤◌, ◌++◌, List, [], length};
 ghost use Rattle.lexical_util.specs.Outcomes.{printed_text};
+ghost use Rattle.lexical_util.specs.Additions.Source.{source_text};
 ghost use Rattle.lexical_c.specs.Texts.{IsWritten};
 
 use lexical_util::error::{Error, ShortText, Sink};
+use lexical_util::source::BuilderExpression;
 use std::fmt;
 use std::marker::Model;
 
-/// Writes a text and a final 0 from the start of a buffer on, of the text as much as leaves room for the 0, and
-/// returns the length of the whole text.
+/// Writes as much of a text as fits, and a final 0, from the start of a buffer, and returns the length of the whole
+/// text. Writes nothing to an empty buffer.
 pub fn write_text(text: &[u8], out: &mut [u8]) -> usize
     ensures { IsWritten text.now result out.old out.new }
 {
@@ -37,7 +39,7 @@ pub fn write_short_text(sentence: &ShortText, out: &mut [u8]) -> usize
     whole.write_to(out)
 }
 
-/// Writes what `Display` prints of an error as [`write_text`] does.
+/// Writes the text that `Display` prints for an error as [`write_text`] does.
 pub fn write_error(error: Error, out: &mut [u8]) -> usize
     ensures { IsWritten (printed_text error) result out.old out.new }
 {
@@ -46,10 +48,20 @@ pub fn write_error(error: Error, out: &mut [u8]) -> usize
     whole.write_to(out)
 }
 
-// More bytes than any sentence has.
-const ROOM: usize = 256;
+/// Writes the builder expression of a word as [`write_text`] does.
+pub fn write_expression(expression: BuilderExpression, out: &mut [u8]) -> usize
+    ensures text { IsWritten (source_text expression.0) result out.old out.new }
+    ensures short { result < 2048 }
+{
+    let mut whole = Text::new();
+    let _ = expression.put_into(&mut whole);
+    whole.write_to(out)
+}
 
-// A text that is put together from pieces. A piece that has no room is left out.
+// The capacity of a text, which is more than the length of any text.
+const ROOM: usize = 2048;
+
+// A text that is put together from pieces. A piece that does not fit is left out.
 struct Text {
     bytes: [u8; ROOM],
     len: usize,
@@ -62,7 +74,7 @@ impl Model for Text {
 
     ghost view = { λ text. take text.len text.bytes };
 
-    ghost invariant = { λ text. text.len ≤ 256 };
+    ghost invariant = { λ text. text.len ≤ 2048 };
 }
 
 impl Text {
@@ -85,9 +97,9 @@ impl Text {
     }
 }
 
-// It never fails.
+// Putting a piece into a `Text` never fails.
 impl Sink for Text {
-    ghost takes = { λ text piece whole. length text + length piece ≤ 256 → whole ≡ text ++ piece };
+    ghost takes = { λ text piece whole. length text + length piece ≤ 2048 → whole ≡ text ++ piece };
 
     ghost has_failed = { λ _. ⊥ };
 

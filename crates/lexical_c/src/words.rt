@@ -1,4 +1,4 @@
-//! The structs that stand for a word, an edit, and the fields of a builder.
+//! The structs of a word, an edit, and the fields of a builder.
 
 ghost use Rattle.std.specs.Prelude.{◌≡◌, ◌<◌, ◌^◌, Some, length};
 ghost use Rattle.lexical_util.specs.Layout.{flags};
@@ -9,7 +9,7 @@ use lexical_util::edits::Edit;
 use lexical_util::format_builder::NumberFormatBuilder;
 use std::marker::Model;
 
-/// A format word as two halves, since C has no type of 128 bits that every compiler knows.
+/// A format word as two halves, since C has no type of 128 bits that every compiler supports.
 #[repr(C)]
 #[derive(Clone, Copy)]
 pub struct Word {
@@ -34,7 +34,7 @@ impl Model for Word {
 }
 
 impl Word {
-    /// Returns the halves of a number.
+    /// Splits a number into its halves.
     #[inline(always)]
     pub fn new(number: u128) -> Word
         ensures { result ≡ number }
@@ -45,7 +45,7 @@ impl Word {
         }
     }
 
-    /// Returns the number that the halves make.
+    /// Returns the number with these halves.
     #[inline(always)]
     pub fn number(self) -> u128
         ensures { result ≡ self }
@@ -54,7 +54,7 @@ impl Word {
     }
 }
 
-/// An edit: the number of a setter and its argument.
+/// An edit as its setter number and its argument.
 #[repr(C)]
 #[derive(Clone, Copy)]
 pub struct NumberedEdit {
@@ -63,7 +63,7 @@ pub struct NumberedEdit {
 }
 
 impl NumberedEdit {
-    /// Returns the numbers of an edit.
+    /// Returns the setter number and the argument of an edit.
     pub fn new(edit: &Edit) -> NumberedEdit
         ensures numbers { result ≡ encode_edit edit.now }
         ensures read_back { decode_edit result ≡ Some edit.now }
@@ -74,7 +74,7 @@ impl NumberedEdit {
         }
     }
 
-    /// Returns the edit, or `None` if it has no setter.
+    /// Returns the edit, or `None` if no setter has the number.
     #[inline(always)]
     pub fn edit(self) -> Option<Edit>
         ensures { result ≡ decode_edit self }
@@ -83,8 +83,8 @@ impl NumberedEdit {
     }
 }
 
-/// The fields of a builder: the flags, the first at bit 0, and the six bytes in the order of their bits, each 0 if
-/// it is absent. The bits above the flags are ignored.
+/// The fields of a builder: the flags, the first at bit 0, and the six bytes in the order of their bits. An absent byte
+/// is 0. The bits above the flags are ignored.
 #[repr(C)]
 #[derive(Clone, Copy)]
 pub struct Fields {

@@ -6,10 +6,10 @@ pub mod Masks
 pub mod FlagBits
 pub mod CommonLemmas
 mod RuleLemmas
-mod RuleFieldLemmas
+pub mod RuleFieldLemmas
 mod NormalRules
 mod DisjointLemmas
-mod CaseLemmas
+pub mod CaseLemmas
 mod PunctuationBytes
 pub mod RoleLemmas
 mod OptionLemmas

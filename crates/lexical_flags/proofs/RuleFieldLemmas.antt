@@ -25,12 +25,12 @@ module _ (v w mask : ℕ) (same : bit_and v mask ≡ bit_and w mask) where
       ∙ ap (bit_and w) inside
 
   -- in each flag
-  flag : (f : Flag) → bit_and mask (2 ^ bit f) ≡ 2 ^ bit f → (part v (bit f) 1 == 1) ≡ (part w (bit f) 1 == 1)
+  pub flag : (f : Flag) → bit_and mask (2 ^ bit f) ≡ 2 ^ bit f → (part v (bit f) 1 == 1) ≡ (part w (bit f) 1 == 1)
   flag f inside =
       sym (flag_test v (bit f)) ∙ ap (λ n. not (n == 0)) (part_of_mask (2 ^ bit f) inside) ∙ flag_test w (bit f)
 
   -- and in each byte that it has
-  byte : (b : Byte) → bit_and mask ((2 ^ 8 - 1) * 2 ^ shift b) ≡ (2 ^ 8 - 1) * 2 ^ shift b
+  pub byte : (b : Byte) → bit_and mask ((2 ^ 8 - 1) * 2 ^ shift b) ≡ (2 ^ 8 - 1) * 2 ^ shift b
       → part v (shift b) 8 ≡ part w (shift b) 8
   byte b inside =
       sym (masked_part v (shift b) 8) ∙ ap (λ n. n / 2 ^ shift b) (part_of_mask ((2 ^ 8 - 1) * 2 ^ shift b) inside)

@@ -8,7 +8,7 @@ use Rattle.lexical_flags.specs.Rules.{IsPunctuation, ErrorUnless}
 use Rattle.lexical_base.specs.declared.error.Error.{Error}
 use Rattle.lexical_base.specs.declared.error.Error.TheVariants as errors
 
--- Both bytes are punctuation, and their roles share no byte with each other or with a role that the format names.
+-- `OptionsFit` holds if both bytes are punctuation, and their roles share no byte with each other or a role of `word`.
 pub record OptionsFit (word exponent_byte point_byte : ℕ) : Type 0 where
   pub exponent_is_punctuation : IsPunctuation (raw word) exponent_byte
   pub point_is_punctuation : IsPunctuation (raw word) point_byte
@@ -23,13 +23,13 @@ IsOptionsError word exponent_byte point_byte =
     (ErrorUnless (IsPunctuation (raw word) point_byte) errors.InvalidDecimalPoint
     (ErrorUnless (OptionsFit word exponent_byte point_byte) errors.InvalidPunctuation (λ e. e ≡ errors.Success)))
 
--- Both bytes are allowed ASCII, and no byte plays two of the seven roles.
+-- `OptionsHaveOneRole` holds if both bytes are allowed ASCII, and no byte plays two of the seven roles.
 pub record OptionsHaveOneRole (word exponent_byte point_byte : ℕ) : Type 0 where
   pub exponent_is_text : IsTrue (allowed_ascii exponent_byte)
   pub point_is_text : IsTrue (allowed_ascii point_byte)
   pub roles : AreDisjoint (seven_roles (raw word) exponent_byte point_byte)
 
--- Some exponent character and decimal point fit.
+-- `SomeOptionsFit word` holds if there are an exponent character and a decimal point that fit `word`.
 pub record SomeOptionsFit (word : ℕ) : Type 0 where
   pub exponent_byte : ℕ
   pub point_byte : ℕ

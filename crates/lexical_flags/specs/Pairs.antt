@@ -2,7 +2,7 @@
 use Rattle.std.specs.Prelude.{List, [], ◌∷◌, ⊤}
 use Rattle.std.specs.List.{AllByRecursion}
 
--- each element is related to every later one
+-- `ArePairwise R xs` holds if `R` relates each entry of `xs` to every later one.
 abbrev pub ArePairwise : {X : Type 0} → (X → X → Type 0) → List X → Type 0
 ArePairwise R [] = ⊤
 ArePairwise R (x ∷ xs) = AllByRecursion (R x) xs × ArePairwise R xs

@@ -7,7 +7,7 @@ use Rattle.lexical_flags.specs.Layout as layout
 use Rattle.lexical_flags.specs.Pairs.{ArePairwise}
 use Rattle.lexical_flags.specs.Record.{Record, effective_exponent_radix}
 
--- `are_disjoint A B` is true if no byte is in both sets. It tests all 256, so that it computes.
+-- `are_disjoint A B` is true if none of the 256 bytes is in both sets.
 unfoldable pub are_disjoint : ByteSet → ByteSet → Bool
 are_disjoint A B = list_all (λ byte. not (A byte && B byte)) (range_with_len 0 256)
 
@@ -52,7 +52,7 @@ suffix r = cased (r.flag layout.case_sensitive_base_suffix) (r.byte layout.base_
 abbrev pub exponent : Record → ℕ → ByteSet
 exponent r chosen = cased (r.flag layout.case_sensitive_exponent) chosen
 
--- The decimal point, which an options type chooses too.
+-- The decimal point, which an options type chooses and not the format.
 abbrev pub point : ℕ → ByteSet
 point chosen = cased true chosen
 

@@ -36,7 +36,7 @@ IsAbsentOrPunctuation r byte = (byte ≡ 0) ⊎ IsPunctuation r byte
 abbrev pub IsTextOrNone : ℕ → Type 0
 IsTextOrNone byte = (byte ≡ 0) ⊎ IsTrue (allowed_ascii byte)
 
--- True if separators in a row are allowed, but none between, before or after digits.
+-- The flags of a part of a number allow separators in a row, but none between, before or after digits.
 abbrev pub lacks_position : Bool → Bool → Bool → Bool → Bool
 lacks_position consecutive internal leading trailing = consecutive && not (internal || leading || trailing)
 
@@ -58,7 +58,7 @@ contradict rules.ExponentConsecutiveIsAllowed r =
     (r.flag exponent_leading_digit_separator) (r.flag exponent_trailing_digit_separator)
 contradict _ r = false
 
--- What a rule demands of the fields of a word. The rule of the reserved bits demands nothing of them.
+-- `Demands rule r` holds if the fields of `r` keep `rule`. The rule for reserved bits reads no field: `Holds` has it.
 abbrev pub Demands : Rule → Record → Type 0
 Demands rules.MantissaRadixInRange r = IsRadix (r.byte layout.mantissa_radix)
 Demands rules.ExponentBaseInRange r = IsRadix (effective_exponent_base r)
@@ -139,6 +139,6 @@ pub record LawfulParts (word : ℕ) : Type 0 where
   pub roles : AreDisjoint (five_roles (raw word))
   pub clean : IsClean word
 
--- `Lawful word` holds if all of these parts do. Proof search does not unfold this name.
+-- `Lawful word` holds if all parts of `LawfulParts word` do, that is, if `word` keeps every rule.
 unfoldable pub Lawful : ℕ → Type 0
 Lawful word = LawfulParts word

@@ -1,4 +1,4 @@
-//! The example of the README: a user of the library depends on `lexical_util` alone.
+//! The example of the README. A user of the library depends only on `lexical_util`.
 
 use lexical_util::edits::{Edit, edit_word};
 use lexical_util::error::Error;

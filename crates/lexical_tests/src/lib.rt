@@ -1,6 +1,5 @@
-//! Tests of what no clause says, by public calls alone: the callers with values from outside, and the
-//! values that only Rattle has. Those of the libraries stand in `rust/tests`, which run in a second
-//! and need no proof.
+//! Tests by public calls of what no clause states: the callers with values from outside, and the values that only
+//! Rattle has. The tests of the libraries are in `rust/tests`, where they run in a second and need no proof.
 #![tactic(auto)]
 
 #[cfg(test)]

@@ -10,10 +10,10 @@ const DECIMAL: u128 = 0x00000A00_00000000_00000000_0000000C;
 // Radix 16, `_` between integer digits.
 const GROUPED: u128 = 0x10101000_0000005F_00000001_0000000C;
 
-// The same, and several `_` in a row.
+// Radix 16, `_` between integer digits, also several in a row.
 const LOOSE: u128 = 0x10101000_0000005F_00000201_0000000C;
 
-// Radix 16, `_` between digits, prefix `x`, suffix `h` in lowercase alone.
+// Radix 16, `_` between digits, prefix `x`, suffix `h` only in lowercase.
 const AFFIXED: u128 = 0x10101068_7800005F_00000007_0002000C;
 
 #[test]

@@ -1,10 +1,10 @@
-//! Values as Rattle has them: their clones, and the order of nonzero bytes.
+//! Properties of values that only Rattle has: their clones, and the order of nonzero bytes.
 
 use lexical_util::edits::{Edit, FlagSetter};
 use lexical_util::error::Error;
 use lexical_util::format::{NonZeroU8, NumberFormat};
 
-// Whether a clone is the value.
+// Returns whether a clone is equal to the value.
 fn is_its_clone<T: Clone + PartialEq + Drop>(value: T) -> bool {
     match value.clone() {
         Ok(clone) => clone == value,

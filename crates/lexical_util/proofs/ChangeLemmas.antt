@@ -1,11 +1,11 @@
--- Which edits of a flag or of a group change a new builder.
+-- Lemmas on the edits of flags and groups that change a new builder.
 use Rattle.std.proofs.Common.{◌≡◌, Bool, true, false, refl}
 use Rattle.lexical_util.specs.Private.{differs_from_new}
 use Rattle.lexical_util.specs.declared.edits.FlagSetter.{FlagSetter}
 use Rattle.lexical_util.specs.declared.edits.FlagSetter.TheVariants as setters
 use Rattle.lexical_util.specs.declared.edits.Edit.TheVariants as edits
 
--- a setter of one flag changes a new record exactly if it sets the flag
+-- Except for three setters, a flag edit changes a new builder if and only if its value is true.
 pub flag_change : (s : FlagSetter) (v : Bool) → (s ≡ setters.RequiredDigits → ⊥)
     → (s ≡ setters.RequiredExponentDigits → ⊥) → (s ≡ setters.RequiredMantissaDigits → ⊥)
     → differs_from_new (edits.Flag s v) ≡ v
@@ -15,7 +15,7 @@ flag_change setters.RequiredMantissaDigits v a b c = absurd (c refl)
 flag_change _ true a b c = refl
 flag_change _ false a b c = refl
 
--- the setter of the required digits changes a new record either way
+-- An edit of the group of required digits changes a new builder, whether its value is true or false.
 pub group_change : (v : Bool) → differs_from_new (edits.Flag setters.RequiredDigits v) ≡ true
 group_change true = refl
 group_change false = refl

@@ -1,5 +1,5 @@
--- In how many fields two records differ. A write changes at most one field, and trimming adds no difference to a new
--- record.
+-- Lemmas on the number of fields in which two records differ. A write changes at most one field, and trimming adds no
+-- difference from a new record.
 use Rattle.std.proofs.Common.{◌≡◌, ℕ, ◌+◌, ◌≤◌, ◌==◌, Bool, true, false, not, cond, if◌then◌else◌, List, [], ◌∷◌, ◌++◌}
 use Rattle.std.proofs.Common.{map, drop, length, Option, Some, None, unwrap_or, is_some, refl, ap, subst}
 use Rattle.std.proofs.Common.{count_by, filter, arith, le_refl, All}
@@ -16,28 +16,28 @@ use Rattle.lexical_builder.proofs.WriteLemmas.{after_none, after-append}
 use Rattle.lexical_util.proofs.FieldWrites.{Leaves, Leaves-field_writes, flag_after, byte_after}
 use Rattle.lexical_util.specs.Listing.{field_writes}
 
--- how many fields of the second record change the first
+-- `distance r s` is the number of fields in which `s` differs from `r`.
 unfoldable pub distance : Record → Record → ℕ
 distance r s = count_by (changes r) (field_writes s)
 
--- they are as many as their writes
+-- The number of field writes of `s` that change `r` is their distance.
 pub distance-is : (r s : Record) → length (filter (changes r) (field_writes s)) ≡ distance r s
 unfolding distance
 distance-is r s = length-filter (changes r) (field_writes s)
 
--- whether a write is to the field of another
+-- `overwrites x y` is true if the writes `x` and `y` are to the same field.
 abbrev overwrites : Write → Write → Bool
 overwrites x (write_flag f v) = is_some (flag_written x f)
 overwrites x (write_byte b v) = is_some (byte_written x b)
 
--- it is to one field
+-- A write overwrites exactly one of the field writes of a record.
 overwrites_one : (x : Write) (s : Record) → count_by (overwrites x) (field_writes s) ≡ 1
 overwrites_one (write_flag layout.required_integer_digits v) s = refl
 overwrites_one (write_flag _ v) s = refl
 overwrites_one (write_byte layout.digit_separator v) s = refl
 overwrites_one (write_byte _ v) s = refl
 
--- a value that is not written over passes a test as before
+-- If a value passes a test, then the value after a write passes it too, or the write overwrites the value.
 one_more : {T : Type 0} (p : T → Bool) (o : Option T) (d : T) → (if p d then 1 else 0) ≤
     (if p (unwrap_or o d) then 1 else 0) + (if is_some o then 1 else 0)
 one_more p None d = omega arith
@@ -60,13 +60,13 @@ count_one r x (y ∷ writes) = omega (
   count_one r x writes,
 )
 
--- so one write comes nearer by one at most
+-- One write lowers the distance by at most one.
 nearer : (r s : Record) (x : Write) → distance r s ≤ distance (after r (x ∷ [])) s + 1
 unfolding distance
 nearer r s x = subst (λ n. count_by (changes r) (field_writes s) ≤
     count_by (changes (after r (x ∷ []))) (field_writes s) + n) (overwrites_one x s) (count_one r x (field_writes s))
 
--- and a list of writes by its length
+-- A list of writes lowers the distance by at most its length.
 nearer_all : (r s : Record) (writes : List Write) → distance r s ≤ distance (after r writes) s + length writes
 nearer_all r s [] = omega (arith, ap (λ t. distance t s) (after_none r))
 nearer_all r s (x ∷ writes) = omega (
@@ -76,7 +76,7 @@ nearer_all r s (x ∷ writes) = omega (
   ap (λ t. distance t s) (after-append r (x ∷ []) writes),
 )
 
--- a record differs in no field from itself
+-- The distance of a record from itself is 0.
 distance_none : (r : Record) → distance r r ≡ 0
 unfolding distance
 distance_none r = count_none (field_writes r) (Leaves-field_writes r) where
@@ -89,11 +89,11 @@ distance_none r = count_none (field_writes r) (Leaves-field_writes r) where
     count_none writes (All-tail (Leaves r) x writes all),
   )
 
--- a list of writes makes at most as many changes as it is long
+-- A list of writes changes a record in at most as many fields as the list has writes.
 pub distance-after : (r : Record) (writes : List Write) → distance r (after r writes) ≤ length writes
 distance-after r writes = omega (arith, nearer_all r (after r writes) writes, distance_none (after r writes))
 
--- a write that changes nothing, in the place of any other
+-- If a write in a list is replaced by a write that fails a test, then the number of writes that pass it does not grow.
 count_fewer : (p : Write → Bool) (xs ys : List Write) (x y : Write) → p x ≡ false
     → count_by p (xs ++ x ∷ ys) ≤ count_by p (xs ++ y ∷ ys)
 count_fewer p [] ys x y e = omega (
@@ -109,7 +109,7 @@ count_fewer p (z ∷ xs) ys x y e = omega (
   count_fewer p xs ys x y e,
 )
 
--- a separator that is dropped becomes that of a new builder
+-- Trimming a record does not raise its distance from a new record, since a new record has no separator.
 pub distance-trim : (r : Record) → distance new_record (trim r) ≤ distance new_record r
 unfolding distance
 distance-trim r = by_use (separator_allowed r) where

@@ -1,5 +1,4 @@
--- The writes of all fields of a record make that record, and so do those of them alone that change the record they
--- start from.
+-- Lemmas that the field writes of a record give this record, and that only the writes that change the start are needed.
 use Rattle.std.proofs.Common.{◌≡◌, ℕ, ◌==◌, ◌⊎◌, inl, inr, Bool, true, false, not, if◌then◌else◌, eqb-true, eq-eqb}
 use Rattle.std.proofs.Common.{List, [], ◌∷◌, map, Option, Some, None, unwrap_or, filter, find, refl, sym, ap}
 use Rattle.std.proofs.Common.{◌∙◌, subst, All}
@@ -16,7 +15,7 @@ use Rattle.lexical_builder.proofs.WriteLemmas.{left_by, left_by-cons, after_none
 use Rattle.lexical_builder.proofs.WriteLemmas.{after-append}
 use Rattle.lexical_util.specs.Listing.{field_writes}
 
--- to write every field of a record makes it, whatever the record before
+-- Writing all fields of `r` into any record gives `r`.
 pub after-field_writes : (s r : Record) → after s (field_writes r) ≡ r
 unfolding after
 after-field_writes s r =
@@ -29,7 +28,7 @@ after-field_writes s r =
       on_byte layout.digit_separator = refl
       on_byte _ = refl
 
--- what holds of the write of each field holds of all
+-- If `P` holds for the write of each flag and each byte, then it holds for all field writes of a record.
 All-field_writes : (P : Write → Type 0) (r : Record) → ((f : Flag) → P (write_flag f (r.flag f)))
     → ((b : Byte) → P (write_byte b (r.byte b))) → All P (field_writes r)
 All-field_writes P r on_flag on_byte =
@@ -37,15 +36,15 @@ All-field_writes P r on_flag on_byte =
     (All-map P (λ f. write_flag f (r.flag f)) flags (λ k d l. on_flag _))
     (All-map P (λ b. write_byte b (r.byte b)) bytes (λ k d l. on_byte _))
 
--- the writes of a record whose bytes fit are legal
+-- If the bytes of a record fit, then its field writes are legal.
 pub legal-field_writes : (r : Record) → HasBytes r → All IsLegal (field_writes r)
 legal-field_writes r h = All-field_writes IsLegal r (λ f. tt) h.each
 
--- the write does not change the record
+-- `Leaves r x` holds if the write `x` does not change `r`.
 abbrev pub Leaves : Record → Write → Type 0
 Leaves r x = changes r x ≡ false
 
--- to write the fields of a record into it changes nothing
+-- Writing a field of a record into the same record changes nothing.
 pub Leaves-field_writes : (r : Record) → All (Leaves r) (field_writes r)
 Leaves-field_writes r =
     All-field_writes (Leaves r) r (λ f. no_change (r.flag f)) (λ b. ap not (eq-eqb _ _ refl)) where
@@ -53,8 +52,7 @@ Leaves-field_writes r =
       no_change true = refl
       no_change false = refl
 
--- a key that its number finds is the only one with that number; so what is written to it under that number is written
--- to no other
+-- If each key is found by its number, then no other key has this number, so a write to this number is to no other key.
 module _ {K : Type 0} (number : K → ℕ) (keys : List K)
     (found : (k : K) → find (λ x. number x == number k) keys ≡ Some k) where
   key_same : (g k : K) → (number g == number k) ≡ true → g ≡ k
@@ -71,7 +69,7 @@ module _ {K : Type 0} (number : K → ℕ) (keys : List K)
     | inr n ↦ inl (ap (λ u. if u then Some v else None) n)
   ]
 
--- a write that does not change r gives each field r's value, or none
+-- If a write does not change `r`, then it writes to each field the value in `r`, or does not write it.
 flag_written-same : (r : Record) (x : Write) (f : Flag) → Leaves r x
     → (flag_written x f ≡ None) ⊎ (flag_written x f ≡ Some (r.flag f))
 flag_written-same r (write_byte c v) f e = inl refl
@@ -95,7 +93,7 @@ byte_written-same r (write_byte c v) b e = own_or_none shift bytes found r.byte 
       found layout.digit_separator = refl
       found _ = refl
 
--- the fields after one write
+-- After one write, a field has the written value, or its old value if it is not written.
 pub flag_after : (r : Record) (x : Write) (f : Flag)
     → (after r (x ∷ [])).flag f ≡ unwrap_or (flag_written x f) (r.flag f)
 unfolding after
@@ -106,20 +104,20 @@ pub byte_after : (r : Record) (x : Write) (b : Byte)
 unfolding after
 byte_after r x b = left_by-cons (λ y. byte_written y b) x [] (r.byte b)
 
--- what holds of a value and of what may be written over it holds afterwards
+-- If `P` holds for a value and for the value that may replace it, then it holds for the result.
 either_way : {T : Type 0} (P : T → Type 0) (o : Option T) (d v : T) → (o ≡ None) ⊎ (o ≡ Some v) → P d → P v
     → P (unwrap_or o d)
 either_way P o d v (inl none) on_d on_v = subst (λ p. P (unwrap_or p d)) (sym none) on_d
 either_way P o d v (inr some) on_d on_v = subst (λ p. P (unwrap_or p d)) (sym some) on_v
 
--- a write that does not change r, into any record, keeps each field that is r's
+-- If `x` and `y` do not change `r`, and `y` does not change `s`, then `y` does not change `s` after `x`.
 still_leaves : (r s : Record) (x y : Write) → Leaves r x → Leaves r y → Leaves s y → Leaves (after s (x ∷ [])) y
 still_leaves r s x (write_flag f u) leaves on_r on_s = subst (λ d. not (beq d u) ≡ false) (sym (flag_after s x f))
     (either_way (λ d. not (beq d u) ≡ false) _ _ (r.flag f) (flag_written-same r x f leaves) on_s on_r)
 still_leaves r s x (write_byte b u) leaves on_r on_s = subst (λ d. not (d == u) ≡ false) (sym (byte_after s x b))
     (either_way (λ d. not (d == u) ≡ false) _ _ (r.byte b) (byte_written-same r x b leaves) on_s on_r)
 
--- a write that does not change the record leaves it as it was, and so does a list of them
+-- If a write does not change a record, then the record after the write is the same.
 after_one : (r : Record) (x : Write) → Leaves r x → after r (x ∷ []) ≡ r
 after_one r x e = record_same _ _
     (λ f. flag_after r x f ∙ either_way (λ d. d ≡ r.flag f) _ _ _ (flag_written-same r x f e) refl refl)
@@ -131,7 +129,8 @@ after-leaves r (x ∷ writes) all = sym (after-append r (x ∷ []) writes)
     ∙ ap (λ s. after s writes) (after_one r x (All-head (Leaves r) x writes all))
     ∙ after-leaves r writes (All-tail (Leaves r) x writes all)
 
--- towards r, from a record t between s and r, the writes that do not change s may be left out
+-- If `t` has in each field the value of `s` or `r`, then of the writes that do not change `r`, those that do not change
+-- `s` may be left out.
 after_between : (s r t : Record) → ((x : Write) → Leaves s x → Leaves r x → Leaves t x) → (writes : List Write)
     → All (Leaves r) writes → after t (filter (changes s) writes) ≡ after t writes
 after_between s r t between [] all = refl
@@ -148,7 +147,7 @@ after_between s r t between (x ∷ writes) all =
           ∙ ap (λ u. after u writes) (sym (after_one t x (between x c toward))) ∙ after-append t (x ∷ []) writes
     ]
 
--- the writes of r's fields that change nothing in s may be left out
+-- The field writes of `r` that change `s` suffice to turn `s` into `r`.
 pub after-changes : (s r : Record) → after s (filter (changes s) (field_writes r)) ≡ r
 after-changes s r = after_between s r s (λ x on_s on_r. on_s) (field_writes r) (Leaves-field_writes r)
     ∙ after-field_writes s r

@@ -1,4 +1,4 @@
--- The words that a builder can pack, and the least number of writes to one.
+-- Lemmas on the words that a builder can pack, and on the least number of writes that build one.
 use Rattle.std.proofs.Common.{◌≡◌, ℕ, ◌<◌, ◌≤◌, ◌^◌, ◌↔◌, ◌⊎◌, inl, inr, Bool, true, false, if◌then◌else◌, IsTrue}
 use Rattle.std.proofs.Common.{length, List, refl, sym, ap, ◌∙◌, subst, All, le_trans}
 use Rattle.lexical_flags.specs.Layout as layout
@@ -10,7 +10,7 @@ use Rattle.lexical_util.proofs.Distance.{distance, distance-after, distance-trim
 use Rattle.lexical_util.proofs.FieldWrites.{after-field_writes, legal-field_writes}
 use Rattle.lexical_util.specs.Listing.{field_writes, IsBuiltByWrites}
 
--- no fewer writes make the word
+-- A list of legal writes that builds a word has at least as many writes as fields of the word differ from a new record.
 pub fewest_writes : (w : ℕ) (L : List Write) → All IsLegal L → pack (after new_record L) ≡ w
     → distance new_record (raw w) ≤ length L
 fewest_writes w L legal makes =
@@ -23,7 +23,7 @@ used_or_none : (on : Bool) (n : ℕ) → IsTrue on ⊎ ((if on then n else 0) �
 used_or_none true n = inl refl
 used_or_none false n = inr refl
 
--- what is packed from a record can be packed
+-- The word into which a record packs is built.
 IsBuilt-pack : (R : Record) → HasBytes R → IsBuilt (pack R)
 IsBuilt-pack R bytes = record {
   clean = pack-clean R bytes;
@@ -31,7 +31,7 @@ IsBuilt-pack R bytes = record {
       (used_or_none (separator_allowed R) (R.byte layout.digit_separator));
 }
 
--- packing gives back the words that some legal writes build: those that write each field, for one
+-- A word is built if and only if some legal writes build it, such as its field writes.
 pub built_by_writes : (w : ℕ) → w < 2 ^ 128 → IsBuilt w ↔ IsBuiltByWrites w
 built_by_writes w fits = (
   λ built. record {

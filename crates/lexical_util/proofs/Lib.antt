@@ -8,6 +8,12 @@ mod Distance
 mod FieldWrites
 mod NumberLemmas
 pub mod ReasonLemmas
+mod AllReasons
+mod BlameLemmas
+mod NoteLemmas
+mod MendLemmas
 mod ReasonTextLemmas
 mod SettingTextLemmas
 pub mod NumeralLemmas
+mod WordTextLemmas
+mod SourceLemmas

@@ -1,4 +1,4 @@
--- The edits of all fields of a record make it from a new builder, and so do those of them alone that change one.
+-- Lemmas that the edits of all fields of a record give it from a new builder, and that only the needed edits suffice.
 use Rattle.std.proofs.Common.{◌≡◌, Bool, true, false, not, cond, List, [], ◌∷◌, ◌++◌, map, length, filter, refl, sym}
 use Rattle.std.proofs.Common.{ap, ◌∙◌, subst, All, arith}
 use Rattle.std.specs.List.{list_any, AllZip}
@@ -24,7 +24,7 @@ use Rattle.lexical_util.specs.declared.edits.Edit.TheVariants as edits
 use Rattle.lexical_util.specs.Private.{differs_from_new}
 use Rattle.lexical_util.specs.declared.edits.Edit.{Edit}
 
--- the edit of a write does that write and no other
+-- The edit of a write has only this write.
 writes_of-edit : (x : Write) → writes_of (edit_of_write x) ≡ x ∷ []
 writes_of-edit (write_flag layout.required_integer_digits value) = refl
 writes_of-edit (write_flag _ value) = refl
@@ -36,7 +36,7 @@ all_writes-edits [] = refl
 all_writes-edits (x ∷ writes) = ap (λ xs. xs ++ all_writes (map edit_of_write writes)) (writes_of-edit x)
     ∙ ap (λ xs. x ∷ xs) (all_writes-edits writes)
 
--- to keep some edits is to keep their writes
+-- Filtering edits by a test is filtering their writes by an equal test.
 filter-edits : (p : Edit → Bool) (q : Write → Bool) → ((x : Write) → p (edit_of_write x) ≡ q x) → (writes : List Write)
     → filter p (map edit_of_write writes) ≡ map edit_of_write (filter q writes)
 filter-edits p q agree [] = refl
@@ -51,7 +51,7 @@ filter-edits p q agree (x ∷ writes) =
 differs_from_new-edit : (x : Write) → differs_from_new (edit_of_write x) ≡ changes new_record x
 differs_from_new-edit x = ap (list_any (changes new_record)) (writes_of-edit x) ∙ or-false (changes new_record x)
 
--- to keep the edits that change a new record, or the others, is to keep their writes
+-- The field edits that change a new builder are the needed edits, and the others are the other edits.
 pub needed_edits-is : (R : Record) → filter differs_from_new (field_edits R) ≡ needed_edits R
 needed_edits-is R = filter-edits differs_from_new (changes new_record) differs_from_new-edit (field_writes R)
 
@@ -63,17 +63,17 @@ all_writes-both : (R : Record) → all_writes (needed_edits R ++ other_edits R) 
 all_writes-both R = flat_map-append writes_of (needed_edits R) (other_edits R)
     ∙ (λ i. all_writes-edits (needed_writes R) i ++ all_writes-edits (other_writes R) i)
 
--- the first part alone makes the record
+-- The needed edits of a record give it from a new builder.
 pub after-needed : (R : Record) → after new_record (all_writes (needed_edits R)) ≡ R
 after-needed R = ap (after new_record) (all_writes-edits (needed_writes R)) ∙ after-changes new_record R
 
--- both lists of edits together make the record
+-- The needed edits and the other edits together give the record from a new builder.
 pub after-both : (R : Record) → after new_record (all_writes (needed_edits R ++ other_edits R)) ≡ R
 after-both R = ap (after new_record) (all_writes-both R) ∙ sym (after-append new_record (needed_writes R) (other_writes R))
     ∙ ap (λ S. after S (other_writes R)) (after-changes new_record R) ∙ after-leaves R (other_writes R)
     (All-filter (λ x. not (changes new_record x)) (Leaves R) (field_writes R) (Leaves-field_writes R))
 
--- both lists of edits together are legal
+-- If the bytes of a record fit, then the writes of its needed edits and other edits are legal.
 pub legal-both : (R : Record) → HasBytes R → All IsLegal (all_writes (needed_edits R ++ other_edits R))
 legal-both R h =
     let legal = legal-field_writes R h in
@@ -81,11 +81,11 @@ legal-both R h =
     (All-filter (changes new_record) IsLegal (field_writes R) legal)
     (All-filter (λ x. not (changes new_record x)) IsLegal (field_writes R) legal))
 
--- the edits that change a new record are as many as the fields that differ
+-- The number of needed edits is the number of fields in which the record differs from a new record.
 pub length-needed : (R : Record) → length (needed_edits R) ≡ distance new_record R
 length-needed R = length-map (needed_writes R) edit_of_write ∙ distance-is new_record R
 
--- The edit of a write is one that is allowed: each case is computed.
+-- The setter of a flag writes only this flag. Each case is computed.
 setter_alone : (f : Flag) → flags_of (setter_of f) ≡ f ∷ []
 setter_alone layout.required_integer_digits = refl
 setter_alone _ = refl
@@ -99,7 +99,7 @@ edits_of_writes : (writes : List Write) → AllZip IsEditOf writes (map edit_of_
 edits_of_writes [] = tt
 edits_of_writes (x ∷ writes) = (edit_of_write-is x, edits_of_writes writes)
 
--- No other setter writes a flag alone.
+-- Only one setter writes only a given flag.
 abbrev first_flag : List Flag → Flag
 first_flag [] = layout.no_special
 first_flag (f ∷ fs) = f
@@ -116,7 +116,7 @@ setter_back setters.FractionDigitSeparatorFlags one = absurd (omega (arith, one)
 setter_back setters.ExponentDigitSeparatorFlags one = absurd (omega (arith, one))
 setter_back _ one = refl
 
--- So a write has one edit, and a list of writes one list of edits.
+-- A write has only one edit, and a list of writes has only one list of edits.
 only_edit : (edit : Edit) (x : Write) → IsEditOf x edit → edit ≡ edit_of_write x
 only_edit (edits.Flag setter flag) (write_flag f value) is =
     (λ i. edits.Flag (setter_back setter (ap length is.0) i) (is.1 i))
@@ -135,7 +135,7 @@ only_edits [] (x ∷ writes) are = absurd are
 only_edits (edit ∷ es) [] are = absurd are
 only_edits (edit ∷ es) (x ∷ writes) are = λ i. only_edit edit x are.0 i ∷ only_edits es writes are.1 i
 
--- The edits of all fields, those that a new builder needs first.
+-- The needed edits, followed by the other edits, are the edits of the needed writes and the other writes.
 pub IsEditOf-both : (R : Record) → AllZip IsEditOf (needed_writes R ++ other_writes R) (needed_edits R ++ other_edits R)
 IsEditOf-both R = subst (AllZip IsEditOf (needed_writes R ++ other_writes R))
     (map-append edit_of_write (needed_writes R) (other_writes R)) (edits_of_writes (needed_writes R ++ other_writes R))

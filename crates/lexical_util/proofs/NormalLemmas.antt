@@ -1,4 +1,4 @@
--- Normal forms: which words are their own, what one keeps of a word, and when two words have the same.
+-- Lemmas on normal forms: the words that are their own normal form, what a normal form keeps, and when two are equal.
 use Rattle.std.proofs.Common.{◌≡◌, ℕ, ◌<◌, ◌^◌, ◌⊎◌, inl, inr, Bool, true, false, cond, IsTrue}
 use Rattle.std.proofs.Common.{arith, refl, sym, ap, ◌∙◌, subst, List, [], sum_by, if◌then◌else◌}
 use Rattle.std.specs.List.{list_any}
@@ -18,19 +18,19 @@ use Rattle.lexical_util.specs.Edits.{edited}
 use Rattle.lexical_util.specs.Groups.{any_flag, bits_of}
 use Rattle.lexical_util.specs.NormalForm.{normal_form_of, SameFormat, IsNormal}
 
--- a test of some flags depends on them alone
+-- If two tests are equal for each flag, then they are equal for a list of flags.
 pub list_any_same : (p q : Flag → Bool) (fs : List Flag) → ((f : Flag) → p f ≡ q f) → list_any p fs ≡ list_any q fs
 list_any_same p q fs h = λ i. list_any (λ f. h f i) fs
 
--- the separator with its condition
+-- If two conditions are equal, and the separators are equal if the condition holds, then the kept separators are equal.
 pub use_same : (p q : Bool) (x y : ℕ) → p ≡ q → (IsTrue p → x ≡ y) → cond p x 0 ≡ cond q y 0
 use_same p q x y e h = grind (arith, nat_tests)
 
--- a separator that may stand is the one that is kept
+-- If two conditions are equal and the kept separators are equal, then the separators are equal if the condition holds.
 pub used_same : (p q : Bool) (x y : ℕ) → p ≡ q → cond p x 0 ≡ cond q y 0 → IsTrue p → x ≡ y
 used_same p q x y e h t = grind (arith, nat_tests)
 
--- records of the same format are one when filled and trimmed
+-- If two records are equivalent, then they are equal after they are filled and trimmed.
 pub trim-same_format : (R S : Record) → SameFormat R S → trim (fill R) ≡ trim (fill S)
 trim-same_format R S s = record_same _ _ s.flags on_byte where
   on_byte : (b : Byte) → (trim (fill R)).byte b ≡ (trim (fill S)).byte b
@@ -42,7 +42,7 @@ trim-same_format R S s = record_same _ _ s.flags on_byte where
   on_byte layout.exponent_base = s.exponent_base
   on_byte layout.exponent_radix = s.exponent_radix
 
--- records that are one when filled and trimmed have the same format
+-- If two records are equal after they are filled and trimmed, then they are equivalent.
 pub SameFormat-from_trim : (R S : Record) → trim (fill R) ≡ trim (fill S) → SameFormat R S
 SameFormat-from_trim R S e =
     let flags_agree : (f : Flag) → R.flag f ≡ S.flag f = λ f. ap (λ (T : Record). T.flag f) e in
@@ -58,45 +58,45 @@ SameFormat-from_trim R S e =
           (ap (λ (T : Record). T.byte layout.digit_separator) e);
     }
 
--- the normal form packs the filled record
+-- The normal form is the word into which the filled record packs.
 pub normal_form-is : (w : ℕ) → normal_form_of w ≡ pack (fill (raw w))
 normal_form-is w = ap pack (after_none (fill (raw w)))
 
--- words of the same format have one normal form
+-- If two words are equivalent, then their normal forms are equal.
 pub normal_same : (a b : ℕ) → SameFormat (raw a) (raw b) → normal_form_of a ≡ normal_form_of b
 normal_same a b s = normal_form-is a ∙ ap word_of (trim-same_format (raw a) (raw b) s) ∙ sym (normal_form-is b)
 
--- a normal form has the fields of the word, filled and trimmed
+-- The fields of a normal form are the fields of the word, filled and trimmed.
 pub raw_normal : (w : ℕ) → raw (normal_form_of w) ≡ trim (fill (raw w))
 raw_normal w = edited-fields w [] (All-nil IsLegal) ∙ ap trim (after_none (fill (raw w)))
 
--- words with one normal form have the same format
+-- If the normal forms of two words are equal, then the words are equivalent.
 pub SameFormat-from_normal : (a b : ℕ) → normal_form_of a ≡ normal_form_of b → SameFormat (raw a) (raw b)
 SameFormat-from_normal a b e = SameFormat-from_trim (raw a) (raw b) (sym (raw_normal a) ∙ ap raw e ∙ raw_normal b)
 
 effective_again : (own radix : ℕ) → effective own radix ≡ effective (effective own radix) radix
 effective_again own radix = grind (arith, nat_tests)
 
--- if filling changes nothing, there is nothing to fill with
+-- If filling does not change an absent byte, then the radix is 0.
 pub unfilled : (own radix : ℕ) → effective own radix ≡ own → own ≡ 0 → radix ≡ 0
 unfilled own radix e z = grind (arith, nat_tests)
 
--- and the other way round
+-- If a byte is absent only when the radix is 0, then filling does not change it.
 pub full : (own radix : ℕ) → (own ≡ 0 → radix ≡ 0) → effective own radix ≡ own
 full own radix h = grind (arith, nat_tests)
 
--- if trimming changes nothing, the separator is used or absent
+-- If trimming does not change a separator, then it is allowed or absent.
 pub unused : (t : Bool) (n : ℕ) → cond t n 0 ≡ n → IsTrue t ⊎ (n ≡ 0)
 unused true n e = inl refl
 unused false n e = inr (sym e)
 
--- and the other way round
+-- If a separator is allowed or absent, then trimming does not change it.
 pub kept : (t : Bool) (n : ℕ) → IsTrue t ⊎ (n ≡ 0) → cond t n 0 ≡ n
 kept true n k = refl
 kept false n (inl k) = cc
 kept false n (inr k) = sym k
 
--- a record has the same format when filled and trimmed
+-- A record is equivalent to itself after it is filled and trimmed.
 pub SameFormat-normal : (R : Record) → SameFormat R (trim (fill R))
 SameFormat-normal R = record {
   flags = λ f. refl;
@@ -115,7 +115,7 @@ module _ (w : ℕ) where
   pub normal_fits : normal_form_of w < 2 ^ 128
   normal_fits = edited-fits w [] (All-nil IsLegal)
 
-  -- no other word has these fields
+  -- No other clean word has the fields of the normal form.
   pub normal_only : (u : ℕ) → u < 2 ^ 128 → IsClean u → raw u ≡ trim (fill (raw w)) → u ≡ normal_form_of w
   normal_only u fits clean same =
       raw-injective u (normal_form_of w) fits normal_fits clean clean_normal (same ∙ sym (raw_normal w))
@@ -154,7 +154,7 @@ module _ (w : ℕ) where
   unfolding bits_of
   flags_normal fs = λ i. sum_by (λ f. if normal_keeps.flags f i then 2 ^ bit f else 0) fs
 
--- If the separator of a record is used, then filling and trimming the record changes nothing that filling once has not.
+-- If the separator of a record is allowed or absent, then the trimmed and filled record is the filled record.
 filled_again : (R : Record) → SeparatorAllowedOrAbsent R → fill (trim (fill R)) ≡ fill R
 filled_again R used = record_same _ _ (λ f. refl) on_byte where
   on_byte : (b : Byte) → (fill (trim (fill R))).byte b ≡ (fill R).byte b
@@ -163,7 +163,7 @@ filled_again R used = record_same _ _ (λ f. refl) on_byte where
   on_byte layout.exponent_radix = sym (effective_again (R.byte layout.exponent_radix) (R.byte layout.mantissa_radix))
   on_byte _ = refl
 
--- If the separator of a word is used, then editing its normal form is editing the word.
+-- If the separator of a word is allowed or absent, then edits of its normal form and of the word give the same word.
 pub edited-normal : (w : ℕ) (L : List Write) → SeparatorAllowedOrAbsent (raw w)
     → edited (normal_form_of w) L ≡ edited w L
 edited-normal w L used = ap (λ S. pack (after (fill S) L)) (raw_normal w)

@@ -1,4 +1,4 @@
--- The numbers and names of flag and group setters, and the flags that an edit of 0 sets. Each case is computed.
+-- Lemmas on the numbers and names of flag and group setters, and on edits of the word 0. Each case is computed.
 use Rattle.std.proofs.Common.{◌≡◌, ◌<◌, Some, ℕ, Bool, true, false, if◌then◌else◌, List, [], ◌∷◌, get_or, refl}
 use Rattle.std.specs.Bool.{nat_lt}
 use Rattle.std.proofs.lemmas.Bool.Decides.{Decides-ltb}
@@ -16,7 +16,7 @@ use Rattle.lexical_util.specs.declared.edits.Edit.{Edit}
 use denote.Enum.Declared.{tag_of}
 use Rattle.lexical_util.specs.declared.edits.Edit.TheVariants as edits
 
--- The number of an edit's name is the number of its setter.
+-- The setter number of a setter's name is the number of this setter.
 number_of_flag_name : (setter : FlagSetter) → setter_number_of_name (name_of_flags setter) ≡ Some (number_of_flags setter)
 number_of_flag_name setters.RequiredIntegerDigits = refl
 number_of_flag_name _ = refl
@@ -26,7 +26,7 @@ number_of_its_name (edits.Flag setter flag) = number_of_flag_name setter
 number_of_its_name (edits.DigitSeparator byte) = refl
 number_of_its_name _ = refl
 
--- An edit of 0 that sets the flags of a setter makes their mask.
+-- The word 0, with the flags of a setter set by an edit, is the mask of the setter.
 pub flags_of_zero : (setter : FlagSetter) (flag : Bool)
     → edited 0 (all_writes (edits.Flag setter true ∷ [])) ≡ mask_of_edit (edits.Flag setter flag)
 unfolding record_of.word_of writes.after
@@ -50,7 +50,7 @@ variant_below-test _ = refl
 pub variant_below : (setter : FlagSetter) → tag_of the_type setter < setter_count
 variant_below setter = (Decides-ltb _ _).0 (variant_below-test setter)
 
--- The number and the value of a flag edit are the edit.
+-- The number of a setter and the value of a flag edit give the edit again.
 pub flag_with_value : (setter : FlagSetter) (flag : Bool)
     → edit_with (number_of_flags setter) (arguments.Flag flag) ≡ Some (edits.Flag setter flag)
 flag_with_value setters.RequiredIntegerDigits flag = refl

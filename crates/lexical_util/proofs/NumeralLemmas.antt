@@ -1,4 +1,4 @@
--- Numerals, digit by digit.
+-- Lemmas on reading a numeral digit by digit.
 use Rattle.std.proofs.Common.{◌≡◌, ℕ, ◌+◌, ◌*◌, ◌^◌, ◌<◌, ◌≤◌, true, IsTrue, List, length, map, take, get_or, nat_lt}
 use Rattle.std.proofs.Common.{nat_le}
 use Rattle.std.proofs.Common.{sym, ap, refl, ◌∙◌, arith, Bool, false, Some, None, is_some, cond}
@@ -14,7 +14,7 @@ use Rattle.std.proofs.lemmas.Option.{cond_some}
 use Rattle.lexical_base.specs.Digits.{byte_value, digit_of, numeral}
 use Rattle.lexical_util.specs.Additions.Numeral.{is_digit_of_radix, is_numeral}
 
--- the parts of a numeral
+-- `NumeralParts radix most digits` holds if `digits` are 1 to `most` digits of `radix`.
 pub record NumeralParts (radix most : ℕ) (digits : List ℕ) : Type 0 where
   pub some : 1 ≤ length digits
   pub few : length digits ≤ most
@@ -38,12 +38,12 @@ numeral_from radix most digits parts =
     (and_from (nat_le (length digits) most) _ (le-leb _ _ parts.few)
     (list_all-from_AllPass (is_digit_of_radix radix) digits parts.all_digits))
 
--- what the first digits of a numeral give
+-- `HasRead radix digits count number` holds if the first `count` of `digits` are digits of `radix` and write `number`.
 pub record HasRead (radix : ℕ) (digits : List ℕ) (count number : ℕ) : Type 0 where
   pub sum : number ≡ numeral radix (take count digits)
   pub all_digits : AllPass (is_digit_of_radix radix) (take count digits)
 
--- up to 32 digits of a radix up to 16 fit 128 bits
+-- If at most 32 digits of a radix of at most 16 are read, then their number fits 128 bits.
 pub HasRead-fits : (radix : ℕ) (digits : List ℕ) (count number : ℕ) → HasRead radix digits count number → radix ≤ 16
     → count ≤ 32 → number < 2 ^ 128
 HasRead-fits radix digits count number read low few =
@@ -56,7 +56,7 @@ HasRead-fits radix digits count number read low few =
     let power : 16 ^ length values ≤ 16 ^ 32 = pow-le-pow_right (omega arith) short in
     omega (arith, read.sum, below, pow-le-pow_left low (length values), power)
 
--- one more digit is read
+-- If `count` digits are read and the next byte is a digit, then `count + 1` digits are read.
 pub HasRead-next : (radix : ℕ) (digits : List ℕ) (count number digit : ℕ) → HasRead radix digits count number
     → count < length digits
     → Some digit ≡ digit_of (get_or digits count 0) radix → HasRead radix digits (count + 1) (number * radix + digit)
@@ -70,7 +70,7 @@ HasRead-next radix digits count number digit before inside read =
       all_digits = All-more (λ b. is_digit_of_radix radix b ≡ true) digits count 0 inside before.all_digits is.0;
     }
 
--- all digits are read
+-- If all digits are read, then the bytes are a numeral, and the number is its value.
 pub HasRead-whole : (radix most : ℕ) (digits : List ℕ) (count number : ℕ) → HasRead radix digits count number
     → length digits ≤ count → 1 ≤ length digits → length digits ≤ most
     → IsTrue (is_numeral radix most digits) × (number ≡ numeral radix digits)
@@ -80,7 +80,7 @@ HasRead-whole radix most digits count number read done some few =
       read.sum ∙ ap (numeral radix) all,
     )
 
--- a byte that has a digit is one
+-- If a byte has a digit value in a radix, then it is a digit of the radix.
 pub digit_passes : (radix byte : ℕ) → is_some (digit_of byte radix) ≡ true → is_digit_of_radix radix byte ≡ true
 digit_passes radix byte some = of_test (nat_lt (byte_value byte) radix) some
   where

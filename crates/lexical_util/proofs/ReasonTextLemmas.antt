@@ -1,4 +1,4 @@
--- The names of setters are short. Each case is computed.
+-- Lemmas that the names of setters are short. Each case is computed.
 use Rattle.std.proofs.Common.{◌≡◌, ◌<◌, true, refl, length}
 use Rattle.std.specs.Bool.{nat_lt}
 use Rattle.std.proofs.lemmas.Bool.Decides.{Decides-ltb}

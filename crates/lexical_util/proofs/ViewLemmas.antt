@@ -1,4 +1,4 @@
--- What a mask reads of a word, for a mask that is written as a number.
+-- Lemmas on the bits of a word under a mask that is written as a number.
 use Rattle.std.proofs.Common.{ℕ, ◌≡◌, ◌*◌, ◌^◌, ◌<◌, ◌==◌, ◌≢◌, ◌⊎◌, nat_lt, IsTrue, inl, inr, true}
 use Rattle.std.proofs.Common.{not, zero, suc, if◌then◌else◌}
 use Rattle.std.proofs.Common.{List, sum_by, bit_and, refl, sym, ◌∙◌, arith}
@@ -16,7 +16,7 @@ use Rattle.lexical_flags.specs.Common.{common}
 use Rattle.lexical_flags.proofs.CommonLemmas.{common-bit_and}
 use Rattle.lexical_util.specs.Groups.{any_flag, bits_of}
 
--- whether any of several flags is set
+-- The test of a word under the mask of some flags is the test that one of these flags is set.
 pub any_by_mask : (word mask : ℕ) (fs : List Flag) → mask ≡ mask_of fs → ascends bit 1 0 fs ≡ true
     → not (bit_and word mask == 0) ≡ any_flag word fs
 unfolding any_flag
@@ -30,32 +30,32 @@ one_bit (suc (suc n)) k small = absurd (omega arith)
 flag_bits-raw : (word : ℕ) (f : Flag) → part word (bit f) 1 * 2 ^ bit f ≡ flag_bits (raw word) f
 flag_bits-raw word f = one_bit (part word (bit f) 1) (bit f) (mod-lt _ (omega arith))
 
--- the bits of several flags
+-- The bits of a word under the mask of some flags are the bits of the flags that are set.
 pub bits_by_mask : (word mask : ℕ) (fs : List Flag) → mask ≡ mask_of fs → ascends bit 1 0 fs ≡ true
     → bit_and word mask ≡ bits_of word fs
 unfolding bits_of
 bits_by_mask word mask fs is up = rw is (and_all bit fs word up ∙ (λ i. sum_by (λ f. flag_bits-raw word f i) fs))
 
--- what a word and a mask have in common
+-- The bits of a word under a mask of 128 bits are the bits that word and mask have in common.
 pub common_by_mask : (word mask : ℕ) → nat_lt mask (2 ^ 128) ≡ true → bit_and word mask ≡ common word mask
 common_by_mask word mask fits = sym (common-bit_and word mask (grind (arith, nat_tests)))
 
--- whether they have any bit in common
+-- The test of a word under a mask is true if and only if word and mask have a bit in common.
 pub some_by_mask : (word mask : ℕ) → nat_lt mask (2 ^ 128) ≡ true
     → (IsTrue (not (bit_and word mask == 0)) → common word mask ≢ 0)
     × (common word mask ≢ 0 → IsTrue (not (bit_and word mask == 0)))
 some_by_mask word mask fits = let same : bit_and word mask ≡ common word mask = common_by_mask word mask fits in
     grind (arith, nat_tests)
 
--- powers by squaring
+-- The square of a square is the fourth power.
 pub fourth_power : (n : ℕ) → n ^ 2 * n ^ 2 ≡ n ^ 4
 fourth_power n = sym (pow-add n 2 2)
 
--- the square of a fourth power
+-- The square of the fourth power is the eighth power.
 pub eighth_power : (n : ℕ) → n ^ 4 * n ^ 4 ≡ n ^ 8
 eighth_power n = sym (pow-add n 4 4)
 
--- the test of a byte under its mask
+-- `ByteTells word mask shift` holds if the bits of `word` under `mask` are 0 if and only if the byte at `shift` is 0.
 abbrev pub ByteTells : ℕ → ℕ → ℕ → Type 0
 ByteTells word mask shift = ((bit_and word mask ≡ 0) × (part word shift 8 ≡ 0)) ⊎
     ((bit_and word mask ≢ 0) × (part word shift 8 ≢ 0))
@@ -64,7 +64,7 @@ zero_factor : (n p : ℕ) → 0 < p → n * p ≡ 0 → n ≡ 0
 zero_factor zero p high e = refl
 zero_factor (suc n) p high e = absurd (omega (arith, e, high))
 
--- a byte that is moved up is 0 exactly where it was
+-- If the bits under a mask are a byte times a power of two, then they are 0 if and only if the byte is 0.
 byte_tells : (word mask shift : ℕ) → bit_and word mask ≡ part word shift 8 * 2 ^ shift → 0 < 2 ^ shift
     → ByteTells word mask shift
 byte_tells word mask shift is high = elim (cases_eq (part word shift 8) 0) [

@@ -1,4 +1,4 @@
--- The writes that an edit does, and the word that writes make of a word.
+-- The writes of an edit, and the word that results if writes are applied to a word.
 use Rattle.std.specs.Prelude.{ℕ, List, [], ◌∷◌, flat_map}
 use Rattle.lexical_flags.specs.Layout.{Flag}
 use Rattle.lexical_flags.specs.Layout as layout
@@ -10,7 +10,7 @@ use Rattle.lexical_util.specs.declared.edits.FlagSetter.TheVariants as setters
 use Rattle.lexical_util.specs.declared.edits.Edit.{Edit}
 use Rattle.lexical_util.specs.declared.edits.Edit.TheVariants as edits
 
--- The flags that a setter writes.
+-- `flags_of setter` lists the flags that `setter` writes.
 abbrev pub flags_of : FlagSetter → List Flag
 flags_of setters.RequiredIntegerDigits = layout.required_integer_digits ∷ []
 flags_of setters.RequiredFractionDigits = layout.required_fraction_digits ∷ []
@@ -53,7 +53,7 @@ flags_of setters.IntegerDigitSeparatorFlags = layout.integer_digit_separator_fla
 flags_of setters.FractionDigitSeparatorFlags = layout.fraction_digit_separator_flags
 flags_of setters.ExponentDigitSeparatorFlags = layout.exponent_digit_separator_flags
 
--- The writes of an edit.
+-- `writes_of edit` lists the writes of `edit`: one for each field that it writes.
 abbrev pub writes_of : Edit → List Write
 writes_of (edits.Flag setter value) = write_flags (flags_of setter) value
 writes_of (edits.DigitSeparator byte) = write_byte layout.digit_separator (byte_of_option byte) ∷ []
@@ -64,10 +64,11 @@ writes_of (edits.Radix radix) = write_byte layout.mantissa_radix radix ∷ []
 writes_of (edits.ExponentBase base) = write_byte layout.exponent_base (byte_of_option base) ∷ []
 writes_of (edits.ExponentRadix radix) = write_byte layout.exponent_radix (byte_of_option radix) ∷ []
 
--- The writes of some edits, in order.
+-- `all_writes list` lists the writes of all edits in `list`, in order.
 abbrev pub all_writes : List Edit → List Write
 all_writes list = flat_map writes_of list
 
--- `edited word writes` is the word that results if the fields of `word` are filled, written in order, trimmed and packed.
+-- `edited word writes` is the word that results if the fields of `word` are filled, `writes` are applied to them in
+-- order, and the record is packed.
 abbrev pub edited : ℕ → List Write → ℕ
 edited word writes = pack (after (fill (raw word)) writes)

@@ -9,6 +9,7 @@ pub use Rattle.lexical_base.specs.Ascii
 pub use Rattle.lexical_base.specs.Digits
 pub use Rattle.lexical_base.specs.Outcomes
 pub use Rattle.lexical_base.specs.OutcomeOrder
+pub use Rattle.lexical_base.specs.Additions.ShortTexts
 pub use Rattle.lexical_flags.specs.Layout
 pub use Rattle.lexical_flags.specs.Record
 pub use Rattle.lexical_flags.specs.Constants

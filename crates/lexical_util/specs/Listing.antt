@@ -1,4 +1,4 @@
--- The words that setter calls make, and the setter calls of single fields that make a word.
+-- The words that setter calls build, and the single-field setter calls that build a word.
 use Rattle.std.specs.Prelude.{ℕ, ◌≡◌, ◌++◌, not, List, [], ◌∷◌, map, filter, All}
 use Rattle.lexical_flags.specs.Layout.{flags, bytes}
 use Rattle.lexical_flags.specs.Layout as layout
@@ -9,7 +9,7 @@ use Rattle.lexical_util.specs.Edits.{flags_of}
 use Rattle.lexical_util.specs.declared.edits.Edit.{Edit}
 use Rattle.lexical_util.specs.declared.edits.Edit.TheVariants as edits
 
--- `IsEditOf write edit` holds if `edit` calls the setter of one field to do `write`.
+-- `IsEditOf write edit` holds if `edit` calls the setter of a single field, and its only write is `write`.
 abbrev pub IsEditOf : Write → Edit → Type 0
 IsEditOf (write_flag f value) (edits.Flag setter flag) = (flags_of setter ≡ f ∷ []) × (flag ≡ value)
 IsEditOf (write_flag f value) _ = ⊥
@@ -20,19 +20,19 @@ IsEditOf (write_byte layout.mantissa_radix value) edit = edit ≡ edits.Mantissa
 IsEditOf (write_byte layout.exponent_base value) edit = edit ≡ edits.ExponentBase (option_of_byte value)
 IsEditOf (write_byte layout.exponent_radix value) edit = edit ≡ edits.ExponentRadix (option_of_byte value)
 
--- `field_writes r` has a write for each field of `r`, in the order of the bits.
+-- `field_writes r` lists a write for each field of `r`, with its value in `r`, in the order of the bits.
 abbrev pub field_writes : Record → List Write
 field_writes r = map (λ f. write_flag f (r.flag f)) flags ++ map (λ b. write_byte b (r.byte b)) bytes
 
--- The writes of the fields in which a record differs from a new builder.
+-- `needed_writes r` lists the field writes of `r` that change a new builder.
 abbrev pub needed_writes : Record → List Write
 needed_writes r = filter (changes new_record) (field_writes r)
 
--- The writes of the other fields.
+-- `other_writes r` lists the field writes of `r` that do not change a new builder.
 abbrev pub other_writes : Record → List Write
 other_writes r = filter (λ write. not (changes new_record write)) (field_writes r)
 
--- `IsBuiltByWrites word` holds if some legal writes to a new builder make `word`.
+-- `IsBuiltByWrites word` holds if a new builder packs into `word` after some legal writes.
 pub record IsBuiltByWrites (word : ℕ) : Type 0 where
   pub writes : List Write
   pub legal : All IsLegal writes

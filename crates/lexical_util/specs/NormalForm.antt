@@ -1,4 +1,4 @@
--- Normal forms, and the words that have the same one.
+-- Normal forms, and equivalent words, which have the same normal form.
 use Rattle.std.specs.Prelude.{◌≡◌, ℕ, IsTrue, []}
 use Rattle.lexical_flags.specs.Layout as layout
 use Rattle.lexical_flags.specs.Layout.{Flag, IsClean}
@@ -11,8 +11,8 @@ use Rattle.lexical_util.specs.Edits.{edited}
 abbrev pub normal_form_of : ℕ → ℕ
 normal_form_of word = edited word []
 
--- `SameFormat r s` holds if `r` and `s` are equivalent: their fields are equal, the exponent bytes by their effective
--- values, and the separators if a flag allows one.
+-- `SameFormat r s` holds if `r` and `s` are equivalent: their flags, prefix, suffix, mantissa radix and effective
+-- exponent bytes are equal, and so are their separators if a flag of `r` allows one.
 pub record SameFormat (r s : Record) : Type 0 where
   pub flags : (f : Flag) → r.flag f ≡ s.flag f
   pub base_prefix : r.byte layout.base_prefix ≡ s.byte layout.base_prefix
@@ -22,8 +22,8 @@ pub record SameFormat (r s : Record) : Type 0 where
   pub exponent_radix : effective_exponent_radix r ≡ effective_exponent_radix s
   pub digit_separator : IsTrue (separator_allowed r) → r.byte layout.digit_separator ≡ s.byte layout.digit_separator
 
--- `IsNormal word` holds if the reserved bits of `word` are 0, it has a separator only if a flag allows one, and an exponent
--- byte is 0 only if the mantissa radix is 0 too.
+-- `IsNormal word` holds if the reserved bits of `word` are 0, its separator is absent unless a flag allows one, and its
+-- exponent bytes are not 0 unless the mantissa radix is 0 too.
 pub record IsNormal (word : ℕ) : Type 0 where
   pub clean : IsClean word
   pub separator_used : SeparatorAllowedOrAbsent (raw word)

@@ -16,8 +16,8 @@ use lexical_builder::format_builder::{NumberFormatBuilder, OptionU8};
 use lexical_flags::format_flags::{FLAG_MASK, check};
 use lexical_flags::laws::rule_facts;
 
-// Calls `$rows!` with `$args`, a row for each flag, and a row for each group of flags. A row has the
-// variant of `FlagSetter`, and the name that the setter and, for a flag, the getter have.
+// Calls `$rows!` with `$args`, a row for each flag, and a row for each group of flags. A row has the variant of
+// `FlagSetter` and the name of the setter. Each flag's getter has the same name.
 macro_rules! with_setters {
     ($rows:ident $args:tt) => {
         $rows! {
@@ -75,13 +75,14 @@ mod numbers;
 mod text;
 
 pub use listing::{edits_of, field_edits_of, is_built};
+pub(crate) use listing::{raw_exponent_base, raw_exponent_radix};
 pub use numbers::{
     Argument, ArgumentKind, SETTER_NAMES, setter_name_of_number, setter_number_of_name,
 };
-pub use text::{SettingError, byte_from_text};
+pub use text::{SettingError, byte_from_decimal};
 
-/// A builder setter that takes a `bool`: one for each flag, and one for each of the nine groups of
-/// flags. A variant stands for the setter that its line names.
+/// A builder setter that takes a `bool`: one for each flag, and one for each of the nine groups of flags. The comment
+/// of a variant is the name of its setter.
 #[derive(Debug, Clone, Copy, PartialEq, Eq, Hash)]
 pub enum FlagSetter {
     /// `required_integer_digits`
@@ -171,23 +172,23 @@ pub enum FlagSetter {
 pub enum Edit {
     /// Writes a flag, or every flag of a group.
     Flag(FlagSetter, bool),
-    /// Writes the digit separator; with `None` the format has none.
+    /// Writes the digit separator. `None` means that the format has no digit separator.
     DigitSeparator(OptionU8),
-    /// Writes the base prefix; with `None` the format has none.
+    /// Writes the base prefix. `None` means that the format has no base prefix.
     BasePrefix(OptionU8),
-    /// Writes the base suffix; with `None` the format has none.
+    /// Writes the base suffix. `None` means that the format has no base suffix.
     BaseSuffix(OptionU8),
-    /// Writes the mantissa radix, 0 to 255; a lawful format has 2 to 36.
+    /// Writes the mantissa radix, 0 to 255. In a lawful format it is between 2 and 36.
     MantissaRadix(u8),
-    /// Writes the mantissa radix too: the setter `radix` is another name of it.
+    /// Writes the mantissa radix too: the setter `radix` is another name of the setter `mantissa_radix`.
     Radix(u8),
-    /// Writes the exponent base; with `None` the mantissa radix is used.
+    /// Writes the exponent base. `None` means the mantissa radix.
     ExponentBase(OptionU8),
-    /// Writes the exponent radix; with `None` the mantissa radix is used.
+    /// Writes the exponent radix. `None` means the mantissa radix.
     ExponentRadix(OptionU8),
 }
 
-// The variants as an array: the flags and then the groups.
+// The variants as an array: the flags, then the groups.
 macro_rules! variants {
     (() { $($Flag:ident $flag:ident;)* } { $($Group:ident $group:ident;)* }) => {
         [$(FlagSetter::$Flag,)* $(FlagSetter::$Group,)*]
@@ -196,10 +197,10 @@ macro_rules! variants {
 
 const FLAGS: usize = u128::count_ones(FLAG_MASK) as usize;
 
-/// How many fields a word has: the flags and six bytes.
+/// The number of fields of a word: the flags and six bytes.
 pub const FIELD_COUNT: usize = FLAGS + 6;
 
-/// All setters, in the order of the variants: those of the flags, and those of nine groups.
+/// All setters that take a `bool`, in the order of the variants: the flag setters, then the nine group setters.
 pub const SETTERS: [FlagSetter; FLAGS + 9] = with_setters!(variants());
 
 /// Applies one edit: calls the setter that it names.
@@ -220,7 +221,7 @@ pub const fn apply(builder: NumberFormatBuilder, edit: Edit) -> NumberFormatBuil
     }
 }
 
-// Calls the setter of a flag or of a group.
+// Calls a flag setter or a group setter.
 #[inline(always)]
 const fn apply_flag(
     builder: NumberFormatBuilder,
@@ -241,10 +242,10 @@ const fn apply_flag(
     with_setters!(call_setter(builder, setter, flag))
 }
 
-/// Applies `edits` in order, as the setter calls that they stand for would be made.
+/// Applies `edits` to a builder in order, each as one setter call.
 ///
-/// To make a format of settings, apply them to a new builder and pack it strictly: exponent base and
-/// exponent radix then follow the mantissa radix, unless a setting writes them.
+/// To build a format from settings, apply them to a new builder and pack it with `build_strict`. The exponent base and
+/// the exponent radix then follow the mantissa radix, unless a setting writes them.
 pub const fn apply_all(mut builder: NumberFormatBuilder, edits: &[Edit]) -> NumberFormatBuilder
     ensures fields { result ≡ after builder (all_writes edits.now) }
     ensures legal { All IsLegal (all_writes edits.now) }
@@ -257,21 +258,19 @@ pub const fn apply_all(mut builder: NumberFormatBuilder, edits: &[Edit]) -> Numb
     builder
 }
 
-/// Applies `edits` in order to any word, lawful or not, and returns the new word.
+/// Applies `edits` in order to a format word, lawful or not, and returns the new word.
 ///
-/// This is for a finished format. An edit of the mantissa radix leaves exponent base and exponent radix
-/// as they were, also if they followed the old mantissa radix: for a fresh format see [`apply_all`].
+/// Use this for a finished format. An edit of the mantissa radix does not change the exponent base and the exponent
+/// radix, even if they followed the old mantissa radix. To build a new format, use [`apply_all`].
 ///
 /// 1. The fields of `format` are read.
-/// 2. An exponent base or exponent radix of 0 is set to the mantissa radix.
-/// 3. Each edit overwrites its fields: of several edits of one field the last counts. An edit to
-///    `None` leaves an exponent byte 0.
-/// 4. The digit separator is set to 0 if no flag allows one anywhere, and the fields are packed. The
-///    reserved bits are 0.
+/// 2. An exponent base or exponent radix of 0 is replaced by the mantissa radix.
+/// 3. Each edit is applied. If several edits write the same field, the last one wins. An exponent byte that an edit
+///    sets to `None` stays 0.
+/// 4. The digit separator is set to 0 if no flag allows one, and the fields are packed. The reserved bits are 0.
 ///
-/// Pass all edits in one call. Two calls are not always one call with both lists: the first drops a
-/// digit separator that no flag allows yet, and the second fills an exponent byte that the first set to
-/// `None`.
+/// Pass all edits in one call. Two calls can give a different word than one call with both lists: the first call drops
+/// a digit separator whose flag is not set yet, and the second fills an exponent byte that the first set to `None`.
 ///
 /// In plain Rust:
 ///
@@ -292,8 +291,8 @@ pub const fn edit_word(format: u128, edits: &[Edit]) -> u128
     ensures unique { (other : ℕ) → other < 2 ^ 128 → IsClean other
         → raw other ≡ trim (after (fill (raw format)) (all_writes edits.now)) → other ≡ result }
 
-    // Only the last write of each field counts: setters of different fields may change places,
-    // and a group setter is its single setters in any order.
+    // Only the last write to each field matters. So edits of different fields can be in any order, and a group edit
+    // equals the edits of its flags in any order.
     ensures same_writes { (writes : List Write) → All IsLegal writes
         → SameWrites writes (all_writes edits.now) → edited format writes ≡ result }
 
@@ -302,10 +301,10 @@ pub const fn edit_word(format: u128, edits: &[Edit]) -> u128
     apply_all(NumberFormatBuilder::rebuild(format), edits).build_unchecked()
 }
 
-/// Returns the normal form of any word: the canonical one among the words that mean the same.
+/// Returns the normal form of a word, lawful or not: the canonical word among all equivalent words.
 ///
-/// Each exponent byte holds its effective value, there is a digit separator only if a flag allows one
-/// somewhere, and the reserved bits are 0.
+/// In the normal form, each exponent byte is its effective value, the digit separator is absent unless a flag allows
+/// one, and the reserved bits are 0.
 #[inline(always)]
 pub const fn normal_form(format: u128) -> u128
     ensures word { result ≡ normal_form_of format }
@@ -320,19 +319,19 @@ pub const fn normal_form(format: u128) -> u128
     ensures idempotent { normal_form_of result ≡ result }
     ensures unchanged { (result ≡ format) ↔ IsNormal format }
 
-    // It means the same: all fields agree, except a separator that no flag allows, and so do all
-    // groups of flags.
+    // Both words are equivalent: their effective fields are equal, except for a separator that no flag allows, and so
+    // are their flags in each list of flags.
     ensures same { SameFormat (raw format) (raw result) }
     ensures groups { (fs : List Flag) → any_flag format fs ≡ any_flag result fs }
     ensures flags { (fs : List Flag) → bits_of format fs ≡ bits_of result fs }
 
-    // That of a lawful word is lawful. If no reserved bit and no separator is dropped, both words
-    // break the same rule first, or none.
+    // The normal form of a lawful word is lawful. If neither a reserved bit nor a separator is dropped, both words have
+    // the same error.
     ensures lawful { Lawful format → Lawful result }
     ensures error { IsClean format → SeparatorAllowedOrAbsent (raw format)
         → (error : Error) → IsErrorOf format error ↔ IsErrorOf result error }
 
-    // If no separator is dropped, it does not matter which of the two is edited.
+    // If no separator is dropped, both words give the same word when they are edited.
     ensures edits { SeparatorAllowedOrAbsent (raw format) → (writes : List Write) → All IsLegal writes
         → edited result writes ≡ edited format writes }
     ensures normal { IsNormal result }
@@ -341,11 +340,15 @@ pub const fn normal_form(format: u128) -> u128
     NumberFormatBuilder::rebuild(format).build_unchecked()
 }
 
-/// Returns the normal form of `format` if that is lawful, and else the error of the normal form.
+/// Returns the normal form of `format` if the normal form is lawful.
 ///
-/// This is for words that were stored by `lexical-util`, or by this crate before its rules changed.
-/// Reserved bits, empty exponent bytes, and a digit separator that no flag allows are mended, so none
-/// of these is an error; everything else that is wrong is. The error is never `Success` or
+/// Use this for words that were stored by `lexical-util`, or by this crate before its rules changed. Reserved bits,
+/// absent exponent bytes and a digit separator that no flag allows are not errors, since the normal form has none of
+/// them.
+///
+/// # Errors
+///
+/// If the normal form is not lawful, the error of the first rule that it breaks. This is never `Success` or
 /// `InvalidFlags`.
 ///
 /// In plain Rust:
@@ -369,7 +372,7 @@ pub const fn migrate(format: u128) -> Result<u128, Error>
     check(normal_form(format))
 }
 
-/// Returns whether two words mean the same, that is, have the same normal form.
+/// Returns whether two words are equivalent, that is, have the same normal form.
 pub const fn same_format(a: u128, b: u128) -> bool
     ensures normal_forms { IsTrue result ↔ (normal_form_of a ≡ normal_form_of b) }
     ensures fields { IsTrue result ↔ SameFormat (raw a) (raw b) }

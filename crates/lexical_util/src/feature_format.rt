@@ -15,7 +15,7 @@ use lexical_flags::format_flags as flags;
 use lexical_flags::format_flags::{format_error_impl, radix_error_impl};
 use std::marker::Model;
 
-// Whether the word of a view has any bit of a mask.
+// Is true if the word of a view has a bit of a mask.
 macro_rules! has_any {
     ($view:ident, $MASK:ident) => {
         $view.format & flags::$MASK != 0
@@ -24,7 +24,7 @@ macro_rules! has_any {
 
 mod getters;
 
-/// A format word, to be read field by field and checked.
+/// A view of a format word, which reads the fields of the word and checks it.
 ///
 /// Every getter works on any word, lawful or not. The word is a value, which may be known only when the
 /// program runs; in `lexical-util` it is a const generic argument of the type, and each field is also an
@@ -52,7 +52,7 @@ impl Default for NumberFormat {
 
     ghost is_default = { λ view. view ≡ STANDARD };
 
-    /// Returns the view of the standard format, which is what a new builder packs.
+    /// Returns the view of the standard format, the word into which a new builder packs.
     #[inline(always)]
     #[tactic(auto, unfolding(crate::specs::Unfoldable::on_literals))]
     fn default() -> Self
@@ -88,8 +88,7 @@ impl NumberFormat {
 
     // CHECKS
 
-    /// Returns whether the word is lawful, that is, breaks none of the rules of
-    /// [`error`][Self::error].
+    /// Returns whether the word is lawful, that is, keeps all rules of [`error`][Self::error].
     #[inline(always)]
     pub const fn is_valid(&self) -> bool
         ensures { IsTrue result ↔ Lawful self.now }
@@ -108,8 +107,8 @@ impl NumberFormat {
         format_error_impl(self.format)
     }
 
-    /// Returns whether the mantissa radix, the exponent base and the exponent radix are each 2 to
-    /// 36; an exponent byte of 0 counts as the mantissa radix.
+    /// Returns whether the mantissa radix, the exponent base and the exponent radix are all between 2 and 36. An
+    /// exponent byte of 0 means the mantissa radix.
     #[inline(always)]
     pub const fn is_valid_radix(&self) -> bool
         ensures { IsTrue result ↔ IsFirstError radix_rules self.now Error.Success }
@@ -117,8 +116,8 @@ impl NumberFormat {
         self.error_radix().is_success()
     }
 
-    /// Returns the error of the first of mantissa radix, exponent base and exponent radix that is
-    /// not 2 to 36, or `Success` if there is none.
+    /// Returns the error of the first of mantissa radix, exponent base and exponent radix that is not between 2 and 36,
+    /// or `Success` if all three are.
     #[inline(always)]
     pub const fn error_radix(&self) -> Error
         ensures first { IsFirstError radix_rules self.now result }
@@ -129,7 +128,8 @@ impl NumberFormat {
 
     // BYTES
 
-    /// Returns the [digit separator][NumberFormatBuilder::digit_separator], allowed or not; 0 if there is none.
+    /// Returns the [digit separator][NumberFormatBuilder::digit_separator], even if no flag allows it, or 0 if it is
+    /// absent.
     #[inline(always)]
     pub const fn digit_separator(&self) -> u8
         ensures { result ≡ (raw self.now).byte layout.digit_separator }
@@ -145,7 +145,7 @@ impl NumberFormat {
         has_any!(self, DIGIT_SEPARATOR)
     }
 
-    /// Returns the [base prefix][NumberFormatBuilder::base_prefix], 0 if there is none.
+    /// Returns the [base prefix][NumberFormatBuilder::base_prefix], or 0 if it is absent.
     #[inline(always)]
     pub const fn base_prefix(&self) -> u8
         ensures { result ≡ (raw self.now).byte layout.base_prefix }
@@ -161,7 +161,7 @@ impl NumberFormat {
         has_any!(self, BASE_PREFIX)
     }
 
-    /// Returns the [base suffix][NumberFormatBuilder::base_suffix], 0 if there is none.
+    /// Returns the [base suffix][NumberFormatBuilder::base_suffix], or 0 if it is absent.
     #[inline(always)]
     pub const fn base_suffix(&self) -> u8
         ensures { result ≡ (raw self.now).byte layout.base_suffix }
@@ -179,7 +179,7 @@ impl NumberFormat {
 
     // RADIXES
 
-    /// Returns the [mantissa radix][NumberFormatBuilder::mantissa_radix]: 0 to 255, and 2 to 36 if lawful.
+    /// Returns the [mantissa radix][NumberFormatBuilder::mantissa_radix], 0 to 255. In a lawful word it is between 2 and 36.
     #[inline(always)]
     pub const fn mantissa_radix(&self) -> u32
         ensures value { result ≡ (raw self.now).byte layout.mantissa_radix }
@@ -188,7 +188,7 @@ impl NumberFormat {
         flags::mantissa_radix(self.format)
     }
 
-    /// Returns the same as `mantissa_radix`.
+    /// Returns the mantissa radix, as [`mantissa_radix`][Self::mantissa_radix] does.
     #[inline(always)]
     pub const fn radix(&self) -> u32
         ensures value { result ≡ (raw self.now).byte layout.mantissa_radix }
@@ -215,8 +215,7 @@ impl NumberFormat {
         square * square
     }
 
-    /// Returns the eighth power of the mantissa radix modulo 2^32. It is exact up to radix 15; for
-    /// 16 it is 0.
+    /// Returns the eighth power of the mantissa radix modulo 2^32. It is exact up to radix 15, and 0 for radix 16.
     #[inline(always)]
     pub const fn radix8(&self) -> u32
         ensures { result ≡ (raw self.now).byte layout.mantissa_radix ^ 8 % 2 ^ 32 }
@@ -225,8 +224,8 @@ impl NumberFormat {
         fourth.wrapping_mul(fourth)
     }
 
-    /// Returns the [exponent base][NumberFormatBuilder::exponent_base], or the mantissa radix if that byte is 0; 2 to
-    /// 36 if lawful.
+    /// Returns the [exponent base][NumberFormatBuilder::exponent_base], or the mantissa radix if that byte is 0. In a
+    /// lawful word it is between 2 and 36.
     #[inline(always)]
     pub const fn exponent_base(&self) -> u32
         ensures value { result ≡ effective_exponent_base (raw self.now) }
@@ -235,8 +234,8 @@ impl NumberFormat {
         flags::exponent_base(self.format)
     }
 
-    /// Returns the [exponent radix][NumberFormatBuilder::exponent_radix], or the mantissa radix if that byte is 0; 2 to
-    /// 36 if lawful.
+    /// Returns the [exponent radix][NumberFormatBuilder::exponent_radix], or the mantissa radix if that byte is 0. In a
+    /// lawful word it is between 2 and 36.
     #[inline(always)]
     pub const fn exponent_radix(&self) -> u32
         ensures value { result ≡ effective_exponent_radix (raw self.now) }
@@ -247,8 +246,8 @@ impl NumberFormat {
 
     // DIGITS
 
-    /// Returns whether `byte` is a digit of numbers in this format: a digit of the mantissa radix or
-    /// of the exponent radix. Letters are digits in both cases.
+    /// Returns whether `byte` is a digit of the mantissa radix or of the exponent radix. A letter is a digit in both
+    /// cases.
     #[inline(always)]
     pub const fn is_digit(&self, byte: u8) -> bool
         ensures { IsTrue result ↔ IsTrue (digits (raw self.now) byte) }
@@ -258,7 +257,7 @@ impl NumberFormat {
 
     // BUILDERS
 
-    /// Returns a new builder, the same for every word.
+    /// Returns a new builder, which does not depend on the word.
     #[inline(always)]
     pub const fn builder() -> NumberFormatBuilder
         ensures { result ≡ new_record }
@@ -266,8 +265,8 @@ impl NumberFormat {
         NumberFormatBuilder::new()
     }
 
-    /// Returns a builder with the fields of the word; an exponent base or exponent radix of 0
-    /// becomes the mantissa radix.
+    /// Returns a builder with the fields of the word. An exponent base or exponent radix of 0 becomes the mantissa
+    /// radix.
     #[inline(always)]
     pub const fn rebuild(&self) -> NumberFormatBuilder
         ensures { result ≡ fill (raw self.now) }

@@ -29,16 +29,15 @@ pub use lexical_flags::format_flags::{
     RADIX_SHIFT, REQUIRED_DIGITS, REQUIRED_EXPONENT_DIGITS, REQUIRED_EXPONENT_NOTATION,
     REQUIRED_EXPONENT_SIGN, REQUIRED_FRACTION_DIGITS, REQUIRED_INTEGER_DIGITS,
     REQUIRED_MANTISSA_DIGITS, REQUIRED_MANTISSA_SIGN, RULES, Rule, SPECIAL_DIGIT_SEPARATOR,
-    TRAILING_DIGIT_SEPARATOR, base_prefix, base_suffix, broken_rules, check, digit_separator,
-    exponent_base, exponent_radix, format_error_impl, is_clean, is_digit, is_valid_base_prefix,
-    is_valid_base_suffix, is_valid_digit_separator, is_valid_exponent_flags,
-    is_valid_options_punctuation, is_valid_punctuation, is_valid_radix, mantissa_radix,
-    options_error, radix_error_impl, radix_from_flags,
+    TRAILING_DIGIT_SEPARATOR, base_prefix, base_suffix, broken_rules, check, clashes,
+    digit_separator, exponent_base, exponent_radix, format_error_impl, is_clean, is_digit,
+    is_separator_allowed, is_valid_base_prefix, is_valid_base_suffix, is_valid_digit_separator,
+    is_valid_exponent_flags, is_valid_options_punctuation, is_valid_punctuation, is_valid_radix,
+    mantissa_radix, options_error, radix_error_impl, radix_from_flags,
 };
 
-/// The standard format: radix 10, digits required in the mantissa and in an exponent, and nothing
-/// else. It is what a new builder packs; its exponent base and exponent radix are 0, that is, they
-/// follow the mantissa radix.
+/// The standard format: the radix is 10, and digits are required in the mantissa and in an exponent. A new builder
+/// packs into this word. Its exponent base and exponent radix are absent, so they follow the mantissa radix.
 pub const STANDARD: u128 = 0x00000A00_00000000_00000000_0000000C;
 
 /// Returns whether `format` is lawful, as [`NumberFormat::is_valid`] does.

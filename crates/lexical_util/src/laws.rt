@@ -1,4 +1,4 @@
-//! Laws, each a clause of a function with an empty body. To use a law, call its function.
+//! Laws. Each is a clause of a function with an empty body. To use a law, call its function.
 
 ghost use Rattle.std.specs.Prelude.{◌≡◌, ◌↔◌, ◌+◌, ℕ, List, [], ◌++◌};
 ghost use Rattle.lexical_flags.specs.Record.{Record, raw};
@@ -12,14 +12,14 @@ pub mod examples;
 pub use lexical_base::laws as base;
 pub use lexical_flags::laws as flags;
 
-/// Writing two lists in turn is writing both.
+/// Writing one list and then another is writing both lists in one.
 pub fn write_facts()
     ensures none { (r : Record) → after r [] ≡ r }
     ensures append { (r : Record) → (first second : List Write)
         → after (after r first) second ≡ after r (first ++ second) }
 {}
 
-/// The normal forms of any two words.
+/// States when two words have the same normal form, and when it is lawful.
 #[inline(always)]
 pub const fn normal_form_facts()
     // The normal form of a word is equivalent to it, and two words have the same one if and only if they are equivalent.

@@ -1,8 +1,7 @@
-//! Number formats in a `u128`: what their fields are, how they are built, edited and checked.
+//! Number formats in a `u128`: their fields, and the calls that build, edit and check them.
 //!
-//! This crate re-exports the modules of the three lower crates under the names of the Rust crate's
-//! files, so that code needs this crate alone. Their definitions for contracts are re-exported too, from
-//! `specs`, and their laws from [`laws`].
+//! This crate re-exports the modules of the three crates below, under the names of the files of `lexical-util`, so that
+//! code depends only on this crate. It also re-exports their definitions in `specs`, and their laws in [`laws`].
 #![tactic(auto)]
 
 pub mod edits;
@@ -11,6 +10,8 @@ pub mod format;
 pub mod laws;
 pub mod numeral;
 pub mod reasons;
+pub mod source;
+pub mod word_text;
 
 pub use lexical_base::{ascii, digit, error};
 pub use lexical_builder::format_builder;

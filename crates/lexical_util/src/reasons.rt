@@ -1,282 +1,343 @@
-//! What is wrong with a format word, and what of it has no effect, for the one who has to mend it.
+//! The reasons why a format word breaks rules, and notes on fields that change no number.
 
-ghost use Rattle.std.specs.Prelude.{◌≡◌, ◌↔◌, ℕ, false, [], None, map};
+ghost use Rattle.std.specs.Prelude.{◌≡◌, ◌≢◌, ◌↔◌, ◌==◌, ℕ, [], if◌then◌else◌, None, Some, map};
 ghost use Rattle.std.specs.Bool.{then_some};
-ghost use Rattle.lexical_flags.specs.Layout as layout;
-ghost use Rattle.lexical_flags.specs.Record.{raw, set_byte, separator_allowed};
-ghost use Rattle.lexical_flags.specs.Rules.{Holds};
+ghost use Rattle.std.specs.List.{AllByRecursion, IsAmong};
+ghost use Rattle.lexical_flags.specs.Pairs.{ArePairwise};
+ghost use Rattle.lexical_flags.specs.Record.{raw};
+ghost use Rattle.lexical_flags.specs.Rules.{Holds, Lawful};
+ghost use Rattle.lexical_flags.specs.declared.format_flags.all_rules.Rule.{Rule};
 ghost use Rattle.lexical_flags.specs.declared.format_flags.all_rules.Rule.TheVariants as rules;
-ghost use Rattle.lexical_util.specs.Additions.Reasons.{said, padded, cases_of, reasons_of, out_of_range, not_free, flag_reason, unused_cases};
-ghost use Rattle.lexical_util.specs.Additions.Reasons.{radix_of_digit, separator_edit, prefix_edit, suffix_edit};
-ghost use Rattle.lexical_util.specs.Additions.Reasons.{without_separator, without_prefix_case, without_suffix_case, IsWith, SameRules};
-ghost use Rattle.lexical_util.specs.NormalForm.{normal_form_of};
+ghost use Rattle.lexical_util.specs.Additions.Reasons.{if_applicable, in_three_slots, candidates, candidates_of};
+ghost use Rattle.lexical_util.specs.Additions.Reasons.{reasons_of};
+ghost use Rattle.lexical_util.specs.Additions.Reasons.{all_reasons, Breaks, Blames};
+ghost use Rattle.lexical_util.specs.Additions.Reasons.{mantissa_candidate, exponent_candidates, punctuation_candidates};
+ghost use Rattle.lexical_util.specs.Additions.Reasons.{radix_of_digit, case_flag, flag_reason};
+ghost use Rattle.lexical_util.specs.Additions.Reasons.{separator_edit, prefix_edit, suffix_edit};
+ghost use Rattle.lexical_util.specs.Additions.SettingNumbers.{argument_byte};
+ghost use Rattle.lexical_util.specs.declared.reasons.Reason.TheVariants as reasons;
 
-use crate::edits::{Edit, FlagSetter};
+use crate::edits::{Edit, FlagSetter, raw_exponent_base, raw_exponent_radix};
 use crate::feature_format::NumberFormat;
 use lexical_base::ascii::is_valid_ascii;
 use lexical_base::digit::char_is_digit;
 use lexical_base::laws::digit_facts;
-use lexical_builder::format_builder::{NonZeroU8, NumberFormatBuilder};
+use lexical_builder::format_builder::NonZeroU8;
 use lexical_flags::format_flags as flags;
 use lexical_flags::format_flags::Rule;
+use lexical_flags::laws::rule_facts;
 
+pub(crate) mod mask;
+mod mending;
+mod note;
 mod text;
 
-/// The most reasons for which a word breaks one rule.
-pub const REASONS: usize = 3;
+pub use mending::{MAX_MENDING_EDITS, mend};
+pub use note::{MAX_NOTES, Note, notes, notes_of_fields};
 
-/// The most settings of one word that have no effect.
-pub const UNUSED: usize = 4;
+/// The maximum number of reasons why a word breaks one rule.
+pub const MAX_REASONS: usize = 3;
 
-/// Why a word breaks a rule. A byte is given as the edit that writes it.
+/// The number of candidates for the reasons of a word, which is the number of slots that [`reasons`] returns.
+pub const CANDIDATE_COUNT: usize = 24;
+
+/// One cause of broken rules in a format word. A byte is given as the edit that writes it.
 #[derive(Debug, Clone, Copy, PartialEq, Eq)]
 pub enum Reason {
-    /// A radix or a base is not 2 to 36. An exponent base or exponent radix of 0 has the value of the
-    /// mantissa radix.
+    /// The mantissa radix is not between 2 and 36. The first value is `true` if the exponent base is absent, and the
+    /// second if the exponent radix is absent: they follow the mantissa radix, so it breaks their rules too.
+    MantissaRadixOutOfRange(u8, bool, bool),
+    /// An exponent base or exponent radix is present and not between 2 and 36.
     OutOfRange(Edit),
-    /// A byte is no allowed ASCII.
+    /// A byte is present and not allowed ASCII.
     NotText(Edit),
     /// A byte is `+` or `-`.
     IsSign(Edit),
-    /// A byte is a digit of this radix: the mantissa radix, or the exponent radix if it is a digit only
-    /// there.
-    IsDigit(Edit, u32),
-    /// Two bytes are the same, or the two cases of a letter whose case does not count for one of them.
-    AreSame(Edit, Edit),
-    /// Two flags are set that exclude each other.
+    /// A byte is a digit in a radix: the mantissa radix, or the exponent radix if the byte is a digit only there.
+    IsDigit(Edit, Edit),
+    /// Two bytes are the same, or they are the two cases of a letter. In the second case the flag is the one that would
+    /// have to be set: with it, the base prefix or base suffix is case-sensitive.
+    Clash(Edit, Edit, Option<FlagSetter>),
+    /// Two flags are set that cannot both be set.
     Contradict(FlagSetter, FlagSetter),
-    /// A flag allows digit separators in a row where no flag allows one.
-    HasNoPlace(FlagSetter),
-    /// Not all reserved bits are 0.
-    ReservedBits,
+    /// A flag allows consecutive digit separators in a part of the number where no flag allows a digit separator.
+    NeedsPosition(FlagSetter),
+    /// These reserved bits are set.
+    ReservedBits(u128),
 }
 
-/// A setting that has no effect.
-#[derive(Debug, Clone, Copy, PartialEq, Eq)]
-pub enum Unused {
-    /// A digit separator that no flag allows anywhere. The normal form does not have it.
-    NotAllowed(Edit),
-    /// The flags that allow a digit separator, since there is none.
-    NoSeparator,
-    /// The flag by which the case of a byte counts, since the byte is absent.
-    NoByte(FlagSetter, Edit),
-}
-
-/// Returns the reasons for which a word breaks a rule: none exactly if it keeps the rule.
+/// Returns the reasons why a word breaks rules, each in its own slot. Each cause is listed once, in the order of the
+/// first rule that it breaks. All slots are `None` if and only if the word is lawful.
 ///
-/// A byte that is not free has one of three. [`Rule::PunctuationDiffers`] has one for each two bytes that
-/// clash. Each other rule has at most one, which comes first.
+/// An absent exponent base or exponent radix follows the mantissa radix and is never a reason itself. Use
+/// [`Reason::breaks`] to find out which rules a reason breaks, and [`Reason::mask`] for the bits that it blames.
+#[tactic(auto, using(crate::proofs::AllReasons::distinct))]
+pub const fn reasons(format: u128) -> [Option<Reason>; CANDIDATE_COUNT]
+    ensures each { result ≡ map if_applicable (candidates format) }
+    ensures lawful { Lawful format ↔ (all_reasons format ≡ []) }
+
+    // Each reason why the word breaks a rule is in a slot, and this reason breaks the rule.
+    ensures by_rule { (rule : Rule)
+        → AllByRecursion (λ reason. IsAmong (all_reasons format) reason × Breaks reason rule) (reasons_of rule format) }
+
+    // A rule that a reason breaks is not kept.
+    ensures broken { (rule : Rule)
+        → AllByRecursion (λ reason. Breaks reason rule → Holds rule format → ⊥) (all_reasons format) }
+    ensures distinct { ArePairwise (λ a b. a ≢ b) (all_reasons format) }
+
+    // A reason is true of each word that has the same bits under its mask, and this word breaks its first rule.
+    ensures blame { (other : ℕ) → AllByRecursion (Blames format other) (all_reasons format) }
+{
+    rule_facts();
+    let separator = reasons_of(Rule::DigitSeparatorIsPunctuation, format);
+    let prefix = reasons_of(Rule::BasePrefixIsPunctuation, format);
+    let suffix = reasons_of(Rule::BaseSuffixIsPunctuation, format);
+    let clash = reasons_of(Rule::PunctuationDiffers, format);
+    [
+        reasons_of(Rule::MantissaRadixInRange, format)[0],
+        reasons_of(Rule::ExponentBaseInRange, format)[1],
+        reasons_of(Rule::ExponentRadixInRange, format)[1],
+        separator[0],
+        separator[1],
+        separator[2],
+        prefix[0],
+        prefix[1],
+        prefix[2],
+        suffix[0],
+        suffix[1],
+        suffix[2],
+        clash[0],
+        clash[1],
+        clash[2],
+        reasons_of(Rule::ExponentFlagsAgree, format)[0],
+        reasons_of(Rule::MantissaSignFlagsAgree, format)[0],
+        reasons_of(Rule::ExponentSignFlagsAgree, format)[0],
+        reasons_of(Rule::SpecialCaseFlagsAgree, format)[0],
+        reasons_of(Rule::SpecialSeparatorFlagsAgree, format)[0],
+        reasons_of(Rule::IntegerConsecutiveIsAllowed, format)[0],
+        reasons_of(Rule::FractionConsecutiveIsAllowed, format)[0],
+        reasons_of(Rule::ExponentConsecutiveIsAllowed, format)[0],
+        reasons_of(Rule::ReservedBitsAreZero, format)[0],
+    ]
+}
+
+/// Returns the reasons why a word breaks a rule. All entries are `None` if and only if the word keeps the rule.
+///
+/// A byte that is present and not punctuation has one of three reasons. [`Rule::PunctuationDiffers`] has a reason for
+/// each two bytes that clash. Each other rule has at most one.
 #[tactic(auto, using(crate::proofs::ReasonLemmas::kept_without_reason))]
-pub const fn reasons_of(rule: Rule, format: u128) -> [Option<Reason>; REASONS]
-    ensures each { result ≡ padded (cases_of rule format) }
+pub const fn reasons_of(rule: Rule, format: u128) -> [Option<Reason>; MAX_REASONS]
+    ensures each { result ≡ in_three_slots (candidates_of rule format) }
     ensures kept { Holds rule format ↔ (reasons_of rule format ≡ []) }
 {
     match rule {
-        Rule::MantissaRadixInRange => {
-            let radix = flags::mantissa_radix(format);
-            out_of_range(radix, Edit::MantissaRadix(radix as u8))
-        }
+        Rule::MantissaRadixInRange => [mantissa_reason(format), None, None],
         Rule::ExponentBaseInRange => {
-            let base = flags::exponent_base(format);
-            out_of_range(base, Edit::ExponentBase(NonZeroU8::new(base as u8)))
+            let base = raw_exponent_base(format);
+            exponent_reasons(format, base, &Edit::ExponentBase(NonZeroU8::new(base)))
         }
         Rule::ExponentRadixInRange => {
-            let radix = flags::exponent_radix(format);
-            out_of_range(radix, Edit::ExponentRadix(NonZeroU8::new(radix as u8)))
+            let radix = raw_exponent_radix(format);
+            exponent_reasons(format, radix, &Edit::ExponentRadix(NonZeroU8::new(radix)))
         }
-        Rule::DigitSeparatorIsPunctuation => {
-            let byte = flags::digit_separator(format);
-            not_free(format, byte, &separator_edit(format))
-        }
-        Rule::BasePrefixIsPunctuation => not_free(
+        Rule::DigitSeparatorIsPunctuation => punctuation_reasons(
+            format,
+            flags::digit_separator(format),
+            &separator_edit(format),
+        ),
+        Rule::BasePrefixIsPunctuation => punctuation_reasons(
             format,
             flags::base_prefix(format),
             &prefix_edit(format),
         ),
-        Rule::BaseSuffixIsPunctuation => not_free(
+        Rule::BaseSuffixIsPunctuation => punctuation_reasons(
             format,
             flags::base_suffix(format),
             &suffix_edit(format),
         ),
         Rule::PunctuationDiffers => clash_reasons(format),
-        _ => [said(!rule.is_kept(format), flag_reason(rule)), None, None],
+        Rule::ReservedBitsAreZero => {
+            let bits = format & Rule::ReservedBitsAreZero.mask();
+            [some_if(bits != 0, Reason::ReservedBits(bits)), None, None]
+        }
+        _ => [
+            some_if(!rule.is_kept(format), flag_reason(rule)),
+            None,
+            None,
+        ],
     }
 }
 
-// The reason of a radix or a base, written by an edit, that is not 2 to 36.
-const fn out_of_range(radix: u32, edit: Edit) -> [Option<Reason>; REASONS]
-    ensures { result ≡ padded (out_of_range radix edit) }
+// Returns the reason of a mantissa radix that is not between 2 and 36, or `None` if it is.
+const fn mantissa_reason(format: u128) -> Option<Reason>
+    ensures { result ≡ if_applicable (mantissa_candidate (raw format)) }
 {
-    [
-        said(!flags::is_valid_radix(radix), Reason::OutOfRange(edit)),
-        None,
-        None,
-    ]
+    let radix = flags::mantissa_radix(format);
+    let base_follows = raw_exponent_base(format) == 0;
+    let exponent_follows = raw_exponent_radix(format) == 0;
+    some_if(
+        !flags::is_valid_radix(radix),
+        Reason::MantissaRadixOutOfRange(radix as u8, base_follows, exponent_follows),
+    )
 }
 
-// The reason of a byte that is not free.
-const fn not_free(format: u128, byte: u8, edit: &Edit) -> [Option<Reason>; REASONS]
-    ensures { result ≡ padded (not_free (raw format) byte edit.now) }
+// Returns the reason of an exponent byte, written by `edit`, that is not between 2 and 36, or the reason of the
+// mantissa radix if the byte is absent.
+const fn exponent_reasons(format: u128, byte: u8, edit: &Edit) -> [Option<Reason>; MAX_REASONS]
+    ensures { result ≡ in_three_slots (exponent_candidates (raw format) byte edit.now) }
+{
+    if byte == 0 {
+        [mantissa_reason(format), None, None]
+    } else {
+        [
+            None,
+            some_if(
+                !flags::is_valid_radix(byte as u32),
+                Reason::OutOfRange(*edit),
+            ),
+            None,
+        ]
+    }
+}
+
+// Returns the reasons why a byte, written by `edit`, is present and not punctuation.
+const fn punctuation_reasons(format: u128, byte: u8, edit: &Edit) -> [Option<Reason>; MAX_REASONS]
+    ensures { result ≡ in_three_slots (punctuation_candidates (raw format) byte edit.now) }
 {
     [
-        said((byte != 0) & !is_valid_ascii(byte), Reason::NotText(*edit)),
-        said((byte == b'+') | (byte == b'-'), Reason::IsSign(*edit)),
-        said(
+        some_if((byte != 0) & !is_valid_ascii(byte), Reason::NotText(*edit)),
+        some_if((byte == b'+') | (byte == b'-'), Reason::IsSign(*edit)),
+        some_if(
             flags::is_digit(format, byte),
             Reason::IsDigit(*edit, radix_of_digit(format, byte)),
         ),
     ]
 }
 
-// The reasons of bytes that clash.
-const fn clash_reasons(format: u128) -> [Option<Reason>; REASONS]
-    ensures { result ≡ padded (cases_of rules.PunctuationDiffers format) }
+// Returns the reasons why bytes clash.
+const fn clash_reasons(format: u128) -> [Option<Reason>; MAX_REASONS]
+    ensures { result ≡ in_three_slots (candidates_of rules.PunctuationDiffers format) }
 {
     let clashes = flags::clashes(format);
     [
-        said(
+        some_if(
             clashes[0],
-            Reason::AreSame(separator_edit(format), prefix_edit(format)),
+            clash(
+                &separator_edit(format),
+                &prefix_edit(format),
+                FlagSetter::CaseSensitiveBasePrefix,
+            ),
         ),
-        said(
+        some_if(
             clashes[1],
-            Reason::AreSame(separator_edit(format), suffix_edit(format)),
+            clash(
+                &separator_edit(format),
+                &suffix_edit(format),
+                FlagSetter::CaseSensitiveBaseSuffix,
+            ),
         ),
-        said(
+        some_if(
             clashes[2],
-            Reason::AreSame(prefix_edit(format), suffix_edit(format)),
+            clash(
+                &prefix_edit(format),
+                &suffix_edit(format),
+                case_flag(format),
+            ),
         ),
     ]
 }
 
-// The reason of flags that exclude each other, or of reserved bits.
+// Returns the reason of two bytes that clash, with the flag to blame if they differ.
+const fn clash(a: &Edit, b: &Edit, flag: FlagSetter) -> Reason
+    ensures { result ≡ reasons.Clash a.now b.now
+        (if argument_byte b.now == argument_byte a.now then None else Some flag) }
+{
+    if b.argument_byte() == a.argument_byte() {
+        Reason::Clash(*a, *b, None)
+    } else {
+        Reason::Clash(*a, *b, Some(flag))
+    }
+}
+
+// Returns the case flag of the base prefix if it is not set, and otherwise the case flag of the base suffix.
+const fn case_flag(format: u128) -> FlagSetter
+    ensures { result ≡ case_flag (raw format) }
+{
+    if NumberFormat::new(format).case_sensitive_base_prefix() {
+        FlagSetter::CaseSensitiveBaseSuffix
+    } else {
+        FlagSetter::CaseSensitiveBasePrefix
+    }
+}
+
+// Returns the reason with the flags that break this rule.
 const fn flag_reason(rule: Rule) -> Reason
     ensures { result ≡ flag_reason rule }
 {
-    match rule {
-        Rule::ExponentFlagsAgree => Reason::Contradict(
+    let (a, b) = match rule {
+        Rule::ExponentFlagsAgree => (
             FlagSetter::NoExponentNotation,
             FlagSetter::RequiredExponentNotation,
         ),
-        Rule::MantissaSignFlagsAgree => Reason::Contradict(
+        Rule::MantissaSignFlagsAgree => (
             FlagSetter::NoPositiveMantissaSign,
             FlagSetter::RequiredMantissaSign,
         ),
-        Rule::ExponentSignFlagsAgree => Reason::Contradict(
+        Rule::ExponentSignFlagsAgree => (
             FlagSetter::NoPositiveExponentSign,
             FlagSetter::RequiredExponentSign,
         ),
-        Rule::SpecialCaseFlagsAgree => {
-            Reason::Contradict(FlagSetter::NoSpecial, FlagSetter::CaseSensitiveSpecial)
-        }
+        Rule::SpecialCaseFlagsAgree => (FlagSetter::NoSpecial, FlagSetter::CaseSensitiveSpecial),
         Rule::SpecialSeparatorFlagsAgree => {
-            Reason::Contradict(FlagSetter::NoSpecial, FlagSetter::SpecialDigitSeparator)
+            (FlagSetter::NoSpecial, FlagSetter::SpecialDigitSeparator)
         }
         Rule::IntegerConsecutiveIsAllowed => {
-            Reason::HasNoPlace(FlagSetter::IntegerConsecutiveDigitSeparator)
+            return Reason::NeedsPosition(FlagSetter::IntegerConsecutiveDigitSeparator);
         }
         Rule::FractionConsecutiveIsAllowed => {
-            Reason::HasNoPlace(FlagSetter::FractionConsecutiveDigitSeparator)
+            return Reason::NeedsPosition(FlagSetter::FractionConsecutiveDigitSeparator);
         }
-        Rule::ExponentConsecutiveIsAllowed => {
-            Reason::HasNoPlace(FlagSetter::ExponentConsecutiveDigitSeparator)
-        }
-        _ => Reason::ReservedBits,
-    }
+        _ => return Reason::NeedsPosition(FlagSetter::ExponentConsecutiveDigitSeparator),
+    };
+    Reason::Contradict(a, b)
 }
 
-// The radix of which a byte is a digit: that of the mantissa, if it is one there.
-const fn radix_of_digit(format: u128, byte: u8) -> u32
+// Returns the edit of a radix in which a byte is a digit: the mantissa radix if it is a digit there, and otherwise the
+// exponent radix.
+const fn radix_of_digit(format: u128, byte: u8) -> Edit
     ensures { result ≡ radix_of_digit (raw format) byte }
 {
     digit_facts();
-    if char_is_digit(byte, flags::mantissa_radix(format)) {
-        flags::mantissa_radix(format)
+    let radix = flags::mantissa_radix(format);
+    if char_is_digit(byte, radix) {
+        Edit::MantissaRadix(radix as u8)
     } else {
-        flags::exponent_radix(format)
+        Edit::ExponentRadix(NonZeroU8::new(raw_exponent_radix(format)))
     }
 }
 
-// What is said if it holds.
-const fn said<T: Copy>(holds: bool, what: T) -> Option<T>
-    ensures { result ≡ then_some holds what }
+// Returns `Some(value)` if `condition` is true, and `None` if it is false.
+const fn some_if<T: Copy>(condition: bool, value: T) -> Option<T>
+    ensures { result ≡ then_some condition value }
 {
-    if holds { Some(what) } else { None }
+    if condition { Some(value) } else { None }
 }
 
-/// Returns the settings of a word that have no effect, and else `None`. They are no errors: a lawful word
-/// may have them.
-pub const fn unused_settings(format: u128) -> [Option<Unused>; UNUSED]
-    ensures each { result ≡ map said (unused_cases (raw format)) }
-
-    // A separator that no flag allows can be cleared: the normal form is the same.
-    ensures separator { separator_allowed (raw format) ≡ false → (other : ℕ)
-        → raw other ≡ without_separator (raw format)
-        → normal_form_of other ≡ normal_form_of format }
-
-    // The flag of a byte that is absent can be cleared: no rule and no choice of options is affected.
-    ensures prefix_case { (raw format).byte layout.base_prefix ≡ 0 → (other : ℕ)
-        → IsWith (without_prefix_case (raw format)) format other → SameRules format other }
-    ensures suffix_case { (raw format).byte layout.base_suffix ≡ 0 → (other : ℕ)
-        → IsWith (without_suffix_case (raw format)) format other → SameRules format other }
-{
-    unused_beside(format, flags::digit_separator(format))
-}
-
-/// Returns the fields of a builder that have no effect on what it packs, and else `None`.
-///
-/// A digit separator that no flag allows is among them: the word does not have it.
-pub const fn unused_fields(builder: &NumberFormatBuilder) -> [Option<Unused>; UNUSED]
-    ensures { result ≡ map said (unused_cases builder.now) }
-{
-    let separator = match builder.get_digit_separator() {
-        Some(byte) => byte.get(),
-        None => 0,
-    };
-    unused_beside(builder.build_unchecked(), separator)
-}
-
-// What has no effect in a word with another digit separator.
-const fn unused_beside(format: u128, separator: u8) -> [Option<Unused>; UNUSED]
-    ensures { result ≡ map said (unused_cases (set_byte (raw format) layout.digit_separator separator)) }
-{
-    let view = NumberFormat::new(format);
-    let is_allowed = flags::is_separator_allowed(format);
-    let no_separator = separator == 0;
-    let no_prefix = view.base_prefix() == 0;
-    let no_suffix = view.base_suffix() == 0;
-    let prefix_case = view.case_sensitive_base_prefix();
-    let suffix_case = view.case_sensitive_base_suffix();
-    let edit = Edit::DigitSeparator(NonZeroU8::new(separator));
-    [
-        said(!is_allowed & !no_separator, Unused::NotAllowed(edit)),
-        said(is_allowed & no_separator, Unused::NoSeparator),
-        said(
-            prefix_case & no_prefix,
-            Unused::NoByte(FlagSetter::CaseSensitiveBasePrefix, Edit::BasePrefix(None)),
-        ),
-        said(
-            suffix_case & no_suffix,
-            Unused::NoByte(FlagSetter::CaseSensitiveBaseSuffix, Edit::BaseSuffix(None)),
-        ),
-    ]
-}
-
-// The edit that writes the digit separator of a word.
+// Returns the edit that writes the digit separator of a word.
 const fn separator_edit(format: u128) -> Edit
     ensures { result ≡ separator_edit (raw format) }
 {
     Edit::DigitSeparator(NonZeroU8::new(flags::digit_separator(format)))
 }
 
-// The edit that writes the base prefix.
+// Returns the edit that writes the base prefix of a word.
 const fn prefix_edit(format: u128) -> Edit
     ensures { result ≡ prefix_edit (raw format) }
 {
     Edit::BasePrefix(NonZeroU8::new(flags::base_prefix(format)))
 }
 
-// The edit that writes the base suffix.
+// Returns the edit that writes the base suffix of a word.
 const fn suffix_edit(format: u128) -> Edit
     ensures { result ≡ suffix_edit (raw format) }
 {

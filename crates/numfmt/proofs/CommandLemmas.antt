@@ -1,4 +1,4 @@
--- A request has one response.
+-- A request has at most one response.
 use Rattle.std.proofs.Common.{◌≡◌, ◌↔◌, ◌≤◌, ◌-◌, ℕ, List, ◌∷◌, length, get_or, map, take, drop}
 use Rattle.std.proofs.Common.{Bool, true, false, IsTrue, Ok, Err, refl, sym, ap, ◌∙◌}
 use Rattle.lexical_util.specs.declared.error.Error.{Error}
@@ -10,11 +10,11 @@ use Rattle.numfmt.specs.Command.{Command, Answers, Request, Responds, request_of
 use Rattle.numfmt.specs.Command as commands
 use Rattle.numfmt.proofs.ItemLemmas.{map-first}
 
--- a word has one error
+-- `HasOneError` holds if each word has at most one error.
 abbrev pub HasOneError : Type 0
 HasOneError = (word : ℕ) → (a b : Error) → IsErrorOf word a → IsErrorOf word b → a ≡ b
 
--- two truths about the same are one
+-- Two truth values that are equivalent to `P` are equal.
 same_truth : {P : Type 0} (a b : Bool) → IsTrue a ↔ P → IsTrue b ↔ P → a ≡ b
 same_truth true b h h' = sym (h'.1 (h.0 refl))
 same_truth false true h h' = h.1 (h'.0 refl)
@@ -53,7 +53,8 @@ one_response one (Ok command) (Ok a) (Ok b) h h' = ap Ok (one_answer one command
 one_response one (Ok command) (Err a) b h h' = absurd h
 one_response one (Ok command) (Ok a) (Err b) h h' = absurd h'
 
--- the first item is the name of a command, and the others are its arguments
+-- If `x` is the first of `xs` and `f x` is `name`, then a response to `name` and the images of the other items is a
+-- response to `map f xs`.
 pub by_name : {X : Type 0} (f : X → List ℕ) (xs : List X) (x : X) (name : List ℕ) (r : Response) → 1 ≤ length xs
     → x ≡ get_or xs 0 x → f x ≡ name → Responds (request_of (name ∷ map f (take (length xs - 1) (drop 1 xs)))) r
     → Responds (request_of (map f xs)) r

@@ -1,4 +1,3 @@
-mod TextLemmas
 mod CommandLemmas
 mod ItemLemmas
 mod EditsLemmas

@@ -1,7 +1,7 @@
--- The commands: what arguments ask for, and what the answer to it is.
+-- The commands: the requests in the program's arguments, and the answers to them.
 use Rattle.std.specs.Prelude.{ℕ, ◌≡◌, ◌↔◌, IsTrue, if◌then◌else◌, List, [], ◌∷◌, length, find, codes, bytes_eq, nat_le}
 use Rattle.std.specs.Prelude.{Option, None, Some, Result, Ok, Err}
-use Rattle.std.specs.Result.{IsOkAnd, MatchResult, result_ok}
+use Rattle.std.specs.Result.{IsOkAnd, MatchResult}
 use Rattle.lexical_util.specs.Record.{IsBuilt}
 use Rattle.lexical_util.specs.Rules.{IsErrorOf, Lawful}
 use Rattle.lexical_util.specs.Options.{OptionsFit}
@@ -9,18 +9,17 @@ use Rattle.lexical_util.specs.declared.edits.Edit.{Edit}
 use Rattle.lexical_util.specs.declared.format.TheConstants.{STANDARD}
 use Rattle.lexical_util.specs.Edits.{edited, all_writes}
 use Rattle.lexical_util.specs.NormalForm.{normal_form_of}
-use Rattle.lexical_util.specs.Additions.Reasons.{unused_of}
 use Rattle.numfmt.specs.declared.response.Answer.{Answer}
 use Rattle.numfmt.specs.declared.response.Answer.TheVariants as answers
 use Rattle.numfmt.specs.declared.response.Refusal.{Refusal}
 use Rattle.numfmt.specs.declared.response.Refusal.TheVariants.{UnknownCommand, WrongNumberOfArguments, TooManyEdits}
 use Rattle.numfmt.specs.declared.response.Refusal.TheVariants.{BadWord, BadEdit, BadByte}
-use Rattle.numfmt.specs.WordText.{word_from_text}
-use Rattle.lexical_util.specs.Additions.SettingText.{byte_from_text}
+use Rattle.lexical_util.specs.Additions.WordText.{word_from_text}
+use Rattle.lexical_util.specs.Additions.SettingText.{byte_from_digits}
 use Rattle.numfmt.specs.EditText.{edits_from_texts}
 use Rattle.numfmt.specs.Response.{Response}
 
--- a command, with what its arguments write
+-- A command with the values of its arguments: format words, bytes and edits.
 pub data Command : Type 0 where
   show : ℕ → Command
   edit : ℕ → List Edit → Command
@@ -31,7 +30,7 @@ pub data Command : Type 0 where
   source : ℕ → Command
   explain : ℕ → Command
 
--- the answer to each command, in the library's words
+-- `Answers command answer` holds if `answer` is the answer to `command`, by the definitions of the library.
 abbrev pub Answers : Command → Answer → Type 0
 Answers (show word) answer = answer ≡ answers.Fields word
 Answers (edit word list) answer = answer ≡ answers.Word (edited word (all_writes list))
@@ -42,38 +41,39 @@ Answers (migrate word) (answers.Word normal) = Lawful (normal_form_of word) × (
 Answers (migrate word) (answers.Outcome error) =
     (¬ Lawful (normal_form_of word)) × IsErrorOf (normal_form_of word) error
 Answers (source word) (answers.Source written truth) = (written ≡ word) × (IsTrue truth ↔ IsBuilt word)
-Answers (explain word) (answers.Explanation written truth) =
-    (written ≡ word) × (IsTrue truth ↔ (Lawful word × (unused_of word ≡ [])))
+Answers (explain word) (answers.Explanation written truth) = (written ≡ word) × (IsTrue truth ↔ Lawful word)
 Answers _ _ = ⊥
 
--- what arguments ask for, or why they are refused
+-- A request: the command in the program's arguments, or the reason why they are refused.
 abbrev pub Request : Type 0
 Request = Result Command Refusal
 
--- what is asked for with a value, unless it could not be read
+-- `request_if_some option refusal ask` is `ask value` if `option` is `Some value`, and `refusal` if it is `None`.
 abbrev pub request_if_some : {T : Type 0} → Option T → Refusal → (T → Request) → Request
 request_if_some None refusal ask = Err refusal
 request_if_some (Some value) refusal ask = ask value
 
--- one word
+-- `one_word ask args` is `ask word` if `args` is the text of one format word, and otherwise a refusal.
 abbrev pub one_word : (ℕ → Command) → List (List ℕ) → Request
 one_word ask (word ∷ []) = request_if_some (word_from_text word) BadWord (λ word. Ok (ask word))
 one_word ask _ = Err WrongNumberOfArguments
 
--- two words
+-- `two_words ask args` is `ask a b` if `args` are the texts of two format words, and otherwise a refusal.
 abbrev pub two_words : (ℕ → ℕ → Command) → List (List ℕ) → Request
 two_words ask (a ∷ b ∷ []) =
     request_if_some (word_from_text a) BadWord (λ a. request_if_some (word_from_text b) BadWord (λ b. Ok (ask a b)))
 two_words ask _ = Err WrongNumberOfArguments
 
--- a word and two bytes
+-- `word_and_bytes ask args` is `ask word e p` if `args` are the texts of a format word and of two decimal bytes, and
+-- otherwise a refusal.
 abbrev pub word_and_bytes : (ℕ → ℕ → ℕ → Command) → List (List ℕ) → Request
 word_and_bytes ask (word ∷ e ∷ p ∷ []) =
-    request_if_some (word_from_text word) BadWord (λ word. request_if_some (result_ok (byte_from_text e)) BadByte
-    (λ e. request_if_some (result_ok (byte_from_text p)) BadByte (λ p. Ok (ask word e p))))
+    request_if_some (word_from_text word) BadWord (λ word. request_if_some (byte_from_digits 10 3 e) BadByte
+    (λ e. request_if_some (byte_from_digits 10 3 p) BadByte (λ p. Ok (ask word e p))))
 word_and_bytes ask _ = Err WrongNumberOfArguments
 
--- a word and at most 64 edits
+-- `word_and_edits ask args` is `ask word list` if `args` are the texts of a format word and of at most 64 edits, and
+-- otherwise a refusal.
 abbrev pub word_and_edits : (ℕ → List Edit → Command) → List (List ℕ) → Request
 word_and_edits ask [] = Err WrongNumberOfArguments
 word_and_edits ask (word ∷ texts) =
@@ -82,7 +82,7 @@ word_and_edits ask (word ∷ texts) =
     (λ word. request_if_some (edits_from_texts texts) BadEdit (λ list. Ok (ask word list)))
     else Err TooManyEdits
 
--- the commands by name, each with the arguments that it takes
+-- `commands` lists the name of each command with the function that reads its arguments.
 abbrev pub commands : List (List ℕ × (List (List ℕ) → Request))
 commands =
     (codes "show", one_word show)
@@ -95,13 +95,14 @@ commands =
     ∷ (codes "explain", one_word explain)
     ∷ []
 
--- what the program's arguments ask for, without its name: a command and its arguments, or none
+-- `request_of args` is the request in the program's arguments without its name: to show the standard format if `args`
+-- is empty. Otherwise its first item is the name of a command, and the others are the arguments of the command.
 abbrev pub request_of : List (List ℕ) → Request
 request_of [] = Ok (show STANDARD)
 request_of (name ∷ args) =
     request_if_some (find (λ command. bytes_eq name command.0) commands) UnknownCommand (λ command. command.1 args)
 
--- the response to what is asked for
+-- `Responds request response` holds if `response` is the answer to the command of `request`, or its refusal.
 abbrev pub Responds : Request → Response → Type 0
 Responds request response =
     MatchResult request (λ command. IsOkAnd response (Answers command)) (λ refusal. response ≡ Err refusal)

@@ -1,48 +1,63 @@
--- What there is to say of a format word: the rules that it breaks, and the settings without effect.
+-- The answer to `explain`: the reasons why a word breaks rules, and the notes on it.
 use Rattle.std.specs.Prelude.{ℕ, ◌==◌, bit_and, if◌then◌else◌, List, [], ◌∷◌, ◌++◌, Option, None, Some, codes, flat_map}
-use Rattle.lexical_util.specs.BrokenRules.{mask_read}
+use Rattle.std.specs.List.{filter_map}
 use Rattle.lexical_util.specs.Outcomes.{printed_text}
 use Rattle.lexical_util.specs.Record.{raw}
-use Rattle.lexical_util.specs.Rules.{error_of, rules_in_order}
+use Rattle.lexical_util.specs.Rules.{error_of}
 use Rattle.lexical_util.specs.Additions.FieldEdits.{field_edits}
-use Rattle.lexical_util.specs.Additions.Reasons.{reasons_of, unused_of}
-use Rattle.lexical_util.specs.Additions.ReasonText.{reason_text, unused_text}
+use Rattle.lexical_util.specs.Additions.Mends.{mend_of}
+use Rattle.lexical_util.specs.Additions.Notes.{notes_beside}
+use Rattle.lexical_util.specs.Additions.Reasons.{all_reasons, if_applicable, mask_of_reason, rules_of_reason}
+use Rattle.lexical_util.specs.Additions.ReasonText.{note_text, reason_text}
 use Rattle.lexical_util.specs.Additions.SettingNumbers.{mask_of_edit}
 use Rattle.lexical_util.specs.Additions.SettingText.{setting_text}
 use Rattle.lexical_util.specs.declared.edits.Edit.{Edit}
 use Rattle.lexical_util.specs.declared.format_flags.Rule.{Rule}
 use Rattle.lexical_util.specs.declared.reasons.Reason.{Reason}
+use Rattle.lexical_util.specs.declared.reasons.note.Note.{Note}
 
--- a line of text
+-- `line text` is `text` and a newline.
 abbrev pub line : List ℕ → List ℕ
 line text = text ++ 10 ∷ []
 
--- the same after four spaces
-abbrev pub indented : List ℕ → List ℕ
-indented text = codes "    " ++ line text
+-- `error_line rule` is the line with the error of `rule`, or empty if `rule` is `None`.
+abbrev pub error_line : Option Rule → List ℕ
+error_line None = []
+error_line (Some rule) = line (codes "    error: " ++ printed_text (error_of rule))
 
--- the same of an item that there may be, after an indent, by the text of an item
-abbrev pub line_of : {T : Type 0} → List ℕ → (T → List ℕ) → Option T → List ℕ
-line_of indent text None = []
-line_of indent text (Some item) = indent ++ line (text item)
+-- `if_blamed reason field text` is `text` if the edit `field` writes a bit that `reason` blames, and empty if it does not.
+abbrev pub if_blamed : Reason → Edit → List ℕ → List ℕ
+if_blamed reason field text = if bit_and (mask_of_edit field) (mask_of_reason reason) == 0 then [] else text
 
--- the line of a field, if a rule reads a bit that the edit of the field writes
-abbrev pub field_line : Rule → Edit → List ℕ
-field_line rule edit =
-    if bit_and (mask_of_edit edit) (mask_read rule) == 0 then [] else indented (setting_text edit)
+-- `field_line reason field` is the line with the edit `field`, or empty if `reason` does not blame its field.
+abbrev pub field_line : Reason → Edit → List ℕ
+field_line reason field = if_blamed reason field (line (codes "    field: " ++ setting_text field))
 
--- the error of a rule, the fields that it reads, and the reasons why a word breaks it; nothing without a reason
-abbrev pub text_for : Rule → ℕ → List Reason → List ℕ
-text_for rule word [] = []
-text_for rule word (first ∷ others) =
-    line (printed_text (error_of rule)) ++ flat_map (field_line rule) (field_edits (raw word))
-    ++ flat_map (λ reason. indented (reason_text reason)) (first ∷ others)
+-- `edits_line edits` is the line with `edits`, which mend a field, or empty if `edits` is empty.
+abbrev pub edits_line : List Edit → List ℕ
+edits_line [] = []
+edits_line edits = line (codes "    mend:" ++ flat_map (λ edit. 32 ∷ setting_text edit) edits)
 
--- what is said of a word and a rule: nothing if the word keeps it
-abbrev pub rule_text : ℕ → Rule → List ℕ
-rule_text word rule = text_for rule word (reasons_of rule word)
+-- `mend_line word reason field` is the line with the edits that mend `field` in `word`. It is empty if `reason` does
+-- not blame `field`, or if no edits mend it.
+abbrev pub mend_line : ℕ → Reason → Edit → List ℕ
+mend_line word reason field = if_blamed reason field (edits_line (mend_of word reason field))
 
--- what is said of a word: of each rule, and of each setting without effect
+-- `reason_lines word reason` is the sentence of `reason`, the errors of its rules, the fields of `word` that it blames,
+-- and the edits that mend these fields.
+abbrev pub reason_lines : ℕ → Reason → List ℕ
+reason_lines word reason =
+    line (reason_text reason)
+    ++ flat_map error_line (rules_of_reason reason)
+    ++ flat_map (field_line reason) (field_edits (raw word))
+    ++ flat_map (mend_line word reason) (field_edits (raw word))
+
+-- `note_line note` is the sentence of `note` after `note: `.
+abbrev pub note_line : Note → List ℕ
+note_line note = line (codes "note: " ++ note_text note)
+
+-- `explanation word` is the text of the answer: the lines of each reason of `word`, then the line of each note.
 unfoldable pub explanation : ℕ → List ℕ
 explanation word =
-    flat_map (rule_text word) rules_in_order ++ flat_map (λ setting. line (unused_text setting)) (unused_of word)
+    flat_map (reason_lines word) (all_reasons word)
+    ++ flat_map note_line (filter_map if_applicable (notes_beside word (raw word)))

@@ -1,4 +1,4 @@
--- The responses of the program: what each prints, and its exit status.
+-- The responses of the program: the text and the exit status of each.
 use Rattle.std.specs.Prelude.{ℕ, true, false, List, [], ◌∷◌, ◌++◌, flat_map, codes, decimal, bit_and}
 use Rattle.std.specs.Prelude.{Result, Ok, Err}
 use Rattle.lexical_util.specs.Layout as layout
@@ -11,19 +11,19 @@ use Rattle.numfmt.specs.declared.response.Answer.{Answer}
 use Rattle.numfmt.specs.declared.response.Answer.TheVariants as answers
 use Rattle.numfmt.specs.declared.response.Refusal.{Refusal}
 use Rattle.numfmt.specs.declared.response.Refusal.TheVariants as refusals
-use Rattle.numfmt.specs.WordText.{printed}
-use Rattle.numfmt.specs.Source.{source_text}
+use Rattle.lexical_util.specs.Additions.WordText.{printed}
+use Rattle.numfmt.specs.Source.{source_lines}
 use Rattle.numfmt.specs.Explanation.{explanation, line}
 
--- an answer, or the reason why the arguments are refused
+-- A response: an answer, or the reason why the arguments are refused.
 abbrev pub Response : Type 0
 Response = Result Answer Refusal
 
--- a name, a space and a value
+-- `field_text name value` is `name`, a space and `value`.
 abbrev pub field_text : List ℕ → List ℕ → List ℕ
 field_text name value = name ++ 32 ∷ value
 
--- the bytes of a format word, with their names
+-- `byte_fields word` lists the name and value of each byte of `word`. The exponent bytes have their effective values.
 abbrev pub byte_fields : ℕ → List (List ℕ)
 byte_fields word =
     field_text (codes "digit_separator") (decimal ((raw word).byte layout.digit_separator))
@@ -34,12 +34,12 @@ byte_fields word =
     ∷ field_text (codes "exponent_radix") (decimal (effective_exponent_radix (raw word)))
     ∷ []
 
--- the fields of a format word, one a line
+-- `fields_text word` is the text of the fields of `word`: a line with the flags, then a line for each byte.
 abbrev pub fields_text : ℕ → List ℕ
 fields_text word =
     flat_map line (field_text (codes "flags") (printed (bit_and word (mask_of flags))) ∷ byte_fields word)
 
--- the text of an answer
+-- `answer_text answer` is the text that the program prints for `answer`.
 abbrev pub answer_text : Answer → List ℕ
 answer_text (answers.Fields word) = fields_text word
 answer_text (answers.Word word) = line (printed word)
@@ -48,10 +48,10 @@ answer_text (answers.Sameness false) = line (codes "different")
 answer_text (answers.Outcome error) = line (printed_text error)
 answer_text (answers.Acceptance true) = line (codes "accepted")
 answer_text (answers.Acceptance false) = line (codes "refused")
-answer_text (answers.Source word is_built) = line (source_text word)
-answer_text (answers.Explanation word has_nothing_to_explain) = explanation word
+answer_text (answers.Source word is_built) = source_lines word
+answer_text (answers.Explanation word is_lawful) = explanation word
 
--- the reason as a refusal states it
+-- `refusal_text refusal` is the reason that the program prints for `refusal`.
 abbrev pub refusal_text : Refusal → List ℕ
 refusal_text refusals.UnknownCommand = codes "unknown command"
 refusal_text refusals.WrongNumberOfArguments = codes "wrong number of arguments"
@@ -60,12 +60,12 @@ refusal_text refusals.BadWord = codes "bad word"
 refusal_text refusals.BadEdit = codes "bad edit"
 refusal_text refusals.BadByte = codes "bad byte"
 
--- what the program prints
+-- `text_of response` is the text that the program prints for `response`.
 abbrev pub text_of : Response → List ℕ
 text_of (Ok answer) = answer_text answer
 text_of (Err refusal) = line (codes "numfmt: " ++ refusal_text refusal)
 
--- the exit status: 0, or 1 if the answer is no, or 2 for a refusal
+-- `status_of response` is the exit status: 0, 1 if the answer is no, or 2 for a refusal.
 abbrev pub status_of : Response → ℕ
 status_of (Ok (answers.Fields word)) = 0
 status_of (Ok (answers.Word word)) = 0

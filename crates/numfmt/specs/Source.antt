@@ -1,34 +1,34 @@
--- The builder expression of a format word, as Rust code.
-use Rattle.std.specs.Prelude.{ℕ, List, ◌++◌, Option, Some, None, codes, decimal, flat_map}
-use Rattle.lexical_util.specs.Record.{raw}
-use Rattle.lexical_util.specs.Additions.FieldEdits.{needed_edits}
-use Rattle.lexical_util.specs.Additions.SettingNumbers.{name_of, argument_of}
-use Rattle.lexical_util.specs.Additions.SettingText.{bool_text}
-use Rattle.lexical_util.specs.declared.edits.Edit.{Edit}
-use Rattle.lexical_util.specs.declared.edits.Argument.{Argument}
-use Rattle.lexical_util.specs.declared.edits.Argument.TheVariants as arguments
+-- The answer to `source`: the builder expression of a word, after comments that state what the expression loses.
+use Rattle.std.specs.Prelude.{ℕ, ◌==◌, ◌||◌, bit_and, if◌then◌else◌, List, [], ◌++◌, Option, None, Some, codes}
+use Rattle.lexical_util.specs.ShortTexts.{hexadecimal, quoted_byte}
+use Rattle.lexical_util.specs.Layout as layout
+use Rattle.lexical_util.specs.Masks.{reserved_mask}
+use Rattle.lexical_util.specs.Record.{raw, separator_allowed}
+use Rattle.lexical_util.specs.Additions.Source.{source_text}
+use Rattle.numfmt.specs.Explanation.{line}
 
--- a byte that may be absent, as Rust code
-abbrev pub option_text : Option ℕ → List ℕ
-option_text None = codes "None"
-option_text (Some byte) = codes "NonZeroU8::new(" ++ decimal byte ++ codes ")"
+-- `reserved_loss word` names the reserved bits of `word` that are set. It is `None` if all of them are 0.
+abbrev pub reserved_loss : ℕ → Option (List ℕ)
+reserved_loss word =
+    if bit_and word reserved_mask == 0 then None
+    else Some (codes "the reserved bits " ++ hexadecimal (bit_and word reserved_mask))
 
--- a call of a setter with a value
-abbrev pub call : List ℕ → List ℕ → List ℕ
-call name value = codes "." ++ name ++ codes "(" ++ value ++ codes ")"
+-- `unused_separator byte` names the digit separator `byte`, which no flag allows.
+abbrev pub unused_separator : ℕ → List ℕ
+unused_separator byte = quoted_byte (codes "digit separator") byte ++ codes ": no flag allows one"
 
--- An argument as Rust code.
-abbrev pub code_of_argument : Argument → List ℕ
-code_of_argument (arguments.Flag flag) = bool_text flag
-code_of_argument (arguments.Byte byte) = decimal byte
-code_of_argument (arguments.OptionalByte byte) = option_text byte
+-- `separator_loss word` names the digit separator of `word` if no flag of `word` allows one. It is `None` if a flag
+-- allows one, or if `word` has no digit separator.
+abbrev pub separator_loss : ℕ → Option (List ℕ)
+separator_loss word =
+    if ((raw word).byte layout.digit_separator == 0) || separator_allowed (raw word) then None
+    else Some (unused_separator ((raw word).byte layout.digit_separator))
 
--- the setter call that an edit stands for
-abbrev pub call_text : Edit → List ℕ
-call_text edit = call (name_of edit) (code_of_argument (argument_of edit))
+-- `loss_text loss` is a line with a comment that states the loss, or empty if `loss` is `None`.
+abbrev pub loss_text : Option (List ℕ) → List ℕ
+loss_text None = []
+loss_text (Some loss) = line (codes "// This code makes another word, without " ++ loss)
 
--- the builder expression of a word: a new builder, one call for each field that differs from the builder's, and the
--- packing
-unfoldable pub source_text : ℕ → List ℕ
-source_text word =
-    codes "NumberFormatBuilder::new()" ++ flat_map call_text (needed_edits (raw word)) ++ codes ".build_unchecked()"
+-- `source_lines word` is the text of the answer: a comment for each loss, then the builder expression of `word`.
+abbrev pub source_lines : ℕ → List ℕ
+source_lines word = loss_text (reserved_loss word) ++ loss_text (separator_loss word) ++ line (source_text word)

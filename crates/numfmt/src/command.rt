@@ -2,25 +2,24 @@
 
 ghost use Rattle.std.specs.Prelude.{◌≡◌, IfErr, map, string_bytes};
 ghost use Rattle.std.specs.Result.{result_ok};
-ghost use Rattle.numfmt.specs.WordText.{word_from_text};
-ghost use Rattle.lexical_util.specs.Additions.SettingText.{byte_from_text};
+ghost use Rattle.lexical_util.specs.Additions.WordText.{word_from_text};
+ghost use Rattle.lexical_util.specs.Additions.SettingText.{byte_from_digits};
 ghost use Rattle.numfmt.specs.Command.{Responds, request_of, one_word, two_words, word_and_bytes, word_and_edits};
 ghost use Rattle.numfmt.specs.Command as commands;
 
 use crate::edit::read_edits;
-use crate::explanation::has_nothing_to_explain;
 use crate::response::{Answer, Refusal};
 use crate::word::read_word;
-use lexical_util::edits::{Edit, byte_from_text, edit_word, is_built, migrate, same_format};
-use lexical_util::format::{STANDARD, format_error};
+use lexical_util::edits::{Edit, byte_from_decimal, edit_word, is_built, migrate, same_format};
+use lexical_util::format::{STANDARD, format_error, format_is_valid};
 use lexical_util::format_flags::is_valid_options_punctuation;
 
 // The maximum number of edits in one command.
 const MAX_EDITS: usize = 64;
 
-/// The response to `args`, the program's arguments without its name: the answer to the command, or the
-/// first reason to refuse them. The reasons are tried in this order: an unknown command, a wrong
-/// number of arguments, too many edits, then each argument from left to right.
+/// Returns the response to `args`, the program's arguments without its name: the answer to the command, or the first
+/// reason to refuse the arguments. The reasons are tested in this order: an unknown command, a wrong number of
+/// arguments, too many edits, then each argument from left to right.
 pub fn response_to(args: &[String]) -> Result<Answer, Refusal>
     ensures { Responds (request_of (map string_bytes args.now)) result }
 {
@@ -40,7 +39,7 @@ pub fn response_to(args: &[String]) -> Result<Answer, Refusal>
     }
 }
 
-// `show WORD`
+// Answers `show WORD`.
 fn show(args: &[String]) -> Result<Answer, Refusal>
     ensures { Responds (one_word commands.show (map string_bytes args.now)) result }
 {
@@ -50,7 +49,7 @@ fn show(args: &[String]) -> Result<Answer, Refusal>
     }
 }
 
-// `edit WORD NAME=VALUE ..`
+// Answers `edit WORD NAME=VALUE ..`.
 fn edit(args: &[String]) -> Result<Answer, Refusal>
     ensures { Responds (word_and_edits commands.edit (map string_bytes args.now)) result }
 {
@@ -66,7 +65,7 @@ fn edit(args: &[String]) -> Result<Answer, Refusal>
     Ok(Answer::Word(edit_word(format, &edits[..texts.len()])))
 }
 
-// `check WORD`
+// Answers `check WORD`.
 fn check(args: &[String]) -> Result<Answer, Refusal>
     ensures { Responds (one_word commands.check (map string_bytes args.now)) result }
 {
@@ -76,7 +75,7 @@ fn check(args: &[String]) -> Result<Answer, Refusal>
     }
 }
 
-// `same A B`
+// Answers `same A B`.
 fn same(args: &[String]) -> Result<Answer, Refusal>
     ensures { Responds (two_words commands.same (map string_bytes args.now)) result }
 {
@@ -86,7 +85,7 @@ fn same(args: &[String]) -> Result<Answer, Refusal>
     }
 }
 
-// `options WORD E P`
+// Answers `options WORD E P`.
 fn options(args: &[String]) -> Result<Answer, Refusal>
     ensures { Responds (word_and_bytes commands.options (map string_bytes args.now)) result }
 {
@@ -99,7 +98,7 @@ fn options(args: &[String]) -> Result<Answer, Refusal>
     Ok(Answer::Acceptance(is_valid_options_punctuation(word, exponent, point)))
 }
 
-// `migrate WORD`
+// Answers `migrate WORD`.
 fn migrate_word(args: &[String]) -> Result<Answer, Refusal>
     ensures { Responds (one_word commands.migrate (map string_bytes args.now)) result }
 {
@@ -115,7 +114,7 @@ fn migrate_word(args: &[String]) -> Result<Answer, Refusal>
     }
 }
 
-// `source WORD`
+// Answers `source WORD`.
 fn source(args: &[String]) -> Result<Answer, Refusal>
     ensures { Responds (one_word commands.source (map string_bytes args.now)) result }
 {
@@ -128,14 +127,14 @@ fn source(args: &[String]) -> Result<Answer, Refusal>
     }
 }
 
-// `explain WORD`
+// Answers `explain WORD`.
 fn explain(args: &[String]) -> Result<Answer, Refusal>
     ensures { Responds (one_word commands.explain (map string_bytes args.now)) result }
 {
     match args {
         [word] => {
             let word = parse_word(word)?;
-            Ok(Answer::Explanation(word, has_nothing_to_explain(word)))
+            Ok(Answer::Explanation(word, format_is_valid(word)))
         }
         _ => Err(Refusal::WrongNumberOfArguments),
     }
@@ -149,10 +148,10 @@ fn parse_word(text: &String) -> Result<u128, Refusal>
     read_word(text.as_str()).ok_or(Refusal::BadWord)
 }
 
-// Parses an argument as a byte, or refuses it.
+// Parses an argument as a decimal byte, or refuses it.
 fn parse_byte(text: &String) -> Result<u8, Refusal>
-    ensures byte { result_ok result ≡ result_ok (byte_from_text (string_bytes text.now)) }
+    ensures byte { result_ok result ≡ byte_from_digits 10 3 (string_bytes text.now) }
     ensures refusal { IfErr result (λ refusal. refusal ≡ Refusal.BadByte) }
 {
-    byte_from_text(text.as_str()).ok().ok_or(Refusal::BadByte)
+    byte_from_decimal(text.as_str()).ok_or(Refusal::BadByte)
 }

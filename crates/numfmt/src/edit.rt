@@ -2,19 +2,33 @@
 
 ghost use Rattle.std.specs.Prelude.{◌≡◌, ◌≤◌, length, take, map, string_bytes};
 ghost use Rattle.std.specs.Option.{option_map};
-ghost use Rattle.numfmt.specs.EditText.{edits_from_texts};
+ghost use Rattle.numfmt.specs.EditText.{edits_from_texts, has_other_form};
 
 use lexical_util::edits::Edit;
 
-/// Parses `texts` as edits, in their order, into the front of `edits`, which has to be at least as
-/// long; `None` if any of them is not an edit.
+/// Parses each of `texts` as an edit and stores the edits in order at the front of `edits`, which must be at least as
+/// long as `texts`. Returns `None` if a text is not an edit.
 pub(crate) fn read_edits(texts: &[String], edits: &mut [Edit]) -> Option<()>
     requires { length texts.now ≤ length edits.old }
     ensures { edits_from_texts (map string_bytes texts.now)
         ≡ option_map (λ _. take (length texts.now) edits.new) result }
 {
     for (i, text) in texts.iter().enumerate() {
-        edits[i] = Edit::from_text(text.as_str()).ok()?;
+        let text = text.as_str();
+        if has_other_form(text) {
+            return None;
+        }
+        edits[i] = Edit::from_text(text).ok()?;
     }
     Some(())
+}
+
+// Returns whether the value in `NAME=VALUE` contains a quote or an `x`, which no decimal byte contains.
+fn has_other_form(text: &str) -> bool
+    ensures { result ≡ has_other_form text.now }
+{
+    match text.split_once('=') {
+        Some((_, value)) => value.as_bytes().contains(&b'\'') || value.as_bytes().contains(&b'x'),
+        None => false,
+    }
 }

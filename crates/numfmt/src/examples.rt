@@ -1,5 +1,5 @@
-//! That arguments have one response; and for each predicate, one case that holds and one that does not. The functions
-//! are not called.
+//! A law: arguments have only one response. Examples: for each predicate, one case that holds and one that does not.
+//! No code calls these functions.
 
 ghost use Rattle.std.specs.Prelude.{◌≡◌, ℕ, List, Ok};
 ghost use Rattle.numfmt.specs.Command.{Responds, request_of};
@@ -17,7 +17,7 @@ fn response_facts()
     laws::flags::rule_facts();
 }
 
-// The answers to commands.
+// `show 12` is answered by the fields of the word 12, and not by the word.
 fn answer_examples()
     ensures answer { Responds (Ok (commands.show 12)) (Ok (answers.Fields 12)) }
     ensures other { Responds (Ok (commands.show 12)) (Ok (answers.Word 12)) → ⊥ }

@@ -1,78 +1,103 @@
-//! What there is to say of a format word: the rules that it breaks, and the settings without effect.
+//! The reasons why a format word breaks rules, with the edits that mend it, and the notes on it.
 
-ghost use Rattle.std.specs.Prelude.{◌≡◌, ◌↔◌, ℕ, List, [], Some, IsErr, IsTrue, OnOk, flat_map};
+ghost use Rattle.std.specs.Prelude.{IsErr, OnOk, flat_map};
 ghost use Rattle.std.specs.Io.KnownBytes.{Appends};
-ghost use Rattle.lexical_util.specs.Additions.Reasons.{unused_of};
-ghost use Rattle.lexical_util.specs.Rules.{Lawful};
-ghost use Rattle.numfmt.specs.Explanation.{explanation, line_of, rule_text};
+ghost use Rattle.lexical_util.specs.Record.{raw};
+ghost use Rattle.lexical_util.specs.Additions.FieldEdits.{field_edits};
+ghost use Rattle.numfmt.specs.Explanation.{edits_line, error_line, explanation, field_line, mend_line, reason_lines};
 
 use crate::output::Output;
-use lexical_util::edits::field_edits_of;
-use lexical_util::format::format_is_valid;
-use lexical_util::format_flags::{RULES, Rule};
-use lexical_util::laws;
-use lexical_util::reasons::{reasons_of, unused_settings};
-use std::fmt::Display;
+use lexical_util::edits::{Edit, field_edits_of};
+use lexical_util::format_flags::Rule;
+use lexical_util::reasons::{Reason, mend, notes, reasons};
 use std::io;
 
-/// Returns whether there is nothing to say of `word`: it is lawful, and each of its settings has an effect.
-#[tactic(auto, using(crate::proofs::ExplanationLemmas::nothing_said))]
-pub fn has_nothing_to_explain(word: u128) -> bool
-    ensures lawful { IsTrue result ↔ (Lawful word × (unused_of word ≡ [])) }
-
-    // Exactly then `write_explanation` writes nothing.
-    ensures no_output { IsTrue result ↔ (explanation word ≡ []) }
-{
-    laws::flags::rule_facts();
-    format_is_valid(word) && matches!(unused_settings(word), [None, None, None, None])
-}
-
-/// Writes each rule that `word` breaks, in the order of the rules: its error, the fields of the word that
-/// it reads, and the reasons; and then each setting without effect. For a word with none of these nothing
-/// is written.
+/// Writes each reason why `word` breaks rules: its sentence, the errors of the broken rules, the fields that it blames,
+/// and the edits that mend each of these fields, if there are any. Then writes each note. If the word has neither
+/// reasons nor notes, nothing is written.
 ///
-/// Any word may be passed. After an error nothing is known of what was written.
+/// Any word may be passed. After an error, the contract does not state what was written.
 pub fn write_explanation<W: Output>(word: u128, out: &mut W) -> io::Result<()>
     ensures text { OnOk result (Appends (W.contents out.old) (W.contents out.new) (explanation word)) }
     ensures failed { IsErr result → W.has_failed out.new }
 {
-    for rule in &RULES {
-        write_rule(*rule, word, out)?;
-    }
-    write_lines("", &unused_settings(word), out)
-}
-
-// Writes what is wrong with a word by one rule, if it breaks the rule.
-fn write_rule<W: Output>(rule: Rule, word: u128, out: &mut W) -> io::Result<()>
-    ensures text { OnOk result (Appends (W.contents out.old) (W.contents out.new) (rule_text word rule)) }
-    ensures failed { IsErr result → W.has_failed out.new }
-{
-    if rule.is_kept(word) {
-        return Ok(());
-    }
-    writeln!(out, "{}", rule.error())?;
-    for edit in &field_edits_of(word) {
-        if edit.mask() & rule.mask() != 0 {
-            writeln!(out, "    {edit}")?;
+    for reason in &reasons(word) {
+        if let Some(reason) = reason {
+            write_reason(word, reason, out)?;
         }
     }
-    write_lines("    ", &reasons_of(rule, word), out)
-}
-
-// Writes those of some items that there are, each on a line after an indent.
-fn write_lines<T: Display, W: Output>(
-    indent: &str,
-    items: &[Option<T>],
-    out: &mut W,
-) -> io::Result<()>
-    ensures text { (text : T → List ℕ) → ((item : T) → T.output item ≡ Some (text item)) → OnOk result
-        (Appends (W.contents out.old) (W.contents out.new) (flat_map (line_of indent.now text) items.now)) }
-    ensures failed { IsErr result → W.has_failed out.new }
-{
-    for item in items {
-        if let Some(item) = item {
-            writeln!(out, "{indent}{item}")?;
+    for note in &notes(word) {
+        if let Some(note) = note {
+            writeln!(out, "note: {note}")?;
         }
     }
     Ok(())
+}
+
+// Writes a reason, the errors of its rules, the fields that it blames, and the edits that mend these fields.
+fn write_reason<W: Output>(word: u128, reason: &Reason, out: &mut W) -> io::Result<()>
+    ensures text { OnOk result (Appends (W.contents out.old) (W.contents out.new) (reason_lines word reason.now)) }
+    ensures failed { IsErr result → W.has_failed out.new }
+{
+    writeln!(out, "{reason}")?;
+    write_errors(&reason.rules(), out)?;
+    write_fields(word, reason, out)?;
+    write_mends(word, reason, out)
+}
+
+// Writes the errors of the rules that a reason breaks.
+fn write_errors<W: Output>(rules: &[Option<Rule>], out: &mut W) -> io::Result<()>
+    ensures text { OnOk result (Appends (W.contents out.old) (W.contents out.new) (flat_map error_line rules.now)) }
+    ensures failed { IsErr result → W.has_failed out.new }
+{
+    for rule in rules {
+        if let Some(rule) = rule {
+            writeln!(out, "    error: {}", rule.error())?;
+        }
+    }
+    Ok(())
+}
+
+// Writes the fields of `word` that `reason` blames.
+fn write_fields<W: Output>(word: u128, reason: &Reason, out: &mut W) -> io::Result<()>
+    ensures text { OnOk result (Appends (W.contents out.old) (W.contents out.new)
+        (flat_map (field_line reason.now) (field_edits (raw word)))) }
+    ensures failed { IsErr result → W.has_failed out.new }
+{
+    for field in &field_edits_of(word) {
+        if field.mask() & reason.mask() != 0 {
+            writeln!(out, "    field: {field}")?;
+        }
+    }
+    Ok(())
+}
+
+// Writes the edits that mend the fields of `word` that `reason` blames.
+fn write_mends<W: Output>(word: u128, reason: &Reason, out: &mut W) -> io::Result<()>
+    ensures text { OnOk result (Appends (W.contents out.old) (W.contents out.new)
+        (flat_map (mend_line word reason.now) (field_edits (raw word)))) }
+    ensures failed { IsErr result → W.has_failed out.new }
+{
+    for field in &field_edits_of(word) {
+        if field.mask() & reason.mask() != 0 {
+            let (edits, count) = mend(word, reason, field);
+            write_edits(&edits[..count], out)?;
+        }
+    }
+    Ok(())
+}
+
+// Writes a line with the edits that mend a field, if there are any.
+fn write_edits<W: Output>(edits: &[Edit], out: &mut W) -> io::Result<()>
+    ensures text { OnOk result (Appends (W.contents out.old) (W.contents out.new) (edits_line edits.now)) }
+    ensures failed { IsErr result → W.has_failed out.new }
+{
+    if edits.is_empty() {
+        return Ok(());
+    }
+    out.write_all(b"    mend:")?;
+    for edit in edits {
+        write!(out, " {edit}")?;
+    }
+    out.write_all(b"\n")
 }

@@ -1,24 +1,21 @@
-//! `numfmt` shows, edits, compares, checks, explains and migrates number formats, and writes them as
-//! Rust code.
+//! `numfmt` shows, edits, compares, checks, explains and migrates number formats, and writes them as Rust code.
 //!
-//! A number format is a format word, a `u128`. A WORD is written as `0x` and 1 to 32 hexadecimal
-//! digits.
+//! A number format is a format word, a `u128`. A WORD is written as `0x` and 1 to 32 hexadecimal digits.
 //!
 //! | Command | Prints |
 //! |---|---|
 //! | none | the fields of the standard format |
 //! | `show WORD` | the fields of the word |
-//! | `edit WORD NAME=VALUE ..` | the word with the fields that the edits name changed; without edits its normal form |
-//! | `check WORD` | the first rule that the word breaks |
-//! | `same A B` | whether two words mean the same format: `same` or `different` |
+//! | `edit WORD NAME=VALUE ..` | the word after the edits; without edits, its normal form |
+//! | `check WORD` | the error of the first rule that the word breaks, or success |
+//! | `same A B` | whether the two words are equivalent: `same` or `different` |
 //! | `options WORD E P` | whether the exponent byte E and the point byte P fit the word: `accepted` or `refused` |
-//! | `migrate WORD` | the normal form of an old word, or what is wrong with it |
-//! | `source WORD` | the builder expression with the fewest setter calls of single fields that make the word's fields |
-//! | `explain WORD` | what is wrong with the word and with which fields, and which settings have no effect |
+//! | `migrate WORD` | the normal form of an old word, or the error of the normal form |
+//! | `source WORD` | the builder expression with the fewest single-field setter calls that give the word's fields |
+//! | `explain WORD` | each reason why the word breaks rules: errors, fields to blame, edits that mend them; the notes |
 //!
-//! The exit status is 0 on success; 1 if the answer is no; 2 if the arguments are refused, and then
-//! one line says why; 3 if a write fails or the arguments cannot be read, and then nothing more is
-//! printed.
+//! The exit status is 0 on success, 1 if the answer is no, 2 if the arguments are refused (one line states the reason),
+//! and 3 if a write fails or the arguments cannot be read (nothing more is printed).
 #![tactic(auto)]
 
 ghost use Rattle.std.specs.Prelude.{◌≡◌, ◌≤◌, IsErr, IsOk};
@@ -48,7 +45,7 @@ fn main(rt: HostRuntime) -> ExitCode {
     ExitCode::from(run_collected(args, &mut rt.stdout()))
 }
 
-// The exit status of a run with these arguments; 3 if there was no memory to collect them, and then
+// Runs the program and returns its exit status. If memory did not suffice for the arguments, the status is 3 and
 // nothing is printed.
 fn run_collected<W: Output>(args: Result<Vec<String>, AllocError>, out: &mut W) -> u8
     ensures no_memory { IsErr args → (result ≡ 3) × (W.contents out.new ≡ W.contents out.old) }

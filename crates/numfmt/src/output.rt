@@ -1,4 +1,4 @@
-//! What the program writes to, with words for what std's `Write` leaves open: an error, and a flush.
+//! The writer of the program, with predicates for what std's `Write` leaves open: a failed call and a flush.
 
 ghost use Rattle.std.specs.Prelude.{⊤, ℕ, IfSome, IsErr, List, OnOk, Option};
 ghost use Rattle.std.specs.Io.KnownBytes.{Appends, Keeps};
@@ -7,37 +7,37 @@ use std::fmt::Display;
 use std::io;
 use std::io::Write;
 
-/// A writer that may fail, and that may hold back what was written.
+/// A writer that may fail, and that may hold back written bytes.
 ///
-/// What `has_failed` and `is_flushed` mean is up to the writer. So a function over any `Output` knows that it has
-/// failed only from a call that failed, that it is flushed only from a flush, and neither after the next call.
+/// Each writer defines `has_failed` and `is_flushed`. So for any `Output`, a proof can derive `has_failed` only from a
+/// failed call, and `is_flushed` only from a flush. After the next call, neither is known.
 pub trait Output {
-    // The bytes that were written, where they are known.
+    // The bytes that were written, if they are known.
     ghost contents: { Self → Option (List ℕ) };
 
-    // Nothing that was written is held back.
+    // Holds if no written bytes are held back.
     ghost is_flushed: { Self → Type 0 };
 
-    // The last call failed.
+    // Holds if the last call failed.
     ghost has_failed: { Self → Type 0 };
 
     fn write_all(&mut self, bytes: &[u8]) -> io::Result<()>
         ensures bytes { OnOk result (Appends (contents self.old) (contents self.new) bytes.now) }
         ensures failed { IsErr result → has_failed self.new };
 
-    /// What `write!` and `writeln!` call.
+    /// Writes the text of a value. The macros `write!` and `writeln!` call this function.
     fn write_fmt<D: Display + Drop>(&mut self, text: D) -> io::Result<()>
         ensures bytes { OnOk result (IfSome (D.output text) (Appends (contents self.old) (contents self.new))) }
         ensures failed { IsErr result → has_failed self.new };
 
-    /// Passes on all that was written.
+    /// Passes on all bytes that are held back.
     fn flush(&mut self) -> io::Result<()>
         ensures bytes { Keeps (contents self.old) (contents self.new) }
         ensures flushed { OnOk result (is_flushed self.new) }
         ensures failed { IsErr result → has_failed self.new };
 }
 
-// Of each writer std knows the contents alone.
+// The contracts of std's `Write` state only the contents of a writer.
 impl<W: Write> Output for W {
     ghost contents = { W.contents };
 

@@ -9,16 +9,15 @@ use crate::command::response_to;
 use crate::output::Output;
 use crate::response::{exit_status, print};
 
-/// Runs the command in `args`, the program's arguments without its name, and returns the exit
-/// status: 0 for success or yes, 1 for no, 2 for refused arguments, and 3 if `out` failed.
+/// Runs the command in `args`, the program's arguments without its name, and returns the exit status: 0 for success or
+/// yes, 1 for no, 2 for refused arguments, and 3 if `out` failed.
 ///
-/// All text is written to `out`, which is flushed at the end. After a write or a flush that fails
-/// nothing more is written.
+/// All text is written to `out`, which is flushed at the end. After a write or flush fails, nothing more is written.
 pub fn run<W: Output>(args: &[String], out: &mut W) -> u8
     ensures status { result ≤ 3 }
 
-    // The response is the one to what the arguments ask for. The status is 3, and `out` has failed; or it is that of
-    // the response, whose text was written, byte for byte, and then flushed.
+    // There is a response to the request in the arguments. Either the status is 3 and `out` has failed, or the status
+    // is the status of the response, and exactly its text was written and then flushed.
     ensures response { (response : Response) × Responds (request_of (map string_bytes args.now)) response
         × (((result ≡ 3) × W.has_failed out.new) ⊎ ((result ≡ status_of response)
         × Appends (W.contents out.old) (W.contents out.new) (text_of response) × W.is_flushed out.new)) }

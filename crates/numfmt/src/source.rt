@@ -1,53 +1,69 @@
-//! The builder expression of a format word: the setter calls of single fields that make it, as Rust code.
+//! A format word as Rust code, after comments that state what the code loses.
 
 ghost use Rattle.std.specs.Prelude.{◌≡◌, IsErr, OnOk};
 ghost use Rattle.std.specs.Io.KnownBytes.{Appends};
-ghost use Rattle.numfmt.specs.Source.{code_of_argument, source_text};
+ghost use Rattle.numfmt.specs.Source.{loss_text, reserved_loss, separator_loss, source_lines};
 
 use crate::output::Output;
-use lexical_util::edits::{Argument, edits_of};
 use lexical_util::error::{EMPTY_PIECE, Piece, ShortText};
+use lexical_util::format_flags as flags;
+use lexical_util::format_flags::Rule;
+use lexical_util::source::BuilderExpression;
 use std::io;
 
-/// Writes `word` as Rust code: a new builder, a setter call for each field in which the word differs from
-/// it, and the packing, such as `NumberFormatBuilder::new().mantissa_radix(16).build_unchecked()`.
+/// Writes `word` as Rust code: a new builder, a setter call for each field in which the word differs from it, and the
+/// call that packs the word, such as `NumberFormatBuilder::new().mantissa_radix(16).build_unchecked()`.
 ///
-/// Any word may be passed. The expression makes the word itself exactly if `is_built` is true of it.
-/// After an error nothing is known of what was written.
+/// Any word may be passed. If the code builds another word, comments before it state what is lost: reserved bits that
+/// are set, and a digit separator that no flag allows. After an error, the contract does not state what was written.
 pub fn write_source<W: Output>(word: u128, out: &mut W) -> io::Result<()>
-    ensures text { OnOk result (Appends (W.contents out.old) (W.contents out.new) (source_text word)) }
+    ensures text { OnOk result (Appends (W.contents out.old) (W.contents out.new) (source_lines word)) }
     ensures failed { IsErr result → W.has_failed out.new }
 {
-    let (edits, count) = edits_of(word);
-    out.write_all("NumberFormatBuilder::new()".as_bytes())?;
-    for edit in &edits[..count] {
-        write!(
-            out,
-            ".{}({})",
-            edit.name(),
-            code_of_argument(edit.argument())
-        )?;
-    }
-    out.write_all(".build_unchecked()".as_bytes())
+    write_loss(reserved_loss(word), out)?;
+    write_loss(separator_loss(word), out)?;
+    writeln!(out, "{}", BuilderExpression(word))
 }
 
-// An argument as Rust code.
-const fn code_of_argument(argument: Argument) -> ShortText
-    ensures { result ≡ code_of_argument argument }
+// Writes a comment that states the loss, if there is one.
+fn write_loss<W: Output>(loss: Option<ShortText>, out: &mut W) -> io::Result<()>
+    ensures text { OnOk result (Appends (W.contents out.old) (W.contents out.new) (loss_text loss)) }
+    ensures failed { IsErr result → W.has_failed out.new }
 {
-    let piece = match argument {
-        Argument::OptionalByte(Some(byte)) => {
-            return ShortText(
-                EMPTY_PIECE,
-                Piece::Words("NonZeroU8::new("),
-                Piece::Number(byte.get() as usize),
-                Piece::Words(")"),
-            );
-        }
-        Argument::OptionalByte(None) => Piece::Words("None"),
-        Argument::Byte(byte) => Piece::Number(byte as usize),
-        Argument::Flag(true) => Piece::Words("true"),
-        Argument::Flag(false) => Piece::Words("false"),
-    };
-    ShortText(EMPTY_PIECE, EMPTY_PIECE, EMPTY_PIECE, piece)
+    match loss {
+        Some(loss) => writeln!(out, "// This code makes another word, without {loss}"),
+        None => Ok(()),
+    }
+}
+
+// Returns the reserved bits that are set, or `None` if all of them are 0.
+fn reserved_loss(word: u128) -> Option<ShortText>
+    ensures { result ≡ reserved_loss word }
+{
+    let bits = word & Rule::ReservedBitsAreZero.mask();
+    if bits == 0 {
+        return None;
+    }
+    Some(ShortText(
+        EMPTY_PIECE,
+        Piece::Words("the reserved bits "),
+        Piece::Hexadecimal(bits),
+        EMPTY_PIECE,
+    ))
+}
+
+// Returns the digit separator that no flag allows, or `None` if the word has no such separator.
+fn separator_loss(word: u128) -> Option<ShortText>
+    ensures { result ≡ separator_loss word }
+{
+    let separator = flags::digit_separator(word);
+    if separator == 0 || flags::is_separator_allowed(word) {
+        return None;
+    }
+    Some(ShortText(
+        EMPTY_PIECE,
+        Piece::QuotedByte("digit separator", separator),
+        Piece::Words(": no flag allows one"),
+        EMPTY_PIECE,
+    ))
 }

@@ -1,4 +1,4 @@
--- What is recorded, said of the library's definitions.
+-- The recorded results, stated by the definitions of the library.
 use Rattle.recorded.specs.declared.fact.Fact.{Fact}
 use Rattle.recorded.specs.declared.fact.Fact.TheVariants as facts
 use Rattle.recorded.specs.declared.fact.Fields.{Fields}
@@ -17,7 +17,7 @@ use Rattle.lexical_util.specs.declared.edits.Edit.{Edit}
 use Rattle.lexical_util.specs.Edits.{edited, all_writes}
 use Rattle.lexical_util.specs.Groups.{bits_of}
 
--- the fields of a word are these
+-- `HasFields word fields` holds if `fields` are the fields of `word`, with effective values of the exponent bytes.
 pub record HasFields (word : ℕ) (fields : Fields) : Type 0 where
   pub flags : bits_of word flags ≡ fields.flags
   pub digit_separator : (raw word).byte layout.digit_separator ≡ fields.digit_separator
@@ -27,12 +27,13 @@ pub record HasFields (word : ℕ) (fields : Fields) : Type 0 where
   pub exponent_base : effective_exponent_base (raw word) ≡ fields.exponent_base
   pub exponent_radix : effective_exponent_radix (raw word) ≡ fields.exponent_radix
 
--- a new builder packs into the word after these edits, and this is the word's error
+-- `IsBuiltBy edits word error` holds if a new builder packs into `word` after `edits`, and `word` has the error
+-- `error`.
 pub record IsBuiltBy (edits : List Edit) (word : ℕ) (error : Error) : Type 0 where
   pub packed : pack (after new_record (all_writes edits)) ≡ word
   pub checked : IsErrorOf word error
 
--- a recorded result is what the definitions say
+-- `MatchesDefinitions fact` holds if the recorded result `fact` is the result by the definitions.
 abbrev pub MatchesDefinitions : Fact → Type 0
 MatchesDefinitions (facts.Byte byte allowed letter) = (allowed_ascii byte ≡ allowed) × (letters byte ≡ letter)
 MatchesDefinitions (facts.Digit byte radix digit) = digit_of byte radix ≡ digit

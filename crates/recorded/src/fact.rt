@@ -1,4 +1,4 @@
-//! Recorded results, and whether the library returns the same.
+//! Recorded results, and the test that the library returns the same results.
 
 ghost use Rattle.std.specs.Prelude.{◌≡◌, ◌↔◌, Option, IsTrue, IfOk};
 ghost use Rattle.lexical_util.specs.Ascii.{allowed_ascii, letters};
@@ -18,12 +18,12 @@ use lexical_util::format::{NumberFormatBuilder, format_error};
 use lexical_util::format_flags::is_valid_options_punctuation;
 use std::alloc::{AllocError, Global};
 
-/// What is recorded of one call, or of calls that belong together.
+/// The recorded result of one call, or of calls that belong together.
 #[derive(Drop)]
 pub enum Fact<'a> {
-    /// A byte, whether a format may use it, and whether it is a letter.
+    /// A byte, whether it is allowed ASCII, and whether it is a letter.
     Byte(u8, bool, bool),
-    /// A byte, a radix, and the digit that the byte is.
+    /// A byte, a radix, and the value of the byte as a digit.
     Digit(u8, u32, Option<u32>),
     /// An outcome and its text.
     Printed(Error, &'a str),
@@ -33,14 +33,13 @@ pub enum Fact<'a> {
     Checked(u128, Error),
     /// A word, an exponent character, a decimal point, and whether they are accepted.
     Options(u128, u8, u8, bool),
-    /// A word, edits, and the word that they make.
+    /// A word, edits, and the word after these edits.
     Edited(u128, Vec<Edit>, u128),
     /// Setter calls of a new builder, the word that it packs into, and the error of that word.
     Built(Vec<Edit>, u128, Error),
 }
 
-/// The fields of a word: its flags at their bits, and its bytes, those of an exponent by their
-/// effective values.
+/// The fields of a word: its flags at their bits, and its bytes. The exponent bytes have their effective values.
 #[derive(Clone, Copy, PartialEq, Eq)]
 pub struct Fields {
     pub flags: u128,
@@ -53,7 +52,7 @@ pub struct Fields {
 }
 
 impl Fact<'_> {
-    /// Whether the library returns what is recorded.
+    /// Returns whether the library returns the recorded result.
     pub fn matches_definitions(&self, alloc: Global) -> Result<bool, AllocError>
         ensures { IfOk result (λ kept. IsTrue kept ↔ MatchesDefinitions self.now) }
     {

@@ -1,9 +1,10 @@
-//! `recorded` replays results of the Rust crate against the library.
+//! `recorded` replays results of `lexical-util` against the library.
 //!
-//! The file `results.txt` has one recorded result a line, written by `compare/run --record`. The
-//! program reads each line and asks the library the same. It prints how many results the library
-//! returns too, and ends with status 0; or it prints the first line that differs, or that it cannot
-//! read, and ends with status 1, as it does if the file cannot be read or a write fails.
+//! The file `results.txt` has one recorded result a line, written by `compare/run --record`. The program reads each
+//! line and makes the same call of the library. If all results are equal, it prints how many there are and ends with
+//! status
+//! 0. Otherwise it prints the first line that differs, or that it cannot read, and ends with status 1. The status is
+//! also 1 if the file cannot be read or a write fails.
 #![tactic(auto)]
 
 mod fact;
@@ -26,7 +27,7 @@ fn replay_file(rt: &HostRuntime) -> io::Result<bool> {
     replay(text.as_str(), rt)
 }
 
-// Replays results line by line, prints how it went, and returns whether all lines are kept.
+// Replays results line by line, prints the outcome, and returns whether all lines are kept.
 fn replay(results: &str, rt: &HostRuntime) -> io::Result<bool> {
     let (mut lines, mut on_purpose) = (0u64, 0u64);
     for line in results.lines() {
@@ -43,7 +44,7 @@ fn replay(results: &str, rt: &HostRuntime) -> io::Result<bool> {
     Ok(true)
 }
 
-// Whether a line can be read and the library returns what it records.
+// Returns whether a line can be read and the library returns its result.
 fn matches_definitions(line: &str, alloc: Global) -> Result<bool, AllocError> {
     let mut parts = Parts::of(line);
     let fact = parts.fact(alloc)?;

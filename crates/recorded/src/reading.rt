@@ -5,17 +5,17 @@
 //! | Line | Records |
 //! |---|---|
 //! | `byte C ALLOWED LETTER` | the tests of a byte |
-//! | `digit C RADIX DIGIT` | the digit that a byte is, or `none` |
-//! | `printed INDEX NAME TEXT` | the text of an outcome, by its name in the enum |
+//! | `digit C RADIX DIGIT` | the value of a byte as a digit, or `none` |
+//! | `printed INDEX NAME TEXT` | the text of the outcome with this name in the enum |
 //! | `fields WORD FLAGS S P X R B E` | flags, separator, prefix, suffix and the three radixes of a word |
 //! | `check WORD NAME` | the error of a word |
 //! | `options WORD E P ACCEPTED` | the test of an exponent character and a decimal point |
-//! | `edit WORD MADE SETTER=VALUE ..` | the word that setter calls make of a word |
-//! | `build PACKED NAME SETTER=VALUE ..` | the word that a new builder packs into after them, and its error |
+//! | `edit WORD MADE SETTER=VALUE ..` | the word after setter calls |
+//! | `build PACKED NAME SETTER=VALUE ..` | the word into which a new builder packs after setter calls, and its error |
 //!
-//! A word is 32 hexadecimal digits, and any other number decimal. A setter's value is `true` or
-//! `false`, or a byte, 0 for none. Where the library differs from the Rust crate on purpose, the line
-//! has what the library must return, and ends in ` crate: ` and what the crate returns.
+//! A word is 32 hexadecimal digits, and any other number is decimal. A setter's value is `true`, `false` or a byte,
+//! where 0 means absent. If the library differs from `lexical-util` on purpose, the line has the result that the
+//! library must return, and ends in ` crate: ` and the result of `lexical-util`.
 
 use crate::fact::{Fact, Fields};
 use lexical_util::edits::Edit;
@@ -23,8 +23,8 @@ use lexical_util::error::Error;
 use std::alloc::{AllocError, Global};
 use std::str::FromStr;
 
-/// The parts of a line that are not read yet, and whether all others could be read. A part that is missing, or cannot be
-/// read, is read as some value: whether there was one is asked once, at the end.
+/// The parts of a line that are not read yet, and whether all other parts could be read. A part that is missing or
+/// cannot be read gives some value. At the end, [`Self::are_read`] returns whether this happened.
 #[derive(Drop)]
 pub struct Parts<'a> {
     rest: Option<&'a str>,
@@ -32,7 +32,7 @@ pub struct Parts<'a> {
 }
 
 impl<'a> Parts<'a> {
-    /// The parts of a line, without the crate's own result.
+    /// Returns the parts of a line, without the result of `lexical-util`.
     pub fn of(line: &'a str) -> Parts<'a> {
         let fact = match line.split_once(" crate: ") {
             Some((fact, _)) => fact,
@@ -44,12 +44,12 @@ impl<'a> Parts<'a> {
         }
     }
 
-    /// Whether the line ends here, and all its parts could be read.
+    /// Returns whether the line ends here, and all its parts could be read.
     pub fn are_read(&self) -> bool {
         self.is_read && self.rest.is_none()
     }
 
-    /// The fact that the line records; some fact if it cannot be read.
+    /// Reads the fact that the line records. If the line cannot be read, returns some fact.
     pub fn fact(&mut self, alloc: Global) -> Result<Fact<'a>, AllocError> {
         Ok(match self.next() {
             "byte" => Fact::Byte(self.value(), self.value(), self.value()),
@@ -76,7 +76,7 @@ impl<'a> Parts<'a> {
         })
     }
 
-    // The next part as it stands there.
+    // Returns the next part as text.
     fn next(&mut self) -> &'a str {
         let rest = self.rest.take().unwrap_or("");
         match rest.split_once(' ') {
@@ -88,13 +88,13 @@ impl<'a> Parts<'a> {
         }
     }
 
-    // What is read, or else another value.
+    // Returns the value in `read`, or `otherwise` if it is `None`, and remembers that a part could not be read.
     fn checked<T: Drop>(&mut self, read: Option<T>, otherwise: T) -> T {
         self.is_read = self.is_read && read.is_some();
         read.unwrap_or(otherwise)
     }
 
-    // The next part as a decimal number, or as `true` or `false`.
+    // Reads the next part as a decimal number, or as `true` or `false`.
     fn value<T: FromStr + Default + Drop>(&mut self) -> T
     where
         T::Err: Drop,
@@ -130,7 +130,7 @@ impl<'a> Parts<'a> {
         }
     }
 
-    // The outcome that the next part names, with the index if it holds one.
+    // Reads the next part as the name of an outcome. If the outcome holds an index, this is `index`.
     fn outcome(&mut self, index: usize) -> Error {
         let name = self.next();
         for rank in 0..49u8 {
@@ -141,7 +141,7 @@ impl<'a> Parts<'a> {
         self.checked(None, Error::Success)
     }
 
-    // The edits that the other parts write.
+    // Reads the other parts as edits.
     fn edits(&mut self, alloc: Global) -> Result<Vec<Edit>, AllocError> {
         let count = match self.rest {
             Some(calls) => calls.split(' ').count(),

@@ -4,14 +4,14 @@
 
 use peltzivar::{ascii, digit};
 
-/// Returns whether a byte is ASCII that a format may use.
+/// Returns whether a byte is allowed ASCII: 9 to 13 or 32 to 126.
 // SAFETY: no other library has names that begin with `peltzivar_`.
 #[unsafe(no_mangle)]
 pub extern "C" fn peltzivar_is_valid_ascii(byte: u8) -> bool {
     ascii::is_valid_ascii(byte)
 }
 
-/// Returns whether every byte is ASCII that a format may use.
+/// Returns whether every byte is allowed ASCII: 9 to 13 or 32 to 126.
 // SAFETY: no other library has names that begin with `peltzivar_`.
 #[unsafe(no_mangle)]
 pub unsafe extern "C" fn peltzivar_is_valid_ascii_slice(
@@ -42,7 +42,7 @@ pub unsafe extern "C" fn peltzivar_is_valid_letter_slice(
     ascii::is_valid_letter_slice(bytes)
 }
 
-/// Returns the digit that a byte is in a radix, or `u32::MAX` if it is none.
+/// Returns the value of a byte as a digit of a radix, or `u32::MAX` if it is not a digit.
 // SAFETY: no other library has names that begin with `peltzivar_`.
 #[unsafe(no_mangle)]
 pub extern "C" fn peltzivar_char_to_digit(byte: u8, radix: u32) -> u32 {
@@ -56,7 +56,7 @@ pub extern "C" fn peltzivar_char_is_digit(byte: u8, radix: u32) -> bool {
     digit::char_is_digit(byte, radix)
 }
 
-/// Returns the digit character of a digit, or 0 for a digit of 36 or more.
+/// Returns the character of a digit, or 0 if the digit is 36 or more.
 // SAFETY: no other library has names that begin with `peltzivar_`.
 #[unsafe(no_mangle)]
 pub extern "C" fn peltzivar_digit_to_char(digit: u32) -> u8 {
@@ -67,28 +67,28 @@ pub extern "C" fn peltzivar_digit_to_char(digit: u32) -> u8 {
     }
 }
 
-/// Returns what [`peltzivar_char_to_digit`] returns, by the call for a radix known at compile time.
+/// Returns the result of [`peltzivar_char_to_digit`], by the call for a radix that is known at compile time.
 // SAFETY: no other library has names that begin with `peltzivar_`.
 #[unsafe(no_mangle)]
 pub extern "C" fn peltzivar_char_to_digit_const(byte: u8, radix: u32) -> u32 {
     digit_or_max(digit::char_to_digit_const(byte, radix))
 }
 
-/// Returns the value of a byte that is known to be a digit of a radix.
+/// Returns the value of a byte that is known to be a digit of the radix.
 // SAFETY: no other library has names that begin with `peltzivar_`.
 #[unsafe(no_mangle)]
 pub extern "C" fn peltzivar_char_to_valid_digit_const(byte: u8, radix: u32) -> u32 {
     digit::char_to_valid_digit_const(byte, radix)
 }
 
-/// Returns what [`peltzivar_char_is_digit`] returns, by the call for a radix known at compile time.
+/// Returns the result of [`peltzivar_char_is_digit`], by the call for a radix that is known at compile time.
 // SAFETY: no other library has names that begin with `peltzivar_`.
 #[unsafe(no_mangle)]
 pub extern "C" fn peltzivar_char_is_digit_const(byte: u8, radix: u32) -> bool {
     digit::char_is_digit_const(byte, radix)
 }
 
-/// Returns the digit character of a digit that is below a radix, or 0 for a digit of 36 or more.
+/// Returns the character of a digit that is below the radix, or 0 if the digit is 36 or more.
 // SAFETY: no other library has names that begin with `peltzivar_`.
 #[unsafe(no_mangle)]
 pub extern "C" fn peltzivar_digit_to_char_const(digit: u32, radix: u32) -> u8 {
@@ -99,7 +99,7 @@ pub extern "C" fn peltzivar_digit_to_char_const(digit: u32, radix: u32) -> u8 {
     }
 }
 
-// The digit, or `u32::MAX`, which is no digit of any radix: 255 is one of radixes above 255.
+// Returns the digit, or `u32::MAX`, which is not a digit of any radix. In a radix above 255, 255 is a digit.
 #[inline(always)]
 fn digit_or_max(digit: Option<u32>) -> u32 {
     match digit {

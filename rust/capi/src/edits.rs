@@ -1,6 +1,6 @@
 // Made by rust/tools/erase.py from crates/lexical_c/src/edits.rt: change that file.
 
-//! Builders, which are structs of fields here, and edits of words.
+//! Edits of builders, which cross to C as structs of fields, and edits of words.
 
 use crate::outcomes::{write_if_lawful, ErrorNumber};
 use crate::words::{Fields, NumberedEdit, Word};
@@ -8,7 +8,7 @@ use peltzivar::edits;
 use peltzivar::edits::{apply, edits_of, Edit, FIELD_COUNT};
 use peltzivar::format_builder::NumberFormatBuilder;
 
-/// Applies the edits to a builder in order. Returns `None` if one of them has no setter.
+/// Applies the edits to a builder in order. Returns `None` if an edit has no setter.
 #[must_use]
 #[inline(always)]
 pub fn apply_edits(
@@ -24,14 +24,15 @@ pub fn apply_edits(
     Some(builder)
 }
 
-/// Returns the fields of a word, empty exponent bytes filled from its mantissa radix. The bits above the flags are 0.
+/// Returns the fields of a word. An absent exponent byte becomes the mantissa radix. The bits above the flags are 0.
 // SAFETY: no other library has names that begin with `peltzivar_`.
 #[unsafe(no_mangle)]
 pub extern "C" fn peltzivar_fields_of(format: Word) -> Fields {
     Fields::new(&NumberFormatBuilder::rebuild(format.number()))
 }
 
-/// Applies the edits to the fields and clears the bits above the flags, or returns `false`: one has no setter.
+/// Applies the edits to the fields, clears the bits above the flags and returns `true`. Returns `false` if an edit has
+/// no setter.
 // SAFETY: no other library has names that begin with `peltzivar_`.
 #[unsafe(no_mangle)]
 pub unsafe extern "C" fn peltzivar_edit_fields(
@@ -55,7 +56,7 @@ pub extern "C" fn peltzivar_pack(fields: &Fields) -> Word {
     Word::new(fields.builder().build_unchecked())
 }
 
-/// Writes the word of the edited fields, or returns `false`: an edit has no setter.
+/// Writes the word of the edited fields and returns `true`. Returns `false` if an edit has no setter.
 // SAFETY: no other library has names that begin with `peltzivar_`.
 #[unsafe(no_mangle)]
 pub unsafe extern "C" fn peltzivar_build(
@@ -73,7 +74,7 @@ pub unsafe extern "C" fn peltzivar_build(
     true
 }
 
-/// Writes the word of the fields if it is lawful, or returns its error.
+/// Writes the word of the fields and returns 0 if the word is lawful. Returns the number of its error otherwise.
 // SAFETY: no other library has names that begin with `peltzivar_`.
 #[unsafe(no_mangle)]
 pub extern "C" fn peltzivar_build_strict(
@@ -83,7 +84,7 @@ pub extern "C" fn peltzivar_build_strict(
     write_if_lawful(fields.builder().build_strict(), out)
 }
 
-/// Writes the edited word, or returns `false`: an edit has no setter.
+/// Writes the edited word and returns `true`. Returns `false` if an edit has no setter.
 // SAFETY: no other library has names that begin with `peltzivar_`.
 #[unsafe(no_mangle)]
 pub unsafe extern "C" fn peltzivar_edit_word(
@@ -109,14 +110,14 @@ pub extern "C" fn peltzivar_normal_form(format: Word) -> Word {
     Word::new(edits::normal_form(format.number()))
 }
 
-/// Writes the normal form of a word if it is lawful, or returns its error.
+/// Writes the normal form of a word and returns 0 if it is lawful. Returns the number of its error otherwise.
 // SAFETY: no other library has names that begin with `peltzivar_`.
 #[unsafe(no_mangle)]
 pub extern "C" fn peltzivar_migrate(format: Word, out: crate::outputs::Out<Word>) -> ErrorNumber {
     write_if_lawful(edits::migrate(format.number()), out)
 }
 
-/// Returns whether two words mean the same, that is, have the same normal form.
+/// Returns whether two words are equivalent: whether they have the same normal form.
 // SAFETY: no other library has names that begin with `peltzivar_`.
 #[unsafe(no_mangle)]
 pub extern "C" fn peltzivar_same_format(a: Word, b: Word) -> bool {
@@ -130,7 +131,7 @@ pub extern "C" fn peltzivar_is_built(format: Word) -> bool {
     edits::is_built(format.number())
 }
 
-/// Writes one edit for each field, those first that change a new builder, and returns how many these are.
+/// Writes one edit for each field. The edits that change a new builder come first, and their number is returned.
 // SAFETY: no other library has names that begin with `peltzivar_`.
 #[unsafe(no_mangle)]
 pub extern "C" fn peltzivar_edits_of(

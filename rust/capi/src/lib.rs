@@ -17,10 +17,12 @@ mod bytes;
 mod edits;
 mod outcomes;
 mod outputs;
+mod reasons;
 mod rules;
 mod setters;
 mod slices;
 mod texts;
+mod word_texts;
 mod words;
 
 /// The version of this library: its major, minor and patch number, each in eight bits.

@@ -6,7 +6,7 @@ use crate::texts::{write_error, write_nothing, write_text};
 use crate::words::Word;
 use peltzivar::error::Error;
 
-/// The number of an error: one more than its rank, and 0 for success.
+/// The number of an outcome: 0 for success, and the rank plus 1 for an error.
 pub type ErrorNumber = u32;
 
 /// Returns the number of an outcome.
@@ -33,7 +33,7 @@ pub fn write_if_lawful(word: Result<u128, Error>, out: crate::outputs::Out<Word>
     }
 }
 
-/// Writes an outcome's description.
+/// Writes the description of an outcome.
 // SAFETY: no other library has names that begin with `peltzivar_`.
 #[unsafe(no_mangle)]
 pub unsafe extern "C" fn peltzivar_description(
@@ -49,7 +49,7 @@ pub unsafe extern "C" fn peltzivar_description(
     }
 }
 
-/// Writes the text that `Display` prints of an outcome, found at `index` if it is an error of parsing.
+/// Writes the text that `Display` prints for an outcome. A parse error has the index `index`.
 // SAFETY: no other library has names that begin with `peltzivar_`.
 #[unsafe(no_mangle)]
 pub unsafe extern "C" fn peltzivar_text(
@@ -66,7 +66,7 @@ pub unsafe extern "C" fn peltzivar_text(
     }
 }
 
-// The outcome of a number, at `index` if it is an error of parsing, or `None` if there is no such number.
+// Returns the outcome with a number, or `None` if no outcome has it. A parse error has the index `index`.
 fn outcome(number: ErrorNumber, index: usize) -> Option<Error> {
     match number {
         0 => Some(Error::Success),

@@ -3,11 +3,9 @@
 //! The rules of words.
 
 use crate::outcomes::{error_number, ErrorNumber};
-use crate::texts::{write_nothing, write_short_text};
-use crate::words::{Fields, Word};
+use crate::words::Word;
 use peltzivar::format_flags as flags;
 use peltzivar::format_flags::{Rule, RULES};
-use peltzivar::reasons::{reasons_of, unused_fields, Unused};
 use peltzivar::word::format_error;
 
 /// Returns the number of the error of the first rule that a word breaks, or 0 if it is lawful.
@@ -17,14 +15,14 @@ pub extern "C" fn peltzivar_format_error(format: Word) -> ErrorNumber {
     error_number(format_error(format.number()))
 }
 
-/// Returns the number of the error of the first of the three radixes that is not 2 to 36, or 0.
+/// Returns the number of the error of the first radix that is not between 2 and 36, or 0 if all three are.
 // SAFETY: no other library has names that begin with `peltzivar_`.
 #[unsafe(no_mangle)]
 pub extern "C" fn peltzivar_radix_error(format: Word) -> ErrorNumber {
     error_number(flags::radix_error_impl(format.number()))
 }
 
-/// Returns whether a number is 2 to 36.
+/// Returns whether a number is between 2 and 36, inclusive.
 // SAFETY: no other library has names that begin with `peltzivar_`.
 #[unsafe(no_mangle)]
 pub extern "C" fn peltzivar_is_valid_radix(radix: u32) -> bool {
@@ -38,28 +36,28 @@ pub extern "C" fn peltzivar_is_valid_exponent_flags(format: Word) -> bool {
     flags::is_valid_exponent_flags(format.number())
 }
 
-/// Returns whether the digit separator is absent, or allowed ASCII that is no sign and no digit.
+/// Returns whether the digit separator is absent, or allowed ASCII that is neither a sign nor a digit.
 // SAFETY: no other library has names that begin with `peltzivar_`.
 #[unsafe(no_mangle)]
 pub extern "C" fn peltzivar_is_valid_digit_separator(format: Word) -> bool {
     flags::is_valid_digit_separator(format.number())
 }
 
-/// Returns whether the base prefix is absent, or allowed ASCII that is no sign and no digit.
+/// Returns whether the base prefix is absent, or allowed ASCII that is neither a sign nor a digit.
 // SAFETY: no other library has names that begin with `peltzivar_`.
 #[unsafe(no_mangle)]
 pub extern "C" fn peltzivar_is_valid_base_prefix(format: Word) -> bool {
     flags::is_valid_base_prefix(format.number())
 }
 
-/// Returns whether the base suffix is absent, or allowed ASCII that is no sign and no digit.
+/// Returns whether the base suffix is absent, or allowed ASCII that is neither a sign nor a digit.
 // SAFETY: no other library has names that begin with `peltzivar_`.
 #[unsafe(no_mangle)]
 pub extern "C" fn peltzivar_is_valid_base_suffix(format: Word) -> bool {
     flags::is_valid_base_suffix(format.number())
 }
 
-/// Returns whether no byte is two of digit separator, base prefix and base suffix.
+/// Returns whether no two of digit separator, base prefix and base suffix share a byte.
 // SAFETY: no other library has names that begin with `peltzivar_`.
 #[unsafe(no_mangle)]
 pub extern "C" fn peltzivar_is_valid_punctuation(format: Word) -> bool {
@@ -77,7 +75,7 @@ pub extern "C" fn peltzivar_is_valid_options_punctuation(
     flags::is_valid_options_punctuation(format.number(), exponent, decimal_point)
 }
 
-/// Returns the number of what is wrong with an exponent character and a decimal point in numbers of a word, or 0.
+/// Returns the number of the error of an exponent character and a decimal point in numbers of a word, or 0 if they fit.
 // SAFETY: no other library has names that begin with `peltzivar_`.
 #[unsafe(no_mangle)]
 pub extern "C" fn peltzivar_options_error(
@@ -92,7 +90,7 @@ pub extern "C" fn peltzivar_options_error(
     ))
 }
 
-/// Returns whether there is a rule of this number and a word keeps it.
+/// Returns whether a word keeps the rule with this number, or `false` if no rule has it.
 // SAFETY: no other library has names that begin with `peltzivar_`.
 #[unsafe(no_mangle)]
 pub extern "C" fn peltzivar_keeps_rule(format: Word, rule: u8) -> bool {
@@ -102,7 +100,7 @@ pub extern "C" fn peltzivar_keeps_rule(format: Word, rule: u8) -> bool {
     }
 }
 
-/// Returns the error of a word that breaks this rule first, or 0 if there is no such rule.
+/// Returns the number of the error of words that break this rule first, or 0 if no rule has this number.
 // SAFETY: no other library has names that begin with `peltzivar_`.
 #[unsafe(no_mangle)]
 pub extern "C" fn peltzivar_rule_error(rule: u8) -> ErrorNumber {
@@ -112,51 +110,13 @@ pub extern "C" fn peltzivar_rule_error(rule: u8) -> ErrorNumber {
     }
 }
 
-/// Returns the bits of a word that a rule reads, or 0 if there is no such rule.
+/// Returns the bits of a word that a rule reads, or 0 if no rule has this number.
 // SAFETY: no other library has names that begin with `peltzivar_`.
 #[unsafe(no_mangle)]
 pub extern "C" fn peltzivar_rule_mask(rule: u8) -> Word {
     match rule_of(rule) {
         Some(rule) => Word::new(rule.mask()),
         None => Word::new(0),
-    }
-}
-
-/// Writes the reason at an index, of three, for which a word breaks a rule.
-// SAFETY: no other library has names that begin with `peltzivar_`.
-#[unsafe(no_mangle)]
-pub unsafe extern "C" fn peltzivar_reason(
-    format: Word,
-    rule: u8,
-    index: u8,
-    text: *mut u8,
-    text_len: usize,
-) -> usize {
-    // SAFETY: the length is 0, or the caller passes a pointer to as many bytes, and nothing else uses them.
-    let text = unsafe { crate::slices::of_mut(text, text_len) };
-    let Some(rule) = rule_of(rule) else {
-        return write_nothing(text);
-    };
-    match reasons_of(rule, format.number()).get(index as usize) {
-        Some(Some(reason)) => write_short_text(&reason.text(), text),
-        _ => write_nothing(text),
-    }
-}
-
-/// Writes the setting without effect at an index, of four, of fields that are packed.
-// SAFETY: no other library has names that begin with `peltzivar_`.
-#[unsafe(no_mangle)]
-pub unsafe extern "C" fn peltzivar_unused(
-    fields: &Fields,
-    index: u8,
-    text: *mut u8,
-    text_len: usize,
-) -> usize {
-    // SAFETY: the length is 0, or the caller passes a pointer to as many bytes, and nothing else uses them.
-    let text = unsafe { crate::slices::of_mut(text, text_len) };
-    match unused_at(fields, index as usize) {
-        Some(setting) => write_short_text(&setting.text(), text),
-        None => write_nothing(text),
     }
 }
 
@@ -178,20 +138,11 @@ pub extern "C" fn peltzivar_radix_from_flags(format: Word, mask: Word, shift: u3
     }
 }
 
-// The rule of a number: that at this index.
-fn rule_of(number: u8) -> Option<Rule> {
+/// Returns the rule with this number, its index in the order of the rules, or `None` if no rule has it.
+#[must_use]
+pub fn rule_of(number: u8) -> Option<Rule> {
     if (number as usize) < RULES.len() {
         Some(RULES[number as usize])
-    } else {
-        None
-    }
-}
-
-// The setting without effect at an index.
-fn unused_at(fields: &Fields, index: usize) -> Option<Unused> {
-    let settings = unused_fields(&fields.builder());
-    if index < settings.len() {
-        settings[index]
     } else {
         None
     }

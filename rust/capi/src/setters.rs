@@ -1,12 +1,12 @@
 // Made by rust/tools/erase.py from crates/lexical_c/src/setters.rt: change that file.
 
-//! The names of setters, and settings as text. A setter crosses as its number.
+//! The names of setters, and settings as text. A setter crosses to C as its number.
 
 use crate::texts::{write_nothing, write_short_text, write_text};
 use crate::words::{NumberedEdit, Word};
-use peltzivar::edits::{setter_name_of_number, setter_number_of_name, Edit};
+use peltzivar::edits::{setter_name_of_number, setter_number_of_name, Edit, SettingError};
 
-/// Writes a setter's name.
+/// Writes the name of a setter.
 // SAFETY: no other library has names that begin with `peltzivar_`.
 #[unsafe(no_mangle)]
 pub unsafe extern "C" fn peltzivar_setter_name(
@@ -22,7 +22,7 @@ pub unsafe extern "C" fn peltzivar_setter_name(
     }
 }
 
-/// Returns the number of the setter of this name, or 255 if there is none.
+/// Returns the number of the setter with this name, or 255 if no setter has it.
 // SAFETY: no other library has names that begin with `peltzivar_`.
 #[unsafe(no_mangle)]
 pub unsafe extern "C" fn peltzivar_setter_of_name(name: *const u8, name_len: usize) -> u8 {
@@ -31,7 +31,7 @@ pub unsafe extern "C" fn peltzivar_setter_of_name(name: *const u8, name_len: usi
     setter_number_of_name(name).unwrap_or(255)
 }
 
-/// Writes the edit of a text `NAME=VALUE` and returns 0, or returns 1 to 3, which says what is wrong.
+/// Parses a text `NAME=VALUE`, writes the edit and returns 0, or returns the number of the error, 1 to 4.
 // SAFETY: no other library has names that begin with `peltzivar_`.
 #[unsafe(no_mangle)]
 pub unsafe extern "C" fn peltzivar_edit_of_text(
@@ -41,15 +41,49 @@ pub unsafe extern "C" fn peltzivar_edit_of_text(
 ) -> u32 {
     // SAFETY: the length is 0, or the caller passes a pointer to as many values.
     let text = unsafe { crate::slices::of(text, text_len) };
-    let Ok(text) = core::str::from_utf8(text) else {
-        return 1;
-    };
-    match Edit::from_text(text) {
+    match edit_from_bytes(text) {
         Ok(edit) => {
             out.write(NumberedEdit::new(&edit));
             0
         }
-        Err(error) => error as u32 + 1,
+        Err(error) => error_code(error),
+    }
+}
+
+/// Writes the sentence that states why [`peltzivar_edit_of_text`] refuses a text, or an empty text if it accepts it.
+// SAFETY: no other library has names that begin with `peltzivar_`.
+#[unsafe(no_mangle)]
+pub unsafe extern "C" fn peltzivar_setting_error(
+    text: *const u8,
+    text_len: usize,
+    to: *mut u8,
+    to_len: usize,
+) -> usize {
+    // SAFETY: the length is 0, or the caller passes a pointer to as many values.
+    let text = unsafe { crate::slices::of(text, text_len) };
+    // SAFETY: the length is 0, or the caller passes a pointer to as many bytes, and nothing else uses them.
+    let to = unsafe { crate::slices::of_mut(to, to_len) };
+    match edit_from_bytes(text) {
+        Ok(_) => write_nothing(to),
+        Err(error) => write_short_text(&error.text(), to),
+    }
+}
+
+// Parses a text as an edit. No setter has a name that is not UTF-8.
+fn edit_from_bytes(text: &[u8]) -> Result<Edit, SettingError> {
+    match core::str::from_utf8(text) {
+        Ok(text) => Edit::from_text(text),
+        Err(_) => Err(SettingError::UnknownName),
+    }
+}
+
+// Returns the number of a setting error.
+fn error_code(error: SettingError) -> u32 {
+    match error {
+        SettingError::UnknownName => 1,
+        SettingError::BadValue(_) => 2,
+        SettingError::OutOfRange(_) => 3,
+        SettingError::NoEquals => 4,
     }
 }
 

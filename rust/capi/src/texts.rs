@@ -1,12 +1,13 @@
 // Made by rust/tools/erase.py from crates/lexical_c/src/texts.rt: change that file.
 
-//! Texts that are written into a buffer with a 0 at their end.
+//! Texts that are written into a buffer with a final 0.
 
 use core::fmt;
 use peltzivar::error::{Error, ShortText, Sink};
+use peltzivar::source::BuilderExpression;
 
-/// Writes a text and a final 0 from the start of a buffer on, of the text as much as leaves room for the 0, and
-/// returns the length of the whole text.
+/// Writes as much of a text as fits, and a final 0, from the start of a buffer, and returns the length of the whole
+/// text. Writes nothing to an empty buffer.
 #[must_use]
 pub fn write_text(text: &[u8], out: &mut crate::outputs::Buffer) -> usize {
     if !out.is_empty() {
@@ -31,7 +32,7 @@ pub fn write_short_text(sentence: &ShortText, out: &mut crate::outputs::Buffer) 
     whole.write_to(out)
 }
 
-/// Writes what `Display` prints of an error as [`write_text`] does.
+/// Writes the text that `Display` prints for an error as [`write_text`] does.
 #[must_use]
 pub fn write_error(error: Error, out: &mut crate::outputs::Buffer) -> usize {
     let mut whole = Text::new();
@@ -39,10 +40,18 @@ pub fn write_error(error: Error, out: &mut crate::outputs::Buffer) -> usize {
     whole.write_to(out)
 }
 
-// More bytes than any sentence has.
-const ROOM: usize = 256;
+/// Writes the builder expression of a word as [`write_text`] does.
+#[must_use]
+pub fn write_expression(expression: BuilderExpression, out: &mut crate::outputs::Buffer) -> usize {
+    let mut whole = Text::new();
+    let _ = expression.put_into(&mut whole);
+    whole.write_to(out)
+}
 
-// A text that is put together from pieces. A piece that has no room is left out.
+// The capacity of a text, which is more than the length of any text.
+const ROOM: usize = 2048;
+
+// A text that is put together from pieces. A piece that does not fit is left out.
 struct Text {
     bytes: [u8; ROOM],
     len: usize,
@@ -64,7 +73,7 @@ impl Text {
     }
 }
 
-// It never fails.
+// Putting a piece into a `Text` never fails.
 impl Sink for Text {
     fn put(&mut self, piece: &str) -> fmt::Result {
         let piece = piece.as_bytes();

@@ -1,11 +1,11 @@
 // Made by rust/tools/erase.py from crates/lexical_c/src/words.rt: change that file.
 
-//! The structs that stand for a word, an edit, and the fields of a builder.
+//! The structs of a word, an edit, and the fields of a builder.
 
 use peltzivar::edits::Edit;
 use peltzivar::format_builder::NumberFormatBuilder;
 
-/// A format word as two halves, since C has no type of 128 bits that every compiler knows.
+/// A format word as two halves, since C has no type of 128 bits that every compiler supports.
 #[repr(C)]
 #[derive(Clone, Copy)]
 pub struct Word {
@@ -14,7 +14,7 @@ pub struct Word {
 }
 
 impl Word {
-    /// Returns the halves of a number.
+    /// Splits a number into its halves.
     #[must_use]
     #[inline(always)]
     pub fn new(number: u128) -> Word {
@@ -24,7 +24,7 @@ impl Word {
         }
     }
 
-    /// Returns the number that the halves make.
+    /// Returns the number with these halves.
     #[must_use]
     #[inline(always)]
     pub fn number(self) -> u128 {
@@ -32,7 +32,7 @@ impl Word {
     }
 }
 
-/// An edit: the number of a setter and its argument.
+/// An edit as its setter number and its argument.
 #[repr(C)]
 #[derive(Clone, Copy)]
 pub struct NumberedEdit {
@@ -41,7 +41,7 @@ pub struct NumberedEdit {
 }
 
 impl NumberedEdit {
-    /// Returns the numbers of an edit.
+    /// Returns the setter number and the argument of an edit.
     #[must_use]
     pub fn new(edit: &Edit) -> NumberedEdit {
         NumberedEdit {
@@ -50,7 +50,7 @@ impl NumberedEdit {
         }
     }
 
-    /// Returns the edit, or `None` if it has no setter.
+    /// Returns the edit, or `None` if no setter has the number.
     #[must_use]
     #[inline(always)]
     pub fn edit(self) -> Option<Edit> {
@@ -58,8 +58,8 @@ impl NumberedEdit {
     }
 }
 
-/// The fields of a builder: the flags, the first at bit 0, and the six bytes in the order of their bits, each 0 if
-/// it is absent. The bits above the flags are ignored.
+/// The fields of a builder: the flags, the first at bit 0, and the six bytes in the order of their bits. An absent byte
+/// is 0. The bits above the flags are ignored.
 #[repr(C)]
 #[derive(Clone, Copy)]
 pub struct Fields {

@@ -3,19 +3,18 @@
 //! The commands: what the program's arguments ask for, and the response to it.
 
 use crate::edit::read_edits;
-use crate::explanation::has_nothing_to_explain;
 use crate::response::{Answer, Refusal};
 use crate::word::read_word;
-use peltzivar::edits::{byte_from_text, edit_word, is_built, migrate, same_format, Edit};
+use peltzivar::edits::{byte_from_decimal, edit_word, is_built, migrate, same_format, Edit};
 use peltzivar::format_flags::is_valid_options_punctuation;
-use peltzivar::word::{format_error, STANDARD};
+use peltzivar::word::{format_error, format_is_valid, STANDARD};
 
 // The maximum number of edits in one command.
 const MAX_EDITS: usize = 64;
 
-/// The response to `args`, the program's arguments without its name: the answer to the command, or the
-/// first reason to refuse them. The reasons are tried in this order: an unknown command, a wrong
-/// number of arguments, too many edits, then each argument from left to right.
+/// Returns the response to `args`, the program's arguments without its name: the answer to the command, or the first
+/// reason to refuse the arguments. The reasons are tested in this order: an unknown command, a wrong number of
+/// arguments, too many edits, then each argument from left to right.
 pub fn response_to(args: &[String]) -> Result<Answer, Refusal> {
     match args {
         [] => Ok(Answer::Fields(STANDARD)),
@@ -33,7 +32,7 @@ pub fn response_to(args: &[String]) -> Result<Answer, Refusal> {
     }
 }
 
-// `show WORD`
+// Answers `show WORD`.
 fn show(args: &[String]) -> Result<Answer, Refusal> {
     match args {
         [word] => Ok(Answer::Fields(parse_word(word)?)),
@@ -41,7 +40,7 @@ fn show(args: &[String]) -> Result<Answer, Refusal> {
     }
 }
 
-// `edit WORD NAME=VALUE ..`
+// Answers `edit WORD NAME=VALUE ..`.
 fn edit(args: &[String]) -> Result<Answer, Refusal> {
     let [word, texts @ ..] = args else {
         return Err(Refusal::WrongNumberOfArguments);
@@ -55,7 +54,7 @@ fn edit(args: &[String]) -> Result<Answer, Refusal> {
     Ok(Answer::Word(edit_word(format, &edits[..texts.len()])))
 }
 
-// `check WORD`
+// Answers `check WORD`.
 fn check(args: &[String]) -> Result<Answer, Refusal> {
     match args {
         [word] => Ok(Answer::Outcome(format_error(parse_word(word)?))),
@@ -63,7 +62,7 @@ fn check(args: &[String]) -> Result<Answer, Refusal> {
     }
 }
 
-// `same A B`
+// Answers `same A B`.
 fn same(args: &[String]) -> Result<Answer, Refusal> {
     match args {
         [a, b] => Ok(Answer::Sameness(same_format(
@@ -74,7 +73,7 @@ fn same(args: &[String]) -> Result<Answer, Refusal> {
     }
 }
 
-// `options WORD E P`
+// Answers `options WORD E P`.
 fn options(args: &[String]) -> Result<Answer, Refusal> {
     let [word, exponent, point] = args else {
         return Err(Refusal::WrongNumberOfArguments);
@@ -87,7 +86,7 @@ fn options(args: &[String]) -> Result<Answer, Refusal> {
     )))
 }
 
-// `migrate WORD`
+// Answers `migrate WORD`.
 fn migrate_word(args: &[String]) -> Result<Answer, Refusal> {
     match args {
         [word] => {
@@ -101,7 +100,7 @@ fn migrate_word(args: &[String]) -> Result<Answer, Refusal> {
     }
 }
 
-// `source WORD`
+// Answers `source WORD`.
 fn source(args: &[String]) -> Result<Answer, Refusal> {
     match args {
         [word] => {
@@ -112,12 +111,12 @@ fn source(args: &[String]) -> Result<Answer, Refusal> {
     }
 }
 
-// `explain WORD`
+// Answers `explain WORD`.
 fn explain(args: &[String]) -> Result<Answer, Refusal> {
     match args {
         [word] => {
             let word = parse_word(word)?;
-            Ok(Answer::Explanation(word, has_nothing_to_explain(word)))
+            Ok(Answer::Explanation(word, format_is_valid(word)))
         }
         _ => Err(Refusal::WrongNumberOfArguments),
     }
@@ -128,7 +127,7 @@ fn parse_word(text: &String) -> Result<u128, Refusal> {
     read_word(text.as_str()).ok_or(Refusal::BadWord)
 }
 
-// Parses an argument as a byte, or refuses it.
+// Parses an argument as a decimal byte, or refuses it.
 fn parse_byte(text: &String) -> Result<u8, Refusal> {
-    byte_from_text(text.as_str()).ok().ok_or(Refusal::BadByte)
+    byte_from_decimal(text.as_str()).ok_or(Refusal::BadByte)
 }

@@ -4,11 +4,23 @@
 
 use peltzivar::edits::Edit;
 
-/// Parses `texts` as edits, in their order, into the front of `edits`, which has to be at least as
-/// long; `None` if any of them is not an edit.
+/// Parses each of `texts` as an edit and stores the edits in order at the front of `edits`, which must be at least as
+/// long as `texts`. Returns `None` if a text is not an edit.
 pub(crate) fn read_edits(texts: &[String], edits: &mut [Edit]) -> Option<()> {
     for (i, text) in texts.iter().enumerate() {
-        edits[i] = Edit::from_text(text.as_str()).ok()?;
+        let text = text.as_str();
+        if has_other_form(text) {
+            return None;
+        }
+        edits[i] = Edit::from_text(text).ok()?;
     }
     Some(())
+}
+
+// Returns whether the value in `NAME=VALUE` contains a quote or an `x`, which no decimal byte contains.
+fn has_other_form(text: &str) -> bool {
+    match text.split_once('=') {
+        Some((_, value)) => value.as_bytes().contains(&b'\'') || value.as_bytes().contains(&b'x'),
+        None => false,
+    }
 }

@@ -1,57 +1,79 @@
 // Made by rust/tools/erase.py from crates/numfmt/src/explanation.rt: change that file.
 
-//! What there is to say of a format word: the rules that it breaks, and the settings without effect.
+//! The reasons why a format word breaks rules, with the edits that mend it, and the notes on it.
 
 use crate::output::Output;
-use peltzivar::edits::field_edits_of;
-use peltzivar::format_flags::{Rule, RULES};
-use peltzivar::reasons::{reasons_of, unused_settings};
-use peltzivar::word::format_is_valid;
-use std::fmt::Display;
+use peltzivar::edits::{field_edits_of, Edit};
+use peltzivar::format_flags::Rule;
+use peltzivar::reasons::{mend, notes, reasons, Reason};
 use std::io;
 
-/// Returns whether there is nothing to say of `word`: it is lawful, and each of its settings has an effect.
-#[must_use]
-pub fn has_nothing_to_explain(word: u128) -> bool {
-    format_is_valid(word) && matches!(unused_settings(word), [None, None, None, None])
-}
-
-/// Writes each rule that `word` breaks, in the order of the rules: its error, the fields of the word that
-/// it reads, and the reasons; and then each setting without effect. For a word with none of these nothing
-/// is written.
+/// Writes each reason why `word` breaks rules: its sentence, the errors of the broken rules, the fields that it blames,
+/// and the edits that mend each of these fields, if there are any. Then writes each note. If the word has neither
+/// reasons nor notes, nothing is written.
 ///
-/// Any word may be passed. After an error nothing is known of what was written.
+/// Any word may be passed. After an error, the contract does not state what was written.
 pub fn write_explanation<W: Output>(word: u128, out: &mut W) -> io::Result<()> {
-    for rule in &RULES {
-        write_rule(*rule, word, out)?;
-    }
-    write_lines("", &unused_settings(word), out)
-}
-
-// Writes what is wrong with a word by one rule, if it breaks the rule.
-fn write_rule<W: Output>(rule: Rule, word: u128, out: &mut W) -> io::Result<()> {
-    if rule.is_kept(word) {
-        return Ok(());
-    }
-    writeln!(out, "{}", rule.error())?;
-    for edit in &field_edits_of(word) {
-        if edit.mask() & rule.mask() != 0 {
-            writeln!(out, "    {edit}")?;
+    for reason in &reasons(word) {
+        if let Some(reason) = reason {
+            write_reason(word, reason, out)?;
         }
     }
-    write_lines("    ", &reasons_of(rule, word), out)
-}
-
-// Writes those of some items that there are, each on a line after an indent.
-fn write_lines<T: Display, W: Output>(
-    indent: &str,
-    items: &[Option<T>],
-    out: &mut W,
-) -> io::Result<()> {
-    for item in items {
-        if let Some(item) = item {
-            writeln!(out, "{indent}{item}")?;
+    for note in &notes(word) {
+        if let Some(note) = note {
+            writeln!(out, "note: {note}")?;
         }
     }
     Ok(())
+}
+
+// Writes a reason, the errors of its rules, the fields that it blames, and the edits that mend these fields.
+fn write_reason<W: Output>(word: u128, reason: &Reason, out: &mut W) -> io::Result<()> {
+    writeln!(out, "{reason}")?;
+    write_errors(&reason.rules(), out)?;
+    write_fields(word, reason, out)?;
+    write_mends(word, reason, out)
+}
+
+// Writes the errors of the rules that a reason breaks.
+fn write_errors<W: Output>(rules: &[Option<Rule>], out: &mut W) -> io::Result<()> {
+    for rule in rules {
+        if let Some(rule) = rule {
+            writeln!(out, "    error: {}", rule.error())?;
+        }
+    }
+    Ok(())
+}
+
+// Writes the fields of `word` that `reason` blames.
+fn write_fields<W: Output>(word: u128, reason: &Reason, out: &mut W) -> io::Result<()> {
+    for field in &field_edits_of(word) {
+        if field.mask() & reason.mask() != 0 {
+            writeln!(out, "    field: {field}")?;
+        }
+    }
+    Ok(())
+}
+
+// Writes the edits that mend the fields of `word` that `reason` blames.
+fn write_mends<W: Output>(word: u128, reason: &Reason, out: &mut W) -> io::Result<()> {
+    for field in &field_edits_of(word) {
+        if field.mask() & reason.mask() != 0 {
+            let (edits, count) = mend(word, reason, field);
+            write_edits(&edits[..count], out)?;
+        }
+    }
+    Ok(())
+}
+
+// Writes a line with the edits that mend a field, if there are any.
+fn write_edits<W: Output>(edits: &[Edit], out: &mut W) -> io::Result<()> {
+    if edits.is_empty() {
+        return Ok(());
+    }
+    out.write_all(b"    mend:")?;
+    for edit in edits {
+        write!(out, " {edit}")?;
+    }
+    out.write_all(b"\n")
 }

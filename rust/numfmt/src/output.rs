@@ -1,26 +1,26 @@
 // Made by rust/tools/erase.py from crates/numfmt/src/output.rt: change that file.
 
-//! What the program writes to, with words for what std's `Write` leaves open: an error, and a flush.
+//! The writer of the program, with predicates for what std's `Write` leaves open: a failed call and a flush.
 
 use std::fmt::Arguments;
 use std::io;
 use std::io::Write;
 
-/// A writer that may fail, and that may hold back what was written.
+/// A writer that may fail, and that may hold back written bytes.
 ///
-/// What `has_failed` and `is_flushed` mean is up to the writer. So a function over any `Output` knows that it has
-/// failed only from a call that failed, that it is flushed only from a flush, and neither after the next call.
+/// Each writer defines `has_failed` and `is_flushed`. So for any `Output`, a proof can derive `has_failed` only from a
+/// failed call, and `is_flushed` only from a flush. After the next call, neither is known.
 pub trait Output {
     fn write_all(&mut self, bytes: &[u8]) -> io::Result<()>;
 
-    /// What `write!` and `writeln!` call.
+    /// Writes the text of a value. The macros `write!` and `writeln!` call this function.
     fn write_fmt(&mut self, text: Arguments<'_>) -> io::Result<()>;
 
-    /// Passes on all that was written.
+    /// Passes on all bytes that are held back.
     fn flush(&mut self) -> io::Result<()>;
 }
 
-// Of each writer std knows the contents alone.
+// The contracts of std's `Write` state only the contents of a writer.
 impl<W: Write> Output for W {
     fn write_all(&mut self, bytes: &[u8]) -> io::Result<()> {
         Write::write_all(self, bytes)

@@ -17,24 +17,24 @@ pub enum Answer {
     Fields(u128),
     /// A format word.
     Word(u128),
-    /// Whether two format words mean the same.
+    /// The answer to `same`: `true` if the two format words are equivalent.
     Sameness(bool),
-    /// The first rule that a format word breaks, or `Success`.
+    /// The error of the first rule that a format word breaks, or `Success`.
     Outcome(Error),
-    /// Whether an exponent byte and a point byte fit a format word.
+    /// The answer to `options`: `true` if the exponent byte and the point byte fit the format word.
     Acceptance(bool),
-    /// The builder expression of a format word, and whether it makes the word itself.
+    /// The builder expression of a format word, and whether it builds this very word.
     Source(u128, bool),
-    /// What is wrong with a format word, and what of it has no effect; and whether that is nothing.
+    /// The reasons why a format word breaks rules and the notes on it, and whether it is lawful.
     Explanation(u128, bool),
 }
 
-/// Why arguments are refused.
+/// The reason why arguments are refused.
 #[derive(Clone, Copy)]
 pub enum Refusal {
     /// The first argument is not the name of a command.
     UnknownCommand,
-    /// The command has another number of arguments.
+    /// The command takes another number of arguments.
     WrongNumberOfArguments,
     /// There are more than 64 edits.
     TooManyEdits,
@@ -46,7 +46,7 @@ pub enum Refusal {
     BadByte,
 }
 
-/// The exit status of a run that printed `response`: 0, 1 if the answer is no, or 2 for a refusal.
+/// Returns the exit status of a run that printed `response`: 0, 1 if the answer is no, or 2 for a refusal.
 #[must_use]
 pub fn exit_status(response: Result<Answer, Refusal>) -> u8 {
     match response {
@@ -58,7 +58,7 @@ pub fn exit_status(response: Result<Answer, Refusal>) -> u8 {
     }
 }
 
-/// Writes the text of `response` to `out` and flushes it. After an error nothing more is written.
+/// Writes the text of `response` to `out` and flushes `out`. After an error, nothing more is written.
 pub fn print<W: Output>(response: Result<Answer, Refusal>, out: &mut W) -> io::Result<()> {
     match response {
         Ok(answer) => answer.print(out)?,
@@ -68,7 +68,7 @@ pub fn print<W: Output>(response: Result<Answer, Refusal>, out: &mut W) -> io::R
 }
 
 impl Refusal {
-    // The message after `numfmt: `.
+    // Returns the message that is printed after `numfmt: `.
     fn reason(self) -> &'static str {
         match self {
             Refusal::UnknownCommand => "unknown command",
@@ -91,10 +91,7 @@ impl Answer {
             Answer::Outcome(error) => writeln!(out, "{error}"),
             Answer::Acceptance(true) => out.write_all(b"accepted\n"),
             Answer::Acceptance(false) => out.write_all(b"refused\n"),
-            Answer::Source(format, _) => {
-                write_source(format, out)?;
-                out.write_all(b"\n")
-            }
+            Answer::Source(format, _) => write_source(format, out),
             Answer::Explanation(format, _) => write_explanation(format, out),
         }
     }

@@ -41,16 +41,29 @@ base_suffix 3
 mantissa_radix 4
 exponent_base 5
 exponent_radix 6";
-const PREFIX_B_EXPLAINED: &str = "lexical number format error: 'invalid base prefix character'
-    base_prefix=98
-    mantissa_radix=16
-    exponent_radix=10
-    the base prefix 'b' is a digit of radix 16
-the digit separator '_' has no effect: no flag allows one";
+const RESERVED_BIT_LOST: &str =
+    "// This code makes another word, without the reserved bits 0x80000000
+NumberFormatBuilder::new().build_unchecked()";
+
+const BOTH_LOST: &str = "// This code makes another word, without the reserved bits 0x80000000
+// This code makes another word, without the digit separator '_': no flag allows one
+NumberFormatBuilder::new().digit_separator(NonZeroU8::new(95)).build_unchecked()";
+
+const SEPARATOR_LOST: &str =
+    "// This code makes another word, without the digit separator 7: no flag allows one
+NumberFormatBuilder::new().digit_separator(NonZeroU8::new(7)).build_unchecked()";
+
+const PREFIX_B_EXPLAINED: &str = "the base prefix 'b' is a digit in radix 16
+    error: lexical number format error: 'invalid base prefix character'
+    field: base_prefix=98
+    field: mantissa_radix=16
+    mend: base_prefix=none
+    mend: mantissa_radix=10
+note: no number can have the digit separator '_': no flag allows one";
 
 /// Arguments, the text without its last newline, and the exit status.
 #[rustfmt::skip]
-const RUNS: [(&[&str], &str, u8); 49] = [
+const RUNS: [(&[&str], &str, u8); 51] = [
     (&[], STANDARD_FIELDS, 0),
     (&["show", STANDARD], STANDARD_FIELDS, 0),
     (&["show", ALL_ONES], ALL_FIELDS, 0),
@@ -71,7 +84,9 @@ const RUNS: [(&[&str], &str, u8); 49] = [
     (&["migrate", RESERVED_BIT], DECIMAL, 0),
     (&["migrate", "0x0"], "lexical number format error: 'invalid radix for mantissa digits'", 1),
     (&["source", STANDARD], "NumberFormatBuilder::new().build_unchecked()", 0),
-    (&["source", RESERVED_BIT], "NumberFormatBuilder::new().build_unchecked()", 1),
+    (&["source", RESERVED_BIT], RESERVED_BIT_LOST, 1),
+    (&["source", "0x00000A000000005F000000008000000C"], BOTH_LOST, 1),
+    (&["source", "0x00000A0000000007000000000000000C"], SEPARATOR_LOST, 1),
     (&["explain", PREFIX_B], PREFIX_B_EXPLAINED, 1),
     (&[""], "numfmt: unknown command", 2),
     (&["show"], "numfmt: wrong number of arguments", 2),
@@ -131,8 +146,8 @@ fn takes_64_edits() {
     check_run(&args, "numfmt: too many edits", 2);
 }
 
-/// A writer that holds back what is written until it is flushed. Of its calls the one with the number `failing_call`
-/// fails.
+/// A writer that takes at most seven bytes at a time, and holds them back until it is flushed. Of its calls the one with
+/// the number `failing_call` fails.
 struct HoldingWriter {
     failing_call: u32,
     calls: u32,
@@ -153,8 +168,9 @@ impl HoldingWriter {
 impl Write for HoldingWriter {
     fn write(&mut self, bytes: &[u8]) -> io::Result<usize> {
         self.call()?;
-        self.held.extend(bytes);
-        Ok(bytes.len())
+        let taken = &bytes[..bytes.len().min(7)];
+        self.held.extend(taken);
+        Ok(taken.len())
     }
 
     fn flush(&mut self) -> io::Result<()> {
@@ -169,7 +185,7 @@ impl Write for HoldingWriter {
 #[test]
 fn ends_at_a_call_that_fails() {
     for (args, text, status) in RUNS {
-        let ended = (1..100).any(|failing_call| {
+        let ended = (1..1000).any(|failing_call| {
             let (held, passed_on) = (Vec::new(), Vec::new());
             let mut out = HoldingWriter {
                 failing_call,

@@ -1,23 +1,28 @@
 // Made by rust/tools/erase.py from crates/lexical_util/src/edits/listing.rt: change that file.
 
-//! Which words a builder packs, and the setter calls that make a word.
+//! The setter calls that build a word, and the test whether a builder packs it.
 
 use crate::edits::{Edit, FlagSetter, FIELD_COUNT};
 use crate::format_builder::NonZeroU8;
 use crate::format_flags as flags;
 use crate::view::FormatView;
 
-/// Returns whether `build_unchecked` can return this word: its reserved bits are 0, and it has a digit
-/// separator only if a flag allows one somewhere.
+/// Returns whether `build_unchecked` can return this word: its reserved bits are 0, and its digit separator is absent
+/// unless a flag allows one.
 ///
 /// # Proved
 ///
-/// For all arguments; [`definitions`](crate::definitions) has the words.
+/// For all arguments:
+///
+/// - The result is true if and only if the reserved bits are 0 and a separator has a flag
+///   ([`IsBuilt`](crate::definitions#isbuilt)).
+/// - This holds if and only if setter calls on a new builder make the word
+///   ([`IsBuiltByWrites`](crate::definitions#isbuiltbywrites)).
 ///
 /// ```text
 /// ensures rule { IsTrue result ↔ IsBuilt format }
 ///
-/// // Exactly these words are made by setter calls on a new builder.
+/// // The result is true if and only if setter calls on a new builder give this word.
 /// ensures image { IsTrue result ↔ IsBuiltByWrites format }
 /// ```
 #[must_use]
@@ -25,20 +30,19 @@ pub const fn is_built(format: u128) -> bool {
     flags::is_clean(format) && is_separator_allowed_or_absent(format)
 }
 
-// Whether there is no digit separator, or a flag that allows one.
+// Returns whether the digit separator is absent, or a flag allows one.
 const fn is_separator_allowed_or_absent(format: u128) -> bool {
     flags::digit_separator(format) == 0 || flags::is_separator_allowed(format)
 }
 
-/// Returns the setter calls that make `format` from a new builder, and how many of them are needed.
+/// Returns the setter calls that build `format` from a new builder, and the number of calls that are needed.
 ///
-/// The list has one edit for each field, with the field's value in `format`. The edits that change a
-/// new builder come first, and the number says how many they are; then come the others. Each part is
-/// in the order of the fields' bits. The first part alone makes a builder with exactly the fields of
-/// `format`, and so does the whole list; `build_unchecked` of it returns `format` if [`is_built`] is
-/// true of it. No shorter list of setter calls of single fields does.
+/// The list has one edit for each field, with the field's value in `format`. The edits that change a new builder come
+/// first, and the number counts them. The other edits follow. Each part is in the order of the fields' bits.
 ///
-/// In plain Rust:
+/// The first part by itself gives a builder with exactly the fields of `format`, and so does the whole list. If
+/// [`is_built`] returns `true`, then `build_unchecked` of this builder returns `format`, and no shorter list of
+/// single-field setter calls gives `format`.
 ///
 /// ```
 /// use peltzivar::edits::{edits_of, Edit, FlagSetter};
@@ -51,14 +55,27 @@ const fn is_separator_allowed_or_absent(format: u128) -> bool {
 ///
 /// # Proved
 ///
-/// For all arguments; [`definitions`](crate::definitions) has the words.
+/// For all arguments:
+///
+/// - The list has an edit for each write ([`IsEditOf`](crate::definitions#iseditof)): first those that the word
+///   needs ([`needed_writes`](crate::definitions#needed_writes)), then the others
+///   ([`other_writes`](crate::definitions#other_writes)).
+/// - The number is how many writes the word needs.
+/// - Each value fits its field ([`IsLegal`](crate::definitions#islegal)).
+/// - The first part, applied to a new builder ([`after`](crate::definitions#after),
+///   [`new_record`](crate::definitions#new_record)), gives the fields ([`raw`](crate::definitions#raw)) of the
+///   word.
+/// - So does the whole list.
+/// - These fields pack ([`pack`](crate::definitions#pack)) into the word itself if and only if it
+///   [`IsBuilt`](crate::definitions#isbuilt).
+/// - No shorter list of writes packs into the word.
 ///
 /// ```text
 /// ensures list { AllZip IsEditOf (needed_writes (raw format) ++ other_writes (raw format)) result.0 }
 /// ensures number { result.1 ≡ length (needed_writes (raw format)) }
 /// ensures legal { All IsLegal (all_writes result.0) }
 ///
-/// // The first part makes the fields of the word, and so does the whole list.
+/// // The first part gives the fields of the word, and so does the whole list.
 /// ensures first { after new_record (all_writes (take result.1 result.0)) ≡ raw format }
 /// ensures whole { after new_record (all_writes result.0) ≡ raw format }
 /// ensures builds { (pack (raw format) ≡ format) ↔ IsBuilt format }
@@ -67,7 +84,7 @@ const fn is_separator_allowed_or_absent(format: u128) -> bool {
 /// ```
 #[must_use]
 pub fn edits_of(format: u128) -> ([Edit; FIELD_COUNT], usize) {
-    // The first array has the needed edits in front, and then takes the others from the second.
+    // The first array has the needed edits in front, and then the other edits are copied from the second.
     let mut edits = field_edits_of(format);
     let mut others = field_edits_of(format);
     let count = move_to_front(&mut edits, true);
@@ -79,6 +96,7 @@ pub fn edits_of(format: u128) -> ([Edit; FIELD_COUNT], usize) {
 
 /// Returns the edits that write all fields of `format` with their values, in the order of their bits.
 #[must_use]
+#[doc(hidden)]
 pub const fn field_edits_of(format: u128) -> [Edit; FIELD_COUNT] {
     macro_rules! edits_of_fields {
         (($view:ident, $base:ident, $radix:ident)
@@ -100,19 +118,19 @@ pub const fn field_edits_of(format: u128) -> [Edit; FIELD_COUNT] {
     with_setters!(edits_of_fields(view, base, radix))
 }
 
-// The exponent base that the word holds, 0 if it is empty.
+// Returns the exponent base in the word, or 0 if it is absent.
 #[inline(always)]
-const fn raw_exponent_base(format: u128) -> u8 {
+pub(crate) const fn raw_exponent_base(format: u128) -> u8 {
     ((format & flags::EXPONENT_BASE) >> flags::EXPONENT_BASE_SHIFT) as u8
 }
 
-// The exponent radix that the word holds, 0 if it is empty.
+// Returns the exponent radix in the word, or 0 if it is absent.
 #[inline(always)]
-const fn raw_exponent_radix(format: u128) -> u8 {
+pub(crate) const fn raw_exponent_radix(format: u128) -> u8 {
     ((format & flags::EXPONENT_RADIX) >> flags::EXPONENT_RADIX_SHIFT) as u8
 }
 
-// Whether an edit changes a new builder.
+// Returns whether an edit changes a new builder.
 const fn differs_from_new(edit: Edit) -> bool {
     match edit {
         Edit::Flag(setter, flag) => match setter {
@@ -129,8 +147,8 @@ const fn differs_from_new(edit: Edit) -> bool {
     }
 }
 
-// Moves those edits that change a new builder, or those that do not, to the front in their order, and
-// returns how many there are.
+// Moves the edits that change a new builder, or if `changed` is false the other edits, to the front in their order, and
+// returns their number.
 fn move_to_front(edits: &mut [Edit], changed: bool) -> usize {
     let mut count = 0;
     for index in 0..edits.len() {

@@ -1,29 +1,29 @@
 // Made by rust/tools/erase.py from crates/lexical_util/src/edits/numbers.rt: change that file.
 
-//! The names and numbers of setters, and an edit as the number of its setter and an argument.
+//! The names and numbers of setters, and edits as a setter number and an argument.
 
 use crate::edits::{edit_word, Edit, FlagSetter, SETTERS};
 use crate::format_builder::{NonZeroU8, OptionU8};
 use crate::format_flags as flags;
 
-// The numbers of the byte setters, which follow those of the flag and group setters.
-const DIGIT_SEPARATOR: u8 = SETTERS.len() as u8;
+// The numbers of the byte setters, which follow the numbers of the flag and group setters.
+pub(super) const DIGIT_SEPARATOR: u8 = SETTERS.len() as u8;
 
 const BASE_PREFIX: u8 = DIGIT_SEPARATOR + 1;
 
 const BASE_SUFFIX: u8 = DIGIT_SEPARATOR + 2;
 
-const MANTISSA_RADIX: u8 = DIGIT_SEPARATOR + 3;
+pub(super) const MANTISSA_RADIX: u8 = DIGIT_SEPARATOR + 3;
 
 const RADIX: u8 = DIGIT_SEPARATOR + 4;
 
-const EXPONENT_BASE: u8 = DIGIT_SEPARATOR + 5;
+pub(super) const EXPONENT_BASE: u8 = DIGIT_SEPARATOR + 5;
 
 const EXPONENT_RADIX: u8 = DIGIT_SEPARATOR + 6;
 
 const SETTER_COUNT: u8 = DIGIT_SEPARATOR + 7;
 
-// The names of the flag and group setters, and of the byte setters.
+// The names of the flag setters, the group setters and the byte setters.
 macro_rules! names {
     (() { $($Flag:ident $flag:ident;)* } { $($Group:ident $group:ident;)* }) => {
         [
@@ -40,16 +40,18 @@ macro_rules! names {
     };
 }
 
-/// The names of all setters, each at the index of its number: those of [`SETTERS`] in their order, and
-/// then those of the seven byte setters.
+/// The names of all setters, each at the index of its setter number: first the setters of [`SETTERS`] in their order,
+/// then the seven byte setters.
+#[doc(hidden)]
 pub const SETTER_NAMES: [&str; SETTERS.len() + 7] = with_setters!(names());
 
 /// The argument of an edit.
 #[derive(Debug, Clone, Copy, PartialEq, Eq, Hash)]
+#[doc(hidden)]
 pub enum Argument {
     /// The value of a flag, or of every flag of a group.
     Flag(bool),
-    /// A byte that is always there: the mantissa radix.
+    /// A byte that cannot be absent: the mantissa radix.
     Byte(u8),
     /// A byte that may be absent.
     OptionalByte(OptionU8),
@@ -57,10 +59,11 @@ pub enum Argument {
 
 /// The kind of argument that a setter takes: a variant of [`Argument`].
 #[derive(Debug, Clone, Copy, PartialEq, Eq, Hash)]
+#[doc(hidden)]
 pub enum ArgumentKind {
     /// `true` or `false`.
     Flag,
-    /// A byte that is always there.
+    /// A byte that cannot be absent.
     Byte,
     /// A byte that may be absent.
     OptionalByte,
@@ -69,6 +72,7 @@ pub enum ArgumentKind {
 impl Argument {
     /// Returns the argument as a byte: 1 for `true`, and 0 for `false` or an absent byte.
     #[must_use]
+    #[doc(hidden)]
     pub const fn byte(self) -> u8 {
         match self {
             Argument::Flag(flag) => flag as u8,
@@ -82,8 +86,9 @@ impl Argument {
 impl ArgumentKind {
     /// Returns the kind of argument that the setter with this number takes.
     ///
-    /// A number that no setter has gives [`ArgumentKind::OptionalByte`].
+    /// If no setter has the number, returns [`ArgumentKind::OptionalByte`].
     #[must_use]
+    #[doc(hidden)]
     pub const fn of(number: u8) -> ArgumentKind {
         if number < DIGIT_SEPARATOR {
             ArgumentKind::Flag
@@ -94,9 +99,10 @@ impl ArgumentKind {
         }
     }
 
-    /// Returns the argument of this kind that `byte` represents. Any byte except 0 is `true`, and 0 is an
-    /// absent byte.
+    /// Returns the argument of this kind that `byte` represents. For a flag, any byte except 0 means `true`. For an
+    /// optional byte, 0 means absent.
     #[must_use]
+    #[doc(hidden)]
     pub const fn argument_of_byte(self, byte: u8) -> Argument {
         match self {
             ArgumentKind::Flag => Argument::Flag(byte != 0),
@@ -112,12 +118,19 @@ impl FlagSetter {
     pub const fn name(self) -> &'static str {
         SETTER_NAMES[self as usize]
     }
+
+    /// Returns whether `format` has a flag that this setter sets: its flag, or any flag of its group.
+    #[must_use]
+    pub const fn is_set(self, format: u128) -> bool {
+        format & Edit::Flag(self, true).mask() != 0
+    }
 }
 
 impl Edit {
     /// Returns the edit of the setter with this number and `argument`, or `None` if no setter has the number,
     /// or it takes another kind of argument.
     #[must_use]
+    #[doc(hidden)]
     pub const fn new(number: u8, argument: Argument) -> Option<Edit> {
         match argument {
             Argument::Flag(flag) if number < DIGIT_SEPARATOR => {
@@ -140,8 +153,9 @@ impl Edit {
         }
     }
 
-    /// Returns the number of the setter: its index in [`SETTER_NAMES`].
+    /// Returns the setter number of the edit: the index of the setter in [`SETTER_NAMES`].
     #[must_use]
+    #[doc(hidden)]
     pub const fn setter_number(self) -> u8 {
         match self {
             Edit::Flag(setter, _) => setter as u8,
@@ -155,14 +169,15 @@ impl Edit {
         }
     }
 
-    /// Returns the name of the setter.
+    /// Returns the name of the setter of the edit.
     #[must_use]
     pub const fn name(self) -> &'static str {
         SETTER_NAMES[self.setter_number() as usize]
     }
 
-    /// Returns the argument.
+    /// Returns the argument of the edit.
     #[must_use]
+    #[doc(hidden)]
     pub const fn argument(self) -> Argument {
         match self {
             Edit::Flag(_, flag) => Argument::Flag(flag),
@@ -177,20 +192,23 @@ impl Edit {
 
     /// Returns the argument as a byte, as [`Argument::byte`] does.
     #[must_use]
+    #[doc(hidden)]
     pub const fn argument_byte(self) -> u8 {
         self.argument().byte()
     }
 
-    /// Returns the edit of the setter with this number whose argument `byte` represents, as
-    /// [`ArgumentKind::argument_of_byte`] states, or `None` if no setter has the number.
+    /// Returns the edit of the setter with this number and the argument that `byte` represents, as described at
+    /// [`ArgumentKind::argument_of_byte`], or `None` if no setter has the number.
     #[must_use]
+    #[doc(hidden)]
     pub const fn from_number(number: u8, byte: u8) -> Option<Edit> {
         Edit::new(number, ArgumentKind::of(number).argument_of_byte(byte))
     }
 
-    /// Returns the edit of the setter of this name whose argument `byte` represents, as
-    /// [`Edit::from_number`] does, or `None` if no setter has the name.
+    /// Returns the edit of the setter with this name and the argument that `byte` represents, as [`Edit::from_number`]
+    /// does, or `None` if no setter has the name.
     #[must_use]
+    #[doc(hidden)]
     pub fn from_name(name: &str, byte: u8) -> Option<Edit> {
         Edit::from_number(setter_number_of_name(name.as_bytes())?, byte)
     }
@@ -212,6 +230,7 @@ impl Edit {
 
 /// Returns the name of the setter with this number, or `None` if no setter has it.
 #[must_use]
+#[doc(hidden)]
 pub const fn setter_name_of_number(number: u8) -> Option<&'static str> {
     if number < SETTER_COUNT {
         Some(SETTER_NAMES[number as usize])
@@ -220,8 +239,9 @@ pub const fn setter_name_of_number(number: u8) -> Option<&'static str> {
     }
 }
 
-/// Returns the number of the setter of this name, or `None` if no setter has it.
+/// Returns the number of the setter with this name, or `None` if no setter has it.
 #[must_use]
+#[doc(hidden)]
 pub fn setter_number_of_name(name: &[u8]) -> Option<u8> {
     for number in 0..SETTER_COUNT {
         if SETTER_NAMES[number as usize].as_bytes() == name {

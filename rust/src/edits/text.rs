@@ -3,55 +3,127 @@
 //! Settings as text: `NAME=VALUE`.
 
 use crate::digit::char_to_digit;
-use crate::edits::{setter_number_of_name, Argument, ArgumentKind, Edit};
+use crate::edits::numbers::{DIGIT_SEPARATOR, EXPONENT_BASE, MANTISSA_RADIX};
+use crate::edits::{setter_name_of_number, setter_number_of_name, Argument, ArgumentKind, Edit};
 use crate::error::{Piece, ShortText, EMPTY_PIECE};
 use crate::format_builder::{NonZeroU8, OptionU8};
 use crate::numeral::read_numeral;
 use core::fmt;
 
-/// Why a name and a value are no setting.
-#[derive(Debug, Clone, Copy, PartialEq, Eq)]
+/// The reason why a text is not a setting.
+#[derive(Debug, Clone, Copy, PartialEq, Eq, Hash)]
 pub enum SettingError {
+    /// The text has no `=`.
+    #[doc(hidden)]
+    NoEquals,
     /// No setter has the name.
+    #[doc(hidden)]
     UnknownName,
-    /// The value is not of the setter's type: a flag takes `true` or `false`, and a byte a decimal number.
-    BadValue,
-    /// The value is a decimal number, but not one of at most 255 in at most 3 digits.
-    OutOfRange,
+    /// The setter with this number does not take the value.
+    #[doc(hidden)]
+    BadValue(u8),
+    /// The setter with this number takes a byte, but the value is a number that is above 255 or has too many digits.
+    #[doc(hidden)]
+    OutOfRange(u8),
 }
 
+impl SettingError {
+    /// Returns the name of the setter that does not take the value, or `None` if the text has no `=` or no setter has
+    /// the name.
+    #[must_use]
+    pub const fn name(&self) -> Option<&'static str> {
+        match self {
+            SettingError::NoEquals | SettingError::UnknownName => None,
+            SettingError::BadValue(setter) | SettingError::OutOfRange(setter) => {
+                setter_name_of_number(*setter)
+            }
+        }
+    }
+
+    /// Returns a sentence with the reason, such as ``no_special takes `true` or `false` `` or `unknown setting name`.
+    #[must_use]
+    #[doc(hidden)]
+    pub const fn text(&self) -> ShortText {
+        match self {
+            SettingError::NoEquals => sentence("expected NAME=VALUE"),
+            SettingError::UnknownName => sentence("unknown setting name"),
+            SettingError::BadValue(setter) | SettingError::OutOfRange(setter) => taken(*setter),
+        }
+    }
+}
+
+/// Prints what the setting takes, or why the text is not a setting.
 impl fmt::Display for SettingError {
     fn fmt(&self, f: &mut fmt::Formatter<'_>) -> fmt::Result {
-        f.write_str(match self {
-            SettingError::UnknownName => "no setting has this name",
-            SettingError::BadValue => {
-                "a flag takes `true` or `false`, and a byte a decimal number, or `none` where it may be absent"
-            }
-            SettingError::OutOfRange => "the number must be 0 to 255, in at most 3 digits",
-        })
+        fmt::Display::fmt(&self.text(), f)
+    }
+}
+
+// Returns a sentence of one piece.
+const fn sentence(words: &'static str) -> ShortText {
+    ShortText(EMPTY_PIECE, EMPTY_PIECE, EMPTY_PIECE, Piece::Words(words))
+}
+
+// Returns the sentence that states which values the setter with this number takes.
+const fn taken(setter: u8) -> ShortText {
+    let values = if setter < DIGIT_SEPARATOR {
+        "`true` or `false`"
+    } else if setter < MANTISSA_RADIX {
+        "a character such as '_', a number from 0 to 255, or `none`"
+    } else if setter < EXPONENT_BASE {
+        "a number, 2 to 36 in a lawful format"
+    } else {
+        "a number, 2 to 36 in a lawful format, or `none`"
+    };
+    ShortText(
+        EMPTY_PIECE,
+        name_piece(setter),
+        Piece::Words(" takes "),
+        Piece::Words(values),
+    )
+}
+
+// Returns the name of the setter with this number, or the empty piece if no setter has it.
+const fn name_piece(setter: u8) -> Piece {
+    match setter_name_of_number(setter) {
+        Some(name) => Piece::Words(name),
+        None => EMPTY_PIECE,
     }
 }
 
 impl Edit {
-    /// Returns the edit of the setter `name` with the value that `value` writes.
+    /// Parses `value` as the argument of the setter `name`.
     ///
-    /// The value of a flag or a group of flags is `true` or `false`. That of `mantissa_radix` and `radix` is
-    /// a byte: 1 to 3 decimal digits, a number of at most 255. That of the other five is a byte too, or
-    /// `none`; 0 means `none`. No spaces are taken off.
+    /// A flag setter or group setter takes `true` or `false`. A byte setter takes a byte: one ASCII character between
+    /// two `'`, or `0x` and 1 or 2 hexadecimal digits, or 1 to 3 decimal digits with a value of at most 255. Except for
+    /// `mantissa_radix` and `radix`, it also takes `none`, which is the same as 0. Blanks are not skipped.
+    ///
+    /// # Errors
+    ///
+    /// A [`SettingError`] if no setter has the name, or if the setter does not take the value.
     pub fn from_setting(name: &str, value: &str) -> Result<Edit, SettingError> {
         match setter_number_of_name(name.as_bytes()) {
-            Some(setter) => edit_with_text(setter, value),
+            Some(setter) => match edit_with_text(setter, value) {
+                Some(edit) => Ok(edit),
+                None => Err(value_error(setter, value)),
+            },
             None => Err(SettingError::UnknownName),
         }
     }
 
-    /// Returns the edit that `text` writes as `NAME=VALUE`, split at the first `=`.
+    /// Parses `text` as `NAME=VALUE`, split at the first `=`.
     ///
-    /// Name and value are those of [`Edit::from_setting`]. A text without `=` is a name with an empty value.
+    /// The name and the value are parsed as in [`Edit::from_setting`].
+    ///
+    /// # Errors
+    ///
+    /// A [`SettingError`] if `text` has no `=`, if no setter has the name, or if the setter does not take the
+    /// value.
+    #[doc(hidden)]
     pub fn from_text(text: &str) -> Result<Edit, SettingError> {
         match text.split_once('=') {
             Some((name, value)) => Edit::from_setting(name, value),
-            None => Edit::from_setting(text, ""),
+            None => Err(SettingError::NoEquals),
         }
     }
 }
@@ -59,6 +131,7 @@ impl Edit {
 impl Edit {
     /// Returns `NAME=VALUE`, such as `mantissa_radix=16`, `no_special=true` or `digit_separator=none`.
     #[must_use]
+    #[doc(hidden)]
     pub const fn text(&self) -> ShortText {
         ShortText(
             EMPTY_PIECE,
@@ -69,14 +142,14 @@ impl Edit {
     }
 }
 
-/// Prints what [`Edit::text`] is.
+/// Prints `NAME=VALUE`, such as `mantissa_radix=16`, `no_special=true` or `digit_separator=none`.
 impl fmt::Display for Edit {
     fn fmt(&self, f: &mut fmt::Formatter<'_>) -> fmt::Result {
         fmt::Display::fmt(&self.text(), f)
     }
 }
 
-// The text of an argument.
+// Returns the text of an argument.
 const fn value(argument: Argument) -> Piece {
     match argument {
         Argument::Flag(true) => Piece::Words("true"),
@@ -87,64 +160,86 @@ const fn value(argument: Argument) -> Piece {
     }
 }
 
-// Returns the edit of the setter with this number, with the argument that `value` writes.
-fn edit_with_text(setter: u8, value: &str) -> Result<Edit, SettingError> {
-    let argument = argument_from_text(ArgumentKind::of(setter), value)?;
-    match Edit::new(setter, argument) {
-        Some(edit) => Ok(edit),
-        None => Err(SettingError::UnknownName),
+// Returns the edit of the setter with this number and the argument in `value`, or `None` if the setter does not take
+// it.
+fn edit_with_text(setter: u8, value: &str) -> Option<Edit> {
+    match argument_from_text(ArgumentKind::of(setter), value) {
+        Some(argument) => Edit::new(setter, argument),
+        None => None,
+    }
+}
+
+// Returns why the setter with this number does not take `value`.
+fn value_error(setter: u8, value: &str) -> SettingError {
+    if setter >= DIGIT_SEPARATOR && is_number(value.as_bytes()) {
+        SettingError::OutOfRange(setter)
+    } else {
+        SettingError::BadValue(setter)
     }
 }
 
 // Parses an argument of this kind.
-fn argument_from_text(kind: ArgumentKind, text: &str) -> Result<Argument, SettingError> {
+fn argument_from_text(kind: ArgumentKind, text: &str) -> Option<Argument> {
     match kind {
-        ArgumentKind::Flag => Ok(Argument::Flag(bool_from_text(text)?)),
-        ArgumentKind::Byte => Ok(Argument::Byte(byte_from_text(text)?)),
-        ArgumentKind::OptionalByte => Ok(Argument::OptionalByte(optional_byte_from_text(text)?)),
+        ArgumentKind::Flag => Some(Argument::Flag(bool_from_text(text)?)),
+        ArgumentKind::Byte => Some(Argument::Byte(byte_from_text(text)?)),
+        ArgumentKind::OptionalByte => Some(Argument::OptionalByte(optional_byte_from_text(text)?)),
     }
 }
 
 // Parses `true` or `false`.
-fn bool_from_text(text: &str) -> Result<bool, SettingError> {
+fn bool_from_text(text: &str) -> Option<bool> {
     match text {
-        "true" => Ok(true),
-        "false" => Ok(false),
-        _ => Err(SettingError::BadValue),
+        "true" => Some(true),
+        "false" => Some(false),
+        _ => None,
     }
 }
 
-// Parses `none` or a byte; 0 means `none`.
-fn optional_byte_from_text(text: &str) -> Result<OptionU8, SettingError> {
+// Parses `none` or a byte. The byte 0 means `none`.
+fn optional_byte_from_text(text: &str) -> Option<OptionU8> {
     match text {
-        "none" => Ok(None),
-        _ => Ok(NonZeroU8::new(byte_from_text(text)?)),
+        "none" => Some(None),
+        _ => Some(NonZeroU8::new(byte_from_text(text)?)),
     }
 }
 
-/// Parses `text`, 1 to 3 decimal digits, as a number of at most 255.
-///
-/// Any other text of decimal digits alone is [`SettingError::OutOfRange`], and every other text
-/// [`SettingError::BadValue`].
-pub fn byte_from_text(text: &str) -> Result<u8, SettingError> {
-    let digits = text.as_bytes();
-    if let Some(number) = read_numeral(digits, 10, 3) {
-        return u8::try_from(number).map_err(|_| SettingError::OutOfRange);
-    }
-    if are_decimal(digits) {
-        Err(SettingError::OutOfRange)
-    } else {
-        Err(SettingError::BadValue)
+// Parses a byte: a character between quotes, `0x` and hexadecimal digits, or decimal digits.
+fn byte_from_text(text: &str) -> Option<u8> {
+    match text.as_bytes() {
+        [b'\'', byte, b'\''] => Some(*byte),
+        [b'0', b'x', digits @ ..] => byte_from_digits(digits, 16, 2),
+        digits => byte_from_digits(digits, 10, 3),
     }
 }
 
-// Whether bytes are decimal digits, at least one.
-fn are_decimal(digits: &[u8]) -> bool {
+/// Parses `text`, 1 to 3 decimal digits, as a number of at most 255, and returns `None` for any other text.
+#[must_use]
+#[doc(hidden)]
+pub fn byte_from_decimal(text: &str) -> Option<u8> {
+    byte_from_digits(text.as_bytes(), 10, 3)
+}
+
+// Parses 1 to `most` digits of a radix as a number of at most 255.
+fn byte_from_digits(digits: &[u8], radix: u32, most: usize) -> Option<u8> {
+    u8::try_from(read_numeral(digits, radix, most)?).ok()
+}
+
+// Returns whether a text is a number of any length: decimal digits, or `0x` and hexadecimal digits.
+fn is_number(text: &[u8]) -> bool {
+    match text {
+        [b'0', b'x', digits @ ..] => are_digits(digits, 16),
+        digits => are_digits(digits, 10),
+    }
+}
+
+// Returns whether `digits` are one or more digits of a radix.
+fn are_digits(digits: &[u8], radix: u32) -> bool {
     if digits.is_empty() {
         return false;
     }
     for digit in digits {
-        if char_to_digit(*digit, 10).is_none() {
+        if char_to_digit(*digit, radix).is_none() {
             return false;
         }
     }

@@ -7,26 +7,32 @@ use core::fmt;
 
 /// A piece of a sentence.
 #[derive(Clone, Copy)]
+#[doc(hidden)]
 pub enum Piece {
     /// These words.
     Words(&'static str),
     /// A number in decimal.
     Number(usize),
+    /// `0x` and a number in hexadecimal, with uppercase letters and without leading zeros, such as `0x80000000`.
+    Hexadecimal(u128),
     /// `the`, a name, and its byte in decimal.
     NumberedByte(&'static str, u8),
-    /// The same with the byte as a character between quotes, if it can be seen.
+    /// The same with the byte as a character between quotes, if it can be seen and is not a quote itself.
     QuotedByte(&'static str, u8),
 }
 
 /// The empty piece.
+#[doc(hidden)]
 pub const EMPTY_PIECE: Piece = Piece::Words("");
 
-/// A sentence of at most four pieces: a text of less than 256 bytes.
+/// A sentence of at most four pieces. Every one that the library returns is a text of less than 256 bytes.
 #[derive(Clone, Copy)]
+#[doc(hidden)]
 pub struct ShortText(pub Piece, pub Piece, pub Piece, pub Piece);
 
 impl ShortText {
     /// Puts the sentence into a sink. Fails only if the sink does.
+    #[doc(hidden)]
     pub fn put_into<S: Sink>(&self, out: &mut S) -> Result<(), fmt::Error> {
         self.0.put_into(out)?;
         self.1.put_into(out)?;
@@ -48,9 +54,13 @@ impl Piece {
         match self {
             Piece::Words(words) => out.put(words),
             Piece::Number(number) => put_decimal(out, number),
+            Piece::Hexadecimal(number) => {
+                out.put("0x")?;
+                put_hexadecimal(out, number)
+            }
             Piece::NumberedByte(name, byte) => put_numbered(out, name, byte),
             Piece::QuotedByte(name, byte) => {
-                if !byte.is_ascii_graphic() {
+                if !can_be_quoted(byte) {
                     return put_numbered(out, name, byte);
                 }
                 out.put("the ")?;
@@ -61,6 +71,11 @@ impl Piece {
             }
         }
     }
+}
+
+// Returns whether a byte is a character that can be seen and is not the quote.
+const fn can_be_quoted(byte: u8) -> bool {
+    byte.is_ascii_graphic() && byte != b'\''
 }
 
 // Puts a name and its byte in decimal.
@@ -80,7 +95,16 @@ pub(crate) fn put_decimal<S: Sink>(out: &mut S, n: usize) -> fmt::Result {
     out.put(digit_text(n % 10))
 }
 
-// The digit character of `digit`, which is below 10.
+// Puts `n` in hexadecimal, with uppercase letters.
+fn put_hexadecimal<S: Sink>(out: &mut S, n: u128) -> fmt::Result {
+    let has_front = n >= 16;
+    if has_front {
+        put_hexadecimal(out, n / 16)?;
+    }
+    out.put(digit_text((n % 16) as usize))
+}
+
+// The digit character of `digit`, which is below 16. Letters are uppercase.
 #[inline(always)]
 const fn digit_text(digit: usize) -> &'static str {
     match digit {
@@ -93,6 +117,12 @@ const fn digit_text(digit: usize) -> &'static str {
         6 => "6",
         7 => "7",
         8 => "8",
-        _ => "9",
+        9 => "9",
+        10 => "A",
+        11 => "B",
+        12 => "C",
+        13 => "D",
+        14 => "E",
+        _ => "F",
     }
 }

@@ -8,6 +8,7 @@ use core::fmt;
 ///
 /// What a piece does to it, and when it has failed, is up to the sink. So a function over any `Sink` knows that
 /// it has failed only from a piece that failed, and no longer after the next one.
+#[doc(hidden)]
 pub trait Sink {
     /// Puts a piece.
     fn put(&mut self, piece: &str) -> fmt::Result;

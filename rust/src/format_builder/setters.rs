@@ -284,21 +284,24 @@ impl NumberFormatBuilder {
         self.with_flags(flags::TRAILING_DIGIT_SEPARATOR, flag)
     }
 
-    /// If set, a parser accepts `1__2`, if `1_2` is accepted. Lawful only with another flag of integer digits.
+    /// If set, a parser accepts `1__2` if it accepts `1_2`, `__12` if `_12`, and `12__` if `12_`.
+    /// Lawful only with another flag of integer digits.
     #[must_use]
     #[inline(always)]
     pub const fn integer_consecutive_digit_separator(self, flag: bool) -> Self {
         self.with_flags(flags::INTEGER_CONSECUTIVE_DIGIT_SEPARATOR, flag)
     }
 
-    /// If set, a parser accepts `0.1__2`, if `0.1_2` is accepted. Lawful only with another flag of fraction digits.
+    /// If set, a parser accepts `0.1__2` if it accepts `0.1_2`, `0.__12` if `0._12`, and `0.12__` if `0.12_`.
+    /// Lawful only with another flag of fraction digits.
     #[must_use]
     #[inline(always)]
     pub const fn fraction_consecutive_digit_separator(self, flag: bool) -> Self {
         self.with_flags(flags::FRACTION_CONSECUTIVE_DIGIT_SEPARATOR, flag)
     }
 
-    /// If set, a parser accepts `1e1__2`, if `1e1_2` is accepted. Lawful only with another flag of exponent digits.
+    /// If set, a parser accepts `1e1__2` if it accepts `1e1_2`, `1e__12` if `1e_12`, and `1e12__` if `1e12_`.
+    /// Lawful only with another flag of exponent digits.
     #[must_use]
     #[inline(always)]
     pub const fn exponent_consecutive_digit_separator(self, flag: bool) -> Self {

@@ -8,9 +8,11 @@ use crate::format_flags::*;
 
 /// A rule of format words. A word that breaks none is lawful.
 ///
-/// The variants are in the order in which the rules are tried; each is named by what it demands. *Punctuation* is allowed
-/// ASCII that is neither a sign nor a digit of the mantissa or the exponent.
-#[derive(Debug, Clone, Copy, PartialEq, Eq, Hash)]
+/// The variants are in the order in which the rules are tried; each is named by what it demands. *Punctuation* is
+/// allowed ASCII that is neither a sign nor a digit of the mantissa or the exponent. A rule has no `Display`: a `Reason`
+/// states what breaks it in the word at hand.
+#[derive(Debug, Clone, Copy, PartialEq, Eq, Hash, PartialOrd, Ord)]
+#[non_exhaustive]
 pub enum Rule {
     /// The mantissa radix is 2 to 36.
     MantissaRadixInRange,
@@ -47,6 +49,7 @@ pub enum Rule {
 }
 
 /// All rules, in their order.
+#[doc(hidden)]
 pub const RULES: [Rule; 16] = [
     Rule::MantissaRadixInRange,
     Rule::ExponentBaseInRange,
@@ -117,6 +120,7 @@ impl Rule {
 
     /// Returns this rule if a word breaks it, and `None` if it keeps it.
     #[must_use]
+    #[doc(hidden)]
     pub const fn if_broken(self, format: u128) -> Option<Rule> {
         if self.is_kept(format) {
             None
@@ -160,9 +164,10 @@ impl Rule {
 /// Returns the rules that a word breaks: at the index of each rule in [`RULES`], that rule if the word
 /// breaks it, and else `None`.
 ///
-/// In plain Rust `broken_rules(format).into_iter().flatten()` goes through them. The error of the first is
-/// that of [`format_error_impl`].
+/// `broken_rules(format).into_iter().flatten()` goes through them. The error of the first is that of
+/// [`format_error_impl`].
 #[must_use]
+#[doc(hidden)]
 pub const fn broken_rules(format: u128) -> [Option<Rule>; RULES.len()] {
     [
         Rule::MantissaRadixInRange.if_broken(format),

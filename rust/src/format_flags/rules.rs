@@ -40,8 +40,8 @@ const fn larger(a: u32, b: u32) -> u32 {
 /// Returns whether `byte` is a digit of numbers in this format: a digit of the mantissa radix or of
 /// the exponent radix. Letters are digits in both cases.
 ///
-/// If the exponent radix of the format is 0, the mantissa radix stands for it. The exponent base
-/// has no digits. Any word and any byte may be passed. `lexical-util` has no such function.
+/// If the exponent radix of the format is 0, the mantissa radix stands for it. The exponent base has no digits. Any
+/// word and any byte may be passed.
 #[must_use]
 #[inline(always)]
 pub const fn is_digit(format: u128, byte: u8) -> bool {
@@ -188,6 +188,7 @@ pub const fn is_valid_punctuation(format: u128) -> bool {
 /// Returns which of digit separator, base prefix and base suffix share a byte: separator and prefix,
 /// separator and suffix, prefix and suffix. It tells which of them break [`Rule::PunctuationDiffers`].
 #[must_use]
+#[doc(hidden)]
 pub const fn clashes(format: u128) -> [bool; 3] {
     let separator = digit_separator(format);
     let prefix = base_prefix(format);
@@ -222,8 +223,6 @@ const fn is_disjoint_from_format_roles(format: u128, byte: u8, case_sensitive: b
 /// has two meanings, and for every lawful format some such pair exists. `lexical-util` compares the
 /// raw bytes.
 ///
-/// In plain Rust:
-///
 /// ```
 /// use peltzivar::{format_flags::is_valid_options_punctuation, word::STANDARD};
 ///
@@ -234,7 +233,13 @@ const fn is_disjoint_from_format_roles(format: u128, byte: u8, case_sensitive: b
 ///
 /// # Proved
 ///
-/// For all arguments; [`definitions`](crate::definitions) has the words.
+/// For all arguments:
+///
+/// - The result is true if and only if both bytes fit the format ([`OptionsFit`](crate::definitions#optionsfit)).
+/// - For a [`Lawful`](crate::definitions#lawful) word this holds if and only if no byte plays two of the seven
+///   roles ([`OptionsHaveOneRole`](crate::definitions#optionshaveonerole)).
+/// - For each [`Lawful`](crate::definitions#lawful) word some pair of bytes fits
+///   ([`SomeOptionsFit`](crate::definitions#someoptionsfit)).
 ///
 /// ```text
 /// ensures accepted { IsTrue result ↔ OptionsFit format exponent decimal_point }
@@ -256,10 +261,10 @@ pub const fn is_valid_options_punctuation(format: u128, exponent: u8, decimal_po
 /// Returns what is wrong with an exponent character and a decimal point in numbers of this format, and
 /// `Success` if [`is_valid_options_punctuation`] accepts them.
 ///
-/// It is `InvalidExponentSymbol` if the exponent character is not allowed ASCII, a sign or a digit, else
-/// `InvalidDecimalPoint` if the decimal point is, and else `InvalidPunctuation`. `lexical-util` has no such
-/// function.
+/// It is `InvalidExponentSymbol` if the exponent character is a digit, a sign, or not allowed ASCII, else
+/// `InvalidDecimalPoint` if the decimal point is one of these, and else `InvalidPunctuation`.
 #[must_use]
+#[doc(hidden)]
 pub const fn options_error(format: u128, exponent: u8, decimal_point: u8) -> Error {
     first_options_error(format, exponent, decimal_point)
 }
@@ -329,7 +334,7 @@ pub(crate) const fn is_valid_exponent_consecutive_flags(format: u128) -> bool {
     format & EXPONENT_DIGIT_SEPARATOR_FLAG_MASK != EXPONENT_CONSECUTIVE_DIGIT_SEPARATOR
 }
 
-/// Returns whether all reserved bits of `format` are 0. `lexical-util` has no such function.
+/// Returns whether all reserved bits of `format` are 0.
 #[must_use]
 #[inline(always)]
 pub const fn is_clean(format: u128) -> bool {
@@ -337,7 +342,6 @@ pub const fn is_clean(format: u128) -> bool {
 }
 
 /// Returns whether some flag of `format` allows a digit separator, in a number or in a special value.
-/// `lexical-util` has no such function.
 #[must_use]
 #[inline(always)]
 pub const fn is_separator_allowed(format: u128) -> bool {
@@ -418,6 +422,7 @@ const fn first_broken(format: u128) -> Error {
 /// If the exponent base or the exponent radix is 0, the mantissa radix stands for it.
 #[must_use]
 #[inline(always)]
+#[doc(hidden)]
 pub const fn radix_error_impl(format: u128) -> Error {
     if !is_valid_mantissa_radix(format) {
         Error::InvalidMantissaRadix
@@ -456,20 +461,8 @@ pub const fn radix_error_impl(format: u128) -> Error {
 /// 16. All reserved bits are 0: `InvalidFlags`.
 ///
 /// `lexical-util` compares raw bytes in the seventh rule, and has no rule on reserved bits.
-///
-/// # Proved
-///
-/// For all arguments; [`definitions`](crate::definitions) has the words.
-///
-/// ```text
-/// ensures first { IsErrorOf format result }
-/// ensures lawful { (result ≡ Error.Success) ↔ Lawful format }
-/// ensures unique { (other : Error) → IsErrorOf format other → other ≡ result }
-///
-/// // The error of reserved bits needs one that is set.
-/// ensures clean { IsClean format → result ≢ Error.InvalidFlags }
-/// ```
 #[must_use]
+#[doc(hidden)]
 pub const fn format_error_impl(format: u128) -> Error {
     first_broken(format)
 }
@@ -479,6 +472,7 @@ pub const fn format_error_impl(format: u128) -> Error {
 ///
 /// This is for `?`: `let format = check(format)?;`.
 #[inline(always)]
+#[doc(hidden)]
 pub const fn check(format: u128) -> Result<u128, Error> {
     match format_error_impl(format) {
         Error::Success => Ok(format),

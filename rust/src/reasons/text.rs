@@ -1,67 +1,88 @@
 // Made by rust/tools/erase.py from crates/lexical_util/src/reasons/text.rt: change that file.
 
-//! The sentences of reasons and of settings without effect.
+//! The sentences of reasons and notes.
 
 use crate::edits::{Edit, FlagSetter};
 use crate::error::{Piece, ShortText, EMPTY_PIECE};
-use crate::reasons::{Reason, Unused};
+use crate::reasons::{Note, Reason};
 use core::fmt;
 
 impl Reason {
-    /// Returns one sentence without a stop, such as `the base prefix 'b' is a digit of radix 16`.
+    /// Returns one sentence without a full stop, such as `the base prefix 'b' is a digit in radix 16`.
     #[must_use]
+    #[doc(hidden)]
     pub const fn text(&self) -> ShortText {
         match self {
-            Reason::OutOfRange(edit) => followed(
-                Piece::NumberedByte(words(*edit), edit.argument_byte()),
-                " is not 2 to 36",
-            ),
-            Reason::NotText(edit) => followed(described(edit), " is not a character of ASCII text"),
-            Reason::IsSign(edit) => followed(described(edit), " is a sign"),
+            Reason::MantissaRadixOutOfRange(radix, _, _) => {
+                not_in_range(Piece::NumberedByte("mantissa radix", *radix))
+            }
+            Reason::OutOfRange(edit) => {
+                not_in_range(Piece::NumberedByte(label(*edit), edit.argument_byte()))
+            }
+            Reason::NotText(edit) => {
+                followed(described(edit), " is not an allowed ASCII character")
+            }
+            Reason::IsSign(edit) => followed(described(edit), " is a sign (+ or -)"),
             Reason::IsDigit(edit, radix) => ShortText(
                 EMPTY_PIECE,
                 described(edit),
-                Piece::Words(" is a digit of radix "),
-                Piece::Number(*radix as usize),
+                Piece::Words(" is a digit in radix "),
+                Piece::Number(radix.argument_byte() as usize),
             ),
-            Reason::AreSame(a, b) => ShortText(
+            Reason::Clash(a, b, flag) => ShortText(
                 described(a),
                 Piece::Words(" and "),
                 described(b),
-                Piece::Words(sameness(*a, *b)),
+                Piece::Words(clash_text(*a, *b, *flag)),
             ),
             Reason::Contradict(a, b) => ShortText(
                 named(*a),
                 Piece::Words(" and "),
                 named(*b),
-                Piece::Words(" exclude each other"),
+                Piece::Words(" cannot both be set"),
             ),
-            Reason::HasNoPlace(flag) => followed(
+            Reason::NeedsPosition(flag) => followed(
                 named(*flag),
-                " needs the internal, leading or trailing flag of the same part",
+                " requires an internal, leading or trailing flag for the same part of the number",
             ),
-            Reason::ReservedBits => followed(EMPTY_PIECE, "a reserved bit is set"),
+            Reason::ReservedBits(bits) => ShortText(
+                EMPTY_PIECE,
+                EMPTY_PIECE,
+                Piece::Words("reserved bits are set: "),
+                Piece::Hexadecimal(*bits),
+            ),
         }
     }
 }
 
-impl Unused {
-    /// Returns one sentence without a stop, such as `the digit separator '_' has no effect: no flag allows one`.
+impl Note {
+    /// Returns one sentence without a full stop, such as
+    /// `no number can have the digit separator '_': no flag allows one`.
     #[must_use]
+    #[doc(hidden)]
     pub const fn text(&self) -> ShortText {
         match self {
-            Unused::NotAllowed(edit) => {
-                followed(described(edit), " has no effect: no flag allows one")
-            }
-            Unused::NoSeparator => followed(
+            Note::SeparatorWithoutFlag(edit) => ShortText(
                 EMPTY_PIECE,
-                "the digit separator flags have no effect: there is no digit separator",
+                Piece::Words("no number can have "),
+                described(edit),
+                Piece::Words(": no flag allows one"),
             ),
-            Unused::NoByte(flag, byte) => ShortText(
+            Note::FlagsWithoutSeparator => followed(
+                EMPTY_PIECE,
+                "the digit separator flags allow nothing: there is no digit separator",
+            ),
+            Note::CaseFlagWithoutByte(flag, byte) => ShortText(
                 EMPTY_PIECE,
                 named(*flag),
-                Piece::Words(" has no effect: there is no "),
-                Piece::Words(words(*byte)),
+                Piece::Words(" changes nothing: there is no "),
+                Piece::Words(label(*byte)),
+            ),
+            Note::CaseFlagOfNonLetter(flag, byte) => ShortText(
+                named(*flag),
+                Piece::Words(" changes nothing: "),
+                described(byte),
+                Piece::Words(" is not a letter"),
             ),
         }
     }
@@ -73,38 +94,48 @@ impl fmt::Display for Reason {
     }
 }
 
-impl fmt::Display for Unused {
+impl fmt::Display for Note {
     fn fmt(&self, f: &mut fmt::Formatter<'_>) -> fmt::Result {
         fmt::Display::fmt(&self.text(), f)
     }
 }
 
-// What it is about, and the words after it.
+// Returns the sentence of a radix or a base that is not in range.
+const fn not_in_range(piece: Piece) -> ShortText {
+    followed(piece, " is not between 2 and 36")
+}
+
+// Returns the text of a piece and the words that follow it.
 const fn followed(piece: Piece, end: &'static str) -> ShortText {
     ShortText(EMPTY_PIECE, EMPTY_PIECE, piece, Piece::Words(end))
 }
 
-// An edit of a byte: the setting and the byte.
+// Returns the label of the field of an edit, and its byte.
 const fn described(edit: &Edit) -> Piece {
-    Piece::QuotedByte(words(*edit), edit.argument_byte())
+    Piece::QuotedByte(label(*edit), edit.argument_byte())
 }
 
-// The name of a flag.
+// Returns the name of a flag.
 const fn named(flag: FlagSetter) -> Piece {
     Piece::Words(flag.name())
 }
 
-// What is said of two bytes that are the same, or differ only in case.
-const fn sameness(a: Edit, b: Edit) -> &'static str {
-    if a.argument_byte() == b.argument_byte() {
-        " are the same"
-    } else {
-        " differ only in case, which counts only if both are case-sensitive"
+// Returns the end of the sentence of two bytes that clash.
+const fn clash_text(a: Edit, b: Edit, flag: Option<FlagSetter>) -> &'static str {
+    match (a, b, flag) {
+        (_, _, None) => " are the same",
+        (Edit::DigitSeparator(_), Edit::BasePrefix(_), Some(_)) => {
+            " differ only in case, and the base prefix is not case-sensitive"
+        }
+        (Edit::DigitSeparator(_), _, Some(_)) => {
+            " differ only in case, and the base suffix is not case-sensitive"
+        }
+        _ => " differ only in case, and they are not both case-sensitive",
     }
 }
 
-// What the setting of an edit is called in a sentence.
-const fn words(edit: Edit) -> &'static str {
+// Returns the name of the field of an edit, as sentences have it.
+const fn label(edit: Edit) -> &'static str {
     match edit {
         Edit::Flag(_, _) => "flag",
         Edit::DigitSeparator(_) => "digit separator",

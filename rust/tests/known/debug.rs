@@ -3,27 +3,40 @@
 use peltzivar::feature_format::NumberFormat;
 use peltzivar::format_builder::{NonZeroU8, NumberFormatBuilder};
 use peltzivar::word::{FormatView, STANDARD};
+use peltzivar::Format;
 
 const WORD: u128 = 0x221C1068_7800005F_00000001_80000408;
 
 const FIELDS: &str = "required_exponent_digits: false, no_special: true, integer_internal_digit_separator: true, \
     digit_separator: '_', base_prefix: 'x', base_suffix: 'h', mantissa_radix: 16, exponent_base: 28, exponent_radix: 34";
 
+/// What a view adds if the word is not lawful.
+const WRONG: &str =
+    "reserved_bits: 0x80000000, broken_rules: [BasePrefixIsPunctuation, BaseSuffixIsPunctuation, ReservedBitsAreZero]";
+
 #[test]
 fn a_word_and_its_fields_are_printed() {
     let separator = NumberFormatBuilder::new().digit_separator(NonZeroU8::new(b'\''));
     for (text, wanted) in [
-        (format!("{:?}", FormatView::new(WORD)), format!("FormatView {{ word: {WORD:#034X}, {FIELDS} }}")),
-        (format!("{:?}", NumberFormat::<WORD>::new()), format!("NumberFormat {{ word: {WORD:#034X}, {FIELDS} }}")),
+        (format!("{:?}", FormatView::new(WORD)), format!("FormatView {{ word: {WORD:#034X}, {FIELDS}, {WRONG} }}")),
+        (
+            format!("{:?}", NumberFormat::<WORD>::new()),
+            format!("NumberFormat {{ word: {WORD:#034X}, {FIELDS}, {WRONG} }}"),
+        ),
         (
             format!("{:?}", NumberFormatBuilder::rebuild(WORD)),
             // A builder has no reserved bits.
-            format!("NumberFormatBuilder {{ word: {:#034X}, {FIELDS} }}", WORD & !(1 << 31)),
+            format!(
+                "NumberFormatBuilder {{ word: {:#034X}, {FIELDS}, broken_rules: [BasePrefixIsPunctuation, \
+                BaseSuffixIsPunctuation] }}",
+                WORD & !(1 << 31)
+            ),
         ),
         (
             format!("{:?}", NumberFormatBuilder::new()),
             "NumberFormatBuilder { word: 0x00000A0000000000000000000000000C }".to_string(),
         ),
+        (format!("{:?}", Format::default()), "Format { word: 0x00000A0000000000000000000000000C }".to_string()),
         (
             // The separator is shown though no flag lets it be packed.
             format!("{separator:?}"),
@@ -41,14 +54,20 @@ fn a_word_and_its_fields_are_printed() {
 
 macro_rules! texts {
     (() $($bit:literal $name:ident $NAME:ident $get:ident;)*) => {
-        [$((stringify!($name), STANDARD ^ 1 << $bit, $bit == 2 || $bit == 3)),*]
+        // Flags 41 to 43 require another flag.
+        [$((stringify!($name), STANDARD ^ 1 << $bit, $bit == 2 || $bit == 3, 41 <= $bit && $bit <= 43)),*]
     };
 }
 
 #[test]
 fn each_flag_is_printed_by_its_name() {
-    for (name, word, was) in with_flags!(texts()) {
-        let text = format!("FormatView {{ word: {word:#034X}, {name}: {} }}", !was);
-        assert_eq!(format!("{:?}", FormatView::new(word)), text);
+    for (name, word, was, is_broken) in with_flags!(texts()) {
+        let text = format!("{:?}", FormatView::new(word));
+        let wanted = format!("FormatView {{ word: {word:#034X}, {name}: {}", !was);
+        let end = text
+            .strip_prefix(&wanted)
+            .unwrap_or_else(|| panic!("{text}, and not {wanted}"));
+        let is_first = end.starts_with(", broken_rules: [");
+        assert!(if is_broken { is_first } else { end == " }" }, "{text}");
     }
 }

@@ -1,7 +1,7 @@
 //! The outcomes: tests, ranks, texts, and what the standard library asks of an error.
 
 use crate::outcomes::OUTCOMES;
-use peltzivar::error::{Class, Error};
+use peltzivar::error::{Class, Error, Piece, ShortText, EMPTY_PIECE};
 use std::collections::HashSet;
 use std::io::Write as _;
 
@@ -88,10 +88,29 @@ fn width_fill_and_precision_change_nothing() {
 }
 
 #[test]
+fn a_short_text_prints_a_number_in_hexadecimal() {
+    let texts = [
+        (0, "0x0"),
+        (0x80000000, "0x80000000"),
+        (0x9A_BCDE_F012, "0x9ABCDEF012"),
+        (u128::MAX, "0xFFFFFFFFFFFFFFFFFFFFFFFFFFFFFFFF"),
+    ];
+    for (number, text) in texts {
+        let bits = Piece::Words("bits ");
+        let short = ShortText(EMPTY_PIECE, bits, Piece::Hexadecimal(number), EMPTY_PIECE);
+        assert_eq!(format!("{short:->60}"), format!("bits {text}"));
+    }
+}
+
+#[test]
 fn outcomes_are_ordered_by_rank_and_then_by_index() {
     let outcomes: Vec<Error> = OUTCOMES
         .iter()
-        .flat_map(|outcome| (0..if outcome.holds_index { 3 } else { 1 }).map(outcome.at))
+        .flat_map(|outcome| {
+            let indices = [0, 1, 1 << 32, usize::MAX];
+            let count = if outcome.holds_index { 4 } else { 1 };
+            indices.into_iter().take(count).map(outcome.at)
+        })
         .collect();
     for (a, first) in outcomes.iter().enumerate() {
         for (b, second) in outcomes.iter().enumerate() {

@@ -50,6 +50,7 @@ mod reasons;
 mod rules;
 mod setters;
 mod settings;
+mod texts;
 mod views;
 
 #[path = "../outcomes/mod.rs"]

@@ -1,96 +1,440 @@
-//! What is said of words that break rules, and of settings that have no effect.
+//! The reasons of words that break rules, the bits that they blame, the edits that mend them, and notes.
 
-use peltzivar::edits::apply_all;
-use peltzivar::edits::Edit;
+use peltzivar::edits::{apply_all, edit_word, field_edits_of, Edit, FlagSetter};
 use peltzivar::error::Error;
 use peltzivar::format::{
-    broken_rules, check, options_error, NumberFormatBuilder, Rule, RULES, STANDARD,
+    broken_rules, check, options_error, NumberFormatBuilder, Rule, FLAG_MASK, RULES, STANDARD,
 };
-use peltzivar::reasons::{reasons_of, unused_fields, unused_settings, Reason};
+use peltzivar::reasons::{mend, notes, notes_of_fields, reasons, reasons_of, Note, Reason};
+use std::collections::HashSet;
+use std::mem::discriminant;
 use std::num::NonZeroU8;
 
-const NO_PLACE: &str = "needs the internal, leading or trailing flag of the same part";
+/// All bits of fields.
+const FIELDS: u128 = FLAG_MASK | 0xFFFFFFFF_FF0000FF << 64;
 
-/// What is said of a word: each rule that it breaks, and the sentences of reasons and then of settings without effect.
-fn said(word: u128) -> (Vec<Rule>, Vec<String>) {
-    let broken: Vec<Rule> = broken_rules(word).into_iter().flatten().collect();
-    let reasons = RULES
-        .iter()
-        .flat_map(|rule| reasons_of(*rule, word))
-        .flatten();
-    let reasons = reasons.map(|reason| reason.to_string());
-    let unused = unused_settings(word)
-        .into_iter()
-        .flatten()
-        .map(|setting| setting.to_string());
-    (broken, reasons.chain(unused).collect())
+/// A word, the rules that it breaks, the sentences of its reasons, and those of its notes.
+type Row = (
+    u128,
+    &'static [Rule],
+    &'static [&'static str],
+    &'static [&'static str],
+);
+
+/// The smallest word that breaks each rule.
+#[rustfmt::skip]
+const SMALLEST: [Row; 16] = {
+    use Rule::*;
+    [
+        (0, &[MantissaRadixInRange, ExponentBaseInRange, ExponentRadixInRange], &["the mantissa radix 0 is not between 2 and 36"], &[]),
+        (0x00010200000000000000000000000000, &[ExponentBaseInRange], &["the exponent base 1 is not between 2 and 36"], &[]),
+        (0x01000200000000000000000000000000, &[ExponentRadixInRange], &["the exponent radix 1 is not between 2 and 36"], &[]),
+        (0x00000200000000010000000000000000, &[DigitSeparatorIsPunctuation], &["the digit separator 1 is not an allowed ASCII character"], &[]),
+        (0x00000200010000000000000000000000, &[BasePrefixIsPunctuation], &["the base prefix 1 is not an allowed ASCII character"], &[]),
+        (0x00000201000000000000000000000000, &[BaseSuffixIsPunctuation], &["the base suffix 1 is not an allowed ASCII character"], &[]),
+        (0x00000200090000090000000000000000, &[PunctuationDiffers], &["the digit separator 9 and the base prefix 9 are the same"], &[]),
+        (0x00000200000000000000000000004040, &[ExponentFlagsAgree], &["no_exponent_notation and required_exponent_notation cannot both be set"], &[]),
+        (0x00000200000000000000000000000030, &[MantissaSignFlagsAgree], &["no_positive_mantissa_sign and required_mantissa_sign cannot both be set"], &[]),
+        (0x00000200000000000000000000000180, &[ExponentSignFlagsAgree], &["no_positive_exponent_sign and required_exponent_sign cannot both be set"], &[]),
+        (0x00000200000000000000000000000C00, &[SpecialCaseFlagsAgree], &["no_special and case_sensitive_special cannot both be set"], &[]),
+        (0x00000200000000000000100000000400, &[SpecialSeparatorFlagsAgree], &["no_special and special_digit_separator cannot both be set"], &[]),
+        (0x00000200000000000000020000000000, &[IntegerConsecutiveIsAllowed], &["integer_consecutive_digit_separator requires an internal, leading or trailing flag for the same part of the number"], &[]),
+        (0x00000200000000000000040000000000, &[FractionConsecutiveIsAllowed], &["fraction_consecutive_digit_separator requires an internal, leading or trailing flag for the same part of the number"], &[]),
+        (0x00000200000000000000080000000000, &[ExponentConsecutiveIsAllowed], &["exponent_consecutive_digit_separator requires an internal, leading or trailing flag for the same part of the number"], &[]),
+        (0x00000200000000000000000080000000, &[ReservedBitsAreZero], &["reserved bits are set: 0x80000000"], &[]),
+    ]
+};
+
+/// Words with each other kind of reason, with causes of several rules, and with each kind of note.
+#[rustfmt::skip]
+const OTHERS: &[Row] = {
+    use Rule::*;
+    &[
+        (STANDARD, &[], &[], &[]),
+        // Absent exponent bytes follow the mantissa radix.
+        (0x0000250000000000000000000000000C, &[MantissaRadixInRange, ExponentBaseInRange, ExponentRadixInRange], &["the mantissa radix 37 is not between 2 and 36"], &[]),
+        (0x0A00250000000000000000000000000C, &[MantissaRadixInRange, ExponentBaseInRange], &["the mantissa radix 37 is not between 2 and 36"], &[]),
+        (0x000A250000000000000000000000000C, &[MantissaRadixInRange, ExponentRadixInRange], &["the mantissa radix 37 is not between 2 and 36"], &[]),
+        (0x0A0A250000000000000000000000000C, &[MantissaRadixInRange], &["the mantissa radix 37 is not between 2 and 36"], &[]),
+        (0x00280A0000000000000000000000000C, &[ExponentBaseInRange], &["the exponent base 40 is not between 2 and 36"], &[]),
+        (0xFF00010000000000000000000000000C, &[MantissaRadixInRange, ExponentBaseInRange, ExponentRadixInRange], &["the mantissa radix 1 is not between 2 and 36", "the exponent radix 255 is not between 2 and 36"], &[]),
+        (0x00000A00000000C8000000010000000C, &[DigitSeparatorIsPunctuation], &["the digit separator 200 is not an allowed ASCII character"], &[]),
+        (0x00000A002B000000000000000000000C, &[BasePrefixIsPunctuation], &["the base prefix '+' is a sign (+ or -)"], &[]),
+        (0x00000A2D00000000000000000000000C, &[BaseSuffixIsPunctuation], &["the base suffix '-' is a sign (+ or -)"], &[]),
+        (0x0A0A100062000000000000000000000C, &[BasePrefixIsPunctuation], &["the base prefix 'b' is a digit in radix 16"], &[]),
+        (0x100A0A6600000000000000000000000C, &[BaseSuffixIsPunctuation], &["the base suffix 'f' is a digit in radix 16"], &[]),
+        // A digit of both radixes.
+        (0x0A0A100035000000000000000000000C, &[BasePrefixIsPunctuation], &["the base prefix '5' is a digit in radix 16"], &[]),
+        (0x100A0A0035000000000000000000000C, &[BasePrefixIsPunctuation], &["the base prefix '5' is a digit in radix 10"], &[]),
+        (0x00000A0035000000000000000000000C, &[BasePrefixIsPunctuation], &["the base prefix '5' is a digit in radix 10"], &[]),
+        (0x0A0AC80062000000000000000000000C, &[MantissaRadixInRange, BasePrefixIsPunctuation], &["the mantissa radix 200 is not between 2 and 36", "the base prefix 'b' is a digit in radix 200"], &[]),
+        (0x00000A7878000078000000010000000C, &[PunctuationDiffers], &["the digit separator 'x' and the base prefix 'x' are the same", "the digit separator 'x' and the base suffix 'x' are the same", "the base prefix 'x' and the base suffix 'x' are the same"], &[]),
+        (0x0000020044000064000000010000000C, &[PunctuationDiffers], &["the digit separator 'd' and the base prefix 'D' differ only in case, and the base prefix is not case-sensitive"], &[]),
+        (0x0000024400000064000000010000000C, &[PunctuationDiffers], &["the digit separator 'd' and the base suffix 'D' differ only in case, and the base suffix is not case-sensitive"], &[]),
+        (0x0000020044000064000000010001000C, &[], &[], &[]),
+        (0x0A0A0A4868000000000000000000000C, &[PunctuationDiffers], &["the base prefix 'h' and the base suffix 'H' differ only in case, and they are not both case-sensitive"], &[]),
+        (0x0A0A0A4868000000000000000001000C, &[PunctuationDiffers], &["the base prefix 'h' and the base suffix 'H' differ only in case, and they are not both case-sensitive"], &[]),
+        (0x0A0A0A4868000000000000000002000C, &[PunctuationDiffers], &["the base prefix 'h' and the base suffix 'H' differ only in case, and they are not both case-sensitive"], &[]),
+        (0x0A0A0A4868000000000000000003000C, &[], &[], &[]),
+        (0x00000A00000000000000000000001C0C, &[SpecialCaseFlagsAgree], &["no_special and case_sensitive_special cannot both be set"], &[]),
+        (0x00000A0000FFFF00FFFFE000FFFC000C, &[ReservedBitsAreZero], &["reserved bits are set: 0xFFFF00FFFFE000FFFC0000"], &[]),
+        (0x00000A2B00000000000000008000003C, &[BaseSuffixIsPunctuation, MantissaSignFlagsAgree, ReservedBitsAreZero], &["the base suffix '+' is a sign (+ or -)", "no_positive_mantissa_sign and required_mantissa_sign cannot both be set", "reserved bits are set: 0x80000000"], &[]),
+        // Notes on lawful words.
+        (0x00000A000000005F000000000000000C, &[], &[], &["no number can have the digit separator '_': no flag allows one"]),
+        (0x00000A0000000020000000000000000C, &[], &[], &["no number can have the digit separator 32: no flag allows one"]),
+        // A quote is not quoted; a backslash and a double quote are.
+        (0x00000A0000000027000000000000000C, &[], &[], &["no number can have the digit separator 39: no flag allows one"]),
+        (0x00000A000000005C000000000000000C, &[], &[], &["no number can have the digit separator '\\': no flag allows one"]),
+        (0x00000A0000000022000000000000000C, &[], &[], &["no number can have the digit separator '\"': no flag allows one"]),
+        (0x00000A2727000027000000010000000C, &[PunctuationDiffers], &["the digit separator 39 and the base prefix 39 are the same", "the digit separator 39 and the base suffix 39 are the same", "the base prefix 39 and the base suffix 39 are the same"], &[]),
+        (0x00000A0000000000000010000000000C, &[], &[], &["the digit separator flags allow nothing: there is no digit separator"]),
+        (0x00000A0000000000000000000003000C, &[], &[], &["case_sensitive_base_prefix changes nothing: there is no base prefix", "case_sensitive_base_suffix changes nothing: there is no base suffix"]),
+        (0x0000080023000000000000000001000C, &[], &[], &["case_sensitive_base_prefix changes nothing: the base prefix '#' is not a letter"]),
+        (0x0000082400000000000000000002000C, &[], &[], &["case_sensitive_base_suffix changes nothing: the base suffix '$' is not a letter"]),
+        (0x0000086824000000000000010003000C, &[], &[], &["the digit separator flags allow nothing: there is no digit separator", "case_sensitive_base_prefix changes nothing: the base prefix '$' is not a letter"]),
+        // A field that a reason blames has no note; another has.
+        (0x00000A0000000035000000000000000C, &[DigitSeparatorIsPunctuation], &["the digit separator '5' is a digit in radix 10"], &[]),
+        (0x00000A0000000000000010000000040C, &[SpecialSeparatorFlagsAgree], &["no_special and special_digit_separator cannot both be set"], &[]),
+        (0x00000A0000000000000002000000000C, &[IntegerConsecutiveIsAllowed], &["integer_consecutive_digit_separator requires an internal, leading or trailing flag for the same part of the number"], &[]),
+        (0x00000A002B000000000000000001000C, &[BasePrefixIsPunctuation], &["the base prefix '+' is a sign (+ or -)"], &[]),
+        (0x00000A2424000000000000000003000C, &[PunctuationDiffers], &["the base prefix '$' and the base suffix '$' are the same"], &[]),
+        (0x000025000000005F000000000000000C, &[MantissaRadixInRange, ExponentBaseInRange, ExponentRadixInRange], &["the mantissa radix 37 is not between 2 and 36"], &["no number can have the digit separator '_': no flag allows one"]),
+        (0x00000A002B00005F000000000002000C, &[BasePrefixIsPunctuation], &["the base prefix '+' is a sign (+ or -)"], &["no number can have the digit separator '_': no flag allows one", "case_sensitive_base_suffix changes nothing: there is no base suffix"]),
+    ]
+};
+
+fn all_reasons(word: u128) -> Vec<Reason> {
+    reasons(word).into_iter().flatten().collect()
 }
 
-/// A word that breaks each rule, and words with each other reason and each setting without effect.
+fn texts<T: ToString>(values: impl IntoIterator<Item = Option<T>>) -> Vec<String> {
+    let values = values.into_iter().flatten();
+    values.map(|value| value.to_string()).collect()
+}
+
 #[test]
-fn each_reason_has_its_sentence() {
-    let no_separator =
-        "the digit separator flags have no effect: there is no digit separator".to_string();
-    let flags = |flag: &str| format!("{flag} {NO_PLACE}");
-    let exclude = |first: &str, second: &str| format!("{first} and {second} exclude each other");
-    let none = |flag: &str, byte: &str| format!("{flag} has no effect: there is no {byte}");
-    let text = |sentence: &str| sentence.to_string();
-    #[rustfmt::skip]
-    let rows: [(u128, &[Rule], &[String]); 23] = [
-        (STANDARD, &[], &[]),
-        (0, &[Rule::MantissaRadixInRange, Rule::ExponentBaseInRange, Rule::ExponentRadixInRange], &[text("the mantissa radix 0 is not 2 to 36"), text("the exponent base 0 is not 2 to 36"), text("the exponent radix 0 is not 2 to 36")]),
-        (0x00010200000000000000000000000000, &[Rule::ExponentBaseInRange], &[text("the exponent base 1 is not 2 to 36")]),
-        (0x01000200000000000000000000000000, &[Rule::ExponentRadixInRange], &[text("the exponent radix 1 is not 2 to 36")]),
-        (0x00000200000000010000000000000000, &[Rule::DigitSeparatorIsPunctuation], &[text("the digit separator 1 is not a character of ASCII text"), text("the digit separator 1 has no effect: no flag allows one")]),
-        (0x00000200010000000000000000000000, &[Rule::BasePrefixIsPunctuation], &[text("the base prefix 1 is not a character of ASCII text")]),
-        (0x00000201000000000000000000000000, &[Rule::BaseSuffixIsPunctuation], &[text("the base suffix 1 is not a character of ASCII text")]),
-        (0x00000200090000090000000000000000, &[Rule::PunctuationDiffers], &[text("the digit separator 9 and the base prefix 9 are the same"), text("the digit separator 9 has no effect: no flag allows one")]),
-        (0x00000200000000000000000000004040, &[Rule::ExponentFlagsAgree], &[exclude("no_exponent_notation", "required_exponent_notation")]),
-        (0x00000200000000000000000000000030, &[Rule::MantissaSignFlagsAgree], &[exclude("no_positive_mantissa_sign", "required_mantissa_sign")]),
-        (0x00000200000000000000000000000180, &[Rule::ExponentSignFlagsAgree], &[exclude("no_positive_exponent_sign", "required_exponent_sign")]),
-        (0x00000200000000000000000000000C00, &[Rule::SpecialCaseFlagsAgree], &[exclude("no_special", "case_sensitive_special")]),
-        (0x00000200000000000000100000000400, &[Rule::SpecialSeparatorFlagsAgree], &[exclude("no_special", "special_digit_separator"), no_separator.clone()]),
-        (0x00000200000000000000020000000000, &[Rule::IntegerConsecutiveIsAllowed], &[flags("integer_consecutive_digit_separator"), no_separator.clone()]),
-        (0x00000200000000000000040000000000, &[Rule::FractionConsecutiveIsAllowed], &[flags("fraction_consecutive_digit_separator"), no_separator.clone()]),
-        (0x00000200000000000000080000000000, &[Rule::ExponentConsecutiveIsAllowed], &[flags("exponent_consecutive_digit_separator"), no_separator.clone()]),
-        (0x00000200000000000000000080000000, &[Rule::ReservedBitsAreZero], &[text("a reserved bit is set")]),
-        (0x00000A002B000000000000000000000C, &[Rule::BasePrefixIsPunctuation], &[text("the base prefix '+' is a sign")]),
-        (0x0A0A100062000000000000000000000C, &[Rule::BasePrefixIsPunctuation], &[text("the base prefix 'b' is a digit of radix 16")]),
-        (0x100A0A6600000000000000000000000C, &[Rule::BaseSuffixIsPunctuation], &[text("the base suffix 'f' is a digit of radix 16")]),
-        (0x0A0A0A4868000000000000000000000C, &[Rule::PunctuationDiffers], &[text("the base prefix 'h' and the base suffix 'H' differ only in case, which counts only if both are case-sensitive")]),
-        (0x0A0A0A4868000000000000000003000C, &[], &[]),
-        (0x0A0A0A0000000000000000000003000C, &[], &[none("case_sensitive_base_prefix", "base prefix"), none("case_sensitive_base_suffix", "base suffix")]),
+fn each_reason_and_note_has_its_sentence() {
+    for (word, rules, sentences, remarks) in SMALLEST.iter().chain(OTHERS) {
+        let broken: Vec<Rule> = broken_rules(*word).into_iter().flatten().collect();
+        assert_eq!(broken, *rules, "{word:#034X}");
+        assert_eq!(texts(reasons(*word)), *sentences, "{word:#034X}");
+        assert_eq!(texts(notes(*word)), *remarks, "{word:#034X}");
+        let error = rules.first().map_or(Ok(*word), |rule| Err(rule.error()));
+        assert_eq!(check(*word), error, "{word:#034X}");
+    }
+}
+
+/// The mantissa radix breaks the rules of the exponent bytes that are absent.
+#[test]
+fn a_mantissa_radix_is_one_reason() {
+    let rules = [
+        Some(Rule::MantissaRadixInRange),
+        Some(Rule::ExponentBaseInRange),
+        Some(Rule::ExponentRadixInRange),
     ];
-    for (word, rules, sentences) in rows {
+    for (exponent, base_follows, radix_follows) in [
+        (0x0000, true, true),
+        (0x0A00, true, false),
+        (0x000A, false, true),
+        (0x0A0A, false, false),
+    ] {
+        let word = exponent << 112 | 37 << 104 | 0xC;
+        let reason = Reason::MantissaRadixOutOfRange(37, base_follows, radix_follows);
+        assert_eq!(all_reasons(word), [reason], "{word:#034X}");
+        let broken = [true, base_follows, radix_follows];
+        let broken = core::array::from_fn(|index| rules[index].filter(|_| broken[index]));
         assert_eq!(
-            said(word),
-            (rules.to_vec(), sentences.to_vec()),
+            (reason.rule(), reason.rules()),
+            (RULES[0], broken),
             "{word:#034X}"
         );
-        let error = rules.first().map_or(Ok(word), |rule| Err(rule.error()));
-        assert_eq!(check(word), error, "{word:#034X}");
-        for rule in RULES {
+        assert_eq!(reason.mask(), 0xFF << 104);
+    }
+}
+
+/// A reason holds the edits of the fields that it blames.
+#[test]
+fn a_reason_is_a_value() {
+    let prefix = Edit::BasePrefix(NonZeroU8::new(b'b'));
+    let suffix = Edit::BaseSuffix(NonZeroU8::new(b'H'));
+    let five = Edit::DigitSeparator(NonZeroU8::new(b'5'));
+    let h = Edit::BasePrefix(NonZeroU8::new(b'h'));
+    let (prefix_case, suffix_case) = (
+        FlagSetter::CaseSensitiveBasePrefix,
+        FlagSetter::CaseSensitiveBaseSuffix,
+    );
+    #[rustfmt::skip]
+    let rows = [
+        (0x0A0A100062000000000000000000000C, Reason::IsDigit(prefix, Edit::MantissaRadix(16)), 0x0000FF00FF << 88),
+        (0x100A0A0062000000000000000000000C, Reason::IsDigit(prefix, Edit::ExponentRadix(NonZeroU8::new(16))), 0xFF000000FF << 88),
+        (0x100A0A0000000035000000000000000C, Reason::IsDigit(five, Edit::MantissaRadix(10)), 0xFF << 104 | 0xFF << 64),
+        (0x0A0A0A4868000000000000000000000C, Reason::Clash(h, suffix, Some(prefix_case)), 0xFFFF << 88 | 1 << 16),
+        (0x0A0A0A4868000000000000000002000C, Reason::Clash(h, suffix, Some(prefix_case)), 0xFFFF << 88 | 1 << 16),
+        (0x0A0A0A4868000000000000000001000C, Reason::Clash(h, suffix, Some(suffix_case)), 0xFFFF << 88 | 1 << 17),
+        (0x00000A0000000000000000000000003C, Reason::Contradict(FlagSetter::NoPositiveMantissaSign, FlagSetter::RequiredMantissaSign), 0x30),
+        (0x00000A0000000000000002000000000C, Reason::NeedsPosition(FlagSetter::IntegerConsecutiveDigitSeparator), 0x249 << 32),
+        (0x00000A0000000000000000008004000C, Reason::ReservedBits(0x80040000), 0x80040000),
+    ];
+    for (word, reason, mask) in rows {
+        assert_eq!(
+            (all_reasons(word), reason.mask()),
+            (vec![reason], mask),
+            "{word:#034X}"
+        );
+    }
+}
+
+#[test]
+fn a_note_has_the_bits_of_its_fields() {
+    let prefix = Edit::BasePrefix(NonZeroU8::new(b'#'));
+    let case = FlagSetter::CaseSensitiveBasePrefix;
+    let flags = 0x1FFF << 32;
+    #[rustfmt::skip]
+    let rows = [
+        (0x00000A000000005F000000000000000C, Note::SeparatorWithoutFlag(Edit::DigitSeparator(NonZeroU8::new(b'_'))), flags | 0xFF << 64),
+        (0x00000A0000000000000000010000000C, Note::FlagsWithoutSeparator, flags | 0xFF << 64),
+        (0x00000A0000000000000000000001000C, Note::CaseFlagWithoutByte(case, Edit::BasePrefix(None)), 1 << 16 | 0xFF << 88),
+        (0x0000080023000000000000000001000C, Note::CaseFlagOfNonLetter(case, prefix), 1 << 16 | 0xFF << 88),
+    ];
+    for (word, note, mask) in rows {
+        let given: Vec<Note> = notes(word).into_iter().flatten().collect();
+        assert_eq!((given, note.mask()), (vec![note], mask), "{word:#034X}");
+    }
+}
+
+/// Words that break few rules, and some that break most: the smallest words and those above, then 20,000 at random.
+fn words() -> Vec<u128> {
+    let mut state: u64 = 0x9E3779B97F4A7C15;
+    let mut random = || {
+        state ^= state << 13;
+        state ^= state >> 7;
+        state ^= state << 17;
+        u128::from(state.wrapping_mul(0x2545F4914F6CDD1D) >> 32)
+    };
+    let mut words: Vec<u128> = SMALLEST.iter().chain(OTHERS).map(|row| row.0).collect();
+    for _ in 0..20_000 {
+        let bits = random() << 96 | random() << 64 | random() << 32 | random();
+        if bits & 15 == 0 {
+            words.push(random() << 96 | random() << 64 | random() << 32 | bits >> 96);
+            continue;
+        }
+        let mut pick = |choices: &[u8]| u128::from(choices[random() as usize % choices.len()]);
+        let byte = [
+            0, 0, 1, 9, 32, 39, 43, 48, 53, 66, 88, 95, 98, 120, 127, 200,
+        ];
+        let radix = [0, 0, 1, 2, 10, 10, 16, 16, 36, 37, 200];
+        let bytes = pick(&byte) << 64 | pick(&byte) << 88 | pick(&byte) << 96;
+        let radixes = pick(&radix) << 104 | pick(&radix) << 112 | pick(&radix) << 120;
+        let flags = bits & bits >> 32 & bits >> 64 | bits & 0x30000;
+        let reserved = pick(&[0, 0, 0, 1]) * (bits >> 3 & bits >> 5 & !FIELDS);
+        words.push(bytes | radixes | flags & FLAG_MASK | reserved);
+    }
+    words
+}
+
+/// Each broken rule has a reason, the reasons differ, and their order is that of their first rules.
+#[test]
+fn reasons_are_the_causes_of_broken_rules() {
+    for word in words() {
+        let found = all_reasons(word);
+        assert!(
+            found.is_sorted_by_key(|reason| reason.rule() as u8),
+            "{word:#034X}"
+        );
+        for (index, reason) in found.iter().enumerate() {
+            assert!(!found[..index].contains(reason), "{word:#034X} {reason:?}");
+            let breaks = RULES.map(|rule| Some(rule).filter(|rule| reason.breaks(*rule)));
+            assert!(breaks
+                .into_iter()
+                .flatten()
+                .eq(reason.rules().into_iter().flatten()));
             assert_eq!(
+                breaks.into_iter().flatten().next(),
+                Some(reason.rule()),
+                "{reason:?}"
+            );
+        }
+        for rule in RULES {
+            let breaking = found.iter().filter(|reason| reason.breaks(rule));
+            assert!(
+                breaking.clone().eq(reasons_of(rule, word).iter().flatten()),
+                "{word:#034X} {rule:?}"
+            );
+            assert_eq!(
+                breaking.count() == 0,
                 rule.is_kept(word),
-                !rules.contains(&rule),
-                "{word:#034X}, {rule:?}"
+                "{word:#034X} {rule:?}"
             );
         }
     }
 }
 
-/// A reason holds the setting, its value and the radix.
+/// Bits outside of a reason's mask do not matter to its rule.
 #[test]
-fn a_reason_is_a_value() {
-    let edit = Edit::BasePrefix(NonZeroU8::new(b'b'));
-    let reasons = reasons_of(
-        Rule::BasePrefixIsPunctuation,
-        0x0A0A100062000000000000000000000C,
-    );
-    assert_eq!(reasons, [None, None, Some(Reason::IsDigit(edit, 16))]);
+fn a_mask_is_large_enough() {
+    for word in words() {
+        for reason in all_reasons(word) {
+            let rule = reason.rule();
+            let others = (0..128)
+                .map(|bit| 1 << bit)
+                .filter(|bit| reason.mask() & bit == 0);
+            for bit in others.chain([0, !reason.mask(), !reason.mask() & FIELDS]) {
+                assert!(
+                    !rule.is_kept(word ^ bit),
+                    "{word:#034X} {reason:?} {bit:#X}"
+                );
+            }
+        }
+    }
 }
 
-/// The bits of the three bytes, and of the two flags by which case counts.
+/// The masks of the fields: a bit for each flag, and eight for each byte.
+fn fields() -> impl Iterator<Item = u128> {
+    let fields = field_edits_of(STANDARD);
+    fields.map(|field| field.mask()).into_iter()
+}
+
+/// Without one of its fields a mask would not do: a word with the same other bits of the mask keeps the rule.
+#[test]
+fn a_mask_is_small_enough() {
+    let mut known = Vec::new();
+    for word in words() {
+        for reason in all_reasons(word) {
+            let (mask, rule) = (reason.mask(), reason.rule());
+            if let Reason::ReservedBits(bits) = reason {
+                assert_eq!((mask, bits), (word & !FIELDS, mask), "{word:#034X}");
+                continue;
+            }
+            assert_eq!(mask & !FIELDS, 0, "{word:#034X} {reason:?}");
+            if known.contains(&reason) {
+                continue;
+            }
+            known.push(reason);
+            for field in fields().filter(|field| mask & field != 0) {
+                assert_eq!(mask & field, field, "{word:#034X} {reason:?}");
+                let values = (0..256).map(|value| value << field.trailing_zeros() & field);
+                let keeps = |value: u128| {
+                    let rest = word & mask & !field | value;
+                    [rest, rest | 0x30000 & !mask]
+                        .iter()
+                        .any(|word| rule.is_kept(*word))
+                };
+                assert!(
+                    values.into_iter().any(keeps),
+                    "{word:#034X} {reason:?} {field:#X}"
+                );
+            }
+        }
+    }
+    let kinds: HashSet<_> = known.iter().map(discriminant).collect();
+    assert_eq!(kinds.len(), 8, "{kinds:?}");
+}
+
+/// The edits of a mend keep each rule that was kept, and each that no other reason broke.
+#[test]
+fn a_mend_mends() {
+    for word in words() {
+        let found = all_reasons(word);
+        for reason in &found {
+            let blamed = field_edits_of(word);
+            for field in blamed
+                .iter()
+                .filter(|field| field.mask() & reason.mask() != 0)
+            {
+                let (edits, count) = mend(word, reason, field);
+                let edits = &edits[..count];
+                assert!(
+                    edits.first().is_none_or(|edit| edit.mask() == field.mask()),
+                    "{word:#034X} {edits:?}"
+                );
+                let mended = edit_word(word, edits);
+                let due = |rule: &Rule| {
+                    count > 0 && !found.iter().any(|it| it != reason && it.breaks(*rule))
+                };
+                for rule in RULES.iter().filter(|rule| due(rule)) {
+                    assert!(
+                        rule.is_kept(mended),
+                        "{word:#034X} {reason:?} {edits:?} {rule:?}"
+                    );
+                }
+            }
+        }
+    }
+}
+
+/// In each smallest word, except that of the reserved bits, each reason has a mend.
+#[test]
+fn a_smallest_word_has_a_mend() {
+    for (word, rules, ..) in SMALLEST {
+        for reason in all_reasons(word) {
+            let mends = field_edits_of(word).map(|field| match field.mask() & reason.mask() {
+                0 => 0,
+                _ => mend(word, &reason, &field).1,
+            });
+            let has_mend = mends.iter().any(|count| *count > 0);
+            assert_eq!(
+                has_mend,
+                rules != [Rule::ReservedBitsAreZero],
+                "{word:#034X} {reason:?}"
+            );
+        }
+    }
+}
+
+/// The edits that mend the fields under the mask of the first reason, as text.
+#[test]
+fn mends_are_edits() {
+    #[rustfmt::skip]
+    let rows: [(u128, &[&str]); 12] = [
+        (0x0000250000000000000000000000000C, &["radix=10 exponent_base=none exponent_radix=none"]),
+        (0x000A250000000000000000000000000C, &["radix=10 exponent_radix=none"]),
+        (0x0A00250000000000000000000000000C, &["radix=10 exponent_base=none"]),
+        (0x0A0A250000000000000000000000000C, &["mantissa_radix=10"]),
+        (0x00280A0000000000000000000000000C, &["exponent_base=none"]),
+        (0x0A0A100062000000000000000000000C, &["base_prefix=none", "mantissa_radix=10"]),
+        // In radix 10 the prefix is still a digit.
+        (0x0A0A100035000000000000000000000C, &["base_prefix=none"]),
+        // The radix is 10 already, and `edit_word` drops the separator that no flag allows.
+        (0x00000A0000000035000000000000404C, &["digit_separator=none"]),
+        (0x0A0A0A4868000000000000000000000C, &["base_prefix=none", "base_suffix=none"]),
+        (0x00000A0000000000000000000000003C, &["no_positive_mantissa_sign=false", "required_mantissa_sign=false"]),
+        (0x00000A0000000000000002000000000C, &["integer_consecutive_digit_separator=false"]),
+        (0x00000A0000000000000000008000000C, &[]),
+    ];
+    for (word, mends) in rows {
+        let reason = all_reasons(word)[0];
+        let edits = field_edits_of(word).map(|field| match field.mask() & reason.mask() {
+            0 => String::new(),
+            _ => {
+                let (edits, count) = mend(word, &reason, &field);
+                edits[..count]
+                    .iter()
+                    .map(Edit::to_string)
+                    .collect::<Vec<_>>()
+                    .join(" ")
+            }
+        });
+        let edits: Vec<String> = edits
+            .into_iter()
+            .filter(|edits| !edits.is_empty())
+            .collect();
+        assert_eq!(edits, mends, "{word:#034X}");
+    }
+}
+
+/// No note describes a field that a reason blames.
+#[test]
+fn a_note_is_not_of_a_field_that_a_reason_blames() {
+    for word in words() {
+        let blamed = all_reasons(word)
+            .iter()
+            .fold(0, |mask, reason| mask | reason.mask());
+        for note in notes(word).into_iter().flatten() {
+            assert_eq!(note.mask() & blamed, 0, "{word:#034X} {note:?}");
+        }
+    }
+}
+
 #[test]
 fn a_rule_reads_its_fields() {
     assert_eq!(
@@ -108,24 +452,23 @@ fn a_rule_reads_its_fields() {
     );
 }
 
-/// A separator that the word will not have.
+/// The packed word does not have a separator that no flag allows.
 #[test]
-fn a_builder_tells_of_a_separator_that_it_drops() {
-    let builder = apply_all(
-        NumberFormatBuilder::new(),
-        &[Edit::DigitSeparator(NonZeroU8::new(b'_'))],
-    );
-    let unused = unused_fields(&builder).map(|setting| setting.map(|setting| setting.to_string()));
+fn a_builder_has_a_note_on_a_separator_that_it_drops() {
+    let edits = [
+        Edit::DigitSeparator(NonZeroU8::new(b'_')),
+        Edit::Flag(FlagSetter::CaseSensitiveBaseSuffix, true),
+    ];
+    let builder = apply_all(NumberFormatBuilder::new(), &edits);
+    let suffix = "case_sensitive_base_suffix changes nothing: there is no base suffix";
     assert_eq!(
-        unused,
+        texts(notes_of_fields(&builder)),
         [
-            Some("the digit separator '_' has no effect: no flag allows one".to_string()),
-            None,
-            None,
-            None
+            "no number can have the digit separator '_': no flag allows one",
+            suffix
         ]
     );
-    assert_eq!(unused_settings(builder.build_unchecked()), [None; 4]);
+    assert_eq!(texts(notes(builder.build_unchecked())), [suffix]);
 }
 
 #[test]

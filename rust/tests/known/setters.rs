@@ -1,6 +1,6 @@
 //! The builder: its setters and getters, and the words that it packs.
 
-use peltzivar::edits::{apply, Edit, FlagSetter, SettingError, SETTERS};
+use peltzivar::edits::{apply, Edit, FlagSetter, SETTERS};
 use peltzivar::error::Error;
 use peltzivar::format::{NonZeroU8, NumberFormatBuilder, STANDARD};
 
@@ -84,8 +84,10 @@ fn each_setter_has_its_name_and_its_edit() {
         assert_eq!(applied, [row.set, row.cleared], "{name}");
     }
     for name in ["", "mantissa_radix", "no_specials", "NoSpecial"] {
-        let unknown = Err(SettingError::UnknownName);
-        assert_eq!(name.parse::<FlagSetter>(), unknown, "{name}");
+        let error = name
+            .parse::<FlagSetter>()
+            .map_err(|error| (error.name(), error.to_string()));
+        assert_eq!(error, Err((None, "unknown setting name".into())), "{name}");
     }
 }
 
@@ -186,6 +188,19 @@ fn each_setter_of_a_byte_that_may_be_absent_clears_it() {
             "{edit:?}"
         );
     }
+}
+
+#[test]
+fn a_builder_of_a_word_keeps_exponent_bytes_absent() {
+    let word = 0x00001000_0000005F_00000000_8000000C;
+    let octal = NumberFormatBuilder::from_word(word).radix(8);
+    assert_eq!(bytes(octal), [0x5F, 0, 0, 8, 0, 0]);
+    assert_eq!(
+        bytes(NumberFormatBuilder::rebuild(word).radix(8)),
+        [0x5F, 0, 0, 8, 16, 16]
+    );
+    let full = 0x221C1068_7800005F_00000001_0000000C;
+    assert_eq!(NumberFormatBuilder::from_word(full).build_unchecked(), full);
 }
 
 #[test]

@@ -1,7 +1,7 @@
 //! Settings by number, name and text.
 
 use peltzivar::edits::{
-    byte_from_text, setter_name_of_number, setter_number_of_name, Argument, ArgumentKind, Edit,
+    byte_from_decimal, setter_name_of_number, setter_number_of_name, Argument, ArgumentKind, Edit,
     FlagSetter, SettingError, SETTERS, SETTER_NAMES,
 };
 use std::num::NonZeroU8;
@@ -110,37 +110,130 @@ fn settings_are_read() {
         ("base_suffix=none", Ok(Edit::BaseSuffix(None))),
         ("exponent_base=0", Ok(Edit::ExponentBase(None))),
         ("exponent_radix=255", Ok(Edit::ExponentRadix(NonZeroU8::new(255)))),
-        ("", Err(SettingError::UnknownName)),
-        ("no_special", Err(SettingError::BadValue)),
+        ("digit_separator='='", Ok(Edit::DigitSeparator(NonZeroU8::new(b'=')))),
+        ("", Err(SettingError::NoEquals)),
+        ("no_special", Err(SettingError::NoEquals)),
+        ("colour", Err(SettingError::NoEquals)),
+        ("=", Err(SettingError::UnknownName)),
         ("no_special =true", Err(SettingError::UnknownName)),
-        ("no_special=1", Err(SettingError::BadValue)),
-        ("no_special=true=true", Err(SettingError::BadValue)),
-        ("mantissa_radix=none", Err(SettingError::BadValue)),
-        ("mantissa_radix=256", Err(SettingError::OutOfRange)),
-        ("mantissa_radix=0016", Err(SettingError::OutOfRange)),
-        ("base_prefix=x", Err(SettingError::BadValue)),
-        ("base_prefix=-1", Err(SettingError::BadValue)),
-        ("base_prefix=", Err(SettingError::BadValue)),
+        ("no_special=1", Err(SettingError::BadValue(10))),
+        ("no_special=256", Err(SettingError::BadValue(10))),
+        ("no_special='1'", Err(SettingError::BadValue(10))),
+        ("no_special=true=true", Err(SettingError::BadValue(10))),
     ];
     for (text, edit) in rows {
         assert_eq!(Edit::from_text(text), edit, "{text}");
+        assert_eq!(text.parse(), edit, "{text}");
     }
     assert_eq!(Edit::from_setting("radix", "8"), Ok(Edit::Radix(8)));
-    assert_eq!(
-        (byte_from_text("8"), byte_from_text("800")),
-        (Ok(8), Err(SettingError::OutOfRange))
-    );
+}
+
+/// A byte is a character between quotes, hexadecimal digits after `0x`, or decimal digits.
+#[test]
+fn each_byte_setter_reads_the_same_values() {
+    #[rustfmt::skip]
+    let bytes = [
+        ("'_'", 0x5F), ("'''", 0x27), ("' '", 0x20), ("'\0'", 0), ("'\x7F'", 0x7F),
+        ("0x5F", 0x5F), ("0x5f", 0x5F), ("0x0", 0), ("0xff", 255), ("0x10", 16),
+        ("0", 0), ("16", 16), ("016", 16), ("255", 255),
+    ];
+    #[rustfmt::skip]
+    let bad = [
+        "''", "'", "'ab'", "'_", "_'", "\"_\"", "'\u{E9}'", "\u{E9}", "'_' ", " '_'", "x", "_",
+        "0x", "0X5F", "0xg1", "0x1g", "0x-1", "0x_", "x5F", "5F", "-1", "+1", "1_0", "", " 1", "NONE",
+    ];
+    let large = [
+        "0x100",
+        "0x05F",
+        "256",
+        "0016",
+        "99999999999999999999",
+        "0xFFFFFFFFFFFFFFFFFFFFFFFFFFFFFFFFF",
+    ];
+    for number in 40..47 {
+        let name = SETTER_NAMES[usize::from(number)];
+        let read = |value| Edit::from_setting(name, value);
+        for (value, byte) in bytes {
+            assert_eq!(
+                read(value).ok(),
+                Edit::from_number(number, byte),
+                "{name}={value}"
+            );
+        }
+        for value in bad {
+            assert_eq!(
+                read(value),
+                Err(SettingError::BadValue(number)),
+                "{name}={value}"
+            );
+        }
+        for value in large {
+            assert_eq!(
+                read(value),
+                Err(SettingError::OutOfRange(number)),
+                "{name}={value}"
+            );
+        }
+        let absent = match number {
+            43 | 44 => Err(SettingError::BadValue(number)),
+            _ => Ok(Edit::from_number(number, 0).unwrap()),
+        };
+        assert_eq!(read("none"), absent, "{name}");
+    }
 }
 
 #[test]
-fn what_is_wrong_with_a_setting_is_a_sentence() {
+fn a_byte_in_decimal_has_one_to_three_digits() {
+    for (text, byte) in [("0", 0), ("007", 7), ("8", 8), ("255", 255)] {
+        assert_eq!(byte_from_decimal(text), Some(byte), "{text}");
+    }
+    for text in [
+        "", "256", "800", "0008", "-1", "+1", "1e", "'8'", "0x8", "none",
+    ] {
+        assert_eq!(byte_from_decimal(text), None, "{text}");
+    }
+}
+
+/// The sentence of a refused value names the setter, and what it takes.
+#[test]
+fn a_refused_setting_has_a_sentence() {
+    const FLAG: &str = "`true` or `false`";
+    const RADIX: &str = "a number, 2 to 36 in a lawful format";
+    const OPTIONAL_RADIX: &str = "a number, 2 to 36 in a lawful format, or `none`";
+    const CHARACTER: &str = "a character such as '_', a number from 0 to 255, or `none`";
     #[rustfmt::skip]
     let rows = [
-        (SettingError::UnknownName, "no setting has this name"),
-        (SettingError::BadValue, "a flag takes `true` or `false`, and a byte a decimal number, or `none` where it may be absent"),
-        (SettingError::OutOfRange, "the number must be 0 to 255, in at most 3 digits"),
+        ("no_special=1", "no_special", FLAG),
+        ("required_digits=", "required_digits", FLAG),
+        ("exponent_digit_separator_flags=none", "exponent_digit_separator_flags", FLAG),
+        ("digit_separator=_", "digit_separator", CHARACTER),
+        ("base_prefix=0x100", "base_prefix", CHARACTER),
+        ("base_suffix=''", "base_suffix", CHARACTER),
+        ("mantissa_radix=none", "mantissa_radix", RADIX),
+        ("radix=256", "radix", RADIX),
+        ("exponent_base=ten", "exponent_base", OPTIONAL_RADIX),
+        ("exponent_radix=0010", "exponent_radix", OPTIONAL_RADIX),
     ];
-    for (error, text) in rows {
-        assert_eq!(error.to_string(), text);
+    for (text, name, takes) in rows {
+        let error = Edit::from_text(text).unwrap_err();
+        assert_eq!(error.name(), Some(name), "{text}");
+        assert_eq!(error.to_string(), format!("{name} takes {takes}"));
+    }
+    for setter in SETTERS {
+        let error = Edit::from_setting(setter.name(), "yes").unwrap_err();
+        assert_eq!(error.to_string(), format!("{} takes {FLAG}", setter.name()));
+    }
+    for (text, sentence) in [
+        ("radix", "expected NAME=VALUE"),
+        ("", "expected NAME=VALUE"),
+        ("colour=7", "unknown setting name"),
+        ("=7", "unknown setting name"),
+    ] {
+        let error = Edit::from_text(text).unwrap_err();
+        assert_eq!(
+            (error.name(), error.to_string()),
+            (None, sentence.to_string()),
+            "{text}"
+        );
     }
 }

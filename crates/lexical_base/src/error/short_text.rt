@@ -1,8 +1,8 @@
 //! Sentences that are put together from a few pieces.
 
-ghost use Rattle.std.specs.Prelude.{◌≡◌, ◌<◌, ◌∷◌, [], ◌+◌, length, IsErr, OnOk, Some};
-ghost use Rattle.std.specs.Fmt.{WritesInCalls, decimal};
-ghost use Rattle.lexical_base.specs.Additions.ShortTexts.{piece_text, numbered_byte};
+ghost use Rattle.std.specs.Prelude.{◌≡◌, ◌<◌, ◌∷◌, [], length, IsErr, OnOk, Some, true};
+ghost use Rattle.std.specs.Fmt.{WritesInCalls, decimal, digit_glyph, digits_onto};
+ghost use Rattle.lexical_base.specs.Additions.ShortTexts.{piece_text, numbered_byte, can_be_quoted};
 
 use crate::error::Sink;
 use std::fmt;
@@ -15,16 +15,18 @@ pub enum Piece {
     Words(&'static str),
     /// A number in decimal.
     Number(usize),
+    /// `0x` and a number in hexadecimal, with uppercase letters and without leading zeros, such as `0x80000000`.
+    Hexadecimal(u128),
     /// `the`, a name, and its byte in decimal.
     NumberedByte(&'static str, u8),
-    /// The same with the byte as a character between quotes, if it can be seen.
+    /// The same with the byte as a character between quotes, if it can be seen and is not a quote itself.
     QuotedByte(&'static str, u8),
 }
 
 /// The empty piece.
 pub const EMPTY_PIECE: Piece = Piece::Words("");
 
-/// A sentence of at most four pieces: a text of less than 256 bytes.
+/// A sentence of at most four pieces. Every one that the library returns is a text of less than 256 bytes.
 #[derive(Drop)]
 pub struct ShortText(pub Piece, pub Piece, pub Piece, pub Piece);
 
@@ -74,9 +76,13 @@ impl Piece {
         match self {
             Piece::Words(words) => out.put(words),
             Piece::Number(number) => put_decimal(out, number),
+            Piece::Hexadecimal(number) => {
+                out.put("0x")?;
+                put_hexadecimal(out, number)
+            }
             Piece::NumberedByte(name, byte) => put_numbered(out, name, byte),
             Piece::QuotedByte(name, byte) => {
-                if !byte.is_ascii_graphic() {
+                if !can_be_quoted(byte) {
                     return put_numbered(out, name, byte);
                 }
                 out.put("the ")?;
@@ -87,6 +93,13 @@ impl Piece {
             }
         }
     }
+}
+
+// Returns whether a byte is a character that can be seen and is not the quote.
+const fn can_be_quoted(byte: u8) -> bool
+    ensures { result ≡ can_be_quoted byte }
+{
+    byte.is_ascii_graphic() && byte != b'\''
 }
 
 // Puts a name and its byte in decimal.
@@ -112,10 +125,22 @@ pub(crate) fn put_decimal<S: Sink>(out: &mut S, n: usize) -> fmt::Result
     out.put(digit_text(n % 10))
 }
 
-// The digit character of `digit`, which is below 10.
+// Puts `n` in hexadecimal, with uppercase letters.
+fn put_hexadecimal<S: Sink>(out: &mut S, n: u128) -> fmt::Result
+    ensures text { OnOk result (WritesInCalls S.takes out.old (digits_onto 32 16 true n []) out.new) }
+    ensures failed { IsErr result → S.has_failed out.new }
+{
+    let has_front = n >= 16;
+    if has_front {
+        put_hexadecimal(out, n / 16)?;
+    }
+    out.put(digit_text((n % 16) as usize))
+}
+
+// The digit character of `digit`, which is below 16. Letters are uppercase.
 #[inline(always)]
 const fn digit_text(digit: usize) -> &'static str
-    ensures { digit < 10 → result.now ≡ (48 + digit) ∷ [] }
+    ensures { digit < 16 → result.now ≡ digit_glyph true digit ∷ [] }
 {
     match digit {
         0 => "0",
@@ -127,6 +152,12 @@ const fn digit_text(digit: usize) -> &'static str
         6 => "6",
         7 => "7",
         8 => "8",
-        _ => "9",
+        9 => "9",
+        10 => "A",
+        11 => "B",
+        12 => "C",
+        13 => "D",
+        14 => "E",
+        _ => "F",
     }
 }

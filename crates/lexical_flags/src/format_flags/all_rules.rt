@@ -12,8 +12,9 @@ use lexical_base::error::Error;
 
 /// A rule of format words. A word that breaks none is lawful.
 ///
-/// The variants are in the order in which the rules are tried; each is named by what it demands. *Punctuation* is allowed
-/// ASCII that is neither a sign nor a digit of the mantissa or the exponent.
+/// The variants are in the order in which the rules are tried; each is named by what it demands. *Punctuation* is
+/// allowed ASCII that is neither a sign nor a digit of the mantissa or the exponent. A rule has no `Display`: a `Reason`
+/// states what breaks it in the word at hand.
 #[derive(Debug, Clone, Copy, PartialEq, Eq, Hash)]
 pub enum Rule {
     /// The mantissa radix is 2 to 36.

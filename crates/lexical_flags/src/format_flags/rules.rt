@@ -303,8 +303,8 @@ pub const fn is_valid_options_punctuation(format: u128, exponent: u8, decimal_po
 /// Returns what is wrong with an exponent character and a decimal point in numbers of this format, and
 /// `Success` if [`is_valid_options_punctuation`] accepts them.
 ///
-/// It is `InvalidExponentSymbol` if the exponent character is not allowed ASCII, a sign or a digit, else
-/// `InvalidDecimalPoint` if the decimal point is, and else `InvalidPunctuation`. `lexical-util` has no such
+/// It is `InvalidExponentSymbol` if the exponent character is a digit, a sign, or not allowed ASCII, else
+/// `InvalidDecimalPoint` if the decimal point is one of these, and else `InvalidPunctuation`. `lexical-util` has no such
 /// function.
 pub const fn options_error(format: u128, exponent: u8, decimal_point: u8) -> Error
     ensures first { IsOptionsError format exponent decimal_point result }

@@ -1,4 +1,4 @@
--- For `field_edits_of`, `numfmt` and `peltzivar_edits_of`: the edits of single fields as functions.
+-- For `field_edits_of`, `numfmt` and `peltzivar_edits_of`: the single-field edits of a record.
 use Rattle.std.specs.Prelude.{List, [], ◌∷◌, map, find, unwrap_or}
 use Rattle.std.specs.Str.{bytes_eq}
 use Rattle.lexical_flags.specs.Layout.{Flag, bit}
@@ -14,11 +14,11 @@ use Rattle.lexical_util.specs.declared.edits.TheConstants.{SETTERS}
 use Rattle.lexical_util.specs.declared.edits.Edit.{Edit}
 use Rattle.lexical_util.specs.declared.edits.Edit.TheVariants as edits
 
--- The setter that writes this flag and no other.
+-- `setter_of f` is the setter that writes only the flag `f`.
 abbrev pub setter_of : Flag → FlagSetter
 setter_of f = unwrap_or (find (λ setter. bytes_eq (map bit (flags_of setter)) (bit f ∷ [])) SETTERS) setters.NoSpecial
 
--- The edit of a write.
+-- `edit_of_write write` is the single-field edit that does `write`.
 abbrev pub edit_of_write : Write → Edit
 edit_of_write (write_flag f value) = edits.Flag (setter_of f) value
 edit_of_write (write_byte layout.digit_separator value) = edits.DigitSeparator (option_of_byte value)
@@ -28,14 +28,14 @@ edit_of_write (write_byte layout.mantissa_radix value) = edits.MantissaRadix val
 edit_of_write (write_byte layout.exponent_base value) = edits.ExponentBase (option_of_byte value)
 edit_of_write (write_byte layout.exponent_radix value) = edits.ExponentRadix (option_of_byte value)
 
--- The edits of all fields of a record.
+-- `field_edits r` lists the edits that write all fields of `r`, in the order of the bits.
 abbrev pub field_edits : Record → List Edit
 field_edits r = map edit_of_write (field_writes r)
 
--- The edits of the fields in which a record differs from a new builder.
+-- `needed_edits r` lists the edits that write the fields in which `r` differs from a new builder.
 abbrev pub needed_edits : Record → List Edit
 needed_edits r = map edit_of_write (needed_writes r)
 
--- The edits of the other fields.
+-- `other_edits r` lists the edits that write the fields in which `r` is equal to a new builder.
 abbrev pub other_edits : Record → List Edit
 other_edits r = map edit_of_write (other_writes r)

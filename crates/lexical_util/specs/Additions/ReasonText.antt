@@ -1,53 +1,64 @@
--- For `text` of reasons: why a rule is broken, and what has no effect, in words.
-use Rattle.std.specs.Prelude.{ℕ, ◌==◌, if◌then◌else◌, List, ◌++◌, codes, decimal}
-use Rattle.lexical_base.specs.Additions.ShortTexts.{numbered_byte, quoted_byte}
+-- For `text` of reasons and notes: one sentence for each.
+use Rattle.std.specs.Prelude.{ℕ, ◌==◌, if◌then◌else◌, Option, Some, None, List, ◌++◌, codes, decimal}
+use Rattle.lexical_base.specs.Additions.ShortTexts.{hexadecimal, numbered_byte, quoted_byte}
 use Rattle.lexical_util.specs.Additions.SettingNumbers.{name_of_flags, argument_byte}
 use Rattle.lexical_util.specs.declared.edits.Edit.{Edit}
 use Rattle.lexical_util.specs.declared.edits.Edit.TheVariants as edits
+use Rattle.lexical_util.specs.declared.edits.FlagSetter.{FlagSetter}
 use Rattle.lexical_util.specs.declared.reasons.Reason.{Reason}
 use Rattle.lexical_util.specs.declared.reasons.Reason.TheVariants as reasons
-use Rattle.lexical_util.specs.declared.reasons.Unused.{Unused}
-use Rattle.lexical_util.specs.declared.reasons.Unused.TheVariants as unused
+use Rattle.lexical_util.specs.declared.reasons.note.Note.{Note}
+use Rattle.lexical_util.specs.declared.reasons.note.Note.TheVariants as notes
 
--- what the setting of an edit is called in a sentence
-abbrev pub words_of : Edit → List ℕ
-words_of (edits.Flag setter value) = codes "flag"
-words_of (edits.DigitSeparator byte) = codes "digit separator"
-words_of (edits.BasePrefix byte) = codes "base prefix"
-words_of (edits.BaseSuffix byte) = codes "base suffix"
-words_of (edits.MantissaRadix radix) = codes "mantissa radix"
-words_of (edits.Radix radix) = codes "radix"
-words_of (edits.ExponentBase base) = codes "exponent base"
-words_of (edits.ExponentRadix radix) = codes "exponent radix"
+-- `label_of edit` is the name of the field of `edit`, as sentences have it.
+abbrev pub label_of : Edit → List ℕ
+label_of (edits.Flag setter value) = codes "flag"
+label_of (edits.DigitSeparator byte) = codes "digit separator"
+label_of (edits.BasePrefix byte) = codes "base prefix"
+label_of (edits.BaseSuffix byte) = codes "base suffix"
+label_of (edits.MantissaRadix radix) = codes "mantissa radix"
+label_of (edits.Radix radix) = codes "radix"
+label_of (edits.ExponentBase base) = codes "exponent base"
+label_of (edits.ExponentRadix radix) = codes "exponent radix"
 
--- a setting with its byte as a number
-abbrev pub numbered_text : Edit → List ℕ
-numbered_text edit = numbered_byte (words_of edit) (argument_byte edit)
-
--- a setting with its byte as a character between quotes, or as a number if the character cannot be seen
+-- `described edit` is the label of `edit` with its byte: a character between quotes, or a number if it cannot be
+-- quoted.
 abbrev pub described : Edit → List ℕ
-described edit = quoted_byte (words_of edit) (argument_byte edit)
+described edit = quoted_byte (label_of edit) (argument_byte edit)
 
--- what is said of two bytes that are the same, or differ only in case
-abbrev pub sameness : Edit → Edit → List ℕ
-sameness a b =
-    if argument_byte a == argument_byte b then codes " are the same"
-    else codes " differ only in case, which counts only if both are case-sensitive"
+-- `clash_text a b flag` is the end of the sentence of the bytes of `a` and `b`, which clash: they are the same, or they
+-- differ in case and `flag` is not set. A digit separator has no case flag.
+abbrev pub clash_text : Edit → Edit → Option FlagSetter → List ℕ
+clash_text a b None = codes " are the same"
+clash_text (edits.DigitSeparator byte) (edits.BasePrefix other) (Some flag) =
+    codes " differ only in case, and the base prefix is not case-sensitive"
+clash_text (edits.DigitSeparator byte) b (Some flag) =
+    codes " differ only in case, and the base suffix is not case-sensitive"
+clash_text a b (Some flag) = codes " differ only in case, and they are not both case-sensitive"
 
--- the sentence of a reason
+-- `reason_text reason` is the sentence of `reason`.
 abbrev pub reason_text : Reason → List ℕ
-reason_text (reasons.OutOfRange edit) = numbered_text edit ++ codes " is not 2 to 36"
-reason_text (reasons.NotText edit) = described edit ++ codes " is not a character of ASCII text"
-reason_text (reasons.IsSign edit) = described edit ++ codes " is a sign"
-reason_text (reasons.IsDigit edit radix) = described edit ++ codes " is a digit of radix " ++ decimal radix
-reason_text (reasons.AreSame a b) = described a ++ codes " and " ++ described b ++ sameness a b
-reason_text (reasons.Contradict a b) = name_of_flags a ++ codes " and " ++ name_of_flags b ++ codes " exclude each other"
-reason_text (reasons.HasNoPlace flag) =
-    name_of_flags flag ++ codes " needs the internal, leading or trailing flag of the same part"
-reason_text reasons.ReservedBits = codes "a reserved bit is set"
+reason_text (reasons.MantissaRadixOutOfRange radix base exponent) =
+    numbered_byte (codes "mantissa radix") radix ++ codes " is not between 2 and 36"
+reason_text (reasons.OutOfRange edit) =
+    numbered_byte (label_of edit) (argument_byte edit) ++ codes " is not between 2 and 36"
+reason_text (reasons.NotText edit) = described edit ++ codes " is not an allowed ASCII character"
+reason_text (reasons.IsSign edit) = described edit ++ codes " is a sign (+ or -)"
+reason_text (reasons.IsDigit edit radix) =
+    described edit ++ codes " is a digit in radix " ++ decimal (argument_byte radix)
+reason_text (reasons.Clash a b flag) = described a ++ codes " and " ++ described b ++ clash_text a b flag
+reason_text (reasons.Contradict a b) = name_of_flags a ++ codes " and " ++ name_of_flags b ++ codes " cannot both be set"
+reason_text (reasons.NeedsPosition flag) =
+    name_of_flags flag ++ codes " requires an internal, leading or trailing flag for the same part of the number"
+reason_text (reasons.ReservedBits bits) = codes "reserved bits are set: " ++ hexadecimal bits
 
--- the sentence of a setting without effect
-abbrev pub unused_text : Unused → List ℕ
-unused_text (unused.NotAllowed edit) = described edit ++ codes " has no effect: no flag allows one"
-unused_text unused.NoSeparator = codes "the digit separator flags have no effect: there is no digit separator"
-unused_text (unused.NoByte flag byte) = name_of_flags flag ++ codes " has no effect: there is no " ++ words_of byte
+-- `note_text note` is the sentence of `note`.
+abbrev pub note_text : Note → List ℕ
+note_text (notes.SeparatorWithoutFlag edit) =
+    codes "no number can have " ++ described edit ++ codes ": no flag allows one"
+note_text notes.FlagsWithoutSeparator =
+    codes "the digit separator flags allow nothing: there is no digit separator"
+note_text (notes.CaseFlagWithoutByte flag byte) =
+    name_of_flags flag ++ codes " changes nothing: there is no " ++ label_of byte
+note_text (notes.CaseFlagOfNonLetter flag byte) =
+    name_of_flags flag ++ codes " changes nothing: " ++ described byte ++ codes " is not a letter"

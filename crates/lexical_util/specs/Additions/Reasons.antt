@@ -1,41 +1,150 @@
--- For `reasons_of` and `unused_settings`: why a word breaks a rule, and which of its settings have no effect.
-use Rattle.std.specs.Prelude.{ℕ, ◌≡◌, ◌↔◌, false, ◌==◌, ◌&&◌, not, if◌then◌else◌, Bool, Option, None, List, [], ◌∷◌, ◌++◌, map, take}
+-- For `reasons`, `reasons_of` and the methods of `Reason`: the reasons why a word breaks a rule, and the bits to blame.
+use Rattle.std.specs.Prelude.{ℕ, ◌≡◌, ◌≢◌, ◌==◌, ◌&&◌, true, false, not, IsTrue, if◌then◌else◌, Bool, Option, None}
+use Rattle.std.specs.Prelude.{Some}
+use Rattle.std.specs.Prelude.{List, [], ◌∷◌, ◌++◌, drop, flat_map, map, take, bit_and, bit_or}
 use Rattle.std.specs.Bool.{then_some}
-use Rattle.std.specs.Int.Bits.{bit_and}
-use Rattle.std.specs.List.{filter_map}
+use Rattle.std.specs.List.{AllByRecursion, filter_map}
 use Rattle.lexical_base.specs.Ascii.{ByteSet, between, allowed_ascii}
 use Rattle.lexical_base.specs.Digits.{digits_of}
 use Rattle.lexical_flags.specs.Layout as layout
-use Rattle.lexical_flags.specs.Layout.{IsClean}
-use Rattle.lexical_flags.specs.Record.{Record, set_byte, raw, separator_allowed, effective_exponent_base, effective_exponent_radix}
-use Rattle.lexical_flags.specs.Roles.{are_disjoint, digits, signs, separator, prefix, suffix}
-use Rattle.lexical_flags.specs.Rules.{contradict, Holds}
-use Rattle.lexical_flags.specs.Options.{OptionsFit}
+use Rattle.lexical_flags.specs.Record.{Record, raw}
+use Rattle.lexical_flags.specs.Roles.{are_disjoint, digits, signs, separator, prefix, suffix, other_case}
+use Rattle.lexical_flags.specs.Rules.{Holds, IsRadix, IsTextOrNone, contradict, punctuation_rules, flag_rules}
 use Rattle.lexical_flags.specs.Additions.BrokenRules.{mask_read}
+use Rattle.lexical_flags.specs.Additions.Masks.{byte_mask, mask_of, reserved_mask}
 use Rattle.lexical_flags.specs.declared.format_flags.all_rules.Rule.{Rule}
 use Rattle.lexical_flags.specs.declared.format_flags.all_rules.Rule.TheVariants as rules
 use Rattle.lexical_builder.specs.OptionByte.{option_of_byte}
+use Rattle.lexical_builder.specs.Writes.{Write, write_flag, write_byte}
+use Rattle.lexical_util.specs.Edits.{flags_of, writes_of}
+use Rattle.lexical_util.specs.Additions.SettingNumbers.{argument_byte, mask_of_edit}
 use Rattle.lexical_util.specs.declared.edits.Edit.{Edit}
 use Rattle.lexical_util.specs.declared.edits.Edit.TheVariants as edits
+use Rattle.lexical_util.specs.declared.edits.FlagSetter.{FlagSetter}
 use Rattle.lexical_util.specs.declared.edits.FlagSetter.TheVariants as setters
 use Rattle.lexical_util.specs.declared.reasons.Reason.{Reason}
 use Rattle.lexical_util.specs.declared.reasons.Reason.TheVariants as reasons
-use Rattle.lexical_util.specs.declared.reasons.Unused.{Unused}
-use Rattle.lexical_util.specs.declared.reasons.Unused.TheVariants as unused
 
--- something that may be said, and whether it is
-abbrev pub Case : Type 0 → Type 0
-Case T = Bool × T
+-- `HasWrite r write` holds if the record `r` has the value that `write` writes.
+abbrev pub HasWrite : Record → Write → Type 0
+HasWrite r (write_flag f value) = r.flag f ≡ value
+HasWrite r (write_byte b value) = r.byte b ≡ value
 
--- what is said
-abbrev pub said : {T : Type 0} → Case T → Option T
-said c = then_some c.0 c.1
+-- `Has word edit` holds if `word` has the values that `edit` writes.
+abbrev pub Has : ℕ → Edit → Type 0
+Has word edit = AllByRecursion (HasWrite (raw word)) (writes_of edit)
 
--- the reasons among these cases, each at its place of three
-abbrev pub padded : List (Case Reason) → List (Option Reason)
-padded cases = take 3 (map said cases ++ None ∷ None ∷ [])
+-- `positions flag` lists the setters of the internal, leading and trailing flags for the same part of the number as the
+-- flag for consecutive separators `flag`.
+abbrev pub positions : FlagSetter → List FlagSetter
+positions setters.IntegerConsecutiveDigitSeparator =
+    setters.IntegerInternalDigitSeparator ∷ setters.IntegerLeadingDigitSeparator
+    ∷ setters.IntegerTrailingDigitSeparator ∷ []
+positions setters.FractionConsecutiveDigitSeparator =
+    setters.FractionInternalDigitSeparator ∷ setters.FractionLeadingDigitSeparator
+    ∷ setters.FractionTrailingDigitSeparator ∷ []
+positions _ =
+    setters.ExponentInternalDigitSeparator ∷ setters.ExponentLeadingDigitSeparator
+    ∷ setters.ExponentTrailingDigitSeparator ∷ []
 
--- the bytes of a format as the edits that write them
+-- `IsTrueOf word reason` holds if `word` has the fields in `reason`, and they have the property that `reason` states.
+abbrev pub IsTrueOf : ℕ → Reason → Type 0
+IsTrueOf word (reasons.MantissaRadixOutOfRange radix base exponent) =
+    Has word (edits.MantissaRadix radix) × (IsRadix radix → ⊥)
+IsTrueOf word (reasons.OutOfRange edit) = Has word edit × (argument_byte edit ≢ 0) × (IsRadix (argument_byte edit) → ⊥)
+IsTrueOf word (reasons.NotText edit) = Has word edit × (IsTextOrNone (argument_byte edit) → ⊥)
+IsTrueOf word (reasons.IsSign edit) = Has word edit × IsTrue (signs (argument_byte edit))
+IsTrueOf word (reasons.IsDigit edit radix) =
+    Has word edit × Has word radix × IsTrue (digits_of (argument_byte radix) (argument_byte edit))
+IsTrueOf word (reasons.Clash a b None) =
+    Has word a × Has word b × (argument_byte a ≢ 0) × (argument_byte b ≡ argument_byte a)
+IsTrueOf word (reasons.Clash a b (Some flag)) =
+    Has word a × Has word b × Has word (edits.Flag flag false)
+    × (argument_byte b ≢ argument_byte a) × (argument_byte b ≡ other_case (argument_byte a))
+IsTrueOf word (reasons.Contradict a b) = Has word (edits.Flag a true) × Has word (edits.Flag b true)
+IsTrueOf word (reasons.NeedsPosition flag) =
+    Has word (edits.Flag flag true) × AllByRecursion (λ position. Has word (edits.Flag position false)) (positions flag)
+IsTrueOf word (reasons.ReservedBits bits) =
+    (bits ≢ 0) × (bit_and bits reserved_mask ≡ bits) × (bit_and word bits ≡ bits)
+
+-- `rule_of_reason reason` is the first rule that `reason` breaks. Depending on the reason, it is the rule of a radix
+-- that an edit writes (`radix_rule`), of a byte (`punctuation_rule`), or of flags (`rule_of_flags`, `position_rule`).
+abbrev pub radix_rule : Edit → Rule
+radix_rule (edits.ExponentBase base) = rules.ExponentBaseInRange
+radix_rule _ = rules.ExponentRadixInRange
+
+abbrev pub punctuation_rule : Edit → Rule
+punctuation_rule (edits.DigitSeparator byte) = rules.DigitSeparatorIsPunctuation
+punctuation_rule (edits.BasePrefix byte) = rules.BasePrefixIsPunctuation
+punctuation_rule _ = rules.BaseSuffixIsPunctuation
+
+abbrev pub rule_of_flags : FlagSetter → FlagSetter → Rule
+rule_of_flags setters.NoExponentNotation b = rules.ExponentFlagsAgree
+rule_of_flags setters.NoPositiveMantissaSign b = rules.MantissaSignFlagsAgree
+rule_of_flags setters.NoPositiveExponentSign b = rules.ExponentSignFlagsAgree
+rule_of_flags a setters.CaseSensitiveSpecial = rules.SpecialCaseFlagsAgree
+rule_of_flags a b = rules.SpecialSeparatorFlagsAgree
+
+abbrev pub position_rule : FlagSetter → Rule
+position_rule setters.IntegerConsecutiveDigitSeparator = rules.IntegerConsecutiveIsAllowed
+position_rule setters.FractionConsecutiveDigitSeparator = rules.FractionConsecutiveIsAllowed
+position_rule _ = rules.ExponentConsecutiveIsAllowed
+
+abbrev pub rule_of_reason : Reason → Rule
+rule_of_reason (reasons.MantissaRadixOutOfRange radix base exponent) = rules.MantissaRadixInRange
+rule_of_reason (reasons.OutOfRange edit) = radix_rule edit
+rule_of_reason (reasons.NotText edit) = punctuation_rule edit
+rule_of_reason (reasons.IsSign edit) = punctuation_rule edit
+rule_of_reason (reasons.IsDigit edit radix) = punctuation_rule edit
+rule_of_reason (reasons.Clash a b flag) = rules.PunctuationDiffers
+rule_of_reason (reasons.Contradict a b) = rule_of_flags a b
+rule_of_reason (reasons.NeedsPosition flag) = position_rule flag
+rule_of_reason (reasons.ReservedBits bits) = rules.ReservedBitsAreZero
+
+-- `Breaks reason rule` holds if `reason` breaks `rule`. A mantissa radix also breaks the rules of absent exponent
+-- bytes.
+abbrev pub Breaks : Reason → Rule → Type 0
+Breaks (reasons.MantissaRadixOutOfRange radix base exponent) rules.ExponentBaseInRange = IsTrue base
+Breaks (reasons.MantissaRadixOutOfRange radix base exponent) rules.ExponentRadixInRange = IsTrue exponent
+Breaks reason rule = rule ≡ rule_of_reason reason
+
+-- `rules_of_reason reason` lists the rules that `reason` breaks, in three slots.
+abbrev pub rules_of_reason : Reason → List (Option Rule)
+rules_of_reason (reasons.MantissaRadixOutOfRange radix base exponent) =
+    Some rules.MantissaRadixInRange ∷ then_some base rules.ExponentBaseInRange
+    ∷ then_some exponent rules.ExponentRadixInRange ∷ []
+rules_of_reason reason = Some (rule_of_reason reason) ∷ None ∷ None ∷ []
+
+-- `mask_of_setter setter` has the bits that the flag setter writes, and `mask_of_reason reason` the bits that `reason`
+-- blames. A reason is true of each word that has the same bits under its mask.
+abbrev pub mask_of_setter : FlagSetter → ℕ
+mask_of_setter setter = mask_of (flags_of setter)
+
+abbrev pub mask_of_reason : Reason → ℕ
+mask_of_reason (reasons.MantissaRadixOutOfRange radix base exponent) = byte_mask layout.mantissa_radix
+mask_of_reason (reasons.OutOfRange edit) = mask_of_edit edit
+mask_of_reason (reasons.NotText edit) = mask_of_edit edit
+mask_of_reason (reasons.IsSign edit) = mask_of_edit edit
+mask_of_reason (reasons.IsDigit edit radix) = bit_or (mask_of_edit edit) (mask_of_edit radix)
+mask_of_reason (reasons.Clash a b None) = bit_or (mask_of_edit a) (mask_of_edit b)
+mask_of_reason (reasons.Clash a b (Some flag)) = bit_or (bit_or (mask_of_edit a) (mask_of_edit b)) (mask_of_setter flag)
+mask_of_reason (reasons.Contradict a b) = bit_or (mask_of_setter a) (mask_of_setter b)
+mask_of_reason (reasons.NeedsPosition flag) = mask_read (position_rule flag)
+mask_of_reason (reasons.ReservedBits bits) = bits
+
+-- A candidate: whether a reason or a note applies, and the reason or note.
+abbrev pub Candidate : Type 0 → Type 0
+Candidate T = Bool × T
+
+-- `if_applicable c` is the reason or note of the candidate `c` if it applies, and `None` otherwise.
+abbrev pub if_applicable : {T : Type 0} → Candidate T → Option T
+if_applicable c = then_some c.0 c.1
+
+-- `in_three_slots candidates` lists the candidates that apply, each in its own slot of three.
+abbrev pub in_three_slots : List (Candidate Reason) → List (Option Reason)
+in_three_slots candidates = take 3 (map if_applicable candidates ++ None ∷ None ∷ [])
+
+-- `separator_edit r`, `prefix_edit r` and `suffix_edit r` are the edits that write these bytes of `r`.
 abbrev pub separator_edit : Record → Edit
 separator_edit r = edits.DigitSeparator (option_of_byte (r.byte layout.digit_separator))
 
@@ -45,28 +154,51 @@ prefix_edit r = edits.BasePrefix (option_of_byte (r.byte layout.base_prefix))
 abbrev pub suffix_edit : Record → Edit
 suffix_edit r = edits.BaseSuffix (option_of_byte (r.byte layout.base_suffix))
 
--- a radix or a base that is not 2 to 36
-abbrev pub out_of_range : ℕ → Edit → List (Case Reason)
-out_of_range radix edit = (not (between 2 36 radix), reasons.OutOfRange edit) ∷ []
+-- `mantissa_candidate r` is the candidate of the mantissa radix of `r`. It applies unless that is between 2 and 36.
+abbrev pub mantissa_candidate : Record → Candidate Reason
+mantissa_candidate r = (
+  not (between 2 36 (r.byte layout.mantissa_radix)),
+  reasons.MantissaRadixOutOfRange (r.byte layout.mantissa_radix) (r.byte layout.exponent_base == 0)
+      (r.byte layout.exponent_radix == 0),
+)
 
--- the radix of which a byte is a digit: that of the mantissa, if it is one there
-abbrev pub radix_of_digit : Record → ℕ → ℕ
+-- `exponent_candidates r byte edit` lists the candidates of the exponent byte `byte`, which `edit` writes: the mantissa
+-- radix if the byte is absent, and the byte itself otherwise.
+abbrev pub exponent_candidates : Record → ℕ → Edit → List (Candidate Reason)
+exponent_candidates r byte edit =
+    ((byte == 0) && (mantissa_candidate r).0, (mantissa_candidate r).1)
+    ∷ (not (byte == 0) && not (between 2 36 byte), reasons.OutOfRange edit)
+    ∷ []
+
+-- `radix_of_digit r byte` is the edit of the mantissa radix if `byte` is a digit there, and of the exponent radix
+-- otherwise.
+abbrev pub radix_of_digit : Record → ℕ → Edit
 radix_of_digit r byte =
-    if digits_of (r.byte layout.mantissa_radix) byte then r.byte layout.mantissa_radix else effective_exponent_radix r
+    if digits_of (r.byte layout.mantissa_radix) byte then edits.MantissaRadix (r.byte layout.mantissa_radix)
+    else edits.ExponentRadix (option_of_byte (r.byte layout.exponent_radix))
 
--- a byte that is not free
-abbrev pub not_free : Record → ℕ → Edit → List (Case Reason)
-not_free r byte edit =
+-- `punctuation_candidates r byte edit` lists the candidates of `byte`, which `edit` writes. In a lawful word it is
+-- absent or punctuation, so none of them applies.
+abbrev pub punctuation_candidates : Record → ℕ → Edit → List (Candidate Reason)
+punctuation_candidates r byte edit =
     (not (byte == 0) && not (allowed_ascii byte), reasons.NotText edit)
     ∷ (signs byte, reasons.IsSign edit)
     ∷ (digits r byte, reasons.IsDigit edit (radix_of_digit r byte))
     ∷ []
 
--- two sets of bytes that are not disjoint
-abbrev pub share : ByteSet → ByteSet → Edit → Edit → Case Reason
-share A B a b = (not (are_disjoint A B), reasons.AreSame a b)
+-- `clash_candidate A B a b flag` is the candidate of the roles `A` and `B`, whose bytes `a` and `b` write. It applies
+-- if the roles share a byte. If the two bytes differ, the reason names the case flag `flag`, which is not set.
+abbrev pub clash_candidate : ByteSet → ByteSet → Edit → Edit → FlagSetter → Candidate Reason
+clash_candidate A B a b flag =
+    (not (are_disjoint A B), reasons.Clash a b (if argument_byte b == argument_byte a then None else Some flag))
 
--- what is said of flags that contradict each other
+-- `case_flag r` is the case flag of the base prefix if `r` does not set it, and of the base suffix otherwise.
+abbrev pub case_flag : Record → FlagSetter
+case_flag r =
+    if r.flag layout.case_sensitive_base_prefix then setters.CaseSensitiveBaseSuffix
+    else setters.CaseSensitiveBasePrefix
+
+-- `flag_reason rule` is the reason with the flags that break `rule`.
 abbrev pub flag_reason : Rule → Reason
 flag_reason rules.ExponentFlagsAgree = reasons.Contradict setters.NoExponentNotation setters.RequiredExponentNotation
 flag_reason rules.MantissaSignFlagsAgree =
@@ -75,71 +207,55 @@ flag_reason rules.ExponentSignFlagsAgree =
     reasons.Contradict setters.NoPositiveExponentSign setters.RequiredExponentSign
 flag_reason rules.SpecialCaseFlagsAgree = reasons.Contradict setters.NoSpecial setters.CaseSensitiveSpecial
 flag_reason rules.SpecialSeparatorFlagsAgree = reasons.Contradict setters.NoSpecial setters.SpecialDigitSeparator
-flag_reason rules.IntegerConsecutiveIsAllowed = reasons.HasNoPlace setters.IntegerConsecutiveDigitSeparator
-flag_reason rules.FractionConsecutiveIsAllowed = reasons.HasNoPlace setters.FractionConsecutiveDigitSeparator
-flag_reason rules.ExponentConsecutiveIsAllowed = reasons.HasNoPlace setters.ExponentConsecutiveDigitSeparator
-flag_reason _ = reasons.ReservedBits
+flag_reason rules.IntegerConsecutiveIsAllowed = reasons.NeedsPosition setters.IntegerConsecutiveDigitSeparator
+flag_reason rules.FractionConsecutiveIsAllowed = reasons.NeedsPosition setters.FractionConsecutiveDigitSeparator
+flag_reason _ = reasons.NeedsPosition setters.ExponentConsecutiveDigitSeparator
 
--- what may be wrong where a rule is broken
-abbrev pub cases_of : Rule → ℕ → List (Case Reason)
-cases_of rules.MantissaRadixInRange word =
-    let radix = (raw word).byte layout.mantissa_radix in out_of_range radix (edits.MantissaRadix radix)
-cases_of rules.ExponentBaseInRange word =
-    let base = effective_exponent_base (raw word) in out_of_range base (edits.ExponentBase (option_of_byte base))
-cases_of rules.ExponentRadixInRange word =
-    let radix = effective_exponent_radix (raw word) in out_of_range radix (edits.ExponentRadix (option_of_byte radix))
-cases_of rules.DigitSeparatorIsPunctuation word =
-    let r = raw word in not_free r (r.byte layout.digit_separator) (separator_edit r)
-cases_of rules.BasePrefixIsPunctuation word = let r = raw word in not_free r (r.byte layout.base_prefix) (prefix_edit r)
-cases_of rules.BaseSuffixIsPunctuation word = let r = raw word in not_free r (r.byte layout.base_suffix) (suffix_edit r)
-cases_of rules.PunctuationDiffers word =
+-- `candidates_of rule word` lists the candidates for the reasons why `word` breaks `rule`.
+abbrev pub candidates_of : Rule → ℕ → List (Candidate Reason)
+candidates_of rules.MantissaRadixInRange word = mantissa_candidate (raw word) ∷ []
+candidates_of rules.ExponentBaseInRange word =
+    let base = (raw word).byte layout.exponent_base in
+    exponent_candidates (raw word) base (edits.ExponentBase (option_of_byte base))
+candidates_of rules.ExponentRadixInRange word =
+    let radix = (raw word).byte layout.exponent_radix in
+    exponent_candidates (raw word) radix (edits.ExponentRadix (option_of_byte radix))
+candidates_of rules.DigitSeparatorIsPunctuation word =
+    let r = raw word in punctuation_candidates r (r.byte layout.digit_separator) (separator_edit r)
+candidates_of rules.BasePrefixIsPunctuation word =
+    let r = raw word in punctuation_candidates r (r.byte layout.base_prefix) (prefix_edit r)
+candidates_of rules.BaseSuffixIsPunctuation word =
+    let r = raw word in punctuation_candidates r (r.byte layout.base_suffix) (suffix_edit r)
+candidates_of rules.PunctuationDiffers word =
     let r = raw word in
-    share (separator r) (prefix r) (separator_edit r) (prefix_edit r)
-    ∷ share (separator r) (suffix r) (separator_edit r) (suffix_edit r)
-    ∷ share (prefix r) (suffix r) (prefix_edit r) (suffix_edit r)
+    clash_candidate (separator r) (prefix r) (separator_edit r) (prefix_edit r) setters.CaseSensitiveBasePrefix
+    ∷ clash_candidate (separator r) (suffix r) (separator_edit r) (suffix_edit r) setters.CaseSensitiveBaseSuffix
+    ∷ clash_candidate (prefix r) (suffix r) (prefix_edit r) (suffix_edit r) (case_flag r)
     ∷ []
-cases_of rules.ReservedBitsAreZero word =
-    (not (bit_and word (mask_read rules.ReservedBitsAreZero) == 0), reasons.ReservedBits) ∷ []
-cases_of rule word = (contradict rule (raw word), flag_reason rule) ∷ []
+candidates_of rules.ReservedBitsAreZero word =
+    let bits = bit_and word reserved_mask in (not (bits == 0), reasons.ReservedBits bits) ∷ []
+candidates_of rule word = (contradict rule (raw word), flag_reason rule) ∷ []
 
--- why a word breaks a rule; nothing if it keeps it
+-- `reasons_of rule word` lists the reasons why `word` breaks `rule`. It is empty if `word` keeps the rule.
 abbrev pub reasons_of : Rule → ℕ → List Reason
-reasons_of rule word = filter_map said (cases_of rule word)
+reasons_of rule word = filter_map if_applicable (candidates_of rule word)
 
--- what may have no effect: a separator that no flag allows, flags that allow one where there is none, and the case of a
--- byte that is absent
-abbrev pub unused_cases : Record → List (Case Unused)
-unused_cases r =
-    (not (separator_allowed r) && not (r.byte layout.digit_separator == 0), unused.NotAllowed (separator_edit r))
-    ∷ (separator_allowed r && (r.byte layout.digit_separator == 0), unused.NoSeparator)
-    ∷ (r.flag layout.case_sensitive_base_prefix && (r.byte layout.base_prefix == 0), unused.NoByte setters.CaseSensitiveBasePrefix (edits.BasePrefix None))
-    ∷ (r.flag layout.case_sensitive_base_suffix && (r.byte layout.base_suffix == 0), unused.NoByte setters.CaseSensitiveBaseSuffix (edits.BaseSuffix None))
-    ∷ []
+-- `candidates word` lists the candidates of all rules, each once: the mantissa radix is not listed again for the
+-- exponent bytes.
+abbrev pub candidates : ℕ → List (Candidate Reason)
+candidates word =
+    candidates_of rules.MantissaRadixInRange word
+    ++ drop 1 (candidates_of rules.ExponentBaseInRange word)
+    ++ drop 1 (candidates_of rules.ExponentRadixInRange word)
+    ++ flat_map (λ rule. candidates_of rule word) (punctuation_rules ++ flag_rules ++ rules.ReservedBitsAreZero ∷ [])
 
--- what of a word has no effect
-abbrev pub unused_of : ℕ → List Unused
-unused_of word = filter_map said (unused_cases (raw word))
+-- `all_reasons word` lists all reasons why `word` breaks rules, in the order of the first rule that each breaks.
+abbrev pub all_reasons : ℕ → List Reason
+all_reasons word = filter_map if_applicable (candidates word)
 
--- the record with another value of one flag
-abbrev pub set_flag : Record → layout.Flag → Bool → Record
-set_flag r f value = record r { flag = λ g. if layout.bit g == layout.bit f then value else r.flag g }
-
--- the fields without what has no effect: the separator, and the case of the base prefix or suffix
-abbrev pub without_separator : Record → Record
-without_separator r = set_byte r layout.digit_separator 0
-
-abbrev pub without_prefix_case : Record → Record
-without_prefix_case r = set_flag r layout.case_sensitive_base_prefix false
-
-abbrev pub without_suffix_case : Record → Record
-without_suffix_case r = set_flag r layout.case_sensitive_base_suffix false
-
--- a word with other fields, whose reserved bits are 0 if those of the first are
-pub record IsWith (fields : Record) (word other : ℕ) : Type 0 where
-  pub fields_are : raw other ≡ fields
-  pub clean : IsClean word ↔ IsClean other
-
--- words that keep the same rules, and to which the same options fit
-pub record SameRules (v w : ℕ) : Type 0 where
-  pub rules : (rule : Rule) → Holds rule v ↔ Holds rule w
-  pub options : (exponent_byte point_byte : ℕ) → OptionsFit v exponent_byte point_byte ↔ OptionsFit w exponent_byte point_byte
+-- `Blames word other reason` holds if `reason` is true of `other` and `other` breaks its first rule, provided that
+-- `word` and `other` have the same bits under its mask.
+abbrev pub Blames : ℕ → ℕ → Reason → Type 0
+Blames word other reason =
+    bit_and word (mask_of_reason reason) ≡ bit_and other (mask_of_reason reason)
+    → IsTrueOf other reason × (Holds (rule_of_reason reason) other → ⊥)

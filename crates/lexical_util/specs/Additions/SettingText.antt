@@ -1,15 +1,15 @@
--- For `from_setting`, `from_text` and `text`: the texts NAME=VALUE. They are the code in other words; what carries meaning is
--- that what an edit prints is parsed to the same edit (`read_back`).
-use Rattle.std.specs.Prelude.{ℕ, if◌then◌else◌, ◌==◌, ◌&&◌, Bool, true, false, Option, None, Some}
-use Rattle.std.specs.Prelude.{List, ◌∷◌, ◌++◌, length, codes, decimal, bytes_eq, nat_le, Result, Ok, Err}
-use Rattle.std.specs.List.{before_first, after_first}
-use Rattle.std.specs.Option.{ok_or}
-use Rattle.std.specs.Result.{result_ok}
+-- For `from_setting`, `from_text` and `text`: the texts NAME=VALUE. These definitions repeat the code. The clause with
+-- a meaning of its own is `read_back`: the text of an edit is parsed to the same edit.
+use Rattle.std.specs.Prelude.{ℕ, if◌then◌else◌, ◌+◌, ◌==◌, ◌&&◌, Bool, true, false, Option, None, Some, Result, Err}
+use Rattle.std.specs.Prelude.{List, [], ◌∷◌, ◌++◌, length, take, drop, get_or, codes, decimal, bytes_eq, nat_le, nat_lt}
+use Rattle.std.specs.Bool.{then_some}
+use Rattle.std.specs.List.{before_first, after_first, list_any}
+use Rattle.std.specs.Option.{ok_or, option_map, option_and_then, option_map_or, unwrap_or}
 use Rattle.lexical_base.specs.Digits.{numeral}
 use Rattle.lexical_builder.specs.OptionByte.{option_of_byte}
 use Rattle.lexical_util.specs.Additions.Numeral.{is_numeral}
-use Rattle.lexical_util.specs.Additions.SettingNumbers.{name_of, setter_number_of_name, kind_of_number}
-use Rattle.lexical_util.specs.Additions.SettingNumbers.{argument_of, edit_with}
+use Rattle.lexical_util.specs.Additions.SettingNumbers.{name_of, setter_name_of_number, setter_number_of_name, first_byte}
+use Rattle.lexical_util.specs.Additions.SettingNumbers.{kind_of_number, argument_of, edit_with}
 use Rattle.lexical_util.specs.declared.edits.numbers.Argument.{Argument}
 use Rattle.lexical_util.specs.declared.edits.numbers.Argument.TheVariants as arguments
 use Rattle.lexical_util.specs.declared.edits.numbers.ArgumentKind.{ArgumentKind}
@@ -18,84 +18,93 @@ use Rattle.lexical_util.specs.declared.edits.Edit.{Edit}
 use Rattle.lexical_util.specs.declared.edits.text.SettingError.{SettingError}
 use Rattle.lexical_util.specs.declared.edits.text.SettingError.TheVariants as errors
 
--- `map_ok make read` is what `make` gives of a value that was read.
-abbrev pub map_ok : {T U : Type 0} → (T → U) → Result T SettingError → Result U SettingError
-map_ok make (Ok value) = Ok (make value)
-map_ok make (Err error) = Err error
+-- `byte_from_digits radix most digits` is the byte that 1 to `most` digits of `radix` write, or `None` if `digits` are
+-- not such digits or the number is above 255.
+abbrev pub byte_from_digits : ℕ → ℕ → List ℕ → Option ℕ
+byte_from_digits radix most digits =
+    then_some (is_numeral radix most digits && nat_le (numeral radix digits) 255) (numeral radix digits)
 
--- True if a text writes a byte: 1 to 3 decimal digits, a number of at most 255.
-abbrev pub is_byte_text : List ℕ → Bool
-is_byte_text text = is_numeral 10 3 text && nat_le (numeral 10 text) 255
+-- `byte_from_text text` is the byte that `text` writes: a character between two quotes, `0x` and 1 or 2 hexadecimal
+-- digits, or 1 to 3 decimal digits. It is `None` for any other text.
+abbrev pub byte_from_text : List ℕ → Option ℕ
+byte_from_text text =
+    if bytes_eq text (39 ∷ get_or text 1 0 ∷ 39 ∷ []) then Some (get_or text 1 0)
+    else if bytes_eq (take 2 text) (codes "0x") then byte_from_digits 16 2 (drop 2 text)
+    else byte_from_digits 10 3 text
 
--- Why a text does not write a byte: one of decimal digits only is out of range.
-abbrev pub byte_error : List ℕ → SettingError
-byte_error text = if is_numeral 10 (length text) text then errors.OutOfRange else errors.BadValue
-
--- The byte that a text writes.
-abbrev pub byte_from_text : List ℕ → Result ℕ SettingError
-byte_from_text text = if is_byte_text text then Ok (numeral 10 text) else Err (byte_error text)
-
--- The byte that a text writes, or its absence: `none` and 0 mean that it is absent.
-abbrev pub optional_byte_from_text : List ℕ → Result (Option ℕ) SettingError
+-- `optional_byte_from_text text` is the optional byte that `text` writes: `none` and 0 mean that the byte is absent.
+abbrev pub optional_byte_from_text : List ℕ → Option (Option ℕ)
 optional_byte_from_text text =
-    if bytes_eq text (codes "none") then Ok None else map_ok option_of_byte (byte_from_text text)
+    if bytes_eq text (codes "none") then Some None else option_map option_of_byte (byte_from_text text)
 
--- The text of a `bool`.
+-- `bool_text value` is the text of `value`.
 abbrev pub bool_text : Bool → List ℕ
 bool_text true = codes "true"
 bool_text false = codes "false"
 
--- The `bool` that a text writes.
-abbrev pub bool_from_text : List ℕ → Result Bool SettingError
-bool_from_text text = if bytes_eq text (bool_text true) then Ok true else if bytes_eq text (bool_text false) then Ok false
-    else Err errors.BadValue
+-- `bool_from_text text` is the truth value that `text` writes, or `None` for any other text.
+abbrev pub bool_from_text : List ℕ → Option Bool
+bool_from_text text =
+    if bytes_eq text (bool_text true) then Some true else then_some (bytes_eq text (bool_text false)) false
 
--- The argument of a kind that a text writes.
-abbrev pub argument_from_text : ArgumentKind → List ℕ → Result Argument SettingError
-argument_from_text kinds.Flag text = map_ok arguments.Flag (bool_from_text text)
-argument_from_text kinds.Byte text = map_ok arguments.Byte (byte_from_text text)
-argument_from_text kinds.OptionalByte text = map_ok arguments.OptionalByte (optional_byte_from_text text)
+-- `argument_from_text kind text` is the argument of this kind that `text` writes, or `None` for any other text.
+abbrev pub argument_from_text : ArgumentKind → List ℕ → Option Argument
+argument_from_text kinds.Flag text = option_map arguments.Flag (bool_from_text text)
+argument_from_text kinds.Byte text = option_map arguments.Byte (byte_from_text text)
+argument_from_text kinds.OptionalByte text = option_map arguments.OptionalByte (optional_byte_from_text text)
 
--- The edit of a setter's number and an argument that was read.
-abbrev pub edit_with_read : ℕ → Result Argument SettingError → Result Edit SettingError
-edit_with_read number (Ok argument) = ok_or (edit_with number argument) errors.UnknownName
-edit_with_read number (Err error) = Err error
+-- `is_number text` is true if `text` is a number of any length: `0x` and hexadecimal digits, or decimal digits.
+abbrev pub is_number : List ℕ → Bool
+is_number text =
+    if bytes_eq (take 2 text) (codes "0x") then is_numeral 16 (length (drop 2 text)) (drop 2 text)
+    else is_numeral 10 (length text) text
 
--- The edit of a setter's number, if there is one, and the text of an argument.
-abbrev pub edit_with_text : Option ℕ → List ℕ → Result Edit SettingError
-edit_with_text None value = Err errors.UnknownName
-edit_with_text (Some number) value = edit_with_read number (argument_from_text (kind_of_number number) value)
+-- `value_error number value` is the reason why the setter with this number does not take `value`. A number that a byte
+-- setter does not take is out of range.
+abbrev pub value_error : ℕ → List ℕ → SettingError
+value_error number value =
+    if nat_le first_byte number && is_number value then errors.OutOfRange number else errors.BadValue number
 
--- The edit of a setter's name and the text of an argument.
+-- `edit_from_setting name value` is the edit with this setter name and the argument that `value` writes, or an error.
 abbrev pub edit_from_setting : List ℕ → List ℕ → Result Edit SettingError
-edit_from_setting name value = edit_with_text (setter_number_of_name name) value
+edit_from_setting name value = option_map_or (λ number.
+    ok_or (option_and_then (edit_with number) (argument_from_text (kind_of_number number) value)) (value_error number value))
+    (setter_number_of_name name) (Err errors.UnknownName)
 
--- The edit that a text NAME=VALUE writes, split at the first `=`. Without one the whole is a name, and the value is empty.
+-- `edit_from_text text` is the edit that `text` writes, NAME=VALUE split at the first `=`, or an error.
 unfoldable pub edit_from_text : List ℕ → Result Edit SettingError
-edit_from_text text = edit_from_setting (before_first (λ byte. byte == 61) text) (after_first (λ byte. byte == 61) text)
+edit_from_text text = if list_any (λ byte. byte == 61) text then
+    edit_from_setting (before_first (λ byte. byte == 61) text) (after_first (λ byte. byte == 61) text)
+    else Err errors.NoEquals
 
--- The edit that a text writes, if it writes one.
-abbrev pub optional_edit_from_text : List ℕ → Option Edit
-optional_edit_from_text text = result_ok (edit_from_text text)
-
--- The text of a byte that may be absent.
-abbrev pub optional_byte_text : Option ℕ → List ℕ
-optional_byte_text None = codes "none"
-optional_byte_text (Some byte) = decimal byte
-
--- The text of an argument.
+-- `argument_text argument` is the text of `argument`.
 abbrev pub argument_text : Argument → List ℕ
 argument_text (arguments.Flag flag) = bool_text flag
 argument_text (arguments.Byte byte) = decimal byte
-argument_text (arguments.OptionalByte byte) = optional_byte_text byte
+argument_text (arguments.OptionalByte None) = codes "none"
+argument_text (arguments.OptionalByte (Some byte)) = decimal byte
 
--- The text of an edit.
+-- `setting_text edit` is the text NAME=VALUE of `edit`.
 abbrev pub setting_text : Edit → List ℕ
 setting_text edit = name_of edit ++ 61 ∷ argument_text (argument_of edit)
 
--- The sentence of an error.
+-- `name_of_error error` is the name of the setter in `error`, or `None` if `error` has no setter.
+abbrev pub name_of_error : SettingError → Option (List ℕ)
+name_of_error (errors.BadValue number) = setter_name_of_number number
+name_of_error (errors.OutOfRange number) = setter_name_of_number number
+name_of_error _ = None
+
+-- `taken_text number` is the sentence that states which values the setter with this number takes.
+abbrev pub taken_text : ℕ → List ℕ
+taken_text number = unwrap_or (setter_name_of_number number) [] ++ codes " takes " ++ (
+    if nat_lt number first_byte then codes "`true` or `false`"
+    else if nat_lt number (first_byte + 3) then codes "a character such as '_', a number from 0 to 255, or `none`"
+    else if nat_lt number (first_byte + 5) then codes "a number, 2 to 36 in a lawful format"
+    else codes "a number, 2 to 36 in a lawful format, or `none`")
+
+-- `error_text error` is the sentence of `error`.
 abbrev pub error_text : SettingError → List ℕ
-error_text errors.UnknownName = codes "no setting has this name"
-error_text errors.BadValue =
-    codes "a flag takes `true` or `false`, and a byte a decimal number, or `none` where it may be absent"
-error_text errors.OutOfRange = codes "the number must be 0 to 255, in at most 3 digits"
+error_text errors.NoEquals = codes "expected NAME=VALUE"
+error_text errors.UnknownName = codes "unknown setting name"
+error_text (errors.BadValue number) = taken_text number
+error_text (errors.OutOfRange number) = taken_text number

@@ -1,4 +1,4 @@
-//! Which words a builder packs, and the setter calls that make a word.
+//! The setter calls that build a word, and the test whether a builder packs it.
 
 ghost use Rattle.std.specs.Prelude.{◌≡◌, ◌≤◌, ◌↔◌, ◌++◌, IsTrue, List, All, length, filter, take, not, if◌then◌else◌};
 ghost use Rattle.std.specs.List.{AllZip};
@@ -15,31 +15,32 @@ use crate::feature_format::NumberFormat;
 use lexical_builder::format_builder::NonZeroU8;
 use lexical_flags::format_flags as flags;
 
-/// Returns whether `build_unchecked` can return this word: its reserved bits are 0, and it has a digit
-/// separator only if a flag allows one somewhere.
+/// Returns whether `build_unchecked` can return this word: its reserved bits are 0, and its digit separator is absent
+/// unless a flag allows one.
 pub const fn is_built(format: u128) -> bool
     ensures rule { IsTrue result ↔ IsBuilt format }
 
-    // Exactly these words are made by setter calls on a new builder.
+    // The result is true if and only if setter calls on a new builder give this word.
     ensures image { IsTrue result ↔ IsBuiltByWrites format }
 {
     flags::is_clean(format) && is_separator_allowed_or_absent(format)
 }
 
-// Whether there is no digit separator, or a flag that allows one.
+// Returns whether the digit separator is absent, or a flag allows one.
 const fn is_separator_allowed_or_absent(format: u128) -> bool
     ensures { IsTrue result ↔ SeparatorAllowedOrAbsent (raw format) }
 {
     flags::digit_separator(format) == 0 || flags::is_separator_allowed(format)
 }
 
-/// Returns the setter calls that make `format` from a new builder, and how many of them are needed.
+/// Returns the setter calls that build `format` from a new builder, and the number of calls that are needed.
 ///
-/// The list has one edit for each field, with the field's value in `format`. The edits that change a
-/// new builder come first, and the number says how many they are; then come the others. Each part is
-/// in the order of the fields' bits. The first part alone makes a builder with exactly the fields of
-/// `format`, and so does the whole list; `build_unchecked` of it returns `format` if [`is_built`] is
-/// true of it. No shorter list of setter calls of single fields does.
+/// The list has one edit for each field, with the field's value in `format`. The edits that change a new builder come
+/// first, and the number counts them. The other edits follow. Each part is in the order of the fields' bits.
+///
+/// The first part by itself gives a builder with exactly the fields of `format`, and so does the whole list. If
+/// [`is_built`] returns `true`, then `build_unchecked` of this builder returns `format`, and no shorter list of
+/// single-field setter calls gives `format`.
 ///
 /// In plain Rust:
 ///
@@ -56,14 +57,14 @@ pub fn edits_of(format: u128) -> ([Edit; FIELD_COUNT], usize)
     ensures number { result.1 ≡ length (needed_writes (raw format)) }
     ensures legal { All IsLegal (all_writes result.0) }
 
-    // The first part makes the fields of the word, and so does the whole list.
+    // The first part gives the fields of the word, and so does the whole list.
     ensures first { after new_record (all_writes (take result.1 result.0)) ≡ raw format }
     ensures whole { after new_record (all_writes result.0) ≡ raw format }
     ensures builds { (pack (raw format) ≡ format) ↔ IsBuilt format }
     ensures fewest { (writes : List Write) → All IsLegal writes
         → pack (after new_record writes) ≡ format → result.1 ≤ length writes }
 {
-    // The first array has the needed edits in front, and then takes the others from the second.
+    // The first array has the needed edits in front, and then the other edits are copied from the second.
     let mut edits = field_edits_of(format);
     let mut others = field_edits_of(format);
     let count = move_to_front(&mut edits, true);
@@ -97,23 +98,23 @@ pub const fn field_edits_of(format: u128) -> [Edit; FIELD_COUNT]
     with_setters!(edits_of_fields(view, base, radix))
 }
 
-// The exponent base that the word holds, 0 if it is empty.
+// Returns the exponent base in the word, or 0 if it is absent.
 #[inline(always)]
-const fn raw_exponent_base(format: u128) -> u8
+pub(crate) const fn raw_exponent_base(format: u128) -> u8
     ensures { result ≡ (raw format).byte layout.exponent_base }
 {
     ((format & flags::EXPONENT_BASE) >> flags::EXPONENT_BASE_SHIFT) as u8
 }
 
-// The exponent radix that the word holds, 0 if it is empty.
+// Returns the exponent radix in the word, or 0 if it is absent.
 #[inline(always)]
-const fn raw_exponent_radix(format: u128) -> u8
+pub(crate) const fn raw_exponent_radix(format: u128) -> u8
     ensures { result ≡ (raw format).byte layout.exponent_radix }
 {
     ((format & flags::EXPONENT_RADIX) >> flags::EXPONENT_RADIX_SHIFT) as u8
 }
 
-// Whether an edit changes a new builder.
+// Returns whether an edit changes a new builder.
 #[tactic(auto, using(crate::proofs::ChangeLemmas::flag_change, crate::proofs::ChangeLemmas::group_change))]
 const fn differs_from_new(edit: Edit) -> bool
     ensures { result ≡ differs_from_new edit }
@@ -133,8 +134,8 @@ const fn differs_from_new(edit: Edit) -> bool
     }
 }
 
-// Moves those edits that change a new builder, or those that do not, to the front in their order, and
-// returns how many there are.
+// Moves the edits that change a new builder, or if `changed` is false the other edits, to the front in their order, and
+// returns their number.
 fn move_to_front(edits: &mut [Edit], changed: bool) -> usize
     ensures count { result ≡ length (filter (λ e. if changed then differs_from_new e else not (differs_from_new e)) edits.old) }
     ensures front { take result edits.new

@@ -1,7 +1,9 @@
-//! The names and numbers of setters, and an edit as the number of its setter and an argument.
+//! The names and numbers of setters, and edits as a setter number and an argument.
 
 ghost use Rattle.std.specs.Prelude.{◌≡◌, ◌<◌, Some};
 ghost use Rattle.std.specs.Option.{option_map};
+ghost use Rattle.lexical_util.specs.Edits.{flags_of};
+ghost use Rattle.lexical_util.specs.Groups.{any_flag};
 ghost use Rattle.lexical_util.specs.Additions.SettingNumbers.{setter_number, name_of_flags, name_of, mask_of_edit};
 ghost use Rattle.lexical_util.specs.Additions.SettingNumbers.{setter_count, setter_name_of_number, setter_number_of_name};
 ghost use Rattle.lexical_util.specs.Additions.SettingNumbers.{argument_of, argument_byte, byte_of_argument, kind_of_number};
@@ -11,24 +13,24 @@ use crate::edits::{Edit, FlagSetter, SETTERS, edit_word};
 use lexical_builder::format_builder::{NonZeroU8, OptionU8};
 use lexical_flags::format_flags as flags;
 
-// The numbers of the byte setters, which follow those of the flag and group setters.
-const DIGIT_SEPARATOR: u8 = SETTERS.len() as u8;
+// The numbers of the byte setters, which follow the numbers of the flag and group setters.
+pub(super) const DIGIT_SEPARATOR: u8 = SETTERS.len() as u8;
 
 const BASE_PREFIX: u8 = DIGIT_SEPARATOR + 1;
 
 const BASE_SUFFIX: u8 = DIGIT_SEPARATOR + 2;
 
-const MANTISSA_RADIX: u8 = DIGIT_SEPARATOR + 3;
+pub(super) const MANTISSA_RADIX: u8 = DIGIT_SEPARATOR + 3;
 
 const RADIX: u8 = DIGIT_SEPARATOR + 4;
 
-const EXPONENT_BASE: u8 = DIGIT_SEPARATOR + 5;
+pub(super) const EXPONENT_BASE: u8 = DIGIT_SEPARATOR + 5;
 
 const EXPONENT_RADIX: u8 = DIGIT_SEPARATOR + 6;
 
 const SETTER_COUNT: u8 = DIGIT_SEPARATOR + 7;
 
-// The names of the flag and group setters, and of the byte setters.
+// The names of the flag setters, the group setters and the byte setters.
 macro_rules! names {
     (() { $($Flag:ident $flag:ident;)* } { $($Group:ident $group:ident;)* }) => {
         [
@@ -45,8 +47,8 @@ macro_rules! names {
     };
 }
 
-/// The names of all setters, each at the index of its number: those of [`SETTERS`] in their order, and
-/// then those of the seven byte setters.
+/// The names of all setters, each at the index of its setter number: first the setters of [`SETTERS`] in their order,
+/// then the seven byte setters.
 pub const SETTER_NAMES: [&str; SETTERS.len() + 7] = with_setters!(names());
 
 /// The argument of an edit.
@@ -54,7 +56,7 @@ pub const SETTER_NAMES: [&str; SETTERS.len() + 7] = with_setters!(names());
 pub enum Argument {
     /// The value of a flag, or of every flag of a group.
     Flag(bool),
-    /// A byte that is always there: the mantissa radix.
+    /// A byte that cannot be absent: the mantissa radix.
     Byte(u8),
     /// A byte that may be absent.
     OptionalByte(OptionU8),
@@ -65,7 +67,7 @@ pub enum Argument {
 pub enum ArgumentKind {
     /// `true` or `false`.
     Flag,
-    /// A byte that is always there.
+    /// A byte that cannot be absent.
     Byte,
     /// A byte that may be absent.
     OptionalByte,
@@ -88,7 +90,7 @@ impl Argument {
 impl ArgumentKind {
     /// Returns the kind of argument that the setter with this number takes.
     ///
-    /// A number that no setter has gives [`ArgumentKind::OptionalByte`].
+    /// If no setter has the number, returns [`ArgumentKind::OptionalByte`].
     pub const fn of(number: u8) -> ArgumentKind
         ensures { result ≡ kind_of_number number }
     {
@@ -101,8 +103,8 @@ impl ArgumentKind {
         }
     }
 
-    /// Returns the argument of this kind that `byte` represents. Any byte except 0 is `true`, and 0 is an
-    /// absent byte.
+    /// Returns the argument of this kind that `byte` represents. For a flag, any byte except 0 means `true`. For an
+    /// optional byte, 0 means absent.
     pub const fn argument_of_byte(self, byte: u8) -> Argument
         ensures { result ≡ argument_of_byte self byte }
     {
@@ -120,6 +122,13 @@ impl FlagSetter {
         ensures { result.now ≡ name_of_flags self }
     {
         SETTER_NAMES[self as usize]
+    }
+
+    /// Returns whether `format` has a flag that this setter sets: its flag, or any flag of its group.
+    pub const fn is_set(self, format: u128) -> bool
+        ensures { result ≡ any_flag format (flags_of self) }
+    {
+        format & Edit::Flag(self, true).mask() != 0
     }
 }
 
@@ -150,7 +159,7 @@ impl Edit {
         }
     }
 
-    /// Returns the number of the setter: its index in [`SETTER_NAMES`].
+    /// Returns the setter number of the edit: the index of the setter in [`SETTER_NAMES`].
     pub const fn setter_number(self) -> u8
         ensures number { result ≡ setter_number self }
         ensures setter { result < setter_count }
@@ -167,21 +176,21 @@ impl Edit {
         }
     }
 
-    /// Returns the name of the setter.
+    /// Returns the name of the setter of the edit.
     pub const fn name(self) -> &'static str
         ensures name { result.now ≡ name_of self }
 
-        // The number of the name is that of the setter.
+        // The setter with this name has the setter number of the edit.
         ensures read_back { setter_number_of_name result.now ≡ Some (setter_number self) }
     {
         SETTER_NAMES[self.setter_number() as usize]
     }
 
-    /// Returns the argument.
+    /// Returns the argument of the edit.
     pub const fn argument(self) -> Argument
         ensures argument { result ≡ argument_of self }
 
-        // The number of the setter and the argument, or its byte, are the edit.
+        // The setter number and the argument, or the byte of the argument, give the edit again.
         ensures read_back { edit_with (setter_number self) result ≡ Some self }
         ensures byte { HasByte self }
     {
@@ -200,22 +209,22 @@ impl Edit {
     pub const fn argument_byte(self) -> u8
         ensures byte { result ≡ argument_byte self }
 
-        // The number of the setter and the byte are the edit.
+        // The setter number and this byte give the edit again.
         ensures read_back { edit_of_number (setter_number self) result ≡ Some self }
     {
         self.argument().byte()
     }
 
-    /// Returns the edit of the setter with this number whose argument `byte` represents, as
-    /// [`ArgumentKind::argument_of_byte`] states, or `None` if no setter has the number.
+    /// Returns the edit of the setter with this number and the argument that `byte` represents, as described at
+    /// [`ArgumentKind::argument_of_byte`], or `None` if no setter has the number.
     pub const fn from_number(number: u8, byte: u8) -> Option<Edit>
         ensures { result ≡ edit_of_number number byte }
     {
         Edit::new(number, ArgumentKind::of(number).argument_of_byte(byte))
     }
 
-    /// Returns the edit of the setter of this name whose argument `byte` represents, as
-    /// [`Edit::from_number`] does, or `None` if no setter has the name.
+    /// Returns the edit of the setter with this name and the argument that `byte` represents, as [`Edit::from_number`]
+    /// does, or `None` if no setter has the name.
     pub fn from_name(name: &str, byte: u8) -> Option<Edit>
         ensures { result ≡ edit_of_name name.now byte }
     {
@@ -249,7 +258,7 @@ pub const fn setter_name_of_number(number: u8) -> Option<&'static str>
     }
 }
 
-/// Returns the number of the setter of this name, or `None` if no setter has it.
+/// Returns the number of the setter with this name, or `None` if no setter has it.
 pub fn setter_number_of_name(name: &[u8]) -> Option<u8>
     ensures { result ≡ setter_number_of_name name.now }
 {

@@ -1,32 +1,52 @@
 //! Each predicate that only one side of a public clause names has an example here that holds and one that does not.
 
-ghost use Rattle.std.specs.Prelude.{◌≡◌, [], ◌∷◌, true, Some, None, Ok};
+ghost use Rattle.std.specs.Prelude.{◌≡◌, [], ◌∷◌, true, false, Some, None, Ok};
 ghost use Rattle.lexical_flags.specs.Layout as layout;
 ghost use Rattle.lexical_flags.specs.Record.{raw};
 ghost use Rattle.lexical_builder.specs.Writes.{write_flag, write_byte, SameWrites};
-ghost use Rattle.lexical_util.specs.Additions.Reasons.{without_prefix_case, IsWith, SameRules};
+ghost use Rattle.lexical_util.specs.Additions.Notes.{set_flags, ReplacesFields, SameRules, SameOtherRules};
+ghost use Rattle.lexical_util.specs.Additions.Reasons.{Blames};
+ghost use Rattle.lexical_util.specs.Additions.Mends.{Mends};
 ghost use Rattle.lexical_util.specs.declared.edits.Edit.TheVariants as edits;
+ghost use Rattle.lexical_util.specs.declared.edits.FlagSetter.TheVariants as setters;
+ghost use Rattle.lexical_util.specs.declared.reasons.Reason.TheVariants as reasons;
 
-/// Lists that write the same, and lists that do not.
+/// Lists of writes with the same last values, and lists with different last values.
 pub fn write_examples()
-    // Two fields in another order.
+    // The order of writes to different fields does not matter.
     ensures order { SameWrites
         (write_flag layout.no_special true ∷ write_byte layout.mantissa_radix 16 ∷ [])
         (write_byte layout.mantissa_radix 16 ∷ write_flag layout.no_special true ∷ []) }
 
-    // Another last value.
+    // The order of writes to the same field matters.
     ensures other_last { SameWrites
         (write_byte layout.mantissa_radix 8 ∷ write_byte layout.mantissa_radix 16 ∷ [])
         (write_byte layout.mantissa_radix 16 ∷ write_byte layout.mantissa_radix 8 ∷ []) → ⊥ }
 {}
 
-/// What has no effect: the case of a prefix that is absent, cleared and not, and words with the same rules and not.
+/// Notes: words with and without the case flag of an absent prefix, and words that keep the same rules and that do not.
 #[tactic(auto, unfolding(crate::specs::Unfoldable::on_literals))]
-pub fn unused_examples()
-    ensures cleared { IsWith (without_prefix_case (raw 0x0A0A0A00_00000000_00000000_0001000C))
+pub fn note_examples()
+    ensures cleared { ReplacesFields
+        (set_flags (raw 0x0A0A0A00_00000000_00000000_0001000C) (layout.case_sensitive_base_prefix ∷ []) false)
         0x0A0A0A00_00000000_00000000_0001000C 0x0A0A0A00_00000000_00000000_0000000C }
-    ensures another_flag { IsWith (without_prefix_case (raw 0x0A0A0A00_00000000_00000000_0001000C))
+    ensures another_flag { ReplacesFields
+        (set_flags (raw 0x0A0A0A00_00000000_00000000_0001000C) (layout.case_sensitive_base_prefix ∷ []) false)
         0x0A0A0A00_00000000_00000000_0001000C 0x0A0A0A00_00000000_00000000_0000000D → ⊥ }
     ensures same { SameRules 12 12 }
     ensures other_rules { SameRules 0x0A0A0A00_00000000_00000000_0000000C 0x0A0A0A00_00000000_00000000_0000003C → ⊥ }
+    ensures same_other { SameOtherRules 12 12 }
+    ensures other_radix { SameOtherRules 0x00000A00_00000000_00000000_0000000C 12 → ⊥ }
+{}
+
+/// Reasons: a reason that a word has and one that it does not have, edits that mend a word and edits that do not.
+#[tactic(auto, unfolding(crate::specs::Unfoldable::on_literals))]
+pub fn reason_examples()
+    ensures blames { Blames 0 0 (reasons.MantissaRadixOutOfRange 0 true true) }
+    ensures another_radix { Blames 0 0 (reasons.MantissaRadixOutOfRange 37 true true) → ⊥ }
+    ensures mends { Mends 0x0A0A0A00_00000000_00000000_0000003C
+        (reasons.Contradict setters.NoPositiveMantissaSign setters.RequiredMantissaSign)
+        (edits.Flag setters.RequiredMantissaSign false ∷ []) }
+    ensures no_edits { Mends 0x0A0A0A00_00000000_00000000_0000003C
+        (reasons.Contradict setters.NoPositiveMantissaSign setters.RequiredMantissaSign) [] → ⊥ }
 {}

@@ -1,73 +1,92 @@
-//! The sentences of reasons and of settings without effect.
+//! The sentences of reasons and notes.
 
-ghost use Rattle.std.specs.Prelude.{◌≡◌, ◌<◌, ◌≤◌, ◌+◌, ◌++◌, length, Some};
+ghost use Rattle.std.specs.Prelude.{◌≡◌, ◌<◌, ◌≤◌, ◌+◌, ◌++◌, codes, length, Some};
 ghost use Rattle.lexical_base.specs.Additions.ShortTexts.{piece_text};
 ghost use Rattle.lexical_base.specs.Private.{max_length};
 ghost use Rattle.lexical_util.specs.Additions.SettingNumbers.{name_of_flags};
-ghost use Rattle.lexical_util.specs.Additions.ReasonText.{words_of, described, sameness, reason_text, unused_text};
+ghost use Rattle.lexical_util.specs.Additions.ReasonText.{label_of, described, clash_text, reason_text, note_text};
 
 use crate::edits::{Edit, FlagSetter};
-use crate::reasons::{Reason, Unused};
+use crate::reasons::{Note, Reason};
 use lexical_base::error::{EMPTY_PIECE, Piece, ShortText};
 use std::fmt;
 
 impl Reason {
-    /// Returns one sentence without a stop, such as `the base prefix 'b' is a digit of radix 16`.
+    /// Returns one sentence without a full stop, such as `the base prefix 'b' is a digit in radix 16`.
     pub const fn text(&self) -> ShortText
         ensures { result ≡ reason_text self.now }
     {
         match self {
-            Reason::OutOfRange(edit) => followed(
-                Piece::NumberedByte(words(*edit), edit.argument_byte()),
-                " is not 2 to 36",
-            ),
-            Reason::NotText(edit) => followed(described(edit), " is not a character of ASCII text"),
-            Reason::IsSign(edit) => followed(described(edit), " is a sign"),
+            Reason::MantissaRadixOutOfRange(radix, _, _) => {
+                not_in_range(Piece::NumberedByte("mantissa radix", *radix))
+            }
+            Reason::OutOfRange(edit) => {
+                not_in_range(Piece::NumberedByte(label(*edit), edit.argument_byte()))
+            }
+            Reason::NotText(edit) => {
+                followed(described(edit), " is not an allowed ASCII character")
+            }
+            Reason::IsSign(edit) => followed(described(edit), " is a sign (+ or -)"),
             Reason::IsDigit(edit, radix) => ShortText(
                 EMPTY_PIECE,
                 described(edit),
-                Piece::Words(" is a digit of radix "),
-                Piece::Number(*radix as usize),
+                Piece::Words(" is a digit in radix "),
+                Piece::Number(radix.argument_byte() as usize),
             ),
-            Reason::AreSame(a, b) => ShortText(
+            Reason::Clash(a, b, flag) => ShortText(
                 described(a),
                 Piece::Words(" and "),
                 described(b),
-                Piece::Words(sameness(*a, *b)),
+                Piece::Words(clash_text(*a, *b, *flag)),
             ),
             Reason::Contradict(a, b) => ShortText(
                 named(*a),
                 Piece::Words(" and "),
                 named(*b),
-                Piece::Words(" exclude each other"),
+                Piece::Words(" cannot both be set"),
             ),
-            Reason::HasNoPlace(flag) => followed(
+            Reason::NeedsPosition(flag) => followed(
                 named(*flag),
-                " needs the internal, leading or trailing flag of the same part",
+                " requires an internal, leading or trailing flag for the same part of the number",
             ),
-            Reason::ReservedBits => followed(EMPTY_PIECE, "a reserved bit is set"),
+            Reason::ReservedBits(bits) => ShortText(
+                EMPTY_PIECE,
+                EMPTY_PIECE,
+                Piece::Words("reserved bits are set: "),
+                Piece::Hexadecimal(*bits),
+            ),
         }
     }
 }
 
-impl Unused {
-    /// Returns one sentence without a stop, such as `the digit separator '_' has no effect: no flag allows one`.
+impl Note {
+    /// Returns one sentence without a full stop, such as
+    /// `no number can have the digit separator '_': no flag allows one`.
     pub const fn text(&self) -> ShortText
-        ensures { result ≡ unused_text self.now }
+        ensures { result ≡ note_text self.now }
     {
         match self {
-            Unused::NotAllowed(edit) => {
-                followed(described(edit), " has no effect: no flag allows one")
-            }
-            Unused::NoSeparator => followed(
+            Note::SeparatorWithoutFlag(edit) => ShortText(
                 EMPTY_PIECE,
-                "the digit separator flags have no effect: there is no digit separator",
+                Piece::Words("no number can have "),
+                described(edit),
+                Piece::Words(": no flag allows one"),
             ),
-            Unused::NoByte(flag, byte) => ShortText(
+            Note::FlagsWithoutSeparator => followed(
+                EMPTY_PIECE,
+                "the digit separator flags allow nothing: there is no digit separator",
+            ),
+            Note::CaseFlagWithoutByte(flag, byte) => ShortText(
                 EMPTY_PIECE,
                 named(*flag),
-                Piece::Words(" has no effect: there is no "),
-                Piece::Words(words(*byte)),
+                Piece::Words(" changes nothing: there is no "),
+                Piece::Words(label(*byte)),
+            ),
+            Note::CaseFlagOfNonLetter(flag, byte) => ShortText(
+                named(*flag),
+                Piece::Words(" changes nothing: "),
+                described(byte),
+                Piece::Words(" is not a letter"),
             ),
         }
     }
@@ -81,15 +100,23 @@ impl fmt::Display for Reason {
     }
 }
 
-impl fmt::Display for Unused {
-    ghost output = { λ setting. Some (unused_text setting) };
+impl fmt::Display for Note {
+    ghost output = { λ note. Some (note_text note) };
 
     fn fmt<W: fmt::Write>(&self, f: &mut fmt::Formatter<W>) -> fmt::Result {
         fmt::Display::fmt(&self.text(), f)
     }
 }
 
-// What it is about, and the words after it.
+// Returns the sentence of a radix or a base that is not in range.
+const fn not_in_range(piece: Piece) -> ShortText
+    requires { max_length piece < 200 }
+    ensures { result ≡ piece_text piece ++ codes " is not between 2 and 36" }
+{
+    followed(piece, " is not between 2 and 36")
+}
+
+// Returns the text of a piece and the words that follow it.
 const fn followed(piece: Piece, end: &'static str) -> ShortText
     requires { max_length piece + length end.now < 256 }
     ensures { result ≡ piece_text piece ++ end.now }
@@ -97,15 +124,15 @@ const fn followed(piece: Piece, end: &'static str) -> ShortText
     ShortText(EMPTY_PIECE, EMPTY_PIECE, piece, Piece::Words(end))
 }
 
-// An edit of a byte: the setting and the byte.
+// Returns the label of the field of an edit, and its byte.
 const fn described(edit: &Edit) -> Piece
     ensures text { piece_text result ≡ described edit.now }
     ensures short { max_length result ≤ 84 }
 {
-    Piece::QuotedByte(words(*edit), edit.argument_byte())
+    Piece::QuotedByte(label(*edit), edit.argument_byte())
 }
 
-// The name of a flag.
+// Returns the name of a flag.
 #[tactic(auto, using(crate::proofs::ReasonTextLemmas::short_setter))]
 const fn named(flag: FlagSetter) -> Piece
     ensures text { piece_text result ≡ name_of_flags flag }
@@ -114,21 +141,26 @@ const fn named(flag: FlagSetter) -> Piece
     Piece::Words(flag.name())
 }
 
-// What is said of two bytes that are the same, or differ only in case.
-const fn sameness(a: Edit, b: Edit) -> &'static str
-    ensures text { result.now ≡ sameness a b }
+// Returns the end of the sentence of two bytes that clash.
+const fn clash_text(a: Edit, b: Edit, flag: Option<FlagSetter>) -> &'static str
+    ensures text { result.now ≡ clash_text a b flag }
     ensures short { length result.now ≤ 67 }
 {
-    if a.argument_byte() == b.argument_byte() {
-        " are the same"
-    } else {
-        " differ only in case, which counts only if both are case-sensitive"
+    match (a, b, flag) {
+        (_, _, None) => " are the same",
+        (Edit::DigitSeparator(_), Edit::BasePrefix(_), Some(_)) => {
+            " differ only in case, and the base prefix is not case-sensitive"
+        }
+        (Edit::DigitSeparator(_), _, Some(_)) => {
+            " differ only in case, and the base suffix is not case-sensitive"
+        }
+        _ => " differ only in case, and they are not both case-sensitive",
     }
 }
 
-// What the setting of an edit is called in a sentence.
-const fn words(edit: Edit) -> &'static str
-    ensures text { result.now ≡ words_of edit }
+// Returns the name of the field of an edit, as sentences have it.
+const fn label(edit: Edit) -> &'static str
+    ensures text { result.now ≡ label_of edit }
     ensures short { length result.now ≤ 15 }
 {
     match edit {

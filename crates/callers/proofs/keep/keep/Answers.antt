@@ -1,4 +1,4 @@
--- Words that mean the same have one normal form, and it is lawful if any of them is.
+-- Equivalent words have the same normal form, and it is lawful if one of these words is lawful.
 use Rattle.std.proofs.Common.{ℕ, Ok, Err, Result, IfOk, IsErr, sym, subst}
 use Rattle.std.proofs.lemmas.Bool.{false≢true}
 use Rattle.std.proofs.lemmas.Result.{IsErr-from_ok_iff, Ok-from_Ok_iff}

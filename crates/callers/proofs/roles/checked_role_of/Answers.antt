@@ -1,4 +1,4 @@
--- search finds these as well, but later
+-- Search also proves these goals, but it takes longer.
 use Rattle.std.proofs.Common.{rules}
 use Rattle.callers.proofs.roles.checked_role_of.Goals as goal
 

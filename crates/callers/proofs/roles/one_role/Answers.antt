@@ -1,4 +1,4 @@
--- The byte is in this set, and so in no other.
+-- The byte is in this set, and so it is not in another set.
 use Rattle.std.proofs.Common.{arith}
 use Rattle.lexical_util.specs.Record.{raw}
 use Rattle.callers.proofs.RoleLemmas.{one_role}

@@ -1,4 +1,4 @@
--- One role a branch: the byte is in its set, and so in no other.
+-- Each branch has one role: the byte is in its set, and so it is not in another set.
 use Rattle.std.proofs.Common.{IsTrue, sym, ◌∙◌}
 use Rattle.std.proofs.lemmas.Bool.{false≢true}
 use Rattle.lexical_util.specs.Record.{raw}

@@ -1,5 +1,4 @@
--- search proves this goal as well; given here so that the must-fail edit
--- build_strict_writes_an_unlawful_word.edit fails soon
+-- Search also proves this goal. With this answer, build_strict_writes_an_unlawful_word.edit fails sooner.
 use Rattle.std.proofs.Common.{subst}
 use Rattle.lexical_util.specs.Record.{pack}
 use Rattle.lexical_c.specs.Outcomes.{IsWrittenIfLawful}

@@ -1,4 +1,4 @@
--- The result is the edited word, and each clause is a lemma about that.
+-- The result is the edited word, and each clause is a lemma on edited words.
 use Rattle.std.proofs.Common.{◌∙◌, refl, ap}
 use Rattle.lexical_flags.specs.Record.{pack}
 use Rattle.lexical_builder.specs.Writes.{after}

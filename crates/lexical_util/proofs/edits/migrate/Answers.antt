@@ -1,4 +1,4 @@
--- The word is the normal form, and has what `normal_form` ensures of it.
+-- The word is the normal form, so the clauses of `normal_form` hold for it.
 use Rattle.std.proofs.Common.{ℕ, Ok, Err, Result, IfOk, sym, subst}
 use Rattle.std.specs.Result.{OkIff}
 use Rattle.lexical_base.specs.declared.error.Error.{Error}
@@ -8,8 +8,7 @@ if_ok : (P : ℕ → Type 0) (r : Result ℕ Error) (Q : Type 0) (word : ℕ) �
 if_ok P (Ok kept) Q word (_, is) h = subst P (sym is) h
 if_ok P (Err error) Q word _ h = tt
 
--- search proves four of these clauses as well; given here so that the must-fail edits
--- migrate_*.edit fail soon
+-- Search also proves four of these clauses. With this answer, migrate_*.edit fail sooner.
 pub returns : goal.returns
 returns c =
     let form = c.normal_form.ensures in

@@ -1,4 +1,4 @@
--- The result is the normal form, and each clause is a lemma about that.
+-- The result is the normal form, and each clause is a lemma on normal forms.
 use Rattle.std.proofs.Common.{◌∙◌, refl, sym, ap, arith}
 use Rattle.lexical_flags.specs.Record.{pack}
 use Rattle.lexical_util.specs.NormalForm.{normal_form_of}

@@ -2,8 +2,7 @@ use Rattle.std.proofs.Common.{sym, ◌∙◌, eq-eqb, eqb-true}
 use Rattle.lexical_util.proofs.NormalLemmas.{normal_same, SameFormat-from_normal}
 use Rattle.lexical_util.proofs.edits.same_format.Goals as goal
 
--- search proves the first clause as well; given here so that the must-fail edit
--- same_format_compares_the_words.edit fails soon
+-- Search also proves the first clause. With this answer, same_format_compares_the_words.edit fails sooner.
 pub returns : goal.returns
 returns c =
     let first = c.normal_form.ensures.word in

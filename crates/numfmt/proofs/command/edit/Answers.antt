@@ -1,8 +1,8 @@
--- The word comes first, and then the texts of the edits.
+-- The word is the first argument, and the texts of the edits follow.
 use Rattle.std.proofs.Common.{◌≡◌, ◌-◌, ℕ, Some, true, rules, string_bytes, drop, length, map, nat_le, take, ap, arith}
 use Rattle.std.proofs.lemmas.Bool.{le-leb}
 use Rattle.std.proofs.lemmas.List.{length-map}
-use Rattle.numfmt.specs.WordText.{word_from_text}
+use Rattle.lexical_util.specs.Additions.WordText.{word_from_text}
 use Rattle.numfmt.specs.declared.response.Answer.TheVariants.{Word}
 use Rattle.numfmt.proofs.ItemLemmas.{map-first}
 use Rattle.numfmt.proofs.command.edit.Goals as goal
@@ -21,8 +21,7 @@ returns c =
       edits,
     ) (ap Word c.edit_word.ensures.word)
 
--- search proves this goal as well; given here so that the must-fail edit
--- edit_reads_the_edits_before_the_word.edit fails soon
+-- Search also proves this goal. With this answer, edit_reads_the_edits_before_the_word.edit fails sooner.
 pub returns-in_err-ok_or : goal.returns-in_err-ok_or
 returns-in_err-ok_or c =
     let (word, read) : (word : ℕ) × (Some word ≡ word_from_text (string_bytes c.word-item.result)) = search rules in

@@ -1,4 +1,4 @@
--- The word is read, and the library says what is wrong with it, and what has no effect.
+-- The word is parsed, and the library returns whether it is lawful.
 use Rattle.std.proofs.Common.{string_bytes, refl, arith}
 use Rattle.numfmt.proofs.ItemLemmas.{map-one}
 use Rattle.numfmt.proofs.command.explain.Goals as goal
@@ -8,4 +8,4 @@ returns-in_ok-word-in-len1 c =
     rw (
       map-one string_bytes c.args.args.now _ (omega arith) c.word-item.is,
       ← c.in_ok-word-in-len1.ensures.word,
-    ) (refl, c.has_nothing_to_explain.ensures.lawful)
+    ) (refl, c.format_is_valid.ensures)

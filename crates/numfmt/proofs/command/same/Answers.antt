@@ -1,4 +1,4 @@
--- Both words are read, and their normal forms compared.
+-- Both words are parsed, and their normal forms are compared.
 use Rattle.std.proofs.Common.{string_bytes, arith}
 use Rattle.numfmt.proofs.ItemLemmas.{map-two}
 use Rattle.numfmt.proofs.command.same.Goals as goal

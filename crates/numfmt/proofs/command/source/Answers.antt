@@ -1,4 +1,4 @@
--- The word is read, and the library says whether a builder packs it.
+-- The word is parsed, and the library returns whether a builder packs it.
 use Rattle.std.proofs.Common.{string_bytes, refl, arith}
 use Rattle.numfmt.proofs.ItemLemmas.{map-one}
 use Rattle.numfmt.proofs.command.source.Goals as goal

@@ -1,5 +1,4 @@
--- search proves this goal as well; given here so that the must-fail edit
--- run_always_has_status_0.edit fails soon
+-- Search also proves this goal. With this answer, run_always_has_status_0.edit fails sooner.
 use Rattle.std.proofs.Common.{inr, arith}
 use Rattle.numfmt.proofs.program.run.Goals as goal
 

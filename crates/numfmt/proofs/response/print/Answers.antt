@@ -1,5 +1,4 @@
--- search proves this goal as well; given here so that the must-fail edit
--- print_ignores_a_failed_flush.edit fails soon
+-- Search also proves this goal. With this answer, print_ignores_a_failed_flush.edit fails sooner.
 use Rattle.numfmt.proofs.response.print.Goals as goal
 
 pub returns-clause-flushed : goal.returns-clause-flushed

@@ -1,4 +1,4 @@
--- The flags, and then six lines at once.
+-- The line of the flags is written first, and then the six lines of the bytes at once.
 use Rattle.std.proofs.Common.{◌≡◌, ℕ, List, [], ◌∷◌, ◌++◌, append_assoc, append-nil, codes, flat_map, OnOk}
 use Rattle.std.proofs.Common.{subst, sym, ap, get_or, drop, ◌∙◌}
 use Rattle.std.specs.Io.KnownBytes.{Appends}
@@ -8,13 +8,13 @@ use Rattle.numfmt.specs.Response.{byte_fields}
 use Rattle.numfmt.proofs.WritingLemmas.{then}
 use Rattle.numfmt.proofs.response.print_fields.Goals as goal
 
--- texts with newlines between them
+-- `joined texts` is `texts` with newlines between them.
 abbrev joined : List (List ℕ) → List ℕ
 joined [] = []
 joined (first ∷ []) = first
 joined (first ∷ second ∷ others) = first ++ 10 ∷ joined (second ∷ others)
 
--- with one at the end too they are lines
+-- Joined texts with a newline at the end are lines.
 joined_lines : (first : List ℕ) (others : List (List ℕ))
     → line (joined (first ∷ others)) ≡ flat_map line (first ∷ others)
 joined_lines first [] = sym (append-nil (line first))

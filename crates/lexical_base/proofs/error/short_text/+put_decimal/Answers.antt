@@ -1,4 +1,4 @@
-use Rattle.std.proofs.Common.{◌≡◌, ◌+◌, ◌%◌, [], ◌∷◌, sym, arith}
+use Rattle.std.proofs.Common.{◌≡◌, ◌<◌, ◌+◌, ◌%◌, [], ◌∷◌, cond, sym, ap, ◌∙◌, lt-ltb, arith}
 use Rattle.std.specs.Fmt.{decimal, WritesInCalls}
 use Rattle.std.specs.Result.{OnOk}
 use Rattle.std.proofs.lemmas.Fmt.{decimal_digit, decimal_step}
@@ -10,7 +10,9 @@ pub returns-clause-text : goal.returns-clause-text
 returns-clause-text g t c =
     let takes = g.S.Sink.takes in
     let n = c.args.n in
-    let digit : c.digit_text.result.now ≡ (48 + n % 10) ∷ [] = c.digit_text.ensures (omega arith) in
+    let small : n % 10 < 10 = omega arith in
+    let glyph = ap (λ truth. cond truth (48 + n % 10) (55 + n % 10) ∷ []) (lt-ltb (n % 10) 10 small) in
+    let digit : c.digit_text.result.now ≡ (48 + n % 10) ∷ [] = c.digit_text.ensures (omega arith) ∙ glyph in
     let end : OnOk c.put.result (WritesInCalls takes c.if-has_front.out ((48 + n % 10) ∷ []) c.put.new.self) =
     last takes c.put.result _ _ _ (rw digit at c.put.ensures.taken) in
     elim c.if-has_front.branch [

@@ -1,15 +1,10 @@
-use Rattle.std.proofs.Common.{ℕ, ◌≡◌, ◌∙◌, ◌==◌, ◌+◌, ◌/◌, ◌%◌, ◌^◌, ap, arith}
-use Rattle.std.proofs.lemmas.Nat.{shr-shr}
+use Rattle.std.proofs.Common.{ℕ, ◌≡◌, ◌∙◌, ◌==◌, ◌/◌, ◌%◌, ◌^◌, ap, arith}
 use Rattle.lexical_flags.specs.Layout.{Flag, part, bit}
 use Rattle.lexical_flags.proofs.RecordLemmas.{record_same, bytes_same}
 use Rattle.lexical_flags.specs.Record.{effective}
 use Rattle.lexical_builder.specs.BuilderBits.{builder_bit}
-use Rattle.lexical_builder.proofs.BuilderFlags.{part-flags_in}
+use Rattle.lexical_builder.proofs.BuilderFlags.{part-flags_in, part-upper}
 use Rattle.lexical_builder.proofs.format_builder.NumberFormatBuilder.rebuild.Goals as goal
-
--- a byte of the upper half is a byte of the word
-part-upper : (word s : ℕ) → part (word / 2 ^ 64) s 8 ≡ part word (64 + s) 8
-part-upper word s = ap (λ n. n % 2 ^ 8) (shr-shr word 64 s)
 
 pub returns : goal.returns
 returns c =

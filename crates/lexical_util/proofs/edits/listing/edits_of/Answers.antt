@@ -17,7 +17,7 @@ use Rattle.lexical_util.proofs.ListingLemmas.{needed_edits-is, other_edits-is, I
 use Rattle.lexical_util.proofs.ListingLemmas.{after-needed, after-both, legal-both, length-needed}
 use Rattle.lexical_util.proofs.edits.listing.edits_of.Goals as goal
 
--- the edits that are left out of the first part are as many as the second has
+-- The number of edits that are not in the first part is the length of the second part.
 pub copy_from_slice-requires : goal.copy_from_slice-requires
 copy_from_slice-requires c =
     let first = c.move_to_front-count.new.edits in
@@ -40,7 +40,7 @@ returns-clause-number c = c.move_to_front-count.ensures.count
     ∙ ap length (needed_edits-is (raw c.args.format))
     ∙ length-map (needed_writes (raw c.args.format)) edit_of_write
 
--- a list whose end is written over
+-- If the end of a list is written over, then the list is its front followed by the written list.
 overwritten : {X : Type 0} (a k : ℕ) (xs ys : List X) → length xs ≤ a + k → put_mid a k xs ys ≡ take a xs ++ ys
 overwritten a k xs ys long =
     ap (λ zs. take a xs ++ (ys ++ zs)) (drop_all k (drop a xs) (omega (arith, length-drop a xs)))

@@ -3,8 +3,7 @@ use Rattle.std.proofs.lemmas.Bool.{false≢true}
 use Rattle.lexical_util.proofs.ImageLemmas.{built_by_writes}
 use Rattle.lexical_util.proofs.edits.listing.is_built.Goals as goal
 
--- search proves three of these clauses as well; given here so that the must-fail edits
--- is_built_*.edit fail soon
+-- Search also proves three of these clauses. With this answer, is_built_*.edit fail sooner.
 pub returns-then-is_clean : goal.returns-then-is_clean
 returns-then-is_clean c =
     let image = built_by_writes c.args.format (omega arith) in

@@ -4,7 +4,7 @@ use Rattle.std.proofs.lemmas.List.{length-take-le}
 use Rattle.std.proofs.lemmas.List.Filters.{FiltersInPlace-all, FiltersInPlace-more_no, FiltersInPlace-more_swap}
 use Rattle.lexical_util.proofs.edits.listing.move_to_front.Goals as goal
 
--- whether a test comes out as it should
+-- If a test is equal to the wanted truth value, then this comparison is the chosen test.
 passes : (changed t : Bool) → (if changed then t else not t) ≡ beq t changed
 passes true true = refl
 passes true false = refl

@@ -9,7 +9,7 @@ use Rattle.lexical_base.proofs.TableLemmas.{text_in_table}
 use Rattle.lexical_util.specs.Additions.SettingNumbers.{setter_names, setter_count, if_setter}
 use Rattle.lexical_util.proofs.edits.numbers.setter_number_of_name.Goals as goal
 
--- The first number whose name is the name is the number of the name, and if there is none the name is that of no setter.
+-- The number of a name is the first number with this name. If no number has it, then no setter has the name.
 pub returns-then-eq : goal.returns-then-eq
 returns-then-eq c =
     let name = c.args.name.now in

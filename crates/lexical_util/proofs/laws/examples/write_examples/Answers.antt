@@ -3,7 +3,7 @@ use Rattle.lexical_flags.specs.Layout.{Byte}
 use Rattle.lexical_flags.specs.Layout as layout
 use Rattle.lexical_util.proofs.laws.examples.write_examples.Goals as goal
 
--- the numbers of equal options
+-- If two options are equal, then so are their numbers.
 number : (a b : Option ℕ) → a ≡ b → unwrap_or a 0 ≡ unwrap_or b 0
 number a b same = ap (λ o. unwrap_or o 0) same
 

@@ -1,0 +1,39 @@
+use Rattle.std.proofs.Common.{◌↔◌, refl, ap, arith}
+use Rattle.std.proofs.lemmas.Bool.{true≢false}
+use Rattle.lexical_flags.specs.declared.format_flags.all_rules.Rule.TheVariants as rules
+use Rattle.lexical_flags.specs.Layout as layout
+use Rattle.lexical_flags.specs.Record.{Record}
+use Rattle.lexical_flags.specs.Rules.{Holds, IsRadix}
+use Rattle.lexical_flags.specs.declared.format_flags.all_rules.Rule.{Rule}
+use Rattle.lexical_util.proofs.laws.examples.note_examples.Goals as goal
+
+pub returns-clause-another_flag : goal.returns-clause-another_flag
+returns-clause-another_flag c other =
+    true≢false (ap (λ (r : Record). r.flag layout.required_integer_digits) other.fields_are)
+
+pub returns-clause-same : goal.returns-clause-same
+returns-clause-same c = record {
+  rules = λ rule. (λ h. h, λ h. h);
+  options = λ e p. (λ h. h, λ h. h);
+  roles = refl;
+}
+
+pub returns-clause-same_other : goal.returns-clause-same_other
+returns-clause-same_other c =
+    let kept : (rule : Rule) → Holds rule 12 ↔ Holds rule 12 = λ rule. (λ h. h, λ h. h) in
+    record {
+      rules = (kept _, (kept _, (kept _, (kept _, (kept _, (kept _, (kept _, (kept _, (kept _, (kept _, (kept _, (kept _, tt))))))))))));
+      options = λ e p. (λ h. h, λ h. h);
+    }
+
+pub returns-clause-other_radix : goal.returns-clause-other_radix
+unfolding Holds
+returns-clause-other_radix c same =
+    let rules_kept = same.rules in
+    let radix_kept = rules_kept.0 in
+    let kept : IsRadix 0 = radix_kept.0 ((omega arith, omega arith)) in
+    omega (arith, kept.0)
+
+pub returns-clause-other_rules : goal.returns-clause-other_rules
+unfolding Holds
+returns-clause-other_rules c same = true≢false ((same.rules rules.MantissaSignFlagsAgree).0 refl)

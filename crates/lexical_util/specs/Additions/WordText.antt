@@ -1,0 +1,74 @@
+-- For `parse_word`, `word_text`, `numfmt` and C: the text of a format word, `0x` and hexadecimal digits.
+use Rattle.std.specs.Prelude.{◌≡◌, ℕ, zero, suc, ◌/◌, ◌%◌, ◌^◌, ◌==◌, Bool, ◌&&◌, not, IsTrue, if◌then◌else◌}
+use Rattle.std.specs.Prelude.{Option, None, Some, Result, Ok, Err, List, [], ◌∷◌, ◌++◌, length, take, drop, replicate}
+use Rattle.std.specs.Prelude.{slice_get, slice_index, codes, bytes_eq}
+use Rattle.std.specs.Bool.{then_some}
+use Rattle.std.specs.List.{list_all, common_prefix_len}
+use Rattle.lexical_base.specs.Digits.{digit_characters, is_lowercase, numeral}
+use Rattle.lexical_base.specs.declared.error.Error.{Error}
+use Rattle.lexical_base.specs.declared.error.Error.TheVariants as errors
+use Rattle.lexical_util.specs.Additions.Numeral.{is_digit_of_radix, is_numeral}
+
+-- `hex_digits text` is the part of `text` after `0x`.
+abbrev pub hex_digits : List ℕ → List ℕ
+hex_digits text = drop 2 text
+
+-- `hex text` is the number that `text` writes.
+abbrev pub hex : List ℕ → ℕ
+hex text = numeral 16 (hex_digits text)
+
+-- `is_word_text text` is true if `text` is `0x` and 1 to 32 hexadecimal digits of either case.
+abbrev pub is_word_text : List ℕ → Bool
+is_word_text text = bytes_eq (take 2 text) (codes "0x") && is_numeral 16 32 (hex_digits text)
+
+-- `word_from_text text` is `Some word` if `text` writes `word`, and `None` if it is not the text of a word.
+abbrev pub word_from_text : List ℕ → Option ℕ
+word_from_text text = then_some (is_word_text text) (hex text)
+
+-- `IsWordText text` holds if `text` writes a word.
+abbrev pub IsWordText : List ℕ → Type 0
+IsWordText text = IsTrue (is_word_text text)
+
+-- `byte_tests` lists the tests of the bytes of a word's text in their order: for `0`, for `x`, and 32 times for a
+-- digit.
+abbrev pub byte_tests : List (ℕ → Bool)
+byte_tests = (λ byte. byte == 48) ∷ (λ byte. byte == 120) ∷ replicate 32 (is_digit_of_radix 16)
+
+-- `first_misfit text` is the index of the first byte of `text` that does not pass a test, or the length of `text` if
+-- each byte passes its test.
+abbrev pub first_misfit : List ℕ → ℕ
+first_misfit text = common_prefix_len (λ test byte. test byte) byte_tests text
+
+-- `misfit_error index byte` is the error of a text whose first misfit is `byte` at `index`: `Overflow` if it is one
+-- digit too many, `InvalidDigit` for any other byte, and `Empty` if the text ends there.
+abbrev pub misfit_error : ℕ → Option ℕ → Error
+misfit_error index None = errors.Empty index
+misfit_error index (Some byte) =
+    if (index == 34) && is_digit_of_radix 16 byte then errors.Overflow index else errors.InvalidDigit index
+
+-- `word_error text` is the error of a `text` that is not the text of a word.
+abbrev pub word_error : List ℕ → Error
+word_error text = misfit_error (first_misfit text) (slice_get text (first_misfit text))
+
+-- `parsed_word text` is `Ok word` if `text` writes `word`, and the error of `text` if it is not the text of a word.
+abbrev pub parsed_word : List ℕ → Result ℕ Error
+parsed_word text = if is_word_text text then Ok (hex text) else Err (word_error text)
+
+-- `IsPrintedForm text` holds if `text` is the text of a word with 32 digits and without lowercase letters among them.
+pub record IsPrintedForm (text : List ℕ) : Type 0 where
+  pub word : IsWordText text
+  pub full : length (hex_digits text) ≡ 32
+  pub uppercase : IsTrue (list_all (λ digit. not (is_lowercase digit)) (hex_digits text))
+
+-- `digit_at number position` is the hexadecimal digit of `number` at `position`, counted from 0 at the right.
+abbrev pub digit_at : ℕ → ℕ → ℕ
+digit_at number position = slice_index digit_characters (number / 16 ^ position % 16)
+
+-- `last_digits count number` lists the last `count` hexadecimal digits of `number`.
+unfoldable pub last_digits : ℕ → ℕ → List ℕ
+last_digits zero number = []
+last_digits (suc count) number = digit_at number count ∷ last_digits count number
+
+-- `printed word` is the text of `word` as it is printed: with 32 digits.
+abbrev pub printed : ℕ → List ℕ
+printed word = codes "0x" ++ last_digits 32 word

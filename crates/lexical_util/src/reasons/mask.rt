@@ -1,0 +1,151 @@
+//! The rules that a reason breaks, and the bits that it blames.
+
+ghost use Rattle.std.specs.Prelude.{◌≡◌, ◌↔◌, IsTrue};
+ghost use Rattle.lexical_util.specs.Additions.Reasons.{rule_of_reason, rules_of_reason, Breaks};
+ghost use Rattle.lexical_util.specs.Additions.Reasons.{mask_of_reason, mask_of_setter};
+ghost use Rattle.lexical_util.specs.Additions.Reasons.{radix_rule, punctuation_rule, rule_of_flags, position_rule};
+
+use crate::edits::{Edit, FlagSetter};
+use crate::reasons::{Reason, some_if};
+use lexical_flags::format_flags as flags;
+use lexical_flags::format_flags::Rule;
+
+impl Reason {
+    /// Returns the first rule that the reason breaks.
+    pub const fn rule(&self) -> Rule
+        ensures { result ≡ rule_of_reason self.now }
+    {
+        match self {
+            Reason::MantissaRadixOutOfRange(_, _, _) => Rule::MantissaRadixInRange,
+            Reason::OutOfRange(edit) => radix_rule(*edit),
+            Reason::NotText(edit) | Reason::IsSign(edit) | Reason::IsDigit(edit, _) => {
+                punctuation_rule(*edit)
+            }
+            Reason::Clash(_, _, _) => Rule::PunctuationDiffers,
+            Reason::Contradict(a, b) => rule_of_flags(*a, *b),
+            Reason::NeedsPosition(flag) => position_rule(*flag),
+            Reason::ReservedBits(_) => Rule::ReservedBitsAreZero,
+        }
+    }
+
+    /// Returns the rules that the reason breaks, each in its own slot, in the order of the rules.
+    pub const fn rules(&self) -> [Option<Rule>; 3]
+        ensures { result ≡ rules_of_reason self.now }
+    {
+        match self {
+            Reason::MantissaRadixOutOfRange(_, base_follows, exponent_follows) => [
+                Some(Rule::MantissaRadixInRange),
+                some_if(*base_follows, Rule::ExponentBaseInRange),
+                some_if(*exponent_follows, Rule::ExponentRadixInRange),
+            ],
+            Reason::OutOfRange(_)
+            | Reason::NotText(_)
+            | Reason::IsSign(_)
+            | Reason::IsDigit(_, _)
+            | Reason::Clash(_, _, _)
+            | Reason::Contradict(_, _)
+            | Reason::NeedsPosition(_)
+            | Reason::ReservedBits(_) => [Some(self.rule()), None, None],
+        }
+    }
+
+    /// Returns whether the reason breaks a rule: its first rule or, if the reason is a mantissa radix, the rule of an
+    /// exponent byte that follows it.
+    pub const fn breaks(&self, rule: Rule) -> bool
+        ensures { IsTrue result ↔ Breaks self.now rule }
+    {
+        match self {
+            Reason::MantissaRadixOutOfRange(_, base_follows, exponent_follows) => match rule {
+                Rule::ExponentBaseInRange => *base_follows,
+                Rule::ExponentRadixInRange => *exponent_follows,
+                _ => is_rule(rule, Rule::MantissaRadixInRange),
+            },
+            Reason::OutOfRange(_)
+            | Reason::NotText(_)
+            | Reason::IsSign(_)
+            | Reason::IsDigit(_, _)
+            | Reason::Clash(_, _, _)
+            | Reason::Contradict(_, _)
+            | Reason::NeedsPosition(_)
+            | Reason::ReservedBits(_) => is_rule(rule, self.rule()),
+        }
+    }
+
+    /// Returns the bits of a word that the reason blames. The reason is true of each word that has the same bits there.
+    ///
+    /// A setting may be to blame if its [`Edit::mask`] has a bit in common with this mask.
+    pub const fn mask(&self) -> u128
+        ensures { result ≡ mask_of_reason self.now }
+    {
+        match self {
+            Reason::MantissaRadixOutOfRange(_, _, _) => flags::MANTISSA_RADIX,
+            Reason::OutOfRange(edit) | Reason::NotText(edit) | Reason::IsSign(edit) => edit.mask(),
+            Reason::IsDigit(edit, radix) => edit.mask() | radix.mask(),
+            Reason::Clash(a, b, None) => a.mask() | b.mask(),
+            Reason::Clash(a, b, Some(flag)) => a.mask() | b.mask() | mask_of_setter(*flag),
+            Reason::Contradict(a, b) => mask_of_setter(*a) | mask_of_setter(*b),
+            Reason::NeedsPosition(flag) => position_rule(*flag).mask(),
+            Reason::ReservedBits(bits) => *bits,
+        }
+    }
+}
+
+// Returns whether two rules are equal.
+#[tactic(auto, using(crate::proofs::AllReasons::same_number))]
+const fn is_rule(a: Rule, b: Rule) -> bool
+    ensures { IsTrue result ↔ (a ≡ b) }
+{
+    a as u8 == b as u8
+}
+
+// Returns the rule of the exponent byte that an edit writes.
+const fn radix_rule(edit: Edit) -> Rule
+    ensures { result ≡ radix_rule edit }
+{
+    match edit {
+        Edit::ExponentBase(_) => Rule::ExponentBaseInRange,
+        _ => Rule::ExponentRadixInRange,
+    }
+}
+
+// Returns the punctuation rule of the byte that an edit writes.
+const fn punctuation_rule(edit: Edit) -> Rule
+    ensures { result ≡ punctuation_rule edit }
+{
+    match edit {
+        Edit::DigitSeparator(_) => Rule::DigitSeparatorIsPunctuation,
+        Edit::BasePrefix(_) => Rule::BasePrefixIsPunctuation,
+        _ => Rule::BaseSuffixIsPunctuation,
+    }
+}
+
+// Returns the rule of two flags that cannot both be set.
+const fn rule_of_flags(a: FlagSetter, b: FlagSetter) -> Rule
+    ensures { result ≡ rule_of_flags a b }
+{
+    match (a, b) {
+        (FlagSetter::NoExponentNotation, _) => Rule::ExponentFlagsAgree,
+        (FlagSetter::NoPositiveMantissaSign, _) => Rule::MantissaSignFlagsAgree,
+        (FlagSetter::NoPositiveExponentSign, _) => Rule::ExponentSignFlagsAgree,
+        (_, FlagSetter::CaseSensitiveSpecial) => Rule::SpecialCaseFlagsAgree,
+        _ => Rule::SpecialSeparatorFlagsAgree,
+    }
+}
+
+// Returns the rule of a setter for consecutive digit separators.
+const fn position_rule(flag: FlagSetter) -> Rule
+    ensures { result ≡ position_rule flag }
+{
+    match flag {
+        FlagSetter::IntegerConsecutiveDigitSeparator => Rule::IntegerConsecutiveIsAllowed,
+        FlagSetter::FractionConsecutiveDigitSeparator => Rule::FractionConsecutiveIsAllowed,
+        _ => Rule::ExponentConsecutiveIsAllowed,
+    }
+}
+
+// Returns the bits that a flag setter writes.
+pub(super) const fn mask_of_setter(setter: FlagSetter) -> u128
+    ensures { result ≡ mask_of_setter setter }
+{
+    Edit::Flag(setter, true).mask()
+}

@@ -1,0 +1,186 @@
+//! Notes on fields that are set and change no number that can be written.
+
+ghost use Rattle.std.specs.Prelude.{◌≡◌, ◌==◌, ◌&&◌, not, if◌then◌else◌, ℕ, false, [], ◌∷◌, map, bit_and};
+ghost use Rattle.std.specs.List.{filter_map, list_any};
+ghost use Rattle.lexical_flags.specs.Layout as layout;
+ghost use Rattle.lexical_flags.specs.Layout.{digit_separator_flags};
+ghost use Rattle.lexical_flags.specs.Record.{pack, raw, separator_allowed, set_byte};
+ghost use Rattle.lexical_flags.specs.Roles.{other_case};
+ghost use Rattle.lexical_util.specs.Additions.Reasons.{if_applicable, mask_of_reason};
+ghost use Rattle.lexical_util.specs.Additions.Notes.{mask_of_note, notes_beside, separator_candidate, case_candidate};
+ghost use Rattle.lexical_util.specs.Additions.Notes.{unblamed, is_blamed};
+ghost use Rattle.lexical_util.specs.Additions.Notes.{without_separator, set_flags, ReplacesFields, SameRules};
+ghost use Rattle.lexical_util.specs.Additions.Notes.{SameOtherRules};
+ghost use Rattle.lexical_util.specs.Additions.SettingNumbers.{argument_byte};
+ghost use Rattle.lexical_util.specs.NormalForm.{normal_form_of};
+
+use crate::edits::{Edit, FlagSetter};
+use crate::feature_format::NumberFormat;
+use crate::reasons::mask::mask_of_setter;
+use crate::reasons::{Reason, prefix_edit, reasons, suffix_edit};
+use lexical_builder::format_builder::{NonZeroU8, NumberFormatBuilder};
+use lexical_flags::format_flags as flags;
+
+/// The maximum number of notes on a word.
+pub const MAX_NOTES: usize = 3;
+
+/// A field that is set and changes no number that can be written. Rules and options may read it.
+///
+/// These are all kinds of notes. For example, exponent flags have no note if exponents are forbidden.
+#[derive(Debug, Clone, Copy, PartialEq, Eq)]
+pub enum Note {
+    /// A digit separator that no flag allows. The normal form does not have it.
+    SeparatorWithoutFlag(Edit),
+    /// Flags allow a digit separator, but it is absent.
+    FlagsWithoutSeparator,
+    /// A case flag is set, but its base prefix or base suffix is absent.
+    CaseFlagWithoutByte(FlagSetter, Edit),
+    /// A case flag is set, but its base prefix or base suffix is not a letter.
+    CaseFlagOfNonLetter(FlagSetter, Edit),
+}
+
+impl Note {
+    /// Returns the bits of a word that the note describes.
+    pub const fn mask(&self) -> u128
+        ensures { result ≡ mask_of_note self.now }
+    {
+        match self {
+            Note::SeparatorWithoutFlag(edit) => flags::DIGIT_SEPARATOR_FLAG_MASK | edit.mask(),
+            Note::FlagsWithoutSeparator => {
+                flags::DIGIT_SEPARATOR_FLAG_MASK | flags::DIGIT_SEPARATOR
+            }
+            Note::CaseFlagWithoutByte(flag, edit) | Note::CaseFlagOfNonLetter(flag, edit) => {
+                mask_of_setter(*flag) | edit.mask()
+            }
+        }
+    }
+}
+
+/// Returns the notes on a word, each in its own slot. A slot without a note is `None`.
+///
+/// A note is not an error: a lawful word may have notes. A field that a reason blames has no note.
+pub const fn notes(format: u128) -> [Option<Note>; MAX_NOTES]
+    ensures each { result ≡ map if_applicable (notes_beside format (raw format)) }
+
+    // If no flag allows a digit separator, then the word without its separator has the same normal form.
+    ensures separator { separator_allowed (raw format) ≡ false → (other : ℕ)
+        → raw other ≡ without_separator (raw format)
+        → normal_form_of other ≡ normal_form_of format }
+
+    // If the digit separator is absent, then clearing its flags changes neither the options nor the rules that read
+    // none of these flags.
+    ensures separator_flags { (raw format).byte layout.digit_separator ≡ 0 → (other : ℕ)
+        → ReplacesFields (set_flags (raw format) digit_separator_flags false) format other
+        → SameOtherRules format other }
+
+    // If a byte is absent or not a letter, then clearing its case flag changes no rule, no option and no role.
+    ensures prefix_case { other_case ((raw format).byte layout.base_prefix) ≡ (raw format).byte layout.base_prefix
+        → (other : ℕ)
+        → ReplacesFields (set_flags (raw format) (layout.case_sensitive_base_prefix ∷ []) false) format other
+        → SameRules format other }
+    ensures suffix_case { other_case ((raw format).byte layout.base_suffix) ≡ (raw format).byte layout.base_suffix
+        → (other : ℕ)
+        → ReplacesFields (set_flags (raw format) (layout.case_sensitive_base_suffix ∷ []) false) format other
+        → SameRules format other }
+{
+    notes_beside(format, flags::digit_separator(format))
+}
+
+/// Returns the notes on the fields of a builder, as [`notes`] does of a word.
+///
+/// A digit separator that no flag allows has a note, although the packed word does not have it.
+pub const fn notes_of_fields(builder: &NumberFormatBuilder) -> [Option<Note>; MAX_NOTES]
+    ensures { result ≡ map if_applicable (notes_beside (pack builder.now) builder.now) }
+{
+    let separator = match builder.get_digit_separator() {
+        Some(byte) => byte.get(),
+        None => 0,
+    };
+    notes_beside(builder.build_unchecked(), separator)
+}
+
+// Returns the notes on a word in which the digit separator is replaced by `separator`.
+const fn notes_beside(format: u128, separator: u8) -> [Option<Note>; MAX_NOTES]
+    ensures { result
+        ≡ map if_applicable (notes_beside format (set_byte (raw format) layout.digit_separator separator)) }
+{
+    let view = NumberFormat::new(format);
+    [
+        separator_note(format, separator),
+        case_note(
+            format,
+            view.case_sensitive_base_prefix(),
+            FlagSetter::CaseSensitiveBasePrefix,
+            &prefix_edit(format),
+        ),
+        case_note(
+            format,
+            view.case_sensitive_base_suffix(),
+            FlagSetter::CaseSensitiveBaseSuffix,
+            &suffix_edit(format),
+        ),
+    ]
+}
+
+// Returns the note on a digit separator and its flags, if there is one.
+const fn separator_note(format: u128, separator: u8) -> Option<Note>
+    ensures { result
+        ≡ if_applicable (unblamed format (separator_candidate (set_byte (raw format) layout.digit_separator separator))) }
+{
+    if flags::is_separator_allowed(format) {
+        unless_blamed(format, separator == 0, Note::FlagsWithoutSeparator)
+    } else {
+        let edit = Edit::DigitSeparator(NonZeroU8::new(separator));
+        unless_blamed(format, separator != 0, Note::SeparatorWithoutFlag(edit))
+    }
+}
+
+// Returns the note on a case flag and the byte of an edit, if there is one.
+const fn case_note(format: u128, is_set: bool, flag: FlagSetter, edit: &Edit) -> Option<Note>
+    ensures { result ≡ if_applicable (unblamed format (case_candidate is_set (argument_byte edit.now) flag edit.now)) }
+{
+    let byte = edit.argument_byte();
+    if byte == 0 {
+        unless_blamed(format, is_set, Note::CaseFlagWithoutByte(flag, *edit))
+    } else {
+        let applies = is_set & has_no_case(byte);
+        unless_blamed(format, applies, Note::CaseFlagOfNonLetter(flag, *edit))
+    }
+}
+
+// Returns a note if it applies and no reason of the word blames its bits.
+const fn unless_blamed(format: u128, applies: bool, note: Note) -> Option<Note>
+    ensures { result ≡ if_applicable (unblamed format (applies, note)) }
+{
+    if applies && !is_blamed(format, note.mask()) {
+        Some(note)
+    } else {
+        None
+    }
+}
+
+// Returns whether a byte is the same in both cases.
+const fn has_no_case(byte: u8) -> bool
+    ensures { result ≡ (other_case byte == byte) }
+{
+    !byte.is_ascii_alphabetic()
+}
+
+// Returns whether a reason of the word blames a bit under the mask.
+const fn is_blamed(format: u128, mask: u128) -> bool
+    ensures { result ≡ is_blamed format mask }
+{
+    some_blames(&reasons(format), mask)
+}
+
+// Returns whether one of these reasons blames a bit under the mask.
+const fn some_blames(reasons: &[Option<Reason>], mask: u128) -> bool
+    ensures { result ≡ list_any (λ reason. not (bit_and (mask_of_reason reason) mask == 0)) (filter_map
+        (λ reason. reason) reasons.now) }
+{
+    match reasons {
+        [] => false,
+        [None, rest @ ..] => some_blames(rest, mask),
+        [Some(reason), rest @ ..] => reason.mask() & mask != 0 || some_blames(rest, mask),
+    }
+}

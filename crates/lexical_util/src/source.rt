@@ -1,0 +1,86 @@
+//! Format words as Rust code.
+
+ghost use Rattle.std.specs.Prelude.{◌≡◌, ◌<◌, IsErr, OnOk, Some, length};
+ghost use Rattle.std.specs.Fmt.{WritesInCalls};
+ghost use Rattle.lexical_util.specs.Additions.Source.{call_text, code_of_argument, source_text};
+
+use crate::edits::{Argument, Edit, edits_of};
+use lexical_base::error::{EMPTY_PIECE, Piece, ShortText, Sink};
+use std::fmt;
+
+/// The builder expression of a format word, as Rust code: a new builder, a setter call for each field in which the word
+/// differs from it, and the call that packs the word.
+///
+/// Any word may be passed. The expression builds this very word if and only if [`is_built`][crate::edits::is_built]
+/// returns `true` for it.
+///
+/// In plain Rust:
+///
+/// ```
+/// use peltzivar::source::BuilderExpression;
+///
+/// let code = BuilderExpression(0x00001000_00000000_00000000_0000000C).to_string();
+/// assert_eq!(code, "NumberFormatBuilder::new().mantissa_radix(16).build_unchecked()");
+/// ```
+#[derive(Clone, Copy, Debug)]
+pub struct BuilderExpression(pub u128);
+
+impl BuilderExpression {
+    /// Puts the expression, which has less than 2048 bytes, into a sink. Fails only if the sink fails.
+    pub fn put_into<S: Sink>(&self, out: &mut S) -> Result<(), fmt::Error>
+        ensures text { OnOk result (WritesInCalls S.takes out.old (source_text self.now.0) out.new) }
+        ensures failed { IsErr result → S.has_failed out.new }
+        ensures short { length (source_text self.now.0) < 2048 }
+    {
+        let (edits, count) = edits_of(self.0);
+        out.put("NumberFormatBuilder::new()")?;
+        for edit in &edits[..count] {
+            put_call(edit, out)?;
+        }
+        out.put(".build_unchecked()")
+    }
+}
+
+/// Writes the expression and ignores the options of the formatter. Fails only if the formatter fails.
+impl fmt::Display for BuilderExpression {
+    ghost output = { λ expression. Some (source_text expression.0) };
+
+    ghost styled_output = { λ expression spec. Some (source_text expression.0) };
+
+    fn fmt<W: fmt::Write>(&self, f: &mut fmt::Formatter<W>) -> fmt::Result {
+        self.put_into(f)
+    }
+}
+
+// Puts the setter call of an edit.
+fn put_call<S: Sink>(edit: &Edit, out: &mut S) -> fmt::Result
+    ensures text { OnOk result (WritesInCalls S.takes out.old (call_text edit.now) out.new) }
+    ensures failed { IsErr result → S.has_failed out.new }
+{
+    out.put(".")?;
+    out.put(edit.name())?;
+    out.put("(")?;
+    code_of_argument(edit.argument()).put_into(out)?;
+    out.put(")")
+}
+
+// Returns an argument as Rust code.
+const fn code_of_argument(argument: Argument) -> ShortText
+    ensures { result ≡ code_of_argument argument }
+{
+    let piece = match argument {
+        Argument::OptionalByte(Some(byte)) => {
+            return ShortText(
+                EMPTY_PIECE,
+                Piece::Words("NonZeroU8::new("),
+                Piece::Number(byte.get() as usize),
+                Piece::Words(")"),
+            );
+        }
+        Argument::OptionalByte(None) => Piece::Words("None"),
+        Argument::Byte(byte) => Piece::Number(byte as usize),
+        Argument::Flag(true) => Piece::Words("true"),
+        Argument::Flag(false) => Piece::Words("false"),
+    };
+    ShortText(EMPTY_PIECE, EMPTY_PIECE, EMPTY_PIECE, piece)
+}

@@ -1,0 +1,146 @@
+#!/usr/bin/env python3
+"""Tests docs/check.py and c/header_test.py: in a copy of the repository each row of PLANTS is a fault, and all have to
+be named.
+
+The last line is `N passed, M failed`, and the status is 1 if a fault is not named.
+"""
+import pathlib
+import shutil
+import subprocess
+import sys
+import tempfile
+
+TOP = pathlib.Path(__file__).resolve().parent.parent
+COPIED = ["*.md", "crates.txt", ".ci", "bench", "c", "compare", "crates", "docs", "rust"]
+
+# A file, a piece of it (`None`: its end, also of a new file), what stands there instead, and what has to be printed.
+FLAGS, FORMAT, DIGIT = "crates/lexical_flags/src/format_flags.rt", "docs/FORMAT.md", "crates/lexical_base/src/digit.rt"
+DIGITS, SPECS, HEADER = "crates/lexical_base/specs/Digits.antt", "crates/lexical_util/specs", "c/peltzivar.h"
+EDITS, UTIL = "crates/lexical_util/src/edits.rt", "Rattle.lexical_util.specs"
+WORD = "0x0123456789ABCDEF0123456789ABCDE0"
+PLANTS = [
+    ("docs/RUST.md", None, "[a](planted.md)\n", "docs/RUST.md: leads to no file: planted.md"),
+    ("docs/RUST.md", None, "[a](#planted)\n", "docs/RUST.md: leads to no heading: #planted"),
+    ("docs/RUST.md", None, "```rust\nlet planted = 0;\n```\n", "docs/RUST.md: not in the code:\nlet planted = 0;\n"),
+    ("docs/RUST.md", None, "`planted_text`\n", "docs/RUST.md: in no code: planted_text"),
+    ("docs/RUST.md", None, "`digit::Edit`\n", "docs/RUST.md: in no code: digit::Edit"),
+    ("docs/RUST.md", None, "30 flags\n", "docs/RUST.md: there are 31 flags, not 30"),
+    ("docs/RUST.md", None, "eight groups\n", "docs/RUST.md: there are 9 groups, not eight"),
+    ("docs/RUST.md", None, "seven bytes\n", "docs/RUST.md: there are 6 bytes, not seven"),
+    ("docs/RUST.md", None, "36 fields\n", "docs/RUST.md: there are 37 fields, not 36"),
+    ("docs/RUST.md", None, "15 rules\n", "docs/RUST.md: there are 16 rules, not 15"),
+    ("docs/RUST.md", None, "six rules\n", "docs/RUST.md: there are 16 rules, not six"),
+    ("docs/RUST.md", None, "48 reserved bits\n", "docs/RUST.md: there are 49 reserved bits, not 48"),
+    ("docs/RUST.md", None, "48 outcomes\n", "docs/RUST.md: there are 49 outcomes, not 48"),
+    ("docs/RUST.md", None, "Rust 1.2\n", "docs/RUST.md: Rust 1.2 is not the least version, "),
+    ("docs/RUST.md", None, "0x00000000_0\n", "docs/RUST.md: has a `_`: 0x00000000_0"),
+    ("docs/RUST.md", None, f"{'x' * 121}\n", "docs/RUST.md: over 120 columns: xxx"),
+    (FORMAT, None, f"`{WORD}`\n", f"docs/FORMAT.md: in no code: {WORD}"),
+    (FORMAT, "| 12 | `no_integer_leading_zeros` | false |", "| 12 | `no_integer_leading_zeros` | true |",
+     "docs/FORMAT.md: not in the table once: | 12 | `no_integer_leading_zeros` | false |"),
+    (FORMAT, None, "| 7 |\n", "docs/FORMAT.md: the tests have "),
+    (FORMAT, "refuses `+1` |", "refuses `+2` |",
+     "docs/FORMAT.md: the setter `no_positive_mantissa_sign` does not say: If set, a parser refuses `+2`"),
+    (FORMAT, "| separators in the integer |", "| separators in the fraction |",
+     "docs/FORMAT.md: `integer_digit_separator_flags` is about something else: separators in the fraction"),
+    (FORMAT, " 127       120 ", " 127       121 ", "docs/FORMAT.md: the drawing has other bits than the tables"),
+    (FORMAT, "| not both flags 4 and 5 |", "| not both flags 4 and 6 |",
+     "docs/FORMAT.md: rule 9 demands another thing: not both flags 4 and 6"),
+    (FORMAT, "16, 17 or 15 is", "17, 16 or 15 is", "docs/FORMAT.md: does not have: If a base prefix, a base suffix"),
+    (FORMAT, "Exit status: 0;", "Exit status: 4;", "docs/FORMAT.md: does not have: Exit status: 0;"),
+    ("rust/src/feature_format.rs", "/// Whether a parser refuses `.`:", "/// Whether a parser refuses `,`:",
+     "docs/FORMAT.md: rust/src/feature_format.rs: `required_mantissa_digits` does not say: refuses `.`"),
+    (FLAGS, "::required_fraction_digits]", "::required_integer_digits]",
+     "format_flags.rt: `REQUIRED_FRACTION_DIGITS` points to the setter `required_integer_digits`"),
+    (FLAGS, None, "pub const PLANTED: u128 = 0;\n", "not exported by lexical_util::format: PLANTED"),
+    (DIGIT, None, "pub fn planted()\n    requires { x }\n    ensures clause { x }\n{\n}\n",
+     "docs/PROVED.md: public, and has premises: planted"),
+    (DIGIT, None, "", "docs/PROVED.md: in no row, the clause `clause` of `digit::planted`"),
+    ("docs/PROVED.md", "no others: ", "no others: `planted_call`, ",
+     "docs/PROVED.md: no public function that has premises: planted_call"),
+    ("docs/PROVED.md", "`digit`, `larger` |", "`digit`, `smaller` |", "docs/PROVED.md: no clause `smaller` of: "),
+    ("docs/check_clauses.py", "PARTIAL = {", "PARTIAL = {'planted': '',",
+     "docs/PROVED.md: check_clauses.py has no row: planted"),
+    ("rust/tools/erase.py", "EVERYWHERE = [", "EVERYWHERE = [('', ''),", " texts, not "),
+    ("rust/tools/erase.py", "\n# Plumbing of C", "\nITEMS = [*ITEMS, ('', '')]\n#", " items in place, not "),
+    ("docs/DIFFERENCES.md", "| `numeral` | `read_numeral` |", "| `numeral` | `planted` |",
+     "docs/DIFFERENCES.md: not public in numeral: planted"),
+    ("docs/DIFFERENCES.md", " others ", " other ", "docs/DIFFERENCES.md: there are "),
+    ("crates/lexical_base/must-fail/planted", None, "",
+     "crates/lexical_base/must-fail/planted: not tried, it does not end in .edit"),
+    ("docs/check.py", "LEAST_TESTS = ", "LEAST_TESTS = 9999, 9999 #", ", fewer than before"),
+    (DIGITS, None, f"-- {'x' * 158}\n", ": 161 columns"),
+    (DIGITS, None, f"-- {'x' * 118}\n" * 151, " lines of over 120 columns"),
+    (DIGITS, None, "-- h.0.1\n", ": a fact by its position: -- h.0.1"),
+    ("README.md", None, "planted " * 800, " words, more than 800"),
+    ("README.md", None, "\n| Planted | 1.00 | 1.00 |\n", "README.md: not in bench/README.md: | Planted |"),
+    ("docs/check.py", "STARTS = [", "STARTS = ['planted',", "README.md: has no command: planted"),
+    (".ci/run", "start rust/tools/test.sh", "", "README.md: .ci/run does not call: cd rust && cargo test"),
+    (".ci/run", "\nrt ci |", "\nrt |", "README.md: .ci/run does not call: rt ci"),
+    (HEADER, "bool peltzivar_is_digit(", "int peltzivar_is_digit(",
+     "c/peltzivar.h: not both declared and exported: PELTZIVAR_API int peltzivar_is_digit("),
+    ("rust/capi/src/lib.rs", None, "// no_mangle", " calls are declared, and "),
+    (HEADER, "_SET_REQUIRED_FRACTION_DIGITS,", "_SET_REQUIRED,", "c/peltzivar.h: has not the setters in their order"),
+    (HEADER, "_OVERFLOW = 1,", "_OVERFLOW = 2,", "c/peltzivar.h: not there once: PELTZIVAR_OVERFLOW = 1"),
+    (HEADER, "#define PELTZIVAR_VERSION_PATCH ", "#define PELTZIVAR_VERSION_PATCH 7",
+     "c/peltzivar.h: has not: #define PELTZIVAR_VERSION_PATCH "),
+    (HEADER, None, "", "peltzivar.h has what the sources do not have: PELTZIVAR_SET_REQUIRED"),
+    (HEADER, "(the bytes 9 to 13 and", "(the bytes 9 to 14 and", "no comment has this text: (the bytes 9 to 13 and"),
+    (HEADER, "/* exponent_radix is between", "/* exponent_base is between", "EXPONENT_RADIX_IN_RANGE does not have the"),
+    (HEADER, "* A digit_separator has one byte.", "* An exponent_base has one byte.",
+     "PELTZIVAR_RULE_PUNCTUATION_DIFFERS has a comment with other names"),
+    (HEADER, None, "/* 7 */\n", "nothing compares the number 7: 7"),
+    (HEADER, None, "/* peltzivar_planted, such as \"planted\" */\n", "no such name: peltzivar_planted"),
+    (HEADER, None, "", "in no test: planted"),
+    (DIGITS, None, "pub planted : ℕ\nplanted = planted_name\n", "lexical_base.Digits.planted: what is planted_name?"),
+    (f"{SPECS}/Additions/Planted.antt", None, "-- Planted.\n\npub planted : ℕ\nplanted = 1\n",
+     "lexical_util.Additions.Planted: its first comment names no public function that it serves"),
+    (f"{SPECS}/Planted.antt", None, "-- Planted.\n\npub planted : ℕ\nplanted = 1\n",
+     "lexical_util.Planted: no public contract reaches planted"),
+    (f"{SPECS}/Other.antt", None, "-- Other.\n\npub other : ℕ\nother = 1\n",
+     "lexical_util.Other is at the top of specs/, and no headline call reaches it"),
+    (EDITS, "OkIff result (Lawful (", "OkIff FLAG_MASK mask_of_edit (Lawful (",
+     "migrate reaches the constant FLAG_MASK by its contract"),
+    (EDITS, "\nghost use ", f"\nghost use {UTIL}.declared.TheConstants.{{FLAG_MASK}};\nghost use ", ""),
+    (EDITS, "\nghost use ", f"\nghost use {UTIL}.Additions.SettingNumbers.{{mask_of_edit}};\nghost use ",
+     "migrate reaches the addition mask_of_edit by its contract"),
+    ("docs/check_definitions.py", "APART = {", "APART = {'planted': '',", "planted is no file for the table"),
+    ("docs/check_definitions.py", '"edit_word": 300', '"edit_word": 3', " lines of definitions, more than 3\n"),
+    ("docs/PROVED.md", "<!-- calls -->\n", "<!-- calls -->\n\n", "docs/PROVED.md: its tables of definitions are old"),
+    ("docs/planted_test.sh", None, "", "docs/planted_test.sh: neither .ci/run nor what it runs calls this test"),
+]  # fmt: skip
+
+
+def copy(folder):
+    """Copies what docs/check.py reads."""
+    for path in [path for pattern in COPIED for path in TOP.glob(pattern)]:
+        if path.is_dir():
+            shutil.copytree(path, folder / path.name, ignore=shutil.ignore_patterns("out", "target"))
+        else:
+            shutil.copy(path, folder / path.name)
+
+
+def plant(folder, file, old, new):
+    """Returns whether the piece stands in the file, and puts the fault there."""
+    path = folder / file
+    text = path.read_text() if path.exists() else ""
+    path.write_text(text + new if old is None else text.replace(old, new, 1))
+    return old is None or old in text
+
+
+def main():
+    with tempfile.TemporaryDirectory() as temporary:
+        folder = pathlib.Path(temporary)
+        copy(folder)
+        absent = [file for file, old, new, _ in PLANTS if not plant(folder, file, old, new)]
+        programs = [["docs/check.py"], ["c/header_test.py"], ["c/header_test.py", "--comments"]]
+        runs = [subprocess.run([sys.executable, *it], cwd=folder, capture_output=True, text=True) for it in programs]
+    printed = "".join(run.stdout + run.stderr for run in runs)
+    missing = [text for *_, text in PLANTS if text not in printed]
+    failed = [*(f"a piece is not in {file}" for file in absent), *(f"not named: {text}" for text in missing)]
+    failed += [f"{run.args[1:]}: the status is {run.returncode}: {run.stderr}" for run in runs if run.returncode != 1]
+    print(*failed, f"{len(PLANTS) - len(missing)} passed, {len(failed)} failed", sep="\n")
+    return bool(failed)
+
+
+sys.exit(main())

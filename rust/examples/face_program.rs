@@ -1,0 +1,204 @@
+//! Literals of a small assembler: one format that is known when the program is compiled, and one that its user sets.
+//!
+//!     cargo run --example face_program
+
+use core::num::NonZeroU8;
+use peltzivar::format::{NumberFormat, NumberFormatBuilder, STANDARD};
+use peltzivar::{Edit, Error, FlagSetter, Format, FormatView, Rule, SettingError};
+use std::collections::BTreeSet;
+
+/// `0x00_ff`. A format that is not lawful does not compile.
+const HEXADECIMAL: u128 = NumberFormatBuilder::new()
+    .mantissa_radix(16)
+    .base_prefix(NonZeroU8::new(b'x'))
+    .digit_separator(NonZeroU8::new(b'_'))
+    .integer_internal_digit_separator(true)
+    .build_or_panic();
+
+/// The same, checked once, when the program is compiled.
+const CHECKED: Format = Format::of::<HEXADECIMAL>();
+
+/// The value of a literal. It takes nothing but lawful formats: no byte of the text has two meanings.
+fn value(text: &str, format: impl Into<Format>) -> Option<u64> {
+    let format: Format = format.into();
+    let prefix = ['0', char::from(format.base_prefix())];
+    let digits = match format.has_base_prefix() {
+        true => text
+            .strip_prefix(&String::from_iter(prefix))
+            .unwrap_or(text),
+        false => text,
+    };
+    let is_separator =
+        |byte: u8| format.integer_internal_digit_separator() && byte == format.digit_separator();
+    let mut value: u64 = 0;
+    for byte in digits.bytes().filter(|byte| !is_separator(*byte)) {
+        let digit = char::from(byte).to_digit(format.radix())?;
+        value = value
+            .checked_mul(format.radix().into())?
+            .checked_add(digit.into())?;
+    }
+    Some(value)
+}
+
+/// How many bytes of a text are digits, for any view: lawful or not, known when the program is compiled or when it runs.
+fn digits(text: &str, view: impl Into<FormatView>) -> usize {
+    let view = view.into();
+    text.bytes().filter(|byte| view.is_digit(*byte)).count()
+}
+
+/// The format of settings, or each thing that is wrong with them, behind the numbers of its lines.
+fn read(settings: &str) -> Result<Format, Vec<String>> {
+    let mut problems = Vec::new();
+    let mut edits: Vec<(usize, Edit)> = Vec::new();
+    for (number, line) in (1..).zip(settings.lines()) {
+        match line.parse() {
+            Ok(edit) => edits.push((number, edit)),
+            Err(error) => {
+                let error: SettingError = error;
+                problems.push(format!("{number}: {line:?}: {error}"));
+            }
+        }
+    }
+    let lines = |mask: u128| {
+        let about = edits.iter().filter(|(_, edit)| edit.mask() & mask != 0);
+        BTreeSet::from_iter(about.map(|(number, _)| *number))
+    };
+    let builder: NumberFormatBuilder = edits.iter().map(|(_, edit)| *edit).collect();
+    problems.extend(
+        builder
+            .view()
+            .reasons()
+            .map(|it| format!("{:?}: {it}", lines(it.mask()))),
+    );
+    problems.extend(
+        builder
+            .notes()
+            .map(|it| format!("{:?}: {it}", lines(it.mask()))),
+    );
+    if problems.is_empty() {
+        return builder
+            .build_format()
+            .map_err(|error| vec![error.to_string()]);
+    }
+    Err(problems)
+}
+
+/// The same literals in another radix, whose exponents follow it, from a finished format.
+fn in_radix(format: Format, radix: u8) -> Result<Format, Error> {
+    NumberFormatBuilder::from(format)
+        .mantissa_radix(radix)
+        .build_format()
+}
+
+fn main() -> Result<(), Box<dyn std::error::Error>> {
+    // A format that is known when the program is compiled: as a type, as a value, as a word.
+    assert_eq!(
+        value("0xff_ff", NumberFormat::<HEXADECIMAL>::new()),
+        Some(0xFFFF)
+    );
+    assert_eq!(value("ff", CHECKED), Some(0xFF));
+    assert_eq!(CHECKED.word(), HEXADECIMAL);
+    assert_eq!(
+        digits("12fg", CHECKED) + digits("12fg", NumberFormat::<STANDARD>::new()),
+        3 + 2
+    );
+
+    // Settings that are right, and settings that are wrong.
+    let format = read("mantissa_radix=2\nbase_prefix='b'\nno_special=true")
+        .map_err(|problems| problems.join("\n"))?;
+    assert_eq!(value("0b101", format), Some(5));
+    let problems =
+        read("radix=16\nbase_prefix='b'\nno_special=yes\ndigit_separator='_'\nbase_sufix='h'")
+            .unwrap_err();
+    assert_eq!(
+        problems,
+        [
+            r#"3: "no_special=yes": no_special takes `true` or `false`"#,
+            r#"5: "base_sufix='h'": unknown setting name"#,
+            "{1, 2}: the base prefix 'b' is a digit in radix 16",
+            "{4}: no number can have the digit separator '_': no flag allows one",
+        ]
+    );
+    // One cause, one sentence: the empty exponent bytes follow the mantissa radix, and say nothing.
+    assert_eq!(
+        read("mantissa_radix=37").unwrap_err(),
+        ["{1}: the mantissa radix 37 is not between 2 and 36"]
+    );
+
+    // Derived formats: the fields as they are written, or with the exponent filled first.
+    let octal = in_radix(CHECKED, 8)?;
+    assert_eq!(
+        (octal.radix(), octal.exponent_base(), octal.exponent_radix()),
+        (8, 8, 8)
+    );
+    assert_eq!(
+        CHECKED
+            .rebuild()
+            .mantissa_radix(8)
+            .build_format()?
+            .exponent_base(),
+        16
+    );
+    let mut plain = NumberFormatBuilder::from(octal);
+    plain.extend([
+        Edit::BasePrefix(None),
+        Edit::Flag(FlagSetter::DigitSeparatorFlags, false),
+    ]);
+    assert_eq!(
+        plain.build_format()?.normal_form(),
+        Format::new(NumberFormatBuilder::octal())?
+    );
+    assert_eq!(octal.edits().collect::<NumberFormatBuilder>(), octal.into());
+    assert_eq!(in_radix(CHECKED, 37), Err(Error::InvalidMantissaRadix));
+
+    // A word that came from elsewhere, and all that is wrong with it.
+    let view: FormatView = "0x00000A2B00000000000000008000003C".parse()?;
+    assert_eq!(view.check(), Err(Error::InvalidBaseSuffix));
+    let sentences: Vec<String> = view.reasons().map(|reason| format!("{reason}")).collect();
+    assert_eq!(
+        sentences,
+        [
+            "the base suffix '+' is a sign (+ or -)",
+            "no_positive_mantissa_sign and required_mantissa_sign cannot both be set",
+            "reserved bits are set: 0x80000000",
+        ]
+    );
+    assert!(view
+        .reasons()
+        .map(|reason| reason.rule())
+        .eq(view.broken_rules()));
+    assert!(view.broken_rules().eq(Rule::ALL
+        .iter()
+        .copied()
+        .filter(|rule| !rule.is_kept(view.word()))));
+    assert_eq!(
+        format!("{view:?}"),
+        "FormatView { word: 0x00000A2B00000000000000008000003C, no_positive_mantissa_sign: true, \
+         required_mantissa_sign: true, base_suffix: '+', reserved_bits: 0x80000000, \
+         broken_rules: [BaseSuffixIsPunctuation, MantissaSignFlagsAgree, ReservedBitsAreZero] }"
+    );
+
+    // Text and hexadecimal digits, of formats and of settings, there and back.
+    assert_eq!(format!("{octal}").parse(), Ok(octal));
+    assert_eq!(
+        format!("{CHECKED:#x} {CHECKED:X}"),
+        format!("{HEXADECIMAL:#x} {HEXADECIMAL:X}")
+    );
+    assert_eq!("0x12 4".parse::<FormatView>(), Err(Error::InvalidDigit(4)));
+    assert_eq!("0x0".parse::<Format>(), Err(Error::InvalidMantissaRadix));
+    let saved: Vec<String> = octal.edits().map(|edit| edit.to_string()).collect();
+    assert_eq!(
+        saved.join("\n"),
+        "integer_internal_digit_separator=true\ndigit_separator=95\nbase_prefix=120\nmantissa_radix=8"
+    );
+    assert_eq!("no_special".parse(), Ok(FlagSetter::NoSpecial));
+
+    // The exponent character and the decimal point of the parser that will use the format.
+    CHECKED.check_options(b'p', b'.')?;
+    assert_eq!(
+        CHECKED.check_options(b'e', b'.'),
+        Err(Error::InvalidExponentSymbol)
+    );
+    println!("{CHECKED:#?}");
+    Ok(())
+}

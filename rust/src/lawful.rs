@@ -1,0 +1,197 @@
+//! A format word that was checked, and the calls that check one.
+
+use core::ops::Deref;
+
+use crate::edits::normal_form;
+use crate::error::Error;
+use crate::feature_format::NumberFormat;
+use crate::format_builder::NumberFormatBuilder;
+use crate::format_flags::{check, options_error};
+use crate::refusal::Refusal;
+use crate::view::FormatView;
+use crate::word::STANDARD;
+
+/// A lawful format: a format word that breaks no rule. Take it as an argument where a number is parsed, written or
+/// checked.
+///
+/// It reads as its [`FormatView`], by `Deref`; in a `const fn`, call [`view`][Self::view] first. Equality, order and
+/// hash are those of the word. Two words can express the same format, so compare [normal forms][Self::normal_form].
+///
+/// ```
+/// use peltzivar::{Error, Format, FormatView};
+///
+/// fn digits(text: &str, format: impl Into<Format>) -> usize {
+///     let format = format.into();
+///     text.bytes().filter(|byte| format.is_digit(*byte)).count()
+/// }
+/// assert_eq!(digits("12fg", Format::default()), 2);
+/// assert_eq!(Format::new(0), Err(Error::InvalidMantissaRadix));
+/// ```
+///
+/// # Proved
+///
+/// Every way to a `Format` leads through [`Format::new`], which tests all [rules][crate::Rule]. What is proved of
+/// lawful words holds for each of them:
+///
+/// - Mantissa radix, exponent base and exponent radix are between 2 and 36.
+/// - Digit separator, base prefix and base suffix are absent or punctuation, and no byte plays two of the roles digit,
+///   sign, separator, prefix and suffix. If [`check_options`][Self::check_options] accepts them, this holds with the
+///   exponent character and the decimal point too; some pair of them always fits.
+/// - No two flags contradict each other, and all reserved bits are 0.
+/// - Its [normal form][Self::normal_form] is a `Format` too.
+#[derive(Clone, Copy, PartialEq, Eq, PartialOrd, Ord, Hash)]
+pub struct Format {
+    view: FormatView,
+}
+
+impl Format {
+    /// Returns the format of a word.
+    ///
+    /// # Errors
+    ///
+    /// The error of the first rule that the word breaks, which is never [`Error::Success`].
+    pub const fn new(word: u128) -> Result<Self, Error> {
+        // All other ways to a format call this one.
+        match check(word) {
+            Ok(word) => Ok(Format {
+                view: FormatView::new(word),
+            }),
+            Err(error) => Err(error),
+        }
+    }
+
+    /// Returns the format of a word that is known when the program is compiled. An unlawful word does not compile.
+    ///
+    /// ```compile_fail,E0080
+    /// const FORMAT: peltzivar::Format = peltzivar::Format::of::<0>();
+    /// # fn main() { let _ = FORMAT; }
+    /// ```
+    #[must_use]
+    pub const fn of<const FORMAT: u128>() -> Self {
+        const {
+            match Format::new(FORMAT) {
+                Ok(format) => format,
+                Err(_) => panic!("{}", Refusal::of(FORMAT).text()),
+            }
+        }
+    }
+
+    /// Returns the word.
+    #[must_use]
+    #[inline(always)]
+    pub const fn word(&self) -> u128 {
+        self.view.word()
+    }
+
+    /// Returns the view of the word.
+    #[must_use]
+    #[inline(always)]
+    pub const fn view(&self) -> FormatView {
+        self.view
+    }
+
+    /// Returns the [normal form][normal_form]: the canonical word of the same format, which is lawful too.
+    #[must_use]
+    pub const fn normal_form(&self) -> Self {
+        match Format::new(normal_form(self.word())) {
+            Ok(format) => format,
+            Err(_) => unreachable!(),
+        }
+    }
+
+    /// Checks the exponent character and the decimal point of a parser or writer that will use the format.
+    ///
+    /// # Errors
+    ///
+    /// [`Error::InvalidExponentSymbol`] or [`Error::InvalidDecimalPoint`] if the byte is not allowed ASCII, or if it is
+    /// a sign or a digit; [`Error::InvalidPunctuation`] if a byte would play two roles.
+    pub const fn check_options(&self, exponent: u8, decimal_point: u8) -> Result<(), Error> {
+        match options_error(self.word(), exponent, decimal_point) {
+            Error::Success => Ok(()),
+            error => Err(error),
+        }
+    }
+}
+
+/// A format can be read as its view.
+impl Deref for Format {
+    type Target = FormatView;
+
+    #[inline(always)]
+    fn deref(&self) -> &FormatView {
+        &self.view
+    }
+}
+
+impl Default for Format {
+    /// Returns the [standard format][STANDARD].
+    fn default() -> Self {
+        Format::of::<STANDARD>()
+    }
+}
+
+/// A word that is not lawful does not compile.
+impl<const FORMAT: u128> From<NumberFormat<FORMAT>> for Format {
+    #[inline(always)]
+    fn from(_: NumberFormat<FORMAT>) -> Self {
+        Format::of::<FORMAT>()
+    }
+}
+
+impl TryFrom<u128> for Format {
+    type Error = Error;
+
+    fn try_from(word: u128) -> Result<Self, Error> {
+        Format::new(word)
+    }
+}
+
+impl From<Format> for u128 {
+    #[inline(always)]
+    fn from(format: Format) -> Self {
+        format.word()
+    }
+}
+
+impl From<Format> for FormatView {
+    #[inline(always)]
+    fn from(format: Format) -> Self {
+        format.view()
+    }
+}
+
+impl From<Format> for NumberFormatBuilder {
+    /// Returns a builder with the fields as they are written ([`from_word`][NumberFormatBuilder::from_word]).
+    #[inline(always)]
+    fn from(format: Format) -> Self {
+        NumberFormatBuilder::from_word(format.word())
+    }
+}
+
+impl FormatView {
+    /// Returns the format if the word is lawful.
+    ///
+    /// # Errors
+    ///
+    /// The error of the first rule that the word breaks.
+    pub const fn check(&self) -> Result<Format, Error> {
+        Format::new(self.word())
+    }
+}
+
+impl NumberFormatBuilder {
+    /// Returns the view of the word that the builder packs, lawful or not.
+    #[must_use]
+    pub const fn view(&self) -> FormatView {
+        FormatView::new(self.build_unchecked())
+    }
+
+    /// Packs the fields into a format.
+    ///
+    /// # Errors
+    ///
+    /// The error of the first rule that the fields break.
+    pub const fn build_format(&self) -> Result<Format, Error> {
+        Format::new(self.build_unchecked())
+    }
+}

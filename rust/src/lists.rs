@@ -1,0 +1,96 @@
+//! Lists of rules, reasons, notes and edits as iterators, and builders of lists of edits.
+
+use crate::edits::{apply, edits_of, Edit, FlagSetter, SETTERS, SETTER_NAMES};
+use crate::format_builder::NumberFormatBuilder;
+use crate::format_flags::{broken_rules, Rule, RULES};
+use crate::reasons::{notes, notes_of_fields, reasons, Note, Reason};
+use crate::view::FormatView;
+
+impl FormatView {
+    /// Returns the rules that the word breaks, in their order.
+    pub fn broken_rules(&self) -> impl Iterator<Item = Rule> + Clone {
+        broken_rules(self.word()).into_iter().flatten()
+    }
+
+    /// Returns the reasons for which the word is not lawful, rule by rule. There are none if and only if it is lawful.
+    ///
+    /// Each cause is one reason: an absent exponent base or exponent radix follows the mantissa radix, and is never a
+    /// reason.
+    ///
+    /// ```
+    /// let view = peltzivar::FormatView::new(0x00002500_00000000_00000000_0000003C);
+    /// let reasons: Vec<String> = view.reasons().map(|reason| reason.to_string()).collect();
+    /// assert_eq!(reasons, [
+    ///     "the mantissa radix 37 is not between 2 and 36",
+    ///     "no_positive_mantissa_sign and required_mantissa_sign cannot both be set",
+    /// ]);
+    /// ```
+    pub fn reasons(&self) -> impl Iterator<Item = Reason> + Clone {
+        reasons(self.word()).into_iter().flatten()
+    }
+
+    /// Returns the fields that are set and change no number that can be written. A lawful word may have them.
+    pub fn notes(&self) -> impl Iterator<Item = Note> + Clone {
+        notes(self.word()).into_iter().flatten()
+    }
+
+    /// Returns the setter calls that make the word from a new builder: an edit for each field that differs from the
+    /// builder's, as [`edits_of`] lists them.
+    pub fn edits(&self) -> impl Iterator<Item = Edit> + Clone {
+        let (edits, count) = edits_of(self.word());
+        edits.into_iter().take(count)
+    }
+}
+
+impl NumberFormatBuilder {
+    /// Returns the fields that are set and change no number that can be written. A digit separator that no flag allows
+    /// is among them, though the word does not have it.
+    pub fn notes(&self) -> impl Iterator<Item = Note> + Clone {
+        notes_of_fields(self).into_iter().flatten()
+    }
+}
+
+/// Applies the edits to a new builder, in order.
+///
+/// ```
+/// use peltzivar::{Edit, NumberFormatBuilder, SettingError};
+///
+/// let settings = ["mantissa_radix=16", "base_prefix='x'"];
+/// let builder: NumberFormatBuilder = settings.iter().map(|it| it.parse::<Edit>()).collect::<Result<_, _>>()?;
+/// assert_eq!(builder.get_mantissa_radix(), 16);
+/// # Ok::<(), SettingError>(())
+/// ```
+impl FromIterator<Edit> for NumberFormatBuilder {
+    fn from_iter<I: IntoIterator<Item = Edit>>(edits: I) -> Self {
+        edits.into_iter().fold(NumberFormatBuilder::new(), apply)
+    }
+}
+
+/// Applies the edits, in order.
+impl Extend<Edit> for NumberFormatBuilder {
+    fn extend<I: IntoIterator<Item = Edit>>(&mut self, edits: I) {
+        *self = edits.into_iter().fold(*self, apply);
+    }
+}
+
+/// Applies the edits, in order.
+impl<'a> Extend<&'a Edit> for NumberFormatBuilder {
+    fn extend<I: IntoIterator<Item = &'a Edit>>(&mut self, edits: I) {
+        self.extend(edits.into_iter().copied());
+    }
+}
+
+impl Rule {
+    /// All rules, in their order.
+    pub const ALL: &'static [Rule] = &RULES;
+}
+
+impl FlagSetter {
+    /// All flag setters in the order of their bits, and then the group setters.
+    pub const ALL: &'static [FlagSetter] = &SETTERS;
+}
+
+impl Edit {
+    /// The names of all setters, and so of all settings.
+    pub const NAMES: &'static [&'static str] = &SETTER_NAMES;
+}

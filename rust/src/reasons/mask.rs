@@ -1,0 +1,132 @@
+// Made by rust/tools/erase.py from crates/lexical_util/src/reasons/mask.rt: change that file.
+
+//! The rules that a reason breaks, and the bits that it blames.
+
+use crate::edits::{Edit, FlagSetter};
+use crate::format_flags as flags;
+use crate::format_flags::Rule;
+use crate::reasons::{some_if, Reason};
+
+impl Reason {
+    /// Returns the first rule that the reason breaks.
+    #[must_use]
+    pub const fn rule(&self) -> Rule {
+        match self {
+            Reason::MantissaRadixOutOfRange(_, _, _) => Rule::MantissaRadixInRange,
+            Reason::OutOfRange(edit) => radix_rule(*edit),
+            Reason::NotText(edit) | Reason::IsSign(edit) | Reason::IsDigit(edit, _) => {
+                punctuation_rule(*edit)
+            }
+            Reason::Clash(_, _, _) => Rule::PunctuationDiffers,
+            Reason::Contradict(a, b) => rule_of_flags(*a, *b),
+            Reason::NeedsPosition(flag) => position_rule(*flag),
+            Reason::ReservedBits(_) => Rule::ReservedBitsAreZero,
+        }
+    }
+
+    /// Returns the rules that the reason breaks, each in its own slot, in the order of the rules.
+    #[must_use]
+    #[doc(hidden)]
+    pub const fn rules(&self) -> [Option<Rule>; 3] {
+        match self {
+            Reason::MantissaRadixOutOfRange(_, base_follows, exponent_follows) => [
+                Some(Rule::MantissaRadixInRange),
+                some_if(*base_follows, Rule::ExponentBaseInRange),
+                some_if(*exponent_follows, Rule::ExponentRadixInRange),
+            ],
+            Reason::OutOfRange(_)
+            | Reason::NotText(_)
+            | Reason::IsSign(_)
+            | Reason::IsDigit(_, _)
+            | Reason::Clash(_, _, _)
+            | Reason::Contradict(_, _)
+            | Reason::NeedsPosition(_)
+            | Reason::ReservedBits(_) => [Some(self.rule()), None, None],
+        }
+    }
+
+    /// Returns whether the reason breaks a rule: its first rule or, if the reason is a mantissa radix, the rule of an
+    /// exponent byte that follows it.
+    #[must_use]
+    pub const fn breaks(&self, rule: Rule) -> bool {
+        match self {
+            Reason::MantissaRadixOutOfRange(_, base_follows, exponent_follows) => match rule {
+                Rule::ExponentBaseInRange => *base_follows,
+                Rule::ExponentRadixInRange => *exponent_follows,
+                _ => is_rule(rule, Rule::MantissaRadixInRange),
+            },
+            Reason::OutOfRange(_)
+            | Reason::NotText(_)
+            | Reason::IsSign(_)
+            | Reason::IsDigit(_, _)
+            | Reason::Clash(_, _, _)
+            | Reason::Contradict(_, _)
+            | Reason::NeedsPosition(_)
+            | Reason::ReservedBits(_) => is_rule(rule, self.rule()),
+        }
+    }
+
+    /// Returns the bits of a word that the reason blames. The reason is true of each word that has the same bits there.
+    ///
+    /// A setting may be to blame if its [`Edit::mask`] has a bit in common with this mask.
+    #[must_use]
+    pub const fn mask(&self) -> u128 {
+        match self {
+            Reason::MantissaRadixOutOfRange(_, _, _) => flags::MANTISSA_RADIX,
+            Reason::OutOfRange(edit) | Reason::NotText(edit) | Reason::IsSign(edit) => edit.mask(),
+            Reason::IsDigit(edit, radix) => edit.mask() | radix.mask(),
+            Reason::Clash(a, b, None) => a.mask() | b.mask(),
+            Reason::Clash(a, b, Some(flag)) => a.mask() | b.mask() | mask_of_setter(*flag),
+            Reason::Contradict(a, b) => mask_of_setter(*a) | mask_of_setter(*b),
+            Reason::NeedsPosition(flag) => position_rule(*flag).mask(),
+            Reason::ReservedBits(bits) => *bits,
+        }
+    }
+}
+
+// Returns whether two rules are equal.
+const fn is_rule(a: Rule, b: Rule) -> bool {
+    a as u8 == b as u8
+}
+
+// Returns the rule of the exponent byte that an edit writes.
+const fn radix_rule(edit: Edit) -> Rule {
+    match edit {
+        Edit::ExponentBase(_) => Rule::ExponentBaseInRange,
+        _ => Rule::ExponentRadixInRange,
+    }
+}
+
+// Returns the punctuation rule of the byte that an edit writes.
+const fn punctuation_rule(edit: Edit) -> Rule {
+    match edit {
+        Edit::DigitSeparator(_) => Rule::DigitSeparatorIsPunctuation,
+        Edit::BasePrefix(_) => Rule::BasePrefixIsPunctuation,
+        _ => Rule::BaseSuffixIsPunctuation,
+    }
+}
+
+// Returns the rule of two flags that cannot both be set.
+const fn rule_of_flags(a: FlagSetter, b: FlagSetter) -> Rule {
+    match (a, b) {
+        (FlagSetter::NoExponentNotation, _) => Rule::ExponentFlagsAgree,
+        (FlagSetter::NoPositiveMantissaSign, _) => Rule::MantissaSignFlagsAgree,
+        (FlagSetter::NoPositiveExponentSign, _) => Rule::ExponentSignFlagsAgree,
+        (_, FlagSetter::CaseSensitiveSpecial) => Rule::SpecialCaseFlagsAgree,
+        _ => Rule::SpecialSeparatorFlagsAgree,
+    }
+}
+
+// Returns the rule of a setter for consecutive digit separators.
+const fn position_rule(flag: FlagSetter) -> Rule {
+    match flag {
+        FlagSetter::IntegerConsecutiveDigitSeparator => Rule::IntegerConsecutiveIsAllowed,
+        FlagSetter::FractionConsecutiveDigitSeparator => Rule::FractionConsecutiveIsAllowed,
+        _ => Rule::ExponentConsecutiveIsAllowed,
+    }
+}
+
+// Returns the bits that a flag setter writes.
+pub(super) const fn mask_of_setter(setter: FlagSetter) -> u128 {
+    Edit::Flag(setter, true).mask()
+}

@@ -1,0 +1,70 @@
+// Made by rust/tools/erase.py from crates/lexical_util/src/source.rt: change that file.
+
+//! Format words as Rust code.
+
+use crate::edits::{edits_of, Argument, Edit};
+use crate::error::{Piece, ShortText, Sink, EMPTY_PIECE};
+use core::fmt;
+
+/// The builder expression of a format word, as Rust code: a new builder, a setter call for each field in which the word
+/// differs from it, and the call that packs the word.
+///
+/// Any word may be passed. The expression builds this very word if and only if [`is_built`][crate::edits::is_built]
+/// returns `true` for it.
+///
+/// ```
+/// use peltzivar::source::BuilderExpression;
+///
+/// let code = BuilderExpression(0x00001000_00000000_00000000_0000000C).to_string();
+/// assert_eq!(code, "NumberFormatBuilder::new().mantissa_radix(16).build_unchecked()");
+/// ```
+#[derive(Clone, Copy, Debug)]
+pub struct BuilderExpression(pub u128);
+
+impl BuilderExpression {
+    /// Puts the expression, which has less than 2048 bytes, into a sink. Fails only if the sink fails.
+    #[doc(hidden)]
+    pub fn put_into<S: Sink>(&self, out: &mut S) -> Result<(), fmt::Error> {
+        let (edits, count) = edits_of(self.0);
+        out.put("NumberFormatBuilder::new()")?;
+        for edit in &edits[..count] {
+            put_call(edit, out)?;
+        }
+        out.put(".build_unchecked()")
+    }
+}
+
+/// Writes the expression and ignores the options of the formatter. Fails only if the formatter fails.
+impl fmt::Display for BuilderExpression {
+    fn fmt(&self, f: &mut fmt::Formatter<'_>) -> fmt::Result {
+        self.put_into(f)
+    }
+}
+
+// Puts the setter call of an edit.
+fn put_call<S: Sink>(edit: &Edit, out: &mut S) -> fmt::Result {
+    out.put(".")?;
+    out.put(edit.name())?;
+    out.put("(")?;
+    code_of_argument(edit.argument()).put_into(out)?;
+    out.put(")")
+}
+
+// Returns an argument as Rust code.
+const fn code_of_argument(argument: Argument) -> ShortText {
+    let piece = match argument {
+        Argument::OptionalByte(Some(byte)) => {
+            return ShortText(
+                EMPTY_PIECE,
+                Piece::Words("NonZeroU8::new("),
+                Piece::Number(byte.get() as usize),
+                Piece::Words(")"),
+            );
+        }
+        Argument::OptionalByte(None) => Piece::Words("None"),
+        Argument::Byte(byte) => Piece::Number(byte as usize),
+        Argument::Flag(true) => Piece::Words("true"),
+        Argument::Flag(false) => Piece::Words("false"),
+    };
+    ShortText(EMPTY_PIECE, EMPTY_PIECE, EMPTY_PIECE, piece)
+}

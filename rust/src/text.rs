@@ -1,0 +1,101 @@
+//! Words, edits and setters as text, there and back.
+
+use core::fmt;
+use core::str::FromStr;
+
+use crate::edits::{setter_number_of_name, Edit, FlagSetter, SettingError, SETTERS};
+use crate::error::Error;
+use crate::lawful::Format;
+use crate::reasons::Reason;
+use crate::view::FormatView;
+use crate::word_text::{parse_word, word_text};
+
+impl core::error::Error for Error {}
+
+impl core::error::Error for SettingError {}
+
+impl core::error::Error for Reason {}
+
+/// Parses a word, lawful or not: `0x` and 1 to 32 hexadecimal digits.
+///
+/// The error is [`Error::Empty`], [`Error::InvalidDigit`] or [`Error::Overflow`], with the index of the offending byte.
+impl FromStr for FormatView {
+    type Err = Error;
+
+    fn from_str(text: &str) -> Result<Self, Error> {
+        parse_word(text).map(FormatView::new)
+    }
+}
+
+/// Parses a lawful word: `0x` and 1 to 32 hexadecimal digits.
+///
+/// The error is a parse error, as for [`FormatView`], or the error of the first rule that the word breaks.
+impl FromStr for Format {
+    type Err = Error;
+
+    fn from_str(text: &str) -> Result<Self, Error> {
+        Format::new(parse_word(text)?)
+    }
+}
+
+/// Prints the word: `0x` and 32 hexadecimal digits, which [`FromStr`] parses.
+impl fmt::Display for FormatView {
+    fn fmt(&self, f: &mut fmt::Formatter<'_>) -> fmt::Result {
+        f.pad(core::str::from_utf8(&word_text(self.word())).unwrap_or_default())
+    }
+}
+
+/// Prints the word: `0x` and 32 hexadecimal digits, which [`FromStr`] parses.
+impl fmt::Display for Format {
+    fn fmt(&self, f: &mut fmt::Formatter<'_>) -> fmt::Result {
+        fmt::Display::fmt(&self.view(), f)
+    }
+}
+
+macro_rules! hexadecimal {
+    ($($Trait:ident $Type:ident;)*) => {
+        $(
+            /// Prints the word as a number.
+            impl fmt::$Trait for $Type {
+                fn fmt(&self, f: &mut fmt::Formatter<'_>) -> fmt::Result {
+                    fmt::$Trait::fmt(&self.word(), f)
+                }
+            }
+        )*
+    };
+}
+
+hexadecimal! {
+    LowerHex FormatView;
+    UpperHex FormatView;
+    LowerHex Format;
+    UpperHex Format;
+}
+
+/// Parses `NAME=VALUE`, split at the first `=`; name and value are those of [`Edit::from_setting`]. `Display` prints a
+/// text that parses to the same edit.
+impl FromStr for Edit {
+    type Err = SettingError;
+
+    fn from_str(text: &str) -> Result<Self, SettingError> {
+        Edit::from_text(text)
+    }
+}
+
+/// Parses the name of a flag setter or group setter.
+impl FromStr for FlagSetter {
+    type Err = SettingError;
+
+    fn from_str(name: &str) -> Result<Self, SettingError> {
+        setter_number_of_name(name.as_bytes())
+            .and_then(|number| SETTERS.get(usize::from(number)).copied())
+            .ok_or(SettingError::UnknownName)
+    }
+}
+
+/// Prints the name.
+impl fmt::Display for FlagSetter {
+    fn fmt(&self, f: &mut fmt::Formatter<'_>) -> fmt::Result {
+        f.pad(self.name())
+    }
+}

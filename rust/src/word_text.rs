@@ -1,0 +1,82 @@
+// Made by rust/tools/erase.py from crates/lexical_util/src/word_text.rt: change that file.
+
+//! Format words as text: `0x` and hexadecimal digits.
+
+use crate::digit::{char_is_digit, digit_to_char};
+use crate::error::Error;
+use crate::numeral::read_numeral;
+
+/// Parses `text` as a format word: `0x` and 1 to 32 hexadecimal digits of either case.
+///
+/// # Errors
+///
+/// The error of the first byte that does not fit, with its index: [`Error::Overflow`] for a 33rd digit, always at index
+/// 34, and [`Error::InvalidDigit`] for any other byte, also if `0` or `x` is expected there. If the text ends before
+/// its first digit, the error is [`Error::Empty`] with the length of the text: 0, 1 for `0`, or 2 for `0x`.
+///
+/// ```
+/// use peltzivar::error::Error;
+/// use peltzivar::word_text::parse_word;
+///
+/// assert_eq!(parse_word("0x12ab"), Ok(0x12AB));
+/// assert_eq!(parse_word("0x12 4"), Err(Error::InvalidDigit(4)));
+/// assert_eq!(parse_word("12"), Err(Error::InvalidDigit(0)));
+/// assert_eq!(parse_word("0x"), Err(Error::Empty(2)));
+/// ```
+pub fn parse_word(text: &str) -> Result<u128, Error> {
+    let text = text.as_bytes();
+    if let Some(word) = read_word(text) {
+        return Ok(word);
+    }
+    Err(misfit_error(text, first_misfit(text)))
+}
+
+/// Returns the text of `word` as it is printed: `0x` and 32 hexadecimal digits with uppercase letters.
+/// [`parse_word`] parses it to the same word.
+#[must_use]
+pub fn word_text(word: u128) -> [u8; 34] {
+    let mut text = [b'0'; 34];
+    text[1] = b'x';
+    let mut rest = word;
+    for count in 0..32usize {
+        text[33 - count] = digit_to_char((rest % 16) as u32);
+        rest /= 16;
+    }
+    text
+}
+
+// Parses a text as a format word, or returns `None` if it is not the text of a word.
+fn read_word(text: &[u8]) -> Option<u128> {
+    match text {
+        [b'0', b'x', digits @ ..] => read_numeral(digits, 16, 32),
+        _ => None,
+    }
+}
+
+// Returns the index of the first byte that does not fit the text of a word, or the length if all bytes fit.
+fn first_misfit(text: &[u8]) -> usize {
+    for (index, byte) in text.iter().enumerate() {
+        if !byte_fits(index, *byte) {
+            return index;
+        }
+    }
+    text.len()
+}
+
+// Returns whether the text of a word can have `byte` at `index`.
+fn byte_fits(index: usize, byte: u8) -> bool {
+    match index {
+        0 => byte == b'0',
+        1 => byte == b'x',
+        _ => index < 34 && char_is_digit(byte, 16),
+    }
+}
+
+// Returns the error of a text whose first misfit is at `index`, or that ends there.
+fn misfit_error(text: &[u8], index: usize) -> Error {
+    match text.get(index) {
+        None => Error::Empty(index),
+        Some(byte) if index == 34 && char_is_digit(*byte, 16) => Error::Overflow(index),
+        Some(_) => Error::InvalidDigit(index),
+    }
+}

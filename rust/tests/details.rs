@@ -1,0 +1,214 @@
+//! Details that no other test meets: which radix a reason names, how a byte is printed, sinks that fail once, the masks
+//! and numbers of rules, and what the standard library sees of errors and panics.
+
+use peltzivar::edits::{Edit, FlagSetter};
+use peltzivar::error::Error;
+use peltzivar::format::{NumberFormatBuilder, Rule, BASE_SUFFIX_SHIFT, RULES, STANDARD};
+use peltzivar::reasons::{notes, reasons_of, Reason};
+use peltzivar::word::FormatView;
+use std::fmt::{self, Write};
+use std::num::NonZeroU8;
+use std::panic;
+use std::sync::Mutex;
+use std::thread;
+
+const fn prefix(byte: u8) -> Edit {
+    Edit::BasePrefix(NonZeroU8::new(byte))
+}
+
+#[test]
+fn a_reason_names_the_mantissa_radix_if_the_byte_is_a_digit_of_it() {
+    #[rustfmt::skip]
+    let rows = [
+        (0x0A0A1000_35000000_00000000_00000000, b'5', Edit::MantissaRadix(16)),
+        (0x100A0A00_35000000_00000000_00000000, b'5', Edit::MantissaRadix(10)),
+        (0x0A0A1000_62000000_00000000_00000000, b'b', Edit::MantissaRadix(16)),
+        (0x100A0A00_62000000_00000000_00000000, b'b', Edit::ExponentRadix(NonZeroU8::new(16))),
+    ];
+    for (word, byte, radix) in rows {
+        let reason = Reason::IsDigit(prefix(byte), radix);
+        let reasons = reasons_of(Rule::BasePrefixIsPunctuation, word);
+        assert_eq!(reasons, [None, None, Some(reason)], "{word:#034X}");
+    }
+}
+
+/// The byte 32 and those from 127 on would be printed as something that nobody sees.
+#[test]
+fn a_byte_that_can_be_seen_is_printed_as_itself() {
+    #[rustfmt::skip]
+    let rows = [
+        (9, "9"), (31, "31"), (32, "32"), (33, "'!'"), (65, "'A'"),
+        (126, "'~'"), (127, "127"), (128, "128"), (255, "255"),
+    ];
+    for (byte, text) in rows {
+        let reason = Reason::IsSign(prefix(byte)).to_string();
+        assert!(
+            reason.starts_with(&format!("the base prefix {text} ")),
+            "{byte}: {reason}"
+        );
+    }
+}
+
+#[test]
+fn a_view_prints_a_byte_that_cannot_be_seen_as_a_number() {
+    for (byte, text) in [
+        (9, "9"),
+        (32, "32"),
+        (126, "'~'"),
+        (127, "127"),
+        (255, "255"),
+    ] {
+        let view = FormatView::new(STANDARD | byte << BASE_SUFFIX_SHIFT);
+        let broken = if view.is_valid() {
+            ""
+        } else {
+            ", broken_rules: [BaseSuffixIsPunctuation]"
+        };
+        let wanted = format!(", base_suffix: {text}{broken} }}");
+        assert!(format!("{view:?}").ends_with(&wanted), "{byte}: {view:?}");
+    }
+}
+
+#[test]
+fn each_setting_has_its_name_in_a_reason() {
+    let byte = NonZeroU8::new(1);
+    #[rustfmt::skip]
+    let rows = [
+        (Edit::Flag(FlagSetter::NoSpecial, true), "the flag 1 "),
+        (Edit::DigitSeparator(byte), "the digit separator 1 "),
+        (Edit::BasePrefix(byte), "the base prefix 1 "),
+        (Edit::BaseSuffix(byte), "the base suffix 1 "),
+        (Edit::MantissaRadix(1), "the mantissa radix 1 "),
+        (Edit::Radix(1), "the radix 1 "),
+        (Edit::ExponentBase(byte), "the exponent base 1 "),
+        (Edit::ExponentRadix(byte), "the exponent radix 1 "),
+    ];
+    for (edit, text) in rows {
+        let reason = Reason::OutOfRange(edit).to_string();
+        assert!(reason.starts_with(text), "{edit:?}: {reason}");
+    }
+}
+
+/// A case flag needs its own byte: the other one does not help.
+#[test]
+fn a_case_flag_without_its_byte_is_named() {
+    #[rustfmt::skip]
+    let rows = [
+        (0x00000A68_00000000_00000000_0001000C, "case_sensitive_base_prefix "),
+        (0x00000A00_78000000_00000000_0002000C, "case_sensitive_base_suffix "),
+    ];
+    for (word, name) in rows {
+        let found: Vec<String> = notes(word)
+            .iter()
+            .flatten()
+            .map(ToString::to_string)
+            .collect();
+        assert!(found.len() == 1 && found[0].starts_with(name), "{found:?}");
+    }
+    assert_eq!(notes(0x00000A68_78000000_00000000_0003000C), [None; 3]);
+}
+
+/// A sink that fails at one piece, and takes those before and after.
+struct FailsAt {
+    piece: usize,
+    pieces: usize,
+}
+
+impl Write for FailsAt {
+    fn write_str(&mut self, _: &str) -> fmt::Result {
+        self.pieces += 1;
+        if self.pieces == self.piece + 1 {
+            Err(fmt::Error)
+        } else {
+            Ok(())
+        }
+    }
+}
+
+#[test]
+fn no_text_forgets_that_its_sink_failed() {
+    let (low, high) = (prefix(1), Edit::BaseSuffix(NonZeroU8::new(b'x')));
+    #[rustfmt::skip]
+    let rows: [(&dyn fmt::Display, usize); 7] = [
+        (&Reason::OutOfRange(Edit::Radix(255)), 6),
+        (&Reason::NotText(low), 4),
+        (&Reason::IsSign(high), 5),
+        (&Reason::Clash(low, high, None), 10),
+        (&Reason::IsDigit(high, Edit::MantissaRadix(16)), 7),
+        (&Edit::MantissaRadix(10), 3),
+        (&Error::Overflow(10), 4),
+    ];
+    for (text, least) in rows {
+        let mut sink = FailsAt {
+            piece: usize::MAX - 1,
+            pieces: 0,
+        };
+        assert!(write!(sink, "{text}").is_ok(), "{text}");
+        assert!(sink.pieces >= least, "{text}: {} pieces", sink.pieces);
+        for piece in 0..sink.pieces {
+            let mut sink = FailsAt { piece, pieces: 0 };
+            assert!(write!(sink, "{text}").is_err(), "{text}: piece {piece}");
+        }
+    }
+}
+
+#[test]
+fn each_rule_has_its_number_and_the_bits_of_its_fields() {
+    #[rustfmt::skip]
+    let rows = [
+        (Rule::MantissaRadixInRange, 0xFF << 104),
+        (Rule::ExponentBaseInRange, 0xFFFF << 104),
+        (Rule::ExponentRadixInRange, 0xFF00FF << 104),
+        (Rule::DigitSeparatorIsPunctuation, 0xFF00FF00_000000FF << 64),
+        (Rule::BasePrefixIsPunctuation, 0xFF00FF00_FF000000 << 64),
+        (Rule::BaseSuffixIsPunctuation, 0xFF00FFFF_00000000 << 64),
+        (Rule::PunctuationDiffers, 0xFF_FF0000FF_00000000_00030000),
+        (Rule::ExponentFlagsAgree, 0x4040),
+        (Rule::MantissaSignFlagsAgree, 0x30),
+        (Rule::ExponentSignFlagsAgree, 0x180),
+        (Rule::SpecialCaseFlagsAgree, 0xC00),
+        (Rule::SpecialSeparatorFlagsAgree, 0x1000_00000400),
+        (Rule::IntegerConsecutiveIsAllowed, 0x249 << 32),
+        (Rule::FractionConsecutiveIsAllowed, 0x492 << 32),
+        (Rule::ExponentConsecutiveIsAllowed, 0x924 << 32),
+        (Rule::ReservedBitsAreZero, 0x00FFFF00_FFFFE000_FFFC0000),
+    ];
+    for (number, (rule, mask)) in rows.into_iter().enumerate() {
+        assert_eq!((RULES[number], rule as usize), (rule, number));
+        assert_eq!(rule.mask(), mask, "{rule:?}");
+    }
+    assert_eq!(RULES.len(), rows.len());
+}
+
+/// Each error of a setting, by `parse` as by `from_text`, and as an error of the standard library.
+#[test]
+fn a_setting_that_cannot_be_read_is_an_error() {
+    let mut found = Vec::new();
+    for text in ["colour=7", "radix=x", "radix=256"] {
+        let error = text.parse::<Edit>().unwrap_err();
+        assert_eq!(Edit::from_text(text), Err(error), "{text}");
+        let boxed: Box<dyn std::error::Error> = error.into();
+        assert_eq!(boxed.to_string(), error.to_string(), "{text}");
+        assert!(!found.contains(&error), "{text}");
+        found.push(error);
+    }
+    assert!("no_special_".parse::<FlagSetter>().is_err());
+}
+
+/// A panic names the line that called `build_or_panic`.
+#[test]
+fn build_or_panic_blames_its_caller() {
+    static AT: Mutex<Option<(String, u32)>> = Mutex::new(None);
+    let (this, default) = (thread::current().id(), panic::take_hook());
+    panic::set_hook(Box::new(move |info| match info.location() {
+        Some(at) if thread::current().id() == this => {
+            *AT.lock().unwrap() = Some((at.file().to_owned(), at.line()));
+        }
+        _ => default(info),
+    }));
+    let builder = NumberFormatBuilder::new().mantissa_radix(1);
+    let (line, result) = (line!(), panic::catch_unwind(|| builder.build_or_panic()));
+    drop(panic::take_hook());
+    assert!(result.is_err());
+    assert_eq!(*AT.lock().unwrap(), Some((file!().to_owned(), line)));
+}

@@ -1,0 +1,274 @@
+//! What is written by hand over the proved calls: formats, iterators, text and conversions. On many words they are
+//! compared with these calls, and on a few with known texts.
+
+use peltzivar::edits::{apply_all, edit_word, edits_of, same_format};
+use peltzivar::format::{broken_rules, format_error, options_error, NumberFormatBuilder, STANDARD};
+use peltzivar::reasons::notes;
+use peltzivar::{Edit, Error, FlagSetter, Format, FormatView, NumberFormat, Rule};
+use std::fmt::{Debug, Display, LowerHex, UpperHex};
+use std::hash::Hash;
+use std::panic;
+use std::str::FromStr;
+
+/// A format and a view have the traits of the word, and a format is known when the program is compiled.
+const _: () = {
+    const fn is_word<T>()
+    where
+        T: Copy + Default + Ord + Hash + Debug + Display + LowerHex + UpperHex,
+        T: FromStr + From<NumberFormat<STANDARD>> + Into<u128> + Send + Sync,
+    {
+    }
+    is_word::<FormatView>();
+    is_word::<Format>();
+    const FORMAT: Format = match NumberFormatBuilder::from_word(STANDARD).build_format() {
+        Ok(format) => format.normal_form(),
+        Err(_) => panic!(),
+    };
+    assert!(
+        FORMAT.word() != STANDARD && FORMAT.view().radix() == 10 && FORMAT.view().check().is_ok()
+    );
+    assert!(
+        FORMAT.check_options(b'e', b'.').is_ok()
+            && matches!(Format::new(0), Err(Error::InvalidMantissaRadix))
+    );
+};
+
+/// The iterators can be cloned.
+#[test]
+fn iterators_are_clone() {
+    fn count(iterator: impl Iterator + Clone) -> usize {
+        iterator.clone().count()
+    }
+    let view = FormatView::new(0);
+    let reason = view.reasons().next().expect("a reason");
+    let counts = [
+        count(view.reasons()),
+        count(view.notes()),
+        count(view.edits()),
+        count(view.broken_rules()),
+        count(view.mends(reason)),
+    ];
+    assert_eq!(counts, [1, 0, 3, 3, 1]);
+    assert_eq!(count(NumberFormatBuilder::new().notes()), 0);
+}
+
+/// Words without any order, words with lawful radixes, and words near the standard format.
+fn words() -> impl Iterator<Item = u128> {
+    let mut state: u64 = 1;
+    let mut next = move || {
+        state = state
+            .wrapping_mul(6364136223846793005)
+            .wrapping_add(1442695040888963407);
+        u128::from(state >> 33)
+    };
+    (0..20_000).map(move |index| {
+        let mut any = || (0..5).fold(0, |word, _| word << 31 ^ next());
+        match index % 3 {
+            0 => any(),
+            1 => any() & any() & any() & !(0xFFFFFF << 104) | 0x101010 << 104,
+            _ => STANDARD ^ any() & any() & any() & any(),
+        }
+    })
+}
+
+#[test]
+fn a_format_is_a_word_without_error() {
+    for word in words() {
+        let view = FormatView::new(word);
+        let error = view.error();
+        let wanted = if error == Error::Success {
+            Ok(word)
+        } else {
+            Err(error)
+        };
+        assert_eq!(Format::new(word).map(u128::from), wanted, "{word:#034X}");
+        assert_eq!(view.check().map(|format| format.word()), wanted);
+        assert_eq!(Format::try_from(word), view.check());
+        assert_eq!(format!("{view}").parse(), view.check());
+    }
+    assert_eq!(
+        Format::from(NumberFormat::<STANDARD>::new()),
+        Format::default()
+    );
+    assert_eq!(Format::default().word(), STANDARD);
+}
+
+#[test]
+fn a_format_has_a_normal_form_that_is_one_too() {
+    for format in words().filter_map(|word| Format::new(word).ok()) {
+        let normal = format.normal_form();
+        assert_eq!(Format::new(normal.word()), Ok(normal));
+        assert!(same_format(normal.word(), format.word()) && normal.normal_form() == normal);
+        assert_eq!(
+            (FormatView::from(format), *format),
+            (format.view(), format.view())
+        );
+        assert_eq!(format.to_string(), format.view().to_string());
+        let builder = NumberFormatBuilder::from(format);
+        assert_eq!(builder, NumberFormatBuilder::from_word(format.word()));
+        let again = builder.build_format();
+        assert_eq!(again.map(|it| it.normal_form()), Ok(normal));
+        for (exponent, point) in [
+            (b'e', b'.'),
+            (b'p', b','),
+            (b'x', b'.'),
+            (b'5', b'.'),
+            (b'^', b'-'),
+        ] {
+            let wanted = match options_error(format.word(), exponent, point) {
+                Error::Success => Ok(()),
+                error => Err(error),
+            };
+            assert_eq!(format.check_options(exponent, point), wanted);
+        }
+    }
+}
+
+/// The first reason is one of the first broken rule, and each reason is one of a broken rule, within its bits.
+#[test]
+fn reasons_are_of_broken_rules() {
+    for word in words() {
+        let view = FormatView::new(word);
+        let rules: Vec<Rule> = view.broken_rules().collect();
+        let all: Vec<Rule> = broken_rules(word).into_iter().flatten().collect();
+        assert_eq!(rules, all);
+        assert!(view.notes().eq(notes(word).into_iter().flatten()));
+        assert!(rules.windows(2).all(|pair| pair[0] < pair[1]) && Rule::ALL.len() == 16);
+        for reason in view.reasons() {
+            assert!(rules.contains(&reason.rule()), "{word:#034X} {reason:?}");
+            assert!(reason.mask() != 0 && reason.mask() & !reason.rule().mask() == 0);
+        }
+        let first = view.reasons().next().map(|reason| reason.rule());
+        assert_eq!(first, rules.first().copied(), "{word:#034X}");
+        let first = first.map_or(Error::Success, |rule| rule.error());
+        assert_eq!(first, peltzivar::word::format_error(word));
+    }
+    assert_eq!(format_error::<0>(), Error::InvalidMantissaRadix);
+}
+
+#[test]
+fn a_mend_keeps_rules_and_mends_those_that_only_its_reason_broke() {
+    let mut mended = 0;
+    for word in words() {
+        let view = FormatView::new(word);
+        for reason in view.reasons() {
+            let breaks = |rule: Rule| {
+                let reasons = view.reasons().filter(|it| it.breaks(rule));
+                !rule.is_kept(word) && !reasons.eq([reason])
+            };
+            for mend in view.mends(reason) {
+                let edited = edit_word(word, mend.edits());
+                let mut broken = FormatView::new(edited).broken_rules();
+                assert!(broken.all(breaks), "{word:#034X} {mend}");
+                assert!(mend
+                    .edits()
+                    .iter()
+                    .any(|edit| edit.mask() & reason.mask() != 0));
+                mended += 1;
+            }
+        }
+    }
+    assert!(mended > 10_000);
+}
+
+#[test]
+fn edits_make_the_fields_of_their_word() {
+    for word in words() {
+        let view = FormatView::new(word);
+        let (edits, count) = edits_of(word);
+        assert!(view.edits().eq(edits[..count].iter().copied()));
+        let builder: NumberFormatBuilder = view.edits().collect();
+        assert_eq!(builder, apply_all(NumberFormatBuilder::new(), &edits));
+        assert_eq!(builder, NumberFormatBuilder::from_word(word));
+        let mut other = NumberFormatBuilder::new();
+        other.extend(&edits[..2]);
+        other.extend(edits[2..].iter().copied());
+        assert_eq!(
+            (other, other.view().word()),
+            (builder, builder.build_unchecked())
+        );
+        for edit in edits {
+            assert_eq!(edit.to_string().parse(), Ok(edit));
+        }
+    }
+}
+
+/// A panic has the description of the first broken rule, and the first reason.
+#[test]
+fn an_unlawful_constant_stops_with_its_reason() {
+    panic::set_hook(Box::new(|_| {}));
+    for word in words().step_by(7) {
+        let builder = NumberFormatBuilder::from_word(word);
+        let stopped = panic::catch_unwind(|| builder.build_or_panic());
+        let stopped = stopped.map_err(|text| *text.downcast::<String>().expect("a text"));
+        let error = builder.build_strict().map_err(|error| {
+            let reason = builder.view().reasons().next().expect("a reason");
+            format!("{}: {reason}", error.description())
+        });
+        assert_eq!(stopped, error, "{word:#034X}");
+    }
+}
+
+#[test]
+fn words_are_parsed() {
+    #[rustfmt::skip]
+    let rows = [
+        ("0xC", Ok(0xC)),
+        ("0x00000a0000000000000000000000000C", Ok(STANDARD)),
+        ("0xFFFFFFFFFFFFFFFFFFFFFFFFFFFFFFFF", Ok(u128::MAX)),
+        ("0x000000000000000000000000000000000", Err(Error::Overflow(34))),
+        ("", Err(Error::Empty(0))),
+        ("0x", Err(Error::Empty(2))),
+        ("0", Err(Error::Empty(1))),
+        ("0X1", Err(Error::InvalidDigit(1))),
+        ("C", Err(Error::InvalidDigit(0))),
+        ("0x1g", Err(Error::InvalidDigit(3))),
+    ];
+    for (text, word) in rows {
+        assert_eq!(text.parse::<FormatView>().map(u128::from), word, "{text}");
+    }
+    let view = FormatView::new(0xAB);
+    assert_eq!(
+        format!("{view:>36} {view:x} {view:#X}"),
+        format!("  0x{:032X} ab 0xAB", 0xAB)
+    );
+}
+
+#[test]
+fn settings_are_parsed() {
+    #[rustfmt::skip]
+    let rows = [
+        ("base_prefix='x'", "base_prefix=120"),
+        ("digit_separator='''", "digit_separator=39"),
+        ("digit_separator='='", "digit_separator=61"),
+        ("base_suffix=none", "base_suffix=none"),
+        ("radix=08", "radix=8"),
+        ("digit_separator=0x5F", "digit_separator=95"),
+    ];
+    for (text, printed) in rows {
+        assert_eq!(
+            text.parse::<Edit>().map(|edit| edit.to_string()),
+            Ok(printed.into())
+        );
+    }
+    #[rustfmt::skip]
+    let refused = [
+        ("no_special=1", Some("no_special"), "no_special takes `true` or `false`"),
+        ("base_prefix=''", Some("base_prefix"),
+            "base_prefix takes a character such as '_', a number from 0 to 255, or `none`"),
+        ("mantissa_radix=none", Some("mantissa_radix"), "mantissa_radix takes a number, 2 to 36 in a lawful format"),
+        ("no-special=true", None, "unknown setting name"),
+        ("no_special", None, "expected NAME=VALUE"),
+    ];
+    for (text, name, printed) in refused {
+        let error = text
+            .parse::<Edit>()
+            .map_err(|error| (error.name(), error.to_string()));
+        assert_eq!(error, Err((name, printed.into())), "{text}");
+    }
+    assert_eq!((Edit::NAMES.len(), FlagSetter::ALL.len()), (47, 40));
+    for setter in FlagSetter::ALL {
+        assert_eq!(setter.to_string().parse(), Ok(*setter));
+    }
+    assert_eq!(format!("{:>12}", FlagSetter::NoSpecial), "  no_special");
+}

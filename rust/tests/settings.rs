@@ -1,0 +1,136 @@
+//! The example that reads a file of settings.
+
+#[path = "../examples/settings.rs"]
+#[allow(dead_code)]
+mod settings;
+
+use peltzivar::edits::Edit;
+use settings::format_of;
+
+/// The sentence of the library for a refused setting.
+fn refusal(setting: &str) -> String {
+    Edit::from_text(setting).unwrap_err().to_string()
+}
+
+#[test]
+fn eight_mistakes_are_found_in_one_round() {
+    let file = b"# eight mistakes
+mantissa_radix = 16
+base-prefix = '$'
+no_special = yes
+base_prefix = 'b'
+exponent_base = 1
+required_mantissa_sign = true
+base_suffix = '\xE9'
+no_positive_mantissa_sign = true
+digit_separator = '_'
+radix = 12
+exponent_radix = 010
+";
+    let wanted = [
+        format!(
+            "line 3: base-prefix = '$': {}; did you mean base_prefix?",
+            refusal("a=1")
+        ),
+        format!("line 4: no_special = yes: {}", refusal("no_special=yes")),
+        r"line 8: base_suffix = '\xe9': the line is not ASCII".to_string(),
+        "lines 2, 11: mantissa_radix is set twice".to_string(),
+        "line 6: the exponent base 1 is not between 2 and 36".to_string(),
+        "lines 5, 11: the base prefix 'b' is a digit in radix 12".to_string(),
+        "lines 7, 9: no_positive_mantissa_sign and required_mantissa_sign cannot both be set"
+            .to_string(),
+        "line 10: no number can have the digit separator '_': no flag allows one".to_string(),
+    ];
+    assert_eq!(format_of(file), Err(wanted.to_vec()));
+}
+
+#[test]
+fn problems_have_exactly_their_lines() {
+    #[rustfmt::skip]
+    let rows: [(&[u8], &[&str]); 12] = [
+        // Absent exponent bytes follow the mantissa radix.
+        (b"mantissa_radix=37", &["line 1: the mantissa radix 37 is not between 2 and 36"]),
+        (b"radix=16\nexponent_radix=10\nbase_prefix='b'", &["lines 1, 3: the base prefix 'b' is a digit in radix 16"]),
+        (b"radix=10\nexponent_radix=16\nbase_prefix='b'", &["lines 2, 3: the base prefix 'b' is a digit in radix 16"]),
+        (b"base_prefix='b'\r\n\r\nbase_suffix='B'\r\ncase_sensitive_base_suffix=true\r\n",
+            &["lines 1, 3: the base prefix 'b' and the base suffix 'B' differ only in case, and they are not both case-sensitive"]),
+        (b"base_prefix='$'\ncase_sensitive_base_prefix=true\nno_special=true",
+            &["lines 1, 2: case_sensitive_base_prefix changes nothing: the base prefix '$' is not a letter"]),
+        (b"special_digit_separator=true", &["line 1: the digit separator flags allow nothing: there is no digit separator"]),
+        // Nothing is left of the second line under the mask of the reason.
+        (b"digit_separator='_'\ndigit_separator_flags=true\ninteger_digit_separator_flags=false\ninteger_consecutive_digit_separator=true",
+            &["lines 3, 4: integer_consecutive_digit_separator requires an internal, leading or trailing flag for the same part of the number"]),
+        // The same field twice.
+        (b"no_special=true\nno_special=true", &["lines 1, 2: no_special is set twice"]),
+        (b"radix=16\nmantissa_radix=16\nradix=16", &["lines 1, 2: radix is set twice", "lines 2, 3: mantissa_radix is set twice"]),
+        (b"digit_separator='_'\ninteger_internal_digit_separator=true\ninternal_digit_separator=true",
+            &["lines 2, 3: integer_internal_digit_separator is set twice"]),
+        // Bytes that are not ASCII, also not UTF-8, and control characters.
+        (b"\xEF\xBB\xBFradix=16", &[r"line 1: \xef\xbb\xbfradix=16: the line is not ASCII"]),
+        (b"\xFF\0\x1B", &[r"line 1: \xff\x00\x1b: the line is not ASCII"]),
+    ];
+    for (file, problems) in rows {
+        let problems = problems.iter().map(ToString::to_string).collect();
+        assert_eq!(format_of(file), Err(problems), "{}", file.escape_ascii());
+    }
+}
+
+#[test]
+fn a_format_is_read() {
+    let rows: [(&[u8], u128); 4] = [
+        (b"", 0x00000A00_00000000_00000000_0000000C),
+        (b"# \xC3\xA9\n\n  radix\t=  16  ", 0x00001000_00000000_00000000_0000000C),
+        // Flags refine a group before them.
+        (
+            b"internal_digit_separator=true\nexponent_internal_digit_separator=false\ndigit_separator='='",
+            0x00000A00_0000003D_00000003_0000000C,
+        ),
+        (
+            b"leading_digit_separator=true\ninteger_digit_separator_flags=true\ndigit_separator=39",
+            0x00000A00_00000027_00000279_0000000C,
+        ),
+    ];
+    for (file, format) in rows {
+        assert_eq!(
+            format_of(file).map(u128::from),
+            Ok(format),
+            "{}",
+            file.escape_ascii()
+        );
+    }
+}
+
+#[test]
+fn a_file_without_mistakes_is_a_format() {
+    let file = include_bytes!("../examples/settings.txt");
+    let word = 0x000A1000_7800005F_00000001_0000000C;
+    assert_eq!(format_of(file).map(u128::from), Ok(word));
+}
+
+#[test]
+fn the_nearest_name_is_suggested() {
+    let rows = [
+        ("base-prefix", "; did you mean base_prefix?"),
+        ("prefix", "; did you mean base_prefix?"),
+        ("suffix", "; did you mean base_suffix?"),
+        ("base_sufix", "; did you mean base_suffix?"),
+        ("mantissa-radix", "; did you mean mantissa_radix?"),
+        ("separator", "; did you mean digit_separator?"),
+        (
+            "requiredExponentDigits",
+            "; did you mean required_exponent_digits?",
+        ),
+        ("trailing", "; did you mean trailing_digit_separator?"),
+        ("required_sign", "; did you mean required_exponent_sign?"),
+        ("digits", ""),
+        ("colour", ""),
+        ("", ""),
+    ];
+    for (name, question) in rows {
+        let problem = format!("line 1: {name}=1: {}{question}", refusal("a=1"));
+        assert_eq!(
+            format_of(format!("{name}=1").as_bytes()),
+            Err(vec![problem])
+        );
+    }
+}

@@ -1,0 +1,368 @@
+"""What erase.py changes in the documentation of the library: a reader of plain Rust meets no source of Rattle.
+
+PROVED has the calls whose documentation shows their clauses, with a sentence for each. Names between backquotes become
+links if the page `definitions` has them. PHRASES are left out or replaced, and FOREIGN may not remain. The first line
+of a flag's constant and getter is the one of its setter.
+"""
+import functools
+import pathlib
+import re
+import sys
+import textwrap
+
+CRATES = pathlib.Path(__file__).resolve().parent.parent.parent / "crates"
+sys.path.append(str(CRATES.parent / "docs"))
+import definitions as model
+
+# For each file the calls whose documentation shows their clauses, and what each clause states.
+PROVED = {
+    "format_builder.rt": {
+        "build_unchecked": {
+            "word": "The result is the packed word (`pack`) of the builder's fields.",
+            "fields": "Its fields (`raw`) are those of the builder, without a separator that no flag allows (`trim`).",
+            "clean": "Its reserved bits are 0 (`IsClean`).",
+            "bytes": "Each byte of the builder is between 0 and 255 (`HasBytes`).",
+            "alike": "Other fields pack into the same word if and only if they are the same after `trim`.",
+        },
+        "build_strict": {
+            "lawful": "The result is `Ok` of the packed word (`pack`) if and only if that word is `Lawful`.",
+            "fields": "The fields (`raw`) of that word are those of the builder after `trim`.",
+            "error": "An `Err` has the error of the first rule that the word breaks (`IsErrorOf`).",
+            "not_success": "It is never `Err(Success)`.",
+            "not_flags": "It is never `Err(InvalidFlags)`, since the builder sets no reserved bit.",
+        },
+        "build": {"": "The result is the packed word (`pack`) of the builder's fields."},
+        "from_word": {"": "The result has the fields of the word (`raw`)."},
+        "rebuild": {"": "The result has the fields of the word (`raw`), with exponent bytes that are filled (`fill`)."},
+    },
+    "format_flags/rules.rt": {
+        "is_valid_options_punctuation": {
+            "accepted": "The result is true if and only if both bytes fit the format (`OptionsFit`).",
+            "roles": "For a `Lawful` word this holds if and only if no byte plays two of the seven roles"
+            " (`OptionsHaveOneRole`).",
+            "exists": "For each `Lawful` word some pair of bytes fits (`SomeOptionsFit`).",
+        },
+    },
+    "edits/listing.rt": {
+        "is_built": {
+            "rule": "The result is true if and only if the reserved bits are 0 and a separator has a flag (`IsBuilt`).",
+            "image": "This holds if and only if setter calls on a new builder make the word (`IsBuiltByWrites`).",
+        },
+        "edits_of": {
+            "list": "The list has an edit for each write (`IsEditOf`): first those that the word needs"
+            " (`needed_writes`), then the others (`other_writes`).",
+            "number": "The number is how many writes the word needs.",
+            "legal": "Each value fits its field (`IsLegal`).",
+            "first": "The first part, applied to a new builder (`after`, `new_record`), gives the fields (`raw`) of the"
+            " word.",
+            "whole": "So does the whole list.",
+            "builds": "These fields pack (`pack`) into the word itself if and only if it `IsBuilt`.",
+            "fewest": "No shorter list of writes packs into the word.",
+        },
+    },
+    "edits.rt": {
+        "apply_all": {
+            "fields": "The result has the builder's fields `after` the writes of all edits (`all_writes`).",
+            "legal": "Each value fits its field (`IsLegal`).",
+        },
+        "edit_word": {
+            "word": "The result is `edited` from the word and the writes of all edits (`all_writes`).",
+            "fields": "Its fields (`raw`) are those of the word, filled (`fill`), overwritten in order (`after`), and"
+            " trimmed (`trim`).",
+            "clean": "Its reserved bits are 0 (`IsClean`).",
+            "unique": "No other word without reserved bits has these fields.",
+            "same_writes": "Legal writes (`IsLegal`) that give each field the same last value (`SameWrites`) give the"
+            " same result. So edits of different fields can be in any order, and a group is its flags in any order.",
+            "legal": "Each value fits its field.",
+        },
+        "normal_form": {
+            "word": "The result is the word edited by no writes (`normal_form_of`).",
+            "fields": "Its fields (`raw`) are those of the word, filled (`fill`) and trimmed (`trim`).",
+            "clean": "Its reserved bits are 0 (`IsClean`).",
+            "unique": "No other word without reserved bits has these fields.",
+            "idempotent": "The normal form of a normal form is itself.",
+            "unchanged": "A word is its own normal form if and only if it `IsNormal`.",
+            "same": "Word and normal form are equivalent (`SameFormat`).",
+            "groups": "In each list of flags, `any_flag` is set in both or in neither.",
+            "flags": "Each list of flags has the same bits in both (`bits_of`).",
+            "lawful": "The normal form of a `Lawful` word is lawful.",
+            "error": "If neither a reserved bit nor a separator is dropped (`IsClean`, `SeparatorAllowedOrAbsent`),"
+            " both words have the same error (`IsErrorOf`).",
+            "edits": "If no separator is dropped, both words give the same word when they are `edited`.",
+            "normal": "The result `IsNormal`.",
+        },
+        "migrate": {
+            "lawful": "The result is `Ok` of the normal form (`normal_form_of`) if and only if that is `Lawful`.",
+            "fields": "Its fields (`raw`) are those of the word, filled (`fill`) and trimmed (`trim`).",
+            "normal": "A word that is returned `IsNormal`.",
+            "same": "It is equivalent to the given one (`SameFormat`).",
+            "error": "An `Err` has the error of the first rule that the normal form breaks (`IsErrorOf`).",
+            "not_success": "It is never `Err(Success)`.",
+            "not_flags": "It is never `Err(InvalidFlags)`, since reserved bits are dropped.",
+        },
+        "same_format": {
+            "normal_forms": "The result is true if and only if both words have one normal form (`normal_form_of`).",
+            "fields": "This holds if and only if their fields (`raw`) express the same format (`SameFormat`).",
+        },
+    },
+    "feature_format.rt": {
+        "error": {
+            "first": "The result is the error of the first rule that the word breaks, or `Success` (`IsErrorOf`).",
+            "lawful": "It is `Success` if and only if the word is `Lawful`.",
+            "unique": "No other error is the word's.",
+        },
+        "rebuild": {"": "The result has the fields of the word (`raw`), with exponent bytes that are filled (`fill`)."},
+    },
+}
+
+# Texts of documentation comments, over the ends of lines, and what stands in their place.
+PHRASES = [
+    ("In plain Rust:", ""),
+    ("In plain Rust `broken_rules(format)", "`broken_rules(format)"),
+    ("`lexical-util` has no such function.", ""),
+    ("`lexical-util` has no such function, since its word is part of the type.", ""),
+    ("This crate only defines them; the crates above return them.", ""),
+    ("The tests of the validity rules, whose file is `format_flags/rules.rt`, are re-exported.", ""),
+    ("So does `build_or_panic` in plain Rust, which is for constants, where a `Result` cannot be unwrapped.",
+     "So does [`build_or_panic`][Self::build_or_panic], which is for constants, where a `Result` cannot be unwrapped."),
+    ("A call with a `digit` of 36 or more is not proved. In plain Rust it returns some byte, or panics if overflow is"
+     " checked.",
+     "It may panic if `digit` is 36 or more and overflow is checked. If it does not, it then returns some byte."),
+    ("A call with a `digit` of 36 or more is not proved. In plain Rust it panics.", "If `digit` is 36 or more."),
+    ("A call with another `shift` is not proved. In plain Rust it returns some number, or panics if overflow is"
+     " checked.",
+     "If `shift` is not in that range and overflow is checked. Without that check it then returns some number."),
+    ("Prints what [`SettingError::text`] returns.", "Prints what the setting takes, or why the text is not a setting."),
+    ("Prints what [`Edit::text`] returns.",
+     "Prints `NAME=VALUE`, such as `mantissa_radix=16`, `no_special=true` or `digit_separator=none`."),
+    ("[`format_error_impl`], or `Success` if it is lawful.",
+     "[`Rule`][crate::format_flags::Rule], or `Success` if it is lawful."),
+    ("The word is a value, which may be known only when the program runs; in `lexical-util` it is a const generic"
+     " argument of the type, and each field is also an associated constant.",
+     "The word may be known only when the program runs. For a word that is known when it is compiled,"
+     " [`NumberFormat`][crate::feature_format::NumberFormat] has each field also as a constant."),
+]
+
+# What no documentation of the library may have.
+FOREIGN = re.compile(r"\.rt\b|\.antt\b|[Ii]n plain Rust|\bcrates? (above|below)|not proved|has no such|[Ss]earch")
+
+# Names of the prover's standard library that clauses and definitions use, each with its meaning.
+STD = {
+    "ℕ": "The natural numbers.",
+    "Bool": "The truth values `true` and `false`.",
+    "List": "`[]` is the empty list, `x ∷ xs` is `x` followed by `xs`, and `xs ++ ys` is `xs` followed by `ys`.",
+    "Option": "As in Rust: `None`, or `Some value`.",
+    "≡": "`x ≡ y` holds if both are equal, and `x ≢ y` if they are not.",
+    "↔": "If and only if.",
+    "→": "`A → B` holds if `B` follows from `A`, and `(x : T) → A` holds if `A` does for every `x` of the type `T`."
+    " Between types it is the type of functions.",
+    "×": "And; `.0` and `.1` are the two parts.",
+    "⊎": "Or.",
+    "⊤": "It always holds.",
+    "⊥": "It never holds.",
+    "λ": "`λ x. t` is the function that returns `t` for `x`.",
+    "+": "Addition, and `*`, `/`, `%` and `^` are multiplication, division without remainder, remainder and power.",
+    "-": "Subtraction, which returns 0 if the second number is larger.",
+    "<": "`a < b` holds if `a` is less than `b`, and `a ≤ b` if it is at most `b`.",
+    "==": "`x == y` is the truth value of `x ≡ y`; `beq` is the same for truth values.",
+    "&&": "`a && b` is true if both are, `a || b` if one is, and `not a` if `a` is false.",
+    "if": "`if b then x else y` is `x` if `b` is true, and `y` otherwise.",
+    "nat_le": "`nat_le a b` is the truth value of `a ≤ b`, and `nat_lt a b` the one of `a < b`.",
+    "min": "`min a b` is the smaller of two numbers.",
+    "IsTrue": "`IsTrue b` holds if `b` is `true`, and `IsFalse b` if it is `false`.",
+    "OkIff": "`OkIff result P x` holds if `result` is `Ok x` and `P` holds, or if it is an `Err` and `P` does not.",
+    "IfOk": "`IfOk result P` holds if `result` is an `Err`, or if it is `Ok x` and `P` holds for `x`.",
+    "IfErr": "`IfErr result P` holds if `result` is an `Ok`, or if it is `Err x` and `P` holds for `x`.",
+    "All": "`All P xs` holds if `P` holds for each entry of `xs`; `AllByRecursion` is the same.",
+    "AllZip": "`AllZip P xs ys` holds if both lists have one length and `P` holds for each two entries at one index.",
+    "length": "The number of entries of a list.",
+    "take": "`take n xs` is the list of the first `n` entries of `xs`.",
+    "range_with_len": "`range_with_len start n` is the list of the `n` numbers from `start` up.",
+    "map": "`map f xs` is the list of `f x` for each `x` in `xs`.",
+    "flat_map": "`flat_map f xs` joins the lists `f x` for each `x` in `xs`.",
+    "filter": "`filter p xs` is the list of each `x` in `xs` for which `p x` is true.",
+    "filter_map": "`filter_map f xs` is the list of each `y` for which `f x` is `Some y`, for `x` in `xs`.",
+    "list_any": "`list_any p xs` is true if `p x` is for some `x` in `xs`, and `list_all p xs` if it is for each.",
+    "sum_by": "`sum_by f xs` is the sum of `f x` for each `x` in `xs`.",
+    "last_or": "`last_or option xs` is `Some` of the last entry of `xs`, or `option` if `xs` is empty.",
+    "position": "`position p xs` is `Some` of the index of the first entry for which `p` is true, or `None`.",
+    "unwrap_or": "`unwrap_or option x` is the value in `option`, or `x` if it is `None`.",
+    "codes": "`codes text` is the list of the bytes of a text.",
+}  # fmt: skip
+
+
+class Unfit(Exception):
+    """A table here that does not fit the sources."""
+
+
+def lines_of(comment):
+    """The lines of a block of documentation without their marks, and the mark of each."""
+    return re.match(r" *//[/!]", comment)[0], re.findall(r"^ *//[/!] ?(.*)$", comment, re.M)
+
+
+def is_prose(paragraph):
+    return not re.match(r"[-#|>\d]|    |```", paragraph[0])
+
+
+class Comments:
+    """The comments of the library's documentation, with the phrases that were found in them."""
+
+    def __init__(self):
+        self.used = set()
+
+    @functools.cached_property
+    def setters(self):
+        """The documentation of each setter, as one line."""
+        text = (CRATES / "lexical_builder/src/format_builder/setters.rt").read_text()
+        found = re.findall(r"((?: *///.*\n)+)(?: *#.*\n)*.* fn (\w+)\(", text)
+        return {name: " ".join(comment.replace("///", "").split()) for comment, name in found}
+
+    def of_file(self, text, name):
+        """The text of a file with other documentation comments."""
+        text = re.sub(r"(?:^ *//[/!].*\n)+", lambda it: self.block(it[0]), text, flags=re.M)
+        for line in text.splitlines():
+            if re.match(r" *//[/!]", line) and (it := FOREIGN.search(line)):
+                raise Unfit(f"{name}: documentation of plain Rust cannot speak of `{it[0]}`: {line.strip()}")
+        return text
+
+    def block(self, comment):
+        """A block of comment lines with PHRASES replaced, and the sentences of setters at constants and getters."""
+        mark, lines = lines_of(comment)
+        paragraphs, fenced = [[]], False
+        for line in lines:
+            if not line and not fenced:
+                paragraphs.append([])
+                continue
+            fenced ^= line.startswith("```")
+            paragraphs[-1].append(line)
+        changed = [self.paragraph(it, 118 - len(mark)) if it and is_prose(it) else it for it in paragraphs]
+        if changed == paragraphs:
+            return comment
+        changed = [it for it in changed if it]
+        lines = "\n\n".join("\n".join(it) for it in changed).split("\n")
+        return "".join(f"{mark} {line}".rstrip() + "\n" for line in lines) if changed else ""
+
+    def paragraph(self, lines, width):
+        text = old = " ".join(lines)
+        for phrase, new in sorted(PHRASES, key=lambda it: -len(it[0])):
+            if phrase in text:
+                self.used.add(phrase)
+                text = text.replace(phrase, new)
+        text = re.sub(r"(.*)\[(flag|group)\]\[(.*?)(\w+)\](.*)", self.pointed, text)
+        text = re.sub(r"^Returns the flag of \[`Self::(\w+)`\]\.$", lambda it: self.getter(it[1], "Self::"), text)
+        if text == old:
+            return lines
+        return textwrap.wrap(" ".join(text.split()), width, break_long_words=False, break_on_hyphens=False)
+
+    def sentence(self, setter):
+        """What a setter's flag asks of a parser, or what its group is; without the full stop."""
+        text = re.match(r"(.*?)\.(?: |$)", self.setters[setter])[1]
+        for start in ("If set, a parser ", "Sets the flags about ", "Sets all flags of the group: "):
+            if text.startswith(start):
+                return text.removeprefix(start)
+        raise Unfit(f"the setter {setter} begins in another way: {text}")
+
+    def pointed(self, it):
+        """The first line of a constant or a getter that points to a setter."""
+        before, kind, path, setter, _ = it.groups()
+        link = f"([setter][{path}{setter}])."
+        if kind == "group":
+            start = "Mask of" if before.startswith("Mask") else "Returns whether any is set of"
+            return f"{start} the flags of a group: {self.sentence(setter)} {link}"
+        if before.startswith("Returns"):
+            return self.getter(setter, path)
+        return f"If set, a parser {self.sentence(setter)} {link}"
+
+    def getter(self, setter, path):
+        return f"Returns whether a parser {self.sentence(setter)} ([setter][{path}{setter}])."
+
+    def unused(self):
+        return [phrase for phrase, _ in PHRASES if phrase not in self.used]
+
+
+def proved(file, name, clauses):
+    """The part `Proved` of a call's documentation, from its clauses."""
+    sentences = PROVED[file][name]
+    names = [it or "" for it in re.findall(r"^ *ensures(?: (\w+))? \{", clauses, re.M)]
+    if names != list(sentences):
+        raise Unfit(f"{file}: {name} has the clauses {names}, and PROVED has sentences for {list(sentences)}")
+    linked = (re.sub(r"`(\w+)`", lambda it: link(it[1]), text) for text in sentences.values())
+    items = "\n".join("\n".join(textwrap.wrap(f"- {it}", 110, subsequent_indent="  ")) for it in linked)
+    clauses = textwrap.dedent(clauses.strip("\n").rstrip())
+    return f"\n# Proved\n\nFor all arguments:\n\n{items}\n\n```text\n{clauses}\n```"
+
+
+def shown():
+    """The definitions that the page has, file by file, in an order to be read in."""
+    starts = []
+    for function in model.functions():
+        crate, _, *place = function.path.relative_to(CRATES).parts
+        file = "/".join(place)
+        if function.name in PROVED.get(file, ()) and function.is_public and crate in LIBRARIES:
+            starts += model.contract(function)
+    reached, waiting = dict.fromkeys(it for it in starts if it.file != "type"), []
+    waiting = list(reached)
+    for item in waiting:
+        new = [it for it in dict.fromkeys(model.cites(item)) if it not in reached and it.file != "type"]
+        reached |= dict.fromkeys(new)
+        waiting += new
+    if strange := [it.name for it in reached if it.file not in model.FILES and it.file != "std"]:
+        raise Unfit(f"no definition has the name {', '.join(strange)}")
+    lines = {file: model.FILES[file].lines for file in model.reading_order()}
+    files = {file: [it for it in names if model.Item(file, it) in reached] for file, names in lines.items()}
+    unknown = {it.name.strip("◌") for it in reached if it.file == "std"} - known_std()
+    if unknown:
+        raise Unfit(f"STD does not have the meaning of {', '.join(sorted(unknown))}")
+    return {file: names for file, names in files.items() if names}
+
+
+LIBRARIES = ["lexical_base", "lexical_flags", "lexical_builder", "lexical_util"]
+
+
+def known_std():
+    """The names of STD, and those that its sentences give a meaning to."""
+    texts = " ".join(STD.values())
+    words = (re.findall(r"\w+|\S+", code) for code in re.findall(r"`([^`]+)`", texts))
+    return {"if◌then◌else", *STD}.union(*words)
+
+
+def link(name):
+    """A name as a link to its part of the page, or as code if it has none."""
+    return f"[`{name}`](crate::definitions#{name.lower()})" if name in all_names() else f"`{name}`"
+
+
+def all_names(cache=[]):
+    if not cache:
+        cache.append({name for names in shown().values() for name in names})
+        if len({name.lower() for name in cache[0]}) < len(cache[0]):
+            raise Unfit("two definitions differ only in case, so a link is ambiguous")
+    return cache[0]
+
+
+def part(file, name):
+    """The part of a definition: its sentence and its text, of which a long one is cut."""
+    lines = model.FILES[file].lines[name]
+    words = " ".join(line[3:] for line in lines if line.startswith("-- "))
+    if not words or FOREIGN.search(words):
+        raise Unfit(f"{file}: the comment of {name} is not one for the page: {words}")
+    code = [line for line in lines if not line.startswith("-- ")]
+    code = code if len(code) < 20 else [*code[:6], "  ..", code[-1]]
+    code = [re.sub(r"^(abbrev |unfoldable )?pub ", "", re.sub(r"^  pub ", "  ", line)) for line in code]
+    return "\n".join([f"## `{name}`", "", words, "", "```text", *code, "```"])
+
+
+def definitions():
+    """The text of the module `definitions`: all that the shown clauses cite."""
+    head = (
+        "The terms of the parts `Proved`: all definitions that their clauses use, and that these use.\n\n"
+        "`f x` is `f` applied to `x`. `.now` is the value that a reference points to, and a builder means the record of\n"
+        "its fields. Names such as `edits.Flag` or `rules.PunctuationDiffers` are variants of `Edit`, `FlagSetter`,\n"
+        "`Rule` or `Error`; `layout.` names a flag or a byte."
+    )
+    parts = [head]
+    for file, names in shown().items():
+        title = " ".join(line[3:] for line in model.FILES[file].header).rstrip(".") or file
+        parts += [f"# {title}", *(part(file, it) for it in names)]
+    rows = "\n".join(f"| `{name}` | {text} |".replace("||", "\\|\\|") for name, text in STD.items())
+    parts += [f"# Names of the prover's library\n\n| Name | Meaning |\n|---|---|\n{rows}"]
+    return "\n".join(f"//! {line}".rstrip() for line in "\n\n".join(parts).split("\n")) + "\n"
