@@ -52,4 +52,4 @@ compares 3 "$(bash -c "$short"; echo $?)" "$short"
 if has cc && has python3; then
     passes ../crates/numfmt/built-program-test.sh "$CARGO_TARGET_DIR/debug/numfmt"
 fi
-counted 22
+counted 21
