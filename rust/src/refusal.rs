@@ -77,7 +77,7 @@ impl Refusal {
             Piece::Words(words) => self.with(words),
             Piece::Number(number) => self.with_digits(number as u128, 10),
             Piece::Hexadecimal(number) => self.with("0x").with_digits(number, 16),
-            Piece::QuotedByte(name, byte) if byte.is_ascii_graphic() => self
+            Piece::QuotedByte(name, byte) if byte.is_ascii_graphic() && byte != b'\'' => self
                 .with("the ")
                 .with(name)
                 .with(" '")

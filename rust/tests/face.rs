@@ -2,7 +2,8 @@
 //! compared with these calls, and on a few with known texts.
 
 use peltzivar::edits::{apply_all, edit_word, edits_of, same_format};
-use peltzivar::format::{broken_rules, format_error, options_error, NumberFormatBuilder, STANDARD};
+use peltzivar::format::{broken_rules, format_error, options_error, NumberFormatBuilder};
+use peltzivar::format::{BASE_PREFIX_SHIFT, BASE_SUFFIX_SHIFT, STANDARD};
 use peltzivar::reasons::notes;
 use peltzivar::{Edit, Error, FlagSetter, Format, FormatView, NumberFormat, Rule};
 use std::fmt::{Debug, Display, LowerHex, UpperHex};
@@ -193,11 +194,13 @@ fn edits_make_the_fields_of_their_word() {
     }
 }
 
-/// A panic has the description of the first broken rule, and the first reason.
+/// A panic has the description of the first broken rule, and the first reason, also where the reason prints any byte.
 #[test]
 fn an_unlawful_constant_stops_with_its_reason() {
     panic::set_hook(Box::new(|_| {}));
-    for word in words().step_by(7) {
+    let twice =
+        (0..=255).map(|byte| STANDARD | byte << BASE_PREFIX_SHIFT | byte << BASE_SUFFIX_SHIFT);
+    for word in words().step_by(7).chain(twice) {
         let builder = NumberFormatBuilder::from_word(word);
         let stopped = panic::catch_unwind(|| builder.build_or_panic());
         let stopped = stopped.map_err(|text| *text.downcast::<String>().expect("a text"));
