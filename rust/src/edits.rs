@@ -274,7 +274,7 @@ pub const fn apply_all(mut builder: NumberFormatBuilder, edits: &[Edit]) -> Numb
 ///
 /// ```
 /// use peltzivar::edits::{edit_word, Edit, FlagSetter};
-/// use peltzivar::word::STANDARD;
+/// use peltzivar::format::STANDARD;
 ///
 /// // The exponent keeps base and radix 10, which are now written in the word.
 /// let edits = [Edit::MantissaRadix(16), Edit::Flag(FlagSetter::NoSpecial, true)];

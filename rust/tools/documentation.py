@@ -143,8 +143,8 @@ PHRASES = [
      " [`NumberFormat`][crate::feature_format::NumberFormat] has each field also as a constant."),
 ]
 
-# What no documentation of the library may have.
-FOREIGN = re.compile(r"\.rt\b|\.antt\b|[Ii]n plain Rust|\bcrates? (above|below)|not proved|has no such|[Ss]earch")
+# What no documentation of the library may have. The module `word` is hidden.
+FOREIGN = re.compile(r"\.rt\b|\.antt\b|[Ii]n plain Rust|\bcrates? (above|below)|not proved|has no such|[Ss]earch|\bword::")
 
 # Names of the prover's standard library that clauses and definitions use, each with its meaning.
 STD = {

@@ -36,7 +36,7 @@ ADDED = [
     "runs. For a word that is known when compiled, [`NumberFormat`][crate::feature_format::NumberFormat] has as a",
 ]  # fmt: skip
 STRANGE = ["a.rt", "a.antt", "In plain Rust", "in plain Rust", "the crate below", "crates above", "is not proved",
-           "has no such function", "Search", "the search"]  # fmt: skip
+           "has no such function", "Search", "the search", "word::STANDARD"]  # fmt: skip
 
 # What stands behind each reason of an `unsafe` in the exports.
 SAFETY = {

@@ -26,6 +26,8 @@ fi
 if has cargo-fmt; then passes cargo fmt --all --check; fi
 if has cargo-clippy; then passes cargo clippy --quiet --workspace --all-targets -- -D warnings; fi
 passes cargo test
+# The program of docs/RUST.md: its assertions hold when it runs.
+passes cargo run --quiet --example face_program
 # The least version of Rust, where the PATH has it, as Debian's package `rustc-web` of this version puts it there.
 least=$(sed -n 's/^rust-version = "\(.*\)"$/\1/p' Cargo.toml)
 found=
@@ -52,4 +54,4 @@ compares 3 "$(bash -c "$short"; echo $?)" "$short"
 if has cc && has python3; then
     passes ../crates/numfmt/built-program-test.sh "$CARGO_TARGET_DIR/debug/numfmt"
 fi
-counted 21
+counted 22

@@ -224,7 +224,7 @@ const fn is_disjoint_from_format_roles(format: u128, byte: u8, case_sensitive: b
 /// raw bytes.
 ///
 /// ```
-/// use peltzivar::{format_flags::is_valid_options_punctuation, word::STANDARD};
+/// use peltzivar::format::{is_valid_options_punctuation, STANDARD};
 ///
 /// assert!(is_valid_options_punctuation(STANDARD, b'e', b'.'));
 /// assert!(!is_valid_options_punctuation(STANDARD, b'5', b'.')); // a digit
