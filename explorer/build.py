@@ -1,0 +1,258 @@
+"""Makes index.html from the sources here, the tables of docs/FORMAT.md and the recipes; `explorer/build` calls this.
+
+The page has a hash of the sources of its WebAssembly. If they are the same, the WebAssembly of the page is taken again.
+"""
+import base64
+import hashlib
+import json
+import os
+import pathlib
+import re
+import shutil
+import subprocess
+import sys
+import tempfile
+
+HERE = pathlib.Path(__file__).resolve().parent
+TOP = HERE.parent
+PAGE = HERE / "index.html"
+SCRIPTS = ("library", "element", "number", "bits", "controls", "code", "report", "page")
+MOST_BYTES = 200_000
+TARGET = "wasm32-unknown-unknown"
+PACKAGES = ["rustc-web=1.85*", "rust-web-src=1.85*", "lld"]
+DEBIAN_CORE = pathlib.Path("/usr/src/rustc-1.85.0/library/core/src/lib.rs")
+
+sys.dont_write_bytecode = True
+sys.path.append(str(TOP / "docs"))
+import check_format
+
+# The sections of flags that separate no digits: a title, the part of a number, and the names of the flags.
+SECTIONS = [
+    ("Digits", "digits", r"required_\w+_digits|no_\w+_leading_zeros"),
+    ("Signs", "sign", r"\w+_sign"),
+    ("Exponent", "exponent", r"\w+_exponent_notation|no_exponent_without_fraction|case_sensitive_exponent"),
+    ("NaN and infinity", "special", r"\w*special"),
+    ("Base prefix and suffix", "base", r"case_sensitive_base_\w+"),
+    ("Others", "other", r"\w+"),
+]
+BYTE_PARTS = {"digit_separator": "separator", "base_prefix": "base", "base_suffix": "base", "mantissa_radix": "digits"}
+
+
+def flags():
+    """Returns the flags, each with its bit, its meaning and its section."""
+    separators = next(bits.split() for name, bits, _ in check_format.GROUPS if name == "digit_separator_flags")
+    for bit, name, meaning in check_format.FLAGS:
+        section = next(row for row in SECTIONS if re.fullmatch(row[2], name))
+        title, part = ("", "separator") if bit in separators else section[:2]
+        yield {"bit": int(bit), "name": name, "meaning": meaning, "section": title, "part": part}
+
+
+def fields():
+    """Returns the bytes, each with its lowest bit and whether it is shown as a number."""
+    for low, _, name, meaning in check_format.BYTES:
+        part = BYTE_PARTS.get(name, "exponent")
+        is_number = name.endswith(("_base", "_radix"))
+        yield {"bit": int(low), "name": name, "meaning": meaning, "part": part, "isNumber": is_number}
+
+
+def limits():
+    """Returns the rows of the table of what a format cannot express."""
+    table = check_format.PAGE.partition("## What a format cannot express\n")[2].partition("\n## ")[0]
+    return re.findall(r"^\| (.*) \| (.*) \|$", table, re.M)[1:]
+
+
+def setting(call):
+    """Returns a setter call of the recipes as a setting."""
+    name, argument = re.fullmatch(r"\.(\w+)\((.*)\)", call).groups()
+    byte = re.fullmatch(r"NonZeroU8::new\((.*)\)", argument)
+    value = re.sub(r"^b'\\?(.)'$", r"'\1'", byte[1]) if byte else argument
+    if not re.fullmatch(r"'.'|\d+|true|false", value):
+        sys.exit(f"rust/examples/recipes.rs: not a value: {argument}")
+    return f"{name}={value}"
+
+
+def recipes():
+    """Returns the recipes: name, comment, settings with their comments, and exponent character."""
+    text = (TOP / "rust/examples/recipes.rs").read_text()
+    exponents = re.findall(r'^ +\("(\w+)", \w+, b\'(.)\'\),$', text, re.M)
+    bodies = re.findall(r"((?:^///.*\n)+)pub const (\w+): u128 = NumberFormatBuilder::new\(\)\n((?: +\..*\n)+)", text, re.M)
+    found = {name: (comment, body) for comment, name, body in bodies}
+    for name, exponent in exponents:
+        comment, body = found[name]
+        calls = re.findall(r"^ +(\.\w+\(.*?\));?(?: // (.*))?$", body, re.M)
+        if calls.pop()[0] != ".build_or_panic()":
+            sys.exit(f"rust/examples/recipes.rs: {name} does not end with build_or_panic")
+        settings = [[setting(call), meaning] for call, meaning in calls]
+        about = " ".join(comment.replace("///", "").split())
+        yield {"name": name, "about": about, "settings": settings, "exponent": exponent}
+
+
+def constants():
+    """Returns the numbers of c/peltzivar.h, and its fields to start from."""
+    header = (TOP / "c/peltzivar.h").read_text()
+    found = {name: int(number, 0) for name, number in re.findall(r"^#define PELTZIVAR_(\w+) (\d\w*)$", header, re.M)}
+    fields_init = re.search(r"NEW_FIELDS_INIT \{UINT32_C\((\w+)\), (.*)\}", header)
+    found["NEW_FIELDS"] = [int(it, 0) for it in (fields_init[1], *fields_init[2].split(", "))]
+    return found
+
+
+def data():
+    """Returns what the page reads of the repository."""
+    groups = [{"name": name, "bits": [*map(int, bits.split())], "meaning": it} for name, bits, it in check_format.GROUPS]
+    rules = [{"demand": demand} for _, demand, *_ in check_format.RULES]
+    return {
+        "constants": constants(),
+        "flags": [*flags()],
+        "groups": groups,
+        "bytes": [*fields()],
+        "rules": rules,
+        "recipes": [*recipes()],
+        "limits": limits(),
+    }
+
+
+def sources_hash():
+    """Returns a hash of the sources of the WebAssembly, without comments and blank lines."""
+    files = [HERE / "shim.rs", TOP / "rust/Cargo.toml"]
+    files += sorted((TOP / "rust/src").rglob("*.rs")) + sorted((TOP / "rust/capi/src").rglob("*.rs"))
+    whole = hashlib.sha256(json.dumps(flags_of_compiler()).encode())
+    for path in files:
+        lines = [line.strip() for line in path.read_text().splitlines()]
+        code = [line for line in lines if line and not line.startswith("//")]
+        if code:
+            whole.update("\n".join([path.relative_to(TOP).as_posix(), *code, ""]).encode())
+    return whole.hexdigest()
+
+
+def flags_of_compiler():
+    """Returns the options of each call of the compiler."""
+    return ["--edition=2021", f"--target={TARGET}", "-Copt-level=s", "-Cpanic=abort", "--cap-lints=allow"]
+
+
+def run(command, **variables):
+    """Runs a command, and ends the program if it fails."""
+    result = subprocess.run(list(map(str, command)), env={**os.environ, **variables}, capture_output=True, text=True)
+    if result.returncode:
+        sys.exit(f"{' '.join(map(str, command))}\n{result.stdout}{result.stderr}")
+    return result.stdout
+
+
+def debian_compiler():
+    """Returns Debian's compiler, or None if a package is missing."""
+    version = subprocess.run(["/usr/bin/rustc", "--version"], capture_output=True, text=True) if shutil.which("/usr/bin/rustc") else None
+    has_compiler = version is not None and version.stdout.startswith("rustc 1.85.")
+    return "/usr/bin/rustc" if has_compiler and DEBIAN_CORE.exists() and shutil.which("wasm-ld") else None
+
+
+def rustup_compiler():
+    """Returns the compiler of the PATH if it has the target, and otherwise None."""
+    rustc = shutil.which("rustc")
+    if not rustc:
+        return None
+    found = subprocess.run([rustc, "--print=target-libdir", f"--target={TARGET}"], capture_output=True, text=True)
+    has_core = found.returncode == 0 and any(pathlib.Path(found.stdout.strip()).glob("libcore-*.rlib"))
+    return rustc if has_core else None
+
+
+def compiled():
+    """Returns the WebAssembly of rust/capi."""
+    rustc, linker = rustup_compiler(), []
+    with tempfile.TemporaryDirectory() as folder:
+        if not rustc:
+            rustc, linker = debian_compiler(), ["-Clinker=wasm-ld", "-Clinker-flavor=wasm-ld"]
+            if not rustc:
+                sys.exit(missing())
+            library(rustc, folder, "core", DEBIAN_CORE)
+            library(rustc, folder, "compiler_builtins", HERE / "shim.rs")
+        library(rustc, folder, "peltzivar", TOP / "rust/src/lib.rs")
+        version = re.search(r'^version = "(\d+)\.(\d+)\.(\d+)"$', (TOP / "rust/Cargo.toml").read_text(), re.M)
+        parts = dict(zip(("MAJOR", "MINOR", "PATCH"), version.groups()))
+        names = {f"CARGO_PKG_VERSION_{name}": number for name, number in parts.items()}
+        options = ["--crate-type=cdylib", "-Clto=fat", "-Ccodegen-units=1", "-Cstrip=symbols", *linker]
+        options += ["--extern=peltzivar"]
+        out = pathlib.Path(folder) / "peltzivar.wasm"
+        source = TOP / "rust/capi/src/lib.rs"
+        run([rustc, *flags_of_compiler(), *options, f"-L{folder}", "--crate-name=peltzivar_c", "-o", out, source], **names)
+        return out.read_bytes()
+
+
+def library(rustc, folder, name, source):
+    """Compiles a library into the folder. Debian's `core` has unstable parts."""
+    options = ["--crate-type=rlib", f"-L{folder}", f"--crate-name={name}", f"--out-dir={folder}"]
+    run([rustc, *flags_of_compiler(), *options, source], RUSTC_BOOTSTRAP="1")
+
+
+def missing():
+    """Returns what to do if there is no compiler."""
+    return (
+        f"no compiler has the target {TARGET}: run `rustup target add {TARGET}`, or install these packages of Debian"
+        f" (explorer/build --install does it): {' '.join(PACKAGES)}"
+    )
+
+
+def install():
+    """Installs Debian's packages."""
+    root = [] if os.geteuid() == 0 else ["sudo"]
+    subprocess.run([*root, "apt-get", "install", "--yes", "--no-install-recommends", *PACKAGES], check=True)
+
+
+def digest(text):
+    """Returns the source of a content security policy that allows the text."""
+    return f"'sha256-{base64.b64encode(hashlib.sha256(text.encode()).digest()).decode()}'"
+
+
+def page(wasm, sources):
+    """Returns the page with this WebAssembly, as base64, and the hash of its sources."""
+    style = "\n" + (HERE / "page.css").read_text()
+    script = "\n" + "\n".join((HERE / f"{name}.js").read_text() for name in SCRIPTS)
+    embedded = json.dumps(data(), ensure_ascii=False, separators=(",", ":")).replace("<", "\\u003c")
+    policy = f"default-src 'none'; script-src {digest(script)} 'wasm-unsafe-eval'; style-src {digest(style)}; img-src data:"
+    parts = {
+        "policy": f"{policy}; base-uri 'none'; form-action 'none'",
+        "style": style,
+        "data": embedded,
+        "sources": sources,
+        "library": wasm,
+        "script": script,
+    }
+    template = (HERE / "template.html").read_text()
+    return re.sub(r"@(\w+)@", lambda match: parts[match[1]], template)
+
+
+def old_page():
+    """Returns the text of the page that is there, its WebAssembly as base64, and the hash of its sources."""
+    text = PAGE.read_text() if PAGE.exists() else ""
+    found = re.search(r'<script id="library" [^>]*data-sources="(\w+)">([^<]*)</script>', text)
+    return (text, found[2], found[1]) if found else (text, "", "")
+
+
+def check():
+    """Returns what is wrong with the page that is there, or an empty text."""
+    text, wasm, sources = old_page()
+    if sources != sources_hash():
+        return "explorer/index.html: its WebAssembly is not up to date with rust/, run explorer/build"
+    if text != page(wasm, sources):
+        return "explorer/index.html: is not up to date with docs/FORMAT.md, the recipes or explorer/, run explorer/build"
+    return ""
+
+
+def main(arguments):
+    """Makes the page, or checks it."""
+    if arguments == ["--check"]:
+        sys.exit(check() or 0)
+    if arguments == ["--install"]:
+        install()
+    elif arguments:
+        sys.exit("usage: explorer/build [--check | --install]")
+    _, wasm, sources = old_page()
+    if sources != sources_hash():
+        wasm, sources = base64.b64encode(compiled()).decode(), sources_hash()
+    text = page(wasm, sources)
+    if len(text.encode()) >= MOST_BYTES:
+        sys.exit(f"explorer/index.html: {len(text.encode())} bytes, more than {MOST_BYTES}")
+    PAGE.write_text(text)
+    print(f"explorer/index.html: {len(text.encode())} bytes")
+
+
+if __name__ == "__main__":
+    main(sys.argv[1:])

@@ -1,0 +1,219 @@
+/* The state of the page: a word, an exponent character and a decimal point, which the fragment of the URL has too. */
+"use strict";
+
+const LANGUAGES = ["rust", "c", "python", "settings"];
+
+class Page {
+    constructor(library, data) {
+        this.library = library;
+        this.data = data;
+        this.state = { word: library.standard, exponent: 101, point: 46 };
+        this.language = "rust";
+        const edit = (edits) => this.change({ word: library.write(this.state.word, edits) });
+        const choose = (name, byte) => this.change({ [name]: byte });
+        const use = (word) => this.jump({ word });
+        this.controls = new Controls(library, data, { edit, choose });
+        this.report = new Report(library, data, { use, edit, go: (name) => this.go(name) });
+        this.cells = makeBits(data, (name) => this.controls.boxes.get(name).click());
+        this.code = new Code(library, data);
+        this.meanings = new Map([...data.flags, ...data.bytes, ...data.groups].map((it) => [it.name, it]));
+        this.listen();
+        this.makeRecipes();
+        this.makeLimits();
+        this.read();
+    }
+
+    listen() {
+        addEventListener("hashchange", () => this.read());
+        find("word").addEventListener("input", (event) => this.paste(event.target.value));
+        find("word").addEventListener("blur", () => this.show());
+        find("standard").addEventListener("click", () => this.jump({ word: this.library.standard, exponent: 101, point: 46 }));
+        find("recipe").addEventListener("change", (event) => this.start(this.data.recipes[event.target.value]));
+        find("as-numbers").addEventListener("change", (event) => {
+            this.controls.asNumbers = event.target.checked;
+            this.show();
+        });
+        for (const [id, text] of [["copy-code", () => find("code").textContent], ["copy-link", () => location.href]]) {
+            find(id).addEventListener("click", (event) => copy(event.target, text()));
+        }
+        for (const name of ["pointerover", "focusin"]) {
+            document.addEventListener(name, (event) => this.mark(event.target.closest?.("[data-field]")));
+        }
+        this.listenToTabs();
+    }
+
+    listenToTabs() {
+        const tabs = LANGUAGES.map((name) => find(`tab-${name}`));
+        const choose = (index) => {
+            this.language = LANGUAGES[index];
+            tabs.forEach((tab, other) => {
+                tab.setAttribute("aria-selected", String(other === index));
+                tab.tabIndex = other === index ? 0 : -1;
+            });
+            find("code").setAttribute("aria-labelledby", tabs[index].id);
+            this.showCode();
+        };
+        tabs.forEach((tab, index) => {
+            tab.addEventListener("click", () => choose(index));
+            tab.addEventListener("keydown", ({ key }) => {
+                const step = { ArrowRight: 1, ArrowLeft: -1 }[key];
+                if (!step) return;
+                const next = (index + step + tabs.length) % tabs.length;
+                choose(next);
+                tabs[next].focus();
+            });
+        });
+    }
+
+    makeRecipes() {
+        const options = this.data.recipes.map(({ about }, index) => {
+            return element("option", { value: index }, about.replace(/[:.]? \(.*| with .*|\.$/, ""));
+        });
+        find("recipe").append(...options);
+    }
+
+    makeLimits() {
+        const rows = this.data.limits.map(([limit, instead]) => {
+            return element("tr", {}, element("td", {}, withCode(limit)), element("td", {}, withCode(instead)));
+        });
+        find("limits").append(...rows);
+    }
+
+    /* Shows a recipe with its comments. */
+    start(recipe) {
+        if (!recipe) return;
+        const edits = recipe.settings.map(([text]) => this.library.parseEdit(text).edit);
+        this.jump({ word: this.library.build(edits), exponent: recipe.exponent.charCodeAt(0), point: 46 });
+        const rows = recipe.settings.map(([text, meaning]) => {
+            return element("li", {}, element("code", {}, text), " ", element("span", { class: "meaning" }, withCode(meaning)));
+        });
+        find("about").replaceChildren(...withCode(recipe.about));
+        find("recipe-settings").replaceChildren(...rows);
+        find("recipe-panel").hidden = false;
+    }
+
+    /* Takes a text as the word, or shows why it is not one. */
+    paste(text) {
+        const { word, message } = this.library.parseWord(text.trim());
+        setText(find("word-problem"), message ? `${message}: a word is 0x and 1 to 32 hexadecimal digits` : "");
+        find("word").setAttribute("aria-invalid", String(Boolean(message)));
+        if (!message) this.change({ word });
+    }
+
+    /* Changes the state, in the place of the old one. */
+    change(part) {
+        this.state = { ...this.state, ...part };
+        history.replaceState(null, "", this.fragment());
+        this.show();
+    }
+
+    /* Changes the state, and keeps the old one for the way back. */
+    jump(part) {
+        history.pushState(null, "", this.fragment());
+        this.change(part);
+        find("verdict").focus();
+    }
+
+    fragment() {
+        const { word, exponent, point } = this.state;
+        return `#word=${this.library.wordText(word)}&exponent=${exponent}&point=${point}`;
+    }
+
+    /* Reads the state from the fragment. What is missing there, or is not a word or a byte, has its default. */
+    read() {
+        const parts = new URLSearchParams(location.hash.slice(1));
+        const { word } = this.library.parseWord(parts.get("word") ?? "");
+        const byte = (name, other) => this.library.parseEdit(`digit_separator=${parts.get(name)}`).edit?.value ?? other;
+        this.state = { word: word ?? this.library.standard, exponent: byte("exponent", 101), point: byte("point", 46) };
+        this.show();
+    }
+
+    show() {
+        const { word, exponent, point } = this.state;
+        const text = this.library.wordText(word);
+        if (document.activeElement !== find("word")) {
+            find("word").value = text;
+            find("word").removeAttribute("aria-invalid");
+            setText(find("word-problem"), "");
+        }
+        const blamed = this.report.show(this.state);
+        this.controls.show({ word, exponent, point, bytes: this.library.rawBytes(word) });
+        showBits(this.cells, word, text);
+        showNumber(this.library, this.state, this.library.bytesOf(word, this.data.bytes.map(({ name }) => name)));
+        this.blame(new Set(blamed));
+        this.showCode();
+    }
+
+    /* Marks the fields that reasons blame. */
+    blame(names) {
+        for (const node of document.querySelectorAll("[data-field]")) {
+            const isBlamed = node.dataset.field.split(" ").some((name) => names.has(name));
+            node.classList.toggle("blamed", isBlamed);
+        }
+        for (const [name, box] of this.controls.boxes) box.setAttribute("aria-invalid", String(names.has(name)));
+    }
+
+    showCode() {
+        const text = this.library.wordText(this.state.word);
+        setText(find("code"), this.code[this.language](this.state.word, text));
+    }
+
+    /* Marks what has the same field as the element under the cursor, and describes the field. */
+    mark(node) {
+        if (!node) return;
+        const names = node.dataset.field.split(" ").filter(Boolean);
+        if (!names.length) return;
+        for (const other of document.querySelectorAll("[data-field]")) {
+            const isMarked = other.dataset.field.split(" ").some((name) => names.includes(name));
+            other.classList.toggle("marked", isMarked);
+        }
+        this.describe(names[0]);
+    }
+
+    describe(name) {
+        const field = this.meanings.get(name);
+        const bits = field?.bits ?? (field && [field.bit, field.bit + 7].slice(0, "isNumber" in field ? 2 : 1));
+        const where = bits ? `${bits.length > 1 ? "bits" : "bit"} ${"isNumber" in field ? bits.join(" to ") : bits.join(", ")}` : "";
+        const meaning = field ? withCode(field.meaning) : ["bits of no field, which are 0 in a lawful word"];
+        const shown = [element("code", {}, name), ` ${where} `, element("span", { class: "meaning" }, meaning)];
+        if (name === "exponent" || name === "point") return;
+        find("hint").replaceChildren(...shown);
+    }
+
+    /* Goes to the control of a field. */
+    go(name) {
+        const control = find(name);
+        if (!control) return;
+        control.focus();
+        control.scrollIntoView({ block: "nearest" });
+    }
+}
+
+/* Copies a text, and says so on the button. Without the clipboard, as in a page from the disk, a selection is copied. */
+async function copy(button, text) {
+    const label = button.dataset.label ?? button.textContent;
+    button.dataset.label = label;
+    try {
+        await navigator.clipboard.writeText(text);
+    } catch {
+        const area = element("textarea", { readonly: true });
+        area.value = text;
+        document.body.append(area);
+        area.select();
+        document.execCommand("copy");
+        area.remove();
+        button.focus();
+    }
+    setText(button, "copied");
+    setTimeout(() => setText(button, label), 1200);
+}
+
+async function main() {
+    const bytes = Uint8Array.from(atob(find("library").textContent), (character) => character.charCodeAt(0));
+    const data = JSON.parse(find("data").textContent);
+    const library = await Library.load(bytes, data.constants);
+    window.page = new Page(library, data);
+    document.documentElement.dataset.ready = "true";
+}
+
+main().catch((error) => setText(find("verdict"), `This browser cannot run the library: ${error.message}`));

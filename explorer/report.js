@@ -1,0 +1,97 @@
+/* What the library reports of a word: reasons, notes, normal form, and what differs from the standard format. */
+"use strict";
+
+class Report {
+    constructor(library, data, { use, edit, go }) {
+        this.library = library;
+        this.data = data;
+        this.use = use;
+        this.edit = edit;
+        this.go = go;
+        this.code = new Code(library, data);
+        this.masks = library.fields.map((setter) => {
+            return { name: library.setters[setter], mask: library.editMask({ setter, value: 1 }) };
+        });
+        this.defaults = new Map(library.editsOf(library.standard).edits.map((edit) => [edit.setter, edit]));
+    }
+
+    /* Returns the names of the fields with bits in a mask. */
+    namesOf(mask) {
+        const names = this.masks.filter((field) => field.mask & mask).map(({ name }) => name);
+        const all = this.masks.reduce((bits, field) => bits | field.mask, 0n);
+        return mask & ~all ? [...names, "reserved"] : names;
+    }
+
+    /* Returns buttons that lead to the fields of a mask. */
+    links(mask) {
+        return this.namesOf(mask).map((name) => {
+            return element("button", { type: "button", class: "link", "data-field": name, click: () => this.go(name) }, name);
+        });
+    }
+
+    reason(word, { text, mask, rules, mends }) {
+        const broken = rules.map((rule) => {
+            const error = this.library.errorText(this.library.call("rule_error", rule));
+            const title = `A lawful word: ${this.data.rules[rule]?.demand ?? ""}`;
+            return element("li", { title }, `rule ${rule + 1}: ${error}`);
+        });
+        const buttons = mends.map((edits) => {
+            const title = edits.map((edit) => this.library.editText(edit)).join(" ");
+            return element("button", { type: "button", class: "mend", click: () => this.use(this.library.mended(word, edits)) }, title);
+        });
+        if (this.namesOf(mask).includes("reserved")) {
+            const click = () => this.use(this.library.editWord(word, []));
+            buttons.push(element("button", { type: "button", class: "mend", click }, "clear the reserved bits"));
+        }
+        return element(
+            "li",
+            { class: "reason" },
+            element("strong", {}, text),
+            element("ul", { class: "rules" }, broken),
+            element("p", {}, element("span", { class: "key" }, "To blame"), this.links(mask)),
+            buttons.length ? element("p", {}, element("span", { class: "key" }, "Mend by"), buttons) : "",
+        );
+    }
+
+    note({ text, mask }) {
+        return element("li", { class: "note" }, text, element("p", {}, this.links(mask)));
+    }
+
+    /* Returns a button for each edit that differs from the standard format, which takes it back. */
+    change(edit) {
+        const standard = this.defaults.get(edit.setter);
+        const title = `back to ${this.library.editText(standard)}`;
+        const click = () => this.edit([standard]);
+        const undo = element("button", { type: "button", class: "undo", title, "aria-label": title, click }, "\u00d7");
+        return element("li", { "data-field": edit.name }, element("code", {}, this.code.setting(edit)), undo);
+    }
+
+    showNormal(word) {
+        const normal = this.library.normalForm(word);
+        const text = element("code", {}, this.library.wordText(normal));
+        const click = () => this.use(normal);
+        const button = element("button", { type: "button", click, id: "use-normal" }, "use it");
+        find("normal").replaceChildren(...(normal === word ? ["The word is its own normal form."] : [text, " ", button]));
+    }
+
+    /* Shows all of this for a state, and returns the names of the fields to blame. */
+    show({ word, exponent, point }) {
+        const reasons = this.library.reasons(word);
+        const error = this.library.formatError(word);
+        const count = reasons.length === 1 ? "1 reason" : `${reasons.length} reasons`;
+        setText(find("verdict"), error ? `Not lawful: ${count}` : "Lawful");
+        find("verdict").className = error ? "bad" : "good";
+        setText(find("first-error"), error ? this.library.errorText(error) : "The word keeps all rules.");
+        find("reasons").replaceChildren(...reasons.map((reason) => this.reason(word, reason)));
+        find("notes").replaceChildren(...this.library.notes(word).map((note) => this.note(note)));
+        find("changes").replaceChildren(...this.code.edits(word).map((edit) => this.change(edit)));
+        this.showNormal(word);
+        this.showOptions(this.library.optionsError(word, exponent, point));
+        return reasons.flatMap(({ mask }) => this.namesOf(mask));
+    }
+
+    showOptions(error) {
+        setText(find("options"), error ? this.library.errorText(error) : "Exponent character and decimal point fit the format.");
+        find("options").className = error ? "bad" : "good";
+    }
+}
