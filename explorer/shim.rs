@@ -60,12 +60,19 @@ fn joined(low: u64, high: u64) -> u128 {
 #[unsafe(no_mangle)]
 pub extern "C" fn __multi3(a: u128, b: u128) -> u128 {
     let (a_low, a_high, b_low, b_high) = (a as u64, (a >> 64) as u64, b as u64, (b >> 64) as u64);
-    let (a_0, a_1, b_0, b_1) = (a_low & 0xFFFF_FFFF, a_low >> 32, b_low & 0xFFFF_FFFF, b_low >> 32);
+    let (a_0, a_1, b_0, b_1) = (
+        a_low & 0xFFFF_FFFF,
+        a_low >> 32,
+        b_low & 0xFFFF_FFFF,
+        b_low >> 32,
+    );
     let low = a_0 * b_0;
     let middle = a_1 * b_0 + (low >> 32);
     let other = a_0 * b_1 + (middle & 0xFFFF_FFFF);
     let high = a_1 * b_1 + (middle >> 32) + (other >> 32);
-    let high = high.wrapping_add(a_low.wrapping_mul(b_high)).wrapping_add(a_high.wrapping_mul(b_low));
+    let high = high
+        .wrapping_add(a_low.wrapping_mul(b_high))
+        .wrapping_add(a_high.wrapping_mul(b_low));
     joined(other << 32 | low & 0xFFFF_FFFF, high)
 }
 
