@@ -1,14 +1,15 @@
 // Made by rust/tools/erase.py from crates/lexical_base/src/ascii.rt: change that file.
 
-//! Tests of single bytes and of slices of bytes: allowed ASCII and letters.
+//! Tests whether a byte, or every byte of a slice, is allowed ASCII or a letter.
 
 use crate::chunks::{Chunks, SplitChunks};
 use crate::lanes::Simd;
 
 /// Returns whether the byte `c` is ASCII that a number format may use.
 ///
-/// That is 9 to 13 (tab, line feed, vertical tab, form feed, carriage return), the space, and the
-/// printable characters `!` to `~`. Every other byte is rejected, among them 127 and all from 128 up.
+/// Allowed are the bytes 9 to 13 (tab, line feed, vertical tab, form feed, carriage return), the space,
+/// and the printable characters `!` to `~`. Every other byte is rejected, including 127 and all bytes
+/// from 128 up.
 #[must_use]
 #[inline(always)]
 pub const fn is_valid_ascii(c: u8) -> bool {
@@ -34,20 +35,20 @@ pub fn is_valid_letter_slice(slc: &[u8]) -> bool {
     all_in_ranges(slc, 0xdf, (b'A', b'Z'), (b'A', b'Z'))
 }
 
-// Whether every byte of `bytes` is in one of two ranges, each given by its lowest and highest byte,
-// once the bits that `mask` lacks are cleared.
+// Returns whether every byte of `bytes` is in one of two ranges after the bits that `mask` lacks are
+// cleared. Each range is given by its lowest and its highest byte.
 //
-// It looks at 32 bytes at a time, and then at the rest, fewer than 32.
+// The function tests chunks of 32 bytes, then the remaining bytes, of which there are fewer than 32.
 #[inline(always)]
 fn all_in_ranges(bytes: &[u8], mask: u8, first: (u8, u8), second: (u8, u8)) -> bool {
     let (chunks, rest) = bytes.split_chunks::<32>();
     chunks_in_ranges(chunks, mask, first, second) & rest_in_ranges(rest, mask, first, second)
 }
 
-// Whether every byte of chunks, few or many, is in one of the ranges.
+// Returns whether every byte of `chunks` is in one of the two ranges.
 //
-// It takes blocks of 16, one after another, and stops at the first that fails. A test after each chunk
-// would take as long as all else.
+// The function tests one block of 16 chunks after another, and stops at the first block that fails. A
+// test after each chunk would take as long as the rest of the work.
 #[inline(always)]
 fn chunks_in_ranges(chunks: Chunks<'_, 32>, mask: u8, first: (u8, u8), second: (u8, u8)) -> bool {
     let (blocks, rest) = chunks.split_chunks::<16>();
@@ -59,7 +60,8 @@ fn chunks_in_ranges(chunks: Chunks<'_, 32>, mask: u8, first: (u8, u8), second: (
     block_in_ranges(rest, mask, first, second)
 }
 
-// Whether every byte of a few chunks of `N` bytes is in one of the ranges, with one test after the last.
+// Returns whether every byte of a few chunks of `N` bytes is in one of the two ranges. There is a single
+// test, after the last chunk.
 #[inline(always)]
 fn block_in_ranges<const N: usize>(
     block: Chunks<'_, N>,
@@ -75,12 +77,13 @@ fn block_in_ranges<const N: usize>(
     !largest.simd_gt(Simd::splat(last)).any()
 }
 
-// Joins the bytes in `lanes` to `largest`, whose lanes are above the index of the second range's last
-// byte exactly if a byte was in neither range.
+// Returns the larger of `largest` and the distance of the bytes in `lanes` from the two ranges, lane by
+// lane. A lane of the result is above `second.1 - second.0` if and only if one of its bytes so far was in
+// neither range.
 //
-// A byte is in a range exactly if its distance from the lowest byte, modulo 256, is at most that of
-// the highest. Distances from the first range are raised by what the second is longer, so that of the
-// two the smaller decides, and of all bytes the largest.
+// A byte is in a range if and only if its distance from the lowest byte, modulo 256, is at most the
+// distance of the highest byte. `longer` is added to the distance from the first range, so that one bound
+// serves both ranges: a byte is in a range if the smaller of its two distances is within that bound.
 #[inline(always)]
 fn max_distance<const N: usize>(
     largest: Simd<u8, N>,
@@ -96,16 +99,16 @@ fn max_distance<const N: usize>(
     largest.simd_max(from_first.simd_min(from_second))
 }
 
-// Whether every one of fewer than 32 bytes is in one of the ranges: 16 are tested at once, if there are
-// as many, and the others one by one.
+// Returns whether each of fewer than 32 bytes is in one of the two ranges. The first 16 bytes, if there
+// are so many, are tested at once, and the others one by one.
 #[inline(always)]
 fn rest_in_ranges(bytes: &[u8], mask: u8, first: (u8, u8), second: (u8, u8)) -> bool {
     let (halves, rest) = bytes.split_chunks::<16>();
     block_in_ranges(halves, mask, first, second) & bytes_in_ranges(rest, mask, first, second)
 }
 
-// Whether every one of a few bytes is in one of the ranges. It looks at all of them, with one test
-// after the last.
+// Returns whether each of a few bytes is in one of the two ranges. The function reads all of them, and
+// tests once, after the last.
 #[inline(always)]
 fn bytes_in_ranges(bytes: &[u8], mask: u8, first: (u8, u8), second: (u8, u8)) -> bool {
     let mut all = true;

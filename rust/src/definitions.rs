@@ -10,7 +10,7 @@
 //!
 //! ## `ByteSet`
 //!
-//! A set of bytes, given by the test of its members.
+//! A set of bytes is the function that is true for its members.
 //!
 //! ```text
 //! ByteSet : Type 0
@@ -19,7 +19,7 @@
 //!
 //! ## `between`
 //!
-//! The bytes from `low` to `high`, including both.
+//! `between low high` is the set of the bytes from `low` to `high`, including both.
 //!
 //! ```text
 //! between : ℕ → ℕ → ByteSet
@@ -28,18 +28,18 @@
 //!
 //! ## `allowed_ascii`
 //!
-//! Allowed ASCII: tab to carriage return, and space to tilde.
+//! `allowed_ascii` is the set of the bytes that a format may use: tab to carriage return, and space to tilde.
 //!
 //! ```text
 //! allowed_ascii : ByteSet
 //! allowed_ascii byte = between 9 13 byte || between 32 126 byte
 //! ```
 //!
-//! # Digits and their values
+//! # Digit characters and their values
 //!
 //! ## `digit_characters`
 //!
-//! The 36 digit characters, each at the index of its value.
+//! `digit_characters` lists the 36 digit characters, each at the index of its value.
 //!
 //! ```text
 //! digit_characters : List ℕ
@@ -48,7 +48,7 @@
 //!
 //! ## `uppercase`
 //!
-//! The uppercase letter of a lowercase letter, and any other byte unchanged.
+//! `uppercase byte` is the uppercase letter of `byte` if `byte` is a lowercase letter, and `byte` otherwise.
 //!
 //! ```text
 //! uppercase : ℕ → ℕ
@@ -57,7 +57,7 @@
 //!
 //! ## `byte_value`
 //!
-//! The value of a byte: the index of its uppercase form among the digit characters, and 255 for any other byte.
+//! `byte_value byte` is the index of the uppercase form of `byte` among the digit characters, or 255 if it is not one.
 //!
 //! ```text
 //! byte_value : ℕ → ℕ
@@ -66,7 +66,7 @@
 //!
 //! ## `digits_of`
 //!
-//! The digits of a radix. A radix above 36 has those of radix 36.
+//! `digits_of radix` is the set of the digits of `radix`. A radix above 36 has the same digits as radix 36.
 //!
 //! ```text
 //! digits_of : ℕ → ByteSet
@@ -86,7 +86,7 @@
 //!
 //! ## `Flag`
 //!
-//! The 31 flags.
+//! `Flag` is the type of the 31 flags.
 //!
 //! ```text
 //! data Flag : Type 0 where
@@ -101,7 +101,7 @@
 //!
 //! ## `Byte`
 //!
-//! The six bytes.
+//! `Byte` is the type of the six bytes.
 //!
 //! ```text
 //! data Byte : Type 0 where
@@ -115,7 +115,7 @@
 //!
 //! ## `bit`
 //!
-//! The bit of each flag.
+//! `bit f` is the bit of the flag `f`.
 //!
 //! ```text
 //! bit : Flag → ℕ
@@ -130,7 +130,7 @@
 //!
 //! ## `shift`
 //!
-//! The lowest bit of each byte.
+//! `shift b` is the lowest bit of the byte `b`.
 //!
 //! ```text
 //! shift : Byte → ℕ
@@ -144,7 +144,7 @@
 //!
 //! ## `base_flags`
 //!
-//! The flags from bit 0 up.
+//! `base_flags` lists the flags from bit 0 up.
 //!
 //! ```text
 //! base_flags : List Flag
@@ -158,7 +158,7 @@
 //!
 //! ## `required_digits`
 //!
-//! The flags that require digits.
+//! `required_digits` lists the flags that require digits.
 //!
 //! ```text
 //! required_digits : List Flag
@@ -168,7 +168,7 @@
 //!
 //! ## `internal_digit_separator`
 //!
-//! The flags that allow a digit separator between digits.
+//! `internal_digit_separator` lists the flags that allow a digit separator between digits.
 //!
 //! ```text
 //! internal_digit_separator : List Flag
@@ -178,7 +178,7 @@
 //!
 //! ## `leading_digit_separator`
 //!
-//! The flags that allow a digit separator before digits.
+//! `leading_digit_separator` lists the flags that allow a digit separator before digits.
 //!
 //! ```text
 //! leading_digit_separator : List Flag
@@ -188,7 +188,7 @@
 //!
 //! ## `trailing_digit_separator`
 //!
-//! The flags that allow a digit separator after digits.
+//! `trailing_digit_separator` lists the flags that allow a digit separator after digits.
 //!
 //! ```text
 //! trailing_digit_separator : List Flag
@@ -198,7 +198,7 @@
 //!
 //! ## `consecutive_digit_separator`
 //!
-//! The flags that allow several digit separators in a row.
+//! `consecutive_digit_separator` lists the flags that allow consecutive digit separators.
 //!
 //! ```text
 //! consecutive_digit_separator : List Flag
@@ -209,7 +209,7 @@
 //!
 //! ## `digit_separator_flags`
 //!
-//! The flags from bit 32 up: all that allow a digit separator somewhere.
+//! `digit_separator_flags` lists the flags from bit 32 up: all flags that allow a digit separator somewhere.
 //!
 //! ```text
 //! digit_separator_flags : List Flag
@@ -220,7 +220,7 @@
 //!
 //! ## `integer_digit_separator_flags`
 //!
-//! The digit separator flags of the integer.
+//! `integer_digit_separator_flags` lists the digit separator flags of the integer.
 //!
 //! ```text
 //! integer_digit_separator_flags : List Flag
@@ -231,7 +231,7 @@
 //!
 //! ## `fraction_digit_separator_flags`
 //!
-//! The digit separator flags of the fraction.
+//! `fraction_digit_separator_flags` lists the digit separator flags of the fraction.
 //!
 //! ```text
 //! fraction_digit_separator_flags : List Flag
@@ -242,7 +242,7 @@
 //!
 //! ## `exponent_digit_separator_flags`
 //!
-//! The digit separator flags of the exponent.
+//! `exponent_digit_separator_flags` lists the digit separator flags of the exponent.
 //!
 //! ```text
 //! exponent_digit_separator_flags : List Flag
@@ -253,7 +253,7 @@
 //!
 //! ## `flags`
 //!
-//! All flags, in the order of their bits.
+//! `flags` lists all flags, in the order of their bits.
 //!
 //! ```text
 //! flags : List Flag
@@ -262,7 +262,7 @@
 //!
 //! ## `bytes`
 //!
-//! All bytes, in the order of their bits.
+//! `bytes` lists all bytes, in the order of their bits.
 //!
 //! ```text
 //! bytes : List Byte
@@ -280,11 +280,11 @@
 //!   below_prefix : part word 72 16 ≡ 0
 //! ```
 //!
-//! # A format as a record of its fields, and how a word holds one
+//! # A format as a record of its fields, and the words that express it
 //!
 //! ## `Record`
 //!
-//! The fields of a format: a truth value for each flag, and a number for each byte, which is 0 if the byte is absent.
+//! `Record` has the fields of a format: a truth value for each flag, and a number for each byte, 0 if it is absent.
 //!
 //! ```text
 //! record Record : Type 0 where
@@ -321,7 +321,7 @@
 //!
 //! ## `effective_exponent_base`
 //!
-//! The effective exponent base.
+//! `effective_exponent_base r` is the exponent base of `r`, or the mantissa radix if the exponent base is 0.
 //!
 //! ```text
 //! effective_exponent_base : Record → ℕ
@@ -330,7 +330,7 @@
 //!
 //! ## `effective_exponent_radix`
 //!
-//! The effective exponent radix.
+//! `effective_exponent_radix r` is the exponent radix of `r`, or the mantissa radix if the exponent radix is 0.
 //!
 //! ```text
 //! effective_exponent_radix : Record → ℕ
@@ -376,7 +376,7 @@
 //!
 //! ## `flag_bits`
 //!
-//! What a flag adds to a word.
+//! `flag_bits r f` is the part of the sum `word_of r` that comes from the flag `f`.
 //!
 //! ```text
 //! flag_bits : Record → Flag → ℕ
@@ -385,7 +385,7 @@
 //!
 //! ## `byte_bits`
 //!
-//! What a byte adds to a word.
+//! `byte_bits r b` is the part of the sum `word_of r` that comes from the byte `b`.
 //!
 //! ```text
 //! byte_bits : Record → Byte → ℕ
@@ -670,11 +670,11 @@
 //!   makes : pack (after new_record writes) ≡ word
 //! ```
 //!
-//! # Lists any two of whose elements are related
+//! # Lists in which any two elements are related
 //!
 //! ## `ArePairwise`
 //!
-//! `ArePairwise R xs` holds if `R` relates each entry of `xs` to every later one.
+//! `ArePairwise R xs` holds if `R` relates each element of `xs` to every later element.
 //!
 //! ```text
 //! ArePairwise : {X : Type 0} → (X → X → Type 0) → List X → Type 0
@@ -713,7 +713,7 @@
 //!
 //! ## `other_case`
 //!
-//! `other_case byte` is a letter in the other case, and any other byte unchanged.
+//! `other_case byte` is the other case of `byte` if `byte` is a letter, and `byte` otherwise.
 //!
 //! ```text
 //! other_case : ℕ → ℕ
@@ -731,7 +731,7 @@
 //!
 //! ## `digits`
 //!
-//! The digits of the mantissa and of the exponent.
+//! `digits r` is the set of the digits of the mantissa and of the exponent of `r`.
 //!
 //! ```text
 //! digits : Record → ByteSet
@@ -740,7 +740,7 @@
 //!
 //! ## `signs`
 //!
-//! The signs + and -.
+//! `signs` is the set of the signs + and -.
 //!
 //! ```text
 //! signs : ByteSet
@@ -749,7 +749,7 @@
 //!
 //! ## `separator`
 //!
-//! The digit separator.
+//! `separator r` is the role of the digit separator of `r`.
 //!
 //! ```text
 //! separator : Record → ByteSet
@@ -758,7 +758,7 @@
 //!
 //! ## `prefix`
 //!
-//! The base prefix.
+//! `prefix r` is the role of the base prefix of `r`.
 //!
 //! ```text
 //! prefix : Record → ByteSet
@@ -767,7 +767,7 @@
 //!
 //! ## `suffix`
 //!
-//! The base suffix.
+//! `suffix r` is the role of the base suffix of `r`.
 //!
 //! ```text
 //! suffix : Record → ByteSet
@@ -776,7 +776,7 @@
 //!
 //! ## `exponent`
 //!
-//! The exponent character, which an options type chooses and not the format.
+//! `exponent r chosen` is the role of the exponent character `chosen`, which the options choose and not the format.
 //!
 //! ```text
 //! exponent : Record → ℕ → ByteSet
@@ -785,7 +785,7 @@
 //!
 //! ## `point`
 //!
-//! The decimal point, which an options type chooses and not the format.
+//! `point chosen` is the role of the decimal point `chosen`, which the options choose and not the format.
 //!
 //! ```text
 //! point : ℕ → ByteSet
@@ -794,7 +794,7 @@
 //!
 //! ## `format_roles`
 //!
-//! The roles of the bytes that a format names.
+//! `format_roles r` lists the roles of the bytes in `r`: separator, prefix and suffix.
 //!
 //! ```text
 //! format_roles : Record → List ByteSet
@@ -803,7 +803,7 @@
 //!
 //! ## `five_roles`
 //!
-//! The five roles of a format.
+//! `five_roles r` lists the five roles of `r`: digits, signs, separator, prefix and suffix.
 //!
 //! ```text
 //! five_roles : Record → List ByteSet
@@ -812,18 +812,18 @@
 //!
 //! ## `seven_roles`
 //!
-//! The five roles of a format, the exponent character and the decimal point.
+//! `seven_roles r exponent_byte point_byte` lists the roles of the exponent character, the decimal point, and `r`.
 //!
 //! ```text
 //! seven_roles : Record → ℕ → ℕ → List ByteSet
 //! seven_roles r exponent_byte point_byte = exponent r exponent_byte ∷ point point_byte ∷ five_roles r
 //! ```
 //!
-//! # The rules of a format word, and the error of the first that it breaks
+//! # The rules of a format word, and the error of the first rule that it breaks
 //!
 //! ## `IsRadix`
 //!
-//! `IsRadix radix` holds if numbers can be written in `radix`.
+//! `IsRadix radix` holds if `radix` is between 2 and 36, so that numbers can be written in it.
 //!
 //! ```text
 //! IsRadix : ℕ → Type 0
@@ -859,7 +859,7 @@
 //!
 //! ## `lacks_position`
 //!
-//! The flags of a part of a number allow separators in a row, but none between, before or after digits.
+//! `lacks_position consecutive internal leading trailing` is true if, of these four flags, only the first is set: then consecutive separators are allowed in a part of a number, but no position of a separator is.
 //!
 //! ```text
 //! lacks_position : Bool → Bool → Bool → Bool → Bool
@@ -917,7 +917,7 @@
 //!
 //! ## `error_of`
 //!
-//! The error of each rule.
+//! `error_of rule` is the error of `rule`.
 //!
 //! ```text
 //! error_of : Rule → Error
@@ -941,7 +941,7 @@
 //!
 //! ## `radix_rules`
 //!
-//! The radix rules, in their order.
+//! `radix_rules` lists the radix rules, in their order.
 //!
 //! ```text
 //! radix_rules : List Rule
@@ -950,7 +950,7 @@
 //!
 //! ## `punctuation_rules`
 //!
-//! The punctuation rules, in their order.
+//! `punctuation_rules` lists the punctuation rules, in their order.
 //!
 //! ```text
 //! punctuation_rules : List Rule
@@ -960,7 +960,7 @@
 //!
 //! ## `flag_rules`
 //!
-//! The flag rules, in their order.
+//! `flag_rules` lists the flag rules, in their order.
 //!
 //! ```text
 //! flag_rules : List Rule
@@ -973,7 +973,7 @@
 //!
 //! ## `rules_in_order`
 //!
-//! All rules, in their order.
+//! `rules_in_order` lists all rules, in their order.
 //!
 //! ```text
 //! rules_in_order : List Rule
@@ -1010,7 +1010,7 @@
 //!
 //! ## `LawfulParts`
 //!
-//! What makes a word lawful: radixes in range, flags that agree, allowed ASCII, no byte with two roles, no reserved bit.
+//! `LawfulParts word` holds if the radixes of `word` are in range, its flags agree, each other byte is absent or allowed ASCII, no byte plays two roles, and the reserved bits are 0.
 //!
 //! ```text
 //! record LawfulParts (word : ℕ) : Type 0 where

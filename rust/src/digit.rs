@@ -1,6 +1,6 @@
 // Made by rust/tools/erase.py from crates/lexical_base/src/digit.rt: change that file.
 
-//! Conversions and tests of single digits. Nothing here iterates over a text.
+//! Converts and tests single digits. No function here iterates over a text.
 //!
 //! The digit characters are `0` to `9` and the letters `A` to `Z`, uppercase or lowercase, with the
 //! values 0 to 35. Every other byte has the value 255. A byte is a digit of a radix if its value is
@@ -8,10 +8,10 @@
 //!
 //! The `_const` functions are for a radix known at compile time: up to radix 10 they need no table.
 
-// The digit characters, each at the index of its value.
+// The digit characters. Each is at the index of its value.
 const DIGIT_CHARACTERS: [u8; 36] = *b"0123456789ABCDEFGHIJKLMNOPQRSTUVWXYZ";
 
-// The value of each byte, at its index.
+// The values of all bytes. Each is at the index of its byte.
 const VALUES: [u32; 256] = [
     255, 255, 255, 255, 255, 255, 255, 255, 255, 255, 255, 255, 255, 255, 255, 255, 255, 255, 255,
     255, 255, 255, 255, 255, 255, 255, 255, 255, 255, 255, 255, 255, 255, 255, 255, 255, 255, 255,
@@ -28,17 +28,17 @@ const VALUES: [u32; 256] = [
     255, 255, 255, 255, 255, 255, 255, 255, 255, 255, 255, 255, 255, 255,
 ];
 
-// The value of `c`: 0 to 35 for a digit character, and 255 for any other byte.
+// Returns the value of the byte `c`: 0 to 35 for a digit character, and 255 for any other byte.
 #[inline(always)]
 const fn byte_value(c: u8) -> u32 {
     VALUES[c as usize]
 }
 
-/// Returns the value of the byte `c`, for a caller that knows that `c` is a digit of `radix`.
+/// Returns the value of the byte `c`, which must be a digit of `radix` for the result to be meaningful.
 ///
-/// Any `radix` is allowed. Up to radix 10 it returns `c.wrapping_sub(b'0')`, above that the value of
-/// `c`, which is 255 unless `c` is a digit character. The result is meaningful only if `c` is a
-/// digit of `radix`; [`char_to_digit_const`] tests that.
+/// Any `radix` is allowed. Up to radix 10 the result is `c.wrapping_sub(b'0')`. Above radix 10 it is the
+/// value of `c`, which is 255 unless `c` is a digit character. [`char_to_digit_const`] also tests whether
+/// `c` is a digit of `radix`.
 #[must_use]
 #[inline(always)]
 pub const fn char_to_valid_digit_const(c: u8, radix: u32) -> u32 {
@@ -49,11 +49,10 @@ pub const fn char_to_valid_digit_const(c: u8, radix: u32) -> u32 {
     }
 }
 
-/// Returns the digit that the byte `c` is in `radix`: `Some` of its value if that is below `radix`,
-/// and `None` otherwise.
+/// Returns the value of the byte `c` as a digit of `radix`, or `None` if its value is not below `radix`.
 ///
-/// Any `radix` is allowed. From 36 to 255 all digit characters are digits; above 255 every other
-/// byte gives `Some(255)`.
+/// Any `radix` is allowed. In a radix from 36 to 255 all digit characters are digits. In a radix above
+/// 255, every other byte is a digit with the value 255.
 #[must_use]
 #[inline(always)]
 pub const fn char_to_digit_const(c: u8, radix: u32) -> Option<u32> {
@@ -65,7 +64,7 @@ pub const fn char_to_digit_const(c: u8, radix: u32) -> Option<u32> {
     }
 }
 
-/// Returns whether the byte `c` is a digit of `radix`: whether [`char_to_digit_const`] returns
+/// Returns whether the byte `c` is a digit of `radix`, that is, whether [`char_to_digit_const`] returns
 /// `Some`.
 #[must_use]
 #[inline(always)]
@@ -73,14 +72,14 @@ pub const fn char_is_digit_const(c: u8, radix: u32) -> bool {
     matches!(char_to_digit_const(c, radix), Some(_))
 }
 
-/// Returns the digit character of `digit` in `radix`: `0` to `9`, or from 10 on an uppercase letter.
+/// Returns the digit character of `digit` in `radix`: `0` to `9`, or an uppercase letter from 10 on.
 ///
-/// `digit` must be below 36, and should be below `radix`; any `radix` is allowed. Up to radix 10 it
-/// returns `b'0' + digit` even for a digit of 10 or more, which is then not a digit character.
+/// `digit` must be below 36, and should be below `radix`. Any `radix` is allowed. Up to radix 10 the result
+/// is `b'0' + digit`, which is not a digit character if `digit` is 10 or more.
 ///
 /// # Panics
 ///
-/// It may panic if `digit` is 36 or more and overflow is checked. If it does not, it then returns some byte.
+/// If `digit` is 36 or more, a call may panic if overflow is checked, and otherwise returns some byte.
 #[must_use]
 #[inline(always)]
 pub const fn digit_to_char_const(digit: u32, radix: u32) -> u8 {
@@ -91,8 +90,9 @@ pub const fn digit_to_char_const(digit: u32, radix: u32) -> u8 {
     }
 }
 
-/// Returns the digit that the byte `c` is in `radix`: `Some` of its value if that is below `radix`,
-/// and `None` otherwise. Same result as [`char_to_digit_const`], for a radix known at run time.
+/// Returns the value of the byte `c` as a digit of `radix`, or `None` if its value is not below `radix`.
+///
+/// The result is that of [`char_to_digit_const`]. This function is for a radix known only at run time.
 #[must_use]
 #[inline(always)]
 pub const fn char_to_digit(c: u8, radix: u32) -> Option<u32> {
@@ -104,20 +104,20 @@ pub const fn char_to_digit(c: u8, radix: u32) -> Option<u32> {
     }
 }
 
-/// Returns whether the byte `c` is a digit of `radix`: whether [`char_to_digit`] returns `Some`.
+/// Returns whether the byte `c` is a digit of `radix`, that is, whether [`char_to_digit`] returns `Some`.
 #[must_use]
 #[inline(always)]
 pub const fn char_is_digit(c: u8, radix: u32) -> bool {
     matches!(char_to_digit(c, radix), Some(_))
 }
 
-/// Returns the digit character of `digit`: `0` to `9`, or from 10 on an uppercase letter.
+/// Returns the digit character of `digit`: `0` to `9`, or an uppercase letter from 10 on.
 ///
-/// `digit` must be below 36. Every radix above `digit` reads the character as `digit`.
+/// `digit` must be below 36. The character has the value `digit` in every radix above `digit`.
 ///
 /// # Panics
 ///
-/// If `digit` is 36 or more.
+/// Panics if `digit` is 36 or more.
 #[must_use]
 #[inline(always)]
 pub const fn digit_to_char(digit: u32) -> u8 {

@@ -1,8 +1,8 @@
 // Made by rust/tools/erase.py from crates/lexical_base/src/error.rt: change that file.
 
-//! The errors of parsing a number, and of checking a number format or its options.
+//! Parse errors, format errors and option errors.
 //!
-//! A parser or a checker returns one [`Error`], and [`Error::Success`] if nothing is wrong.
+//! A parser or a checker returns an [`Error`], which is [`Error::Success`] if nothing is wrong.
 
 use core::fmt;
 
@@ -13,65 +13,63 @@ use short_text::put_decimal;
 pub use short_text::{Piece, ShortText, EMPTY_PIECE};
 pub use sink::Sink;
 
-/// What a parser or a checker found: one of 48 errors, or [`Error::Success`].
+/// The outcome of a parser or a checker: one of 48 errors, or [`Error::Success`].
 ///
-/// A parse error holds the index, counted from 0, of the byte at which it was found. The other
-/// variants hold nothing.
+/// A parse error holds the index of the offending byte, counted from 0. The other variants hold nothing.
 ///
 /// The variants are listed in the order of their ranks, from 0 to 48. Values are ordered by rank,
-/// then by index. This is a total order, in which two values are equal exactly if they are the same.
-/// Each test `is_..` returns whether the value is of its variant, so exactly one of the 49 returns
-/// true.
+/// then by index. This is a total order, in which two values are equal if and only if they are the same.
+/// Each test `is_..` returns whether the value is of its variant, so exactly one of the 49 tests returns
+/// `true`.
 #[derive(Clone, Copy, Debug, PartialEq, Eq, PartialOrd, Ord, Hash)]
 #[non_exhaustive]
 pub enum Error {
-    // Errors of parsing, each with the index of the byte at which it was found.
-    /// The number is above the largest of its type.
+    // Parse errors. Each holds the index of the offending byte.
+    /// The number is greater than the largest number of its type.
     Overflow(usize),
-    /// The number is below the smallest of its type.
+    /// The number is less than the smallest number of its type.
     Underflow(usize),
-    /// A byte that is no digit stands at an index that requires one.
+    /// The byte at this index is not a digit, but a digit is required there.
     InvalidDigit(usize),
     /// The input is empty.
     Empty(usize),
-    /// There are no significant digits, and the format requires one.
+    /// The number has no significant digits, but the format requires one.
     EmptyMantissa(usize),
     /// No digit follows the exponent character.
     EmptyExponent(usize),
-    /// No digit stands before the decimal point, and the format requires one.
+    /// No digit precedes the decimal point, but the format requires one.
     EmptyInteger(usize),
-    /// No digit follows the decimal point, and the format requires one.
+    /// No digit follows the decimal point, but the format requires one.
     EmptyFraction(usize),
-    /// A `+` before the significant digits, which the format forbids.
+    /// A `+` precedes the significant digits, but the format forbids it.
     InvalidPositiveMantissaSign(usize),
-    /// No sign before the significant digits, which the format requires.
+    /// No sign precedes the significant digits, but the format requires one.
     MissingMantissaSign(usize),
-    /// An exponent, which the format forbids.
+    /// The number has an exponent, but the format forbids it.
     InvalidExponent(usize),
-    /// A `+` in the exponent, which the format forbids.
+    /// The exponent has the sign `+`, but the format forbids it.
     InvalidPositiveExponentSign(usize),
-    /// No sign in the exponent, which the format requires.
+    /// The exponent has no sign, but the format requires one.
     MissingExponentSign(usize),
-    /// An exponent without a fraction, which the format forbids.
+    /// The number has an exponent and no fraction, but the format forbids this.
     ExponentWithoutFraction(usize),
-    /// A leading zero, which the format forbids.
+    /// The number has a leading zero, but the format forbids it.
     InvalidLeadingZeros(usize),
-    /// No exponent, which the format requires.
+    /// The number has no exponent, but the format requires one.
     MissingExponent(usize),
-    /// An integer without the sign that the format requires.
+    /// The integer has no sign, but the format requires one.
     MissingSign(usize),
-    /// An integer with a leading `+`, which the format forbids.
+    /// The integer has the sign `+`, but the format forbids it.
     InvalidPositiveSign(usize),
-    /// A leading `-` for an unsigned type.
+    /// The integer has the sign `-`, but its type is unsigned.
     InvalidNegativeSign(usize),
 
-    // Errors of number formats. A digit separator, base prefix, base suffix, decimal point or exponent
-    // character is meant by "these bytes".
-    /// The mantissa radix is not 2 to 36.
+    // Format errors.
+    /// The mantissa radix is not between 2 and 36.
     InvalidMantissaRadix,
-    /// The exponent base is not 2 to 36.
+    /// The exponent base is not between 2 and 36.
     InvalidExponentBase,
-    /// The exponent radix is not 2 to 36.
+    /// The exponent radix is not between 2 and 36.
     InvalidExponentRadix,
     /// The digit separator is a digit, a sign, or not allowed ASCII.
     InvalidDigitSeparator,
@@ -83,28 +81,28 @@ pub enum Error {
     InvalidBasePrefix,
     /// The base suffix is a digit, a sign, or not allowed ASCII.
     InvalidBaseSuffix,
-    /// Two of the format's characters share a byte: the digit separator, the base prefix and the base
-    /// suffix, or the exponent character and the decimal point beside them. A letter counts in both
-    /// cases where its role is not case-sensitive.
+    /// Two roles share a byte. A format has the roles digit separator, base prefix and base suffix; options add
+    /// the exponent character and the decimal point. If a role is not case-sensitive, both cases of its letter
+    /// play it.
     InvalidPunctuation,
-    /// Exponents are both required and forbidden.
+    /// An exponent is both required and forbidden.
     InvalidExponentFlags,
-    /// A mantissa sign is required while `+` is forbidden.
+    /// A mantissa sign is required, but `+` is forbidden there.
     InvalidMantissaSign,
-    /// An exponent sign is required while `+` is forbidden.
+    /// An exponent sign is required, but `+` is forbidden there.
     InvalidExponentSign,
-    /// A flag for special values is set while special values are forbidden.
+    /// A flag for special values is set, but special values are forbidden.
     InvalidSpecial,
-    /// Consecutive separators are allowed in the integer, but no position for one is.
+    /// Consecutive digit separators are allowed in the integer, but no position of a separator is.
     InvalidConsecutiveIntegerDigitSeparator,
-    /// Consecutive separators are allowed in the fraction, but no position for one is.
+    /// Consecutive digit separators are allowed in the fraction, but no position of a separator is.
     InvalidConsecutiveFractionDigitSeparator,
-    /// Consecutive separators are allowed in the exponent, but no position for one is.
+    /// Consecutive digit separators are allowed in the exponent, but no position of a separator is.
     InvalidConsecutiveExponentDigitSeparator,
     /// A reserved bit is set.
     InvalidFlags,
 
-    // Errors of options.
+    // Option errors.
     /// The NaN string does not start with `n`.
     InvalidNanString,
     /// The NaN string is too long.
@@ -119,7 +117,7 @@ pub enum Error {
     InfinityStringTooLong,
     /// The long infinity string is shorter than the short one.
     InfinityStringTooShort,
-    /// Two float algorithms are asked for that exclude each other.
+    /// Two float parse algorithms are requested that exclude each other.
     InvalidFloatParseAlgorithm,
     /// The radix is not supported.
     InvalidRadix,
@@ -135,21 +133,21 @@ pub enum Error {
     Success,
 }
 
-/// What an [`Error`] is about.
+/// The class of an [`Error`].
 #[derive(Clone, Copy, Debug, PartialEq, Eq, PartialOrd, Ord, Hash)]
 #[non_exhaustive]
 pub enum Class {
-    /// The parsing of a number.
+    /// A parse error.
     Parse,
-    /// A number format.
+    /// A format error.
     Format,
-    /// The options of a parser or a writer.
+    /// An option error, found in the options of a parser or a writer.
     Options,
-    /// Nothing: [`Error::Success`].
+    /// Not an error: [`Error::Success`].
     Success,
 }
 
-// The description of each variant, at the index of its rank.
+// The descriptions of all variants. Each is at the index of its rank.
 const DESCRIPTIONS: [&str; 49] = [
     "'numeric overflow occurred'",
     "'numeric underflow occurred'",
@@ -203,7 +201,7 @@ const DESCRIPTIONS: [&str; 49] = [
 ];
 
 impl Error {
-    /// Returns what went wrong, as text between single quotes and without the index.
+    /// Returns the description of the outcome, between single quotes and without the index.
     ///
     /// See [`Error::index`] for the index, and `Display` for the whole text.
     #[must_use]
@@ -212,8 +210,7 @@ impl Error {
         DESCRIPTIONS[self.rank() as usize]
     }
 
-    /// Returns the index of the byte at which a parser found the error: `Some` of it for a parse
-    /// error, and `None` for every other variant.
+    /// Returns the index of the offending byte if this is a parse error, and `None` otherwise.
     #[must_use]
     #[inline(always)]
     pub const fn index(&self) -> Option<&usize> {
@@ -535,7 +532,7 @@ impl Error {
         matches!(self, Error::Success)
     }
 
-    /// Returns the rank of the variant: its index in the list of the 49 variants, 0 to 48.
+    /// Returns the rank of the variant: its index in the list of the 49 variants, from 0 to 48.
     #[must_use]
     #[inline(always)]
     #[doc(hidden)]
@@ -593,9 +590,9 @@ impl Error {
         }
     }
 
-    /// Returns the outcome of a rank, at `index` if it is a parse error; `None` if `rank` is 49 or more.
+    /// Returns the outcome with the [rank][Error::rank] `rank`, or `None` if `rank` is 49 or more.
     ///
-    /// The ranks are those of [`Error::rank`].
+    /// A parse error holds `index`. The other variants ignore it.
     #[must_use]
     #[inline(always)]
     #[doc(hidden)]
@@ -654,7 +651,7 @@ impl Error {
         }
     }
 
-    /// Returns what this is about.
+    /// Returns the class of the outcome.
     #[must_use]
     pub const fn class(&self) -> Class {
         match self.rank() {
@@ -665,7 +662,8 @@ impl Error {
         }
     }
 
-    /// Puts the text that `Display` prints into a sink, whatever options it has. Fails only if the sink does.
+    /// Puts the text that `Display` prints into a sink. The options of a formatter are ignored. Fails only if
+    /// the sink does.
     #[doc(hidden)]
     pub fn put_into<S: Sink>(&self, out: &mut S) -> Result<(), fmt::Error> {
         out.put(self.class().start())?;
@@ -681,7 +679,7 @@ impl Error {
 }
 
 impl Class {
-    // How `Display` begins.
+    // Returns the text with which `Display` begins.
     #[inline(always)]
     const fn start(self) -> &'static str {
         match self {
@@ -693,8 +691,8 @@ impl Class {
     }
 }
 
-/// Writes the class and the description, and for a parse error also the index; for
-/// [`Error::Success`] the description alone.
+/// Writes the class and the description, and for a parse error also the index. For [`Error::Success`],
+/// only the description is written.
 ///
 /// Width, fill, alignment, sign and precision are ignored. Fails only if the formatter does.
 impl fmt::Display for Error {

@@ -118,20 +118,21 @@ PROVED = {
 # Texts of documentation comments, over the ends of lines, and what stands in their place.
 PHRASES = [
     ("In plain Rust:", ""),
-    ("In plain Rust `broken_rules(format)", "`broken_rules(format)"),
+    ("In plain Rust, `broken_rules(format)", "`broken_rules(format)"),
     ("`lexical-util` has no such function.", ""),
     ("`lexical-util` has no such function, since its word is part of the type.", ""),
-    ("This crate only defines them; the crates above return them.", ""),
-    ("The tests of the validity rules, whose file is `format_flags/rules.rt`, are re-exported.", ""),
+    ("This crate only defines the errors. The crates above it return them.", ""),
+    ("The tests of the rules, which are in `format_flags/rules.rt`, are re-exported.", ""),
     ("So does `build_or_panic` in plain Rust, which is for constants, where a `Result` cannot be unwrapped.",
      "So does [`build_or_panic`][Self::build_or_panic], which is for constants, where a `Result` cannot be unwrapped."),
-    ("A call with a `digit` of 36 or more is not proved. In plain Rust it returns some byte, or panics if overflow is"
-     " checked.",
-     "It may panic if `digit` is 36 or more and overflow is checked. If it does not, it then returns some byte."),
-    ("A call with a `digit` of 36 or more is not proved. In plain Rust it panics.", "If `digit` is 36 or more."),
-    ("A call with another `shift` is not proved. In plain Rust it returns some number, or panics if overflow is"
-     " checked.",
-     "If `shift` is not in that range and overflow is checked. Without that check it then returns some number."),
+    ("A call with a `digit` of 36 or more is not proved. In plain Rust such a call returns some byte, or panics if"
+     " overflow is checked.",
+     "If `digit` is 36 or more, a call may panic if overflow is checked, and otherwise returns some byte."),
+    ("A call with a `digit` of 36 or more is not proved. In plain Rust such a call panics.",
+     "Panics if `digit` is 36 or more."),
+    ("A call with any other `shift` is not proved. In plain Rust such a call returns some number, or panics if overflow"
+     " is checked.",
+     "Panics if `shift` is not in that range and overflow is checked. Without that check, it returns some number."),
     ("Prints what [`SettingError::text`] returns.", "Prints what the setting takes, or why the text is not a setting."),
     ("Prints what [`Edit::text`] returns.",
      "Prints `NAME=VALUE`, such as `mantissa_radix=16`, `no_special=true` or `digit_separator=none`."),

@@ -28,8 +28,8 @@ CUES = {"if and only if|the same error": "↔|OkIff", "[Nn]ever": "≢", "No oth
 # What each row of PHRASES adds, and texts that have something of FOREIGN.
 ADDED = [
     "", "", "", "", "", "", "[`build_or_panic`][Self::build_or_panic],",
-    "It may panic if is and If it does not, it then returns some byte.", "If is more.",
-    "If in that range and Without that check it then returns some number.",
+    "If is more, may panic checked, and otherwise returns some byte.", "Panics if is more.",
+    "Panics if in that range and Without that check, it returns some number.",
     "the setting takes, or why the text is not a setting.",
     "`NAME=VALUE`, such as `mantissa_radix=16`, `no_special=true` or `digit_separator=none`.",
     "[`Rule`][crate::format_flags::Rule],",

@@ -1,4 +1,4 @@
--- A test of every element of a list, as one of its chunks and of the rest.
+-- Lemmas that a test of every element of a list is a test of its chunks and of the rest.
 use Rattle.std.proofs.Common.{◌≡◌, ℕ, zero, suc, ◌+◌, ◌*◌, Bool, true, ◌&&◌, List, take, drop}
 use Rattle.std.proofs.Common.{slice_index_or, refl, sym, ap, ◌∙◌, arith, IsTrue, ◌↔◌, Fits, w8}
 use Rattle.std.proofs.Math.Bool.{and_assoc}
@@ -10,7 +10,7 @@ use Rattle.std.proofs.lemmas.List.Elements.{All-from_get_or}
 use Rattle.std.proofs.lemmas.List.Folds.{list_all-append}
 use Rattle.std.proofs.lemmas.List.Sums.{AllPass-from_list_all, list_all-from_AllPass}
 
--- every element passes exactly if those of the first k chunks do, and those after them
+-- Every element of a list passes if and only if each of the first k chunks passes and the rest of the list passes.
 by_chunks : {X : Type 0} (p : X → Bool) (n k : ℕ) (xs : List X)
     → list_all p xs ≡ (list_all (list_all p) (first_chunks n k xs) && list_all p (drop (k * n) xs))
 by_chunks p n zero xs =
@@ -25,7 +25,8 @@ by_chunks p n (suc k) xs =
     split ∙ rw (by_chunks p n k next, further) (sym (and_assoc (list_all p (take n xs))
     (list_all (list_all p) (first_chunks n k next)) (list_all p (drop (suc k * n) xs))))
 
--- what the whole chunks and the rest tell of the list
+-- If `passes` and `rest_passes` are the tests of the whole chunks and of the rest, then both are true if and only if
+-- every element of the list passes.
 pub chunks_and_rest : {X : Type 0} (p : X → Bool) (n k : ℕ)
     (xs : List X) {whole : List (List X)} {rest : List X} {passes rest_passes : Bool}
     → whole ≡ first_chunks n k xs → rest ≡ drop (k * n) xs → passes ≡ list_all (list_all p) whole
@@ -33,7 +34,7 @@ pub chunks_and_rest : {X : Type 0} (p : X → Bool) (n k : ℕ)
 chunks_and_rest p n k xs front back tested rest_tested =
     rw (tested, rest_tested, front, back) (sym (by_chunks p n k xs))
 
--- a result that is the test of every element tells whether each passes
+-- If a truth value is the test of every element, then it is true if and only if every element passes.
 pub tells_all : {X : Type 0} (p : X → Bool) (xs : List X) {passes : Bool} → passes ≡ list_all p xs → IsTrue passes
     ↔ AllPass p xs
 tells_all p xs tested = (
@@ -42,7 +43,8 @@ tells_all p xs tested = (
       ∙ list_all-from_AllPass p xs all,
 )
 
--- two tests that agree on every byte tell the same of bytes
+-- If two tests agree on every byte, then a truth value that is equivalent to one for a list of bytes is equivalent to
+-- the other.
 pub same_test : (p q : ℕ → Bool) (xs : List ℕ) {passes : Bool} → ((i : ℕ) → Fits w8 (slice_index_or xs i 0))
     → agree_below p q 256 ≡ true → IsTrue passes ↔ AllPass p xs → IsTrue passes ↔ AllPass q xs
 same_test p q xs fits agree told =

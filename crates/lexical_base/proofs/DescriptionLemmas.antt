@@ -1,4 +1,4 @@
--- The table of descriptions holds that of each outcome at the index of its rank.
+-- Lemmas on the table of descriptions: each is at the index of its outcome's rank, and is short.
 use Rattle.std.proofs.Common.{◌≡◌, ◌<◌, ℕ, nat_lt, true, List, length, map, get_or, refl}
 use Rattle.std.proofs.lemmas.Bool.Decides.{Decides-ltb}
 use Rattle.lexical_base.specs.declared.error.Error.{Error}
@@ -6,7 +6,7 @@ use Rattle.lexical_base.specs.declared.error.Error.TheVariants as outcomes
 use Rattle.lexical_base.specs.declared.error.TheConstants.{DESCRIPTIONS}
 use Rattle.lexical_base.specs.Outcomes.{rank_of, description_of}
 
--- the text at the rank of an outcome, and that it is short: each case is computed
+-- The table has the description of an outcome at the index of the outcome's rank. Each case is computed.
 pub at_rank : (error : Error) (default : List ℕ)
     → get_or (map (λ text. text.now) DESCRIPTIONS) (rank_of error) default ≡ description_of error
 at_rank (outcomes.Overflow _) default = refl

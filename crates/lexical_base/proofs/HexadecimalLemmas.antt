@@ -1,4 +1,4 @@
--- The hexadecimal digits of a number: its last digit comes after the digits of the rest.
+-- Lemmas on the hexadecimal digits of a number: its last digit follows the digits of the number divided by 16.
 use Rattle.std.proofs.Common.{◌≡◌, ℕ, zero, suc, ◌/◌, ◌%◌, ◌^◌, ◌≤◌, ◌<◌, true, cond, List, [], ◌∷◌, ◌++◌, append_assoc}
 use Rattle.std.proofs.Common.{refl, sym, ap, ◌∙◌, inl, inr, eq-eqb, ne_eqb, arith}
 use Rattle.std.proofs.lemmas.Bool.{cases_lt}
@@ -17,7 +17,7 @@ spell_one : (k n : ℕ) (rest : List ℕ) → n < 16 → spell (suc k) n rest �
 spell_one k n rest small =
     ap (λ t. cond t (last n ∷ rest) (spell k (n / 16) (last n ∷ rest))) (eq-eqb (n / 16) 0 (omega arith))
 
--- If `n` is at least 16, the digits of `n / 16` stand before its last one.
+-- If `n` is at least 16, its digits are the digits of `n / 16` and its last digit.
 spell_more : (k n : ℕ) (rest : List ℕ) → 16 ≤ n → spell (suc k) n rest ≡ spell k (n / 16) (last n ∷ rest)
 spell_more k n rest large =
     ap (λ t. cond t (last n ∷ rest) (spell k (n / 16) (last n ∷ rest))) (ne_eqb (n / 16) 0 (λ e. omega arith))
@@ -50,7 +50,7 @@ spell_enough (suc j) (suc k) n rest p q = elim (cases_lt n 16) [
 pub one_digit : (n : ℕ) → n < 16 → spell 32 n [] ≡ digit_glyph true (n % 16) ∷ []
 one_digit n small = spell_one 31 n [] small
 
--- The digits of a number of at most 32 digits that is at least 16 are the digits of `n / 16` and its last one.
+-- If `n` is at least 16 and has at most 32 digits, then these are the digits of `n / 16` and its last digit.
 pub more_digits : (n : ℕ) → 16 ≤ n → n < 2 ^ 128
     → spell 32 n [] ≡ spell 32 (n / 16) [] ++ digit_glyph true (n % 16) ∷ []
 more_digits n large fits =

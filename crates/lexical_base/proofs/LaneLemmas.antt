@@ -1,4 +1,4 @@
--- What the largest distance of each lane tells of all bytes.
+-- Lemmas that all bytes are in the two ranges if and only if the largest distance of each lane is within the bound.
 use Rattle.std.proofs.Common.{◌≡◌, ℕ, zero, suc, ◌+◌, ◌-◌, ◌*◌, ◌^◌, ◌<◌, ◌≤◌, ◌%◌, Bool, true, false, cond, not, eqb, ltb}
 use Rattle.std.proofs.Common.{◌&&◌, ◌||◌, List, [], ◌∷◌, map, length, replicate, bit_and, refl, subst, ap, ap₂, ◌∙◌, arith, Fits, w8}
 use Rattle.std.specs.Prelude.{nat_le}
@@ -11,7 +11,7 @@ use Rattle.std.proofs.lemmas.Simd.{mask_l-mod, tops_compared, zip2_splat_left}
 use Rattle.lexical_base.specs.Ascii.{between}
 use Rattle.lexical_base.specs.Private.{in_two_ranges, AreTwoRanges}
 
--- the operations on two lanes, as the compiler makes them: `-`, `+`, and the mask of `simd_lt`
+-- These are the operations on two lanes, as the compiler translates them: `-`, `+`, and the mask of `simd_lt`.
 abbrev minus : ℕ → ℕ → ℕ
 minus a b = (a + (2 ^ 8 - b)) % 2 ^ 8
 
@@ -21,7 +21,7 @@ plus a b = (a + b) % 2 ^ 8
 abbrev below : ℕ → ℕ → ℕ
 below a b = cond (ltb a b) 255 0
 
--- `simd_min`, `simd_max` and `saturating_add`
+-- `minima`, `maxima` and `sums` are what `simd_min`, `simd_max` and `saturating_add` return.
 abbrev minima : List ℕ → List ℕ → List ℕ
 minima xs ys = sel_l (map (top 7) (zip2 below xs ys)) xs ys
 
@@ -41,12 +41,12 @@ min_le a b last = grind (arith, nat_tests)
 max_le : (a b last : ℕ) → nat_le (cond (ltb a b) b a) last ≡ (nat_le a last && nat_le b last)
 max_le a b last = grind (arith, nat_tests)
 
--- a distance tells whether a byte is in a range
+-- A byte is in a range if and only if its distance from the lowest byte is at most the distance of the highest byte.
 distance : (low high byte : ℕ) → low ≤ high → high < 256 → byte < 256
     → nat_le (minus byte low) (high - low) ≡ between low high byte
 distance low high byte some fits byte_fits = grind (arith, nat_tests)
 
--- so does a raised one
+-- If `longer` is added to a distance and to a bound below 255, then the comparison of the two does not change.
 raised : (d width longer : ℕ) → d < 256 → width + longer < 255
     → nat_le (plus d (cond (ltb longer (255 - d)) longer (255 - d))) (width + longer) ≡ nat_le d width
 raised d width longer fits room = grind (arith, nat_tests)
@@ -64,7 +64,7 @@ module _ (first second : ℕ × ℕ) (ranges : AreTwoRanges first second) where
   abbrev longer : ℕ
   longer = last - (first.1 - first.0)
 
-  -- one lane
+  -- After a byte is joined to a lane, the lane is within the bound if and only if it was and the byte is in a range.
   joined_lane : (largest byte : ℕ) → byte < 256
       → (let d = minus byte first.0 in
       let s = plus d (cond (top 7 (below longer (255 - d))) longer (255 - d)) in
@@ -92,7 +92,8 @@ module _ (first second : ℕ × ℕ) (ranges : AreTwoRanges first second) where
       (max_le largest m last
       ∙ ap (λ b. nat_le largest last && b) (min_le s e last ∙ ap₂ (λ p q. p || q) in_first in_second))
 
-  -- all lanes
+  -- `distances n mask bytes` lists the distances of the `n` bytes from the two ranges, after the bits that `mask` lacks
+  -- are cleared.
   abbrev distances : ℕ → ℕ → List ℕ → List ℕ
   distances n mask bytes =
       let cleared = zip2 bit_and bytes (replicate n mask) in
@@ -111,7 +112,7 @@ module _ (first second : ℕ × ℕ) (ranges : AreTwoRanges first second) where
       ∙ and_swap (nat_le lane last) (in_two_ranges mask first second byte) (list_all (λ lane. nat_le lane last) largest)
       (list_all (in_two_ranges mask first second) bytes)
 
--- before the first chunk no lane is above a number
+-- Before the first chunk, every lane is 0, so no lane is above the bound.
 pub none_joined : (last n : ℕ) → list_all (λ lane. nat_le lane last) (replicate n 0) ≡ true
 none_joined last zero = refl
 none_joined last (suc n) = rw (none_joined last n) (grind (arith, nat_tests))
@@ -127,7 +128,7 @@ clear_mask last (lane ∷ lanes) =
         → not (not (eqb (cond (ltb last lane) 1 0 + 2 * m) 0)) ≡ (nat_le lane last && not (not (eqb m 0)))
     one lane m = grind (arith, nat_tests)
 
--- what `!lanes.simd_gt(last).any()` returns
+-- `!lanes.simd_gt(last).any()` returns whether every lane is at most `last`.
 pub none_above : (last n : ℕ) (lanes : List ℕ) → length lanes ≡ n → n ≤ 64
     → not (not (eqb (mask_l (map (top 7) (zip2 below (replicate n last) lanes)) % 2 ^ 64) 0))
     ≡ list_all (λ lane. nat_le lane last) lanes

@@ -1,4 +1,4 @@
--- The order of the outcomes ties no two of them, and is reversed if they change places.
+-- Lemmas on the order of outcomes: two different outcomes are never equal, and swapping them reverses the result.
 use Rattle.std.proofs.Common.{◌≡◌, ◌↔◌, Ordering, Equal, Less, Greater, refl, sym, ap, ◌∙◌, rules}
 use Rattle.std.specs.Cmp.{IsTotalOrder}
 use Rattle.std.specs.Cmp.Rules.{comparing}
@@ -9,7 +9,7 @@ use Rattle.lexical_base.specs.declared.error.Error.{Error}
 use Rattle.lexical_base.specs.Outcomes.{rank_of, held_index}
 use Rattle.lexical_base.specs.OutcomeOrder.{compare_outcomes}
 
--- two outcomes of one rank, with one index, are the same
+-- Two outcomes with the same rank and the same index are the same.
 pub same : (a b : Error) → rank_of a ≡ rank_of b → held_index a ≡ held_index b → a ≡ b
 same a b ranks indexes = search rules
 
@@ -21,7 +21,7 @@ both_equal Equal second equal = (refl, equal)
 both_equal Less second equal = search rules
 both_equal Greater second equal = search rules
 
--- two outcomes are equal in their order exactly if they are the same
+-- Two outcomes are equal in their order if and only if they are the same.
 pub tied : (a b : Error) {order : Ordering} → order ≡ compare_outcomes a b → (order ≡ Equal) ↔ (a ≡ b)
 tied a b is = (
   λ equal. let both = both_equal _ _ (sym is ∙ equal) in
@@ -29,7 +29,7 @@ tied a b is = (
   λ e. is ∙ rw e (tied_itself total b),
 )
 
--- the order is reversed if they change places
+-- Swapping two outcomes reverses the result of comparing them.
 pub reversed : (a b : Error) {order : Ordering} → order ≡ compare_outcomes a b
     → compare_outcomes b a ≡ ordering_reverse order
 reversed a b is = total.antisymm b a ∙ ap ordering_reverse (sym is)

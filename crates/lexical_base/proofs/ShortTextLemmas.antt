@@ -1,4 +1,4 @@
--- A piece fits into its room, so a sentence is short.
+-- Lemmas that the text of a piece has at most the length that `max_length` allows, so a text of four pieces is short.
 use Rattle.std.proofs.Common.{◌≡◌, ℕ, zero, suc, ◌+◌, ◌/◌, ◌%◌, ◌≤◌, ◌<◌, ◌==◌, Bool, true, false, if◌then◌else◌, List}
 use Rattle.std.proofs.Common.{◌∷◌, [], ◌++◌, length, codes, length-append, arith}
 use Rattle.std.specs.Fmt.{decimal, digits, digits_onto, digit_glyph}
@@ -7,7 +7,7 @@ use Rattle.lexical_base.specs.Additions.ShortTexts.{piece_text, numbered_byte, c
 use Rattle.lexical_base.specs.declared.error.short_text.Piece.{Piece}
 use Rattle.lexical_base.specs.declared.error.short_text.Piece.TheVariants as pieces
 
--- either of two texts
+-- If two texts have at most `m` bytes, then the one that `b` chooses has at most `m` bytes.
 chosen : (b : Bool) (xs ys : List ℕ) (m : ℕ) → length xs ≤ m → length ys ≤ m → length (if b then xs else ys) ≤ m
 chosen true xs ys m first second = first
 chosen false xs ys m first second = second

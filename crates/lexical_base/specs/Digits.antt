@@ -1,18 +1,18 @@
--- Digits and their values.
+-- Digit characters and their values.
 use Rattle.std.specs.Prelude.{ℕ, ◌-◌, List, Option, Some, None, codes, position, unwrap_or, ◌==◌, nat_lt, if◌then◌else◌}
 use Rattle.std.specs.Prelude.{min, map}
 use Rattle.std.specs.Int.Digits.{number_from_digits}
 use Rattle.lexical_base.specs.Ascii.{ByteSet, between}
 
--- The 36 digit characters, each at the index of its value.
+-- `digit_characters` lists the 36 digit characters, each at the index of its value.
 abbrev pub digit_characters : List ℕ
 digit_characters = codes "0123456789ABCDEFGHIJKLMNOPQRSTUVWXYZ"
 
--- The uppercase letter of a lowercase letter, and any other byte unchanged.
+-- `uppercase byte` is the uppercase letter of `byte` if `byte` is a lowercase letter, and `byte` otherwise.
 abbrev pub uppercase : ℕ → ℕ
 uppercase byte = if between 97 122 byte then byte - 32 else byte
 
--- The value of a byte: the index of its uppercase form among the digit characters, and 255 for any other byte.
+-- `byte_value byte` is the index of the uppercase form of `byte` among the digit characters, or 255 if it is not one.
 unfoldable pub byte_value : ℕ → ℕ
 byte_value byte = unwrap_or (position (λ character. character == uppercase byte) digit_characters) 255
 
@@ -20,14 +20,14 @@ byte_value byte = unwrap_or (position (λ character. character == uppercase byte
 abbrev pub digit_of : ℕ → ℕ → Option ℕ
 digit_of byte radix = if nat_lt (byte_value byte) radix then Some (byte_value byte) else None
 
--- The digits of a radix. A radix above 36 has those of radix 36.
+-- `digits_of radix` is the set of the digits of `radix`. A radix above 36 has the same digits as radix 36.
 abbrev pub digits_of : ℕ → ByteSet
 digits_of radix byte = nat_lt (byte_value byte) (min radix 36)
 
--- The number that digits represent in a radix, the highest digit first.
+-- `numeral radix digits` is the number that `digits` represent in `radix`, with the highest digit first.
 abbrev pub numeral : ℕ → List ℕ → ℕ
 numeral radix digits = number_from_digits radix (map byte_value digits)
 
--- The lowercase letters a to z.
+-- `is_lowercase` is the set of the lowercase letters a to z.
 abbrev pub is_lowercase : ByteSet
 is_lowercase = between 97 122

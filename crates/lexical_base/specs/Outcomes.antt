@@ -7,7 +7,7 @@ use Rattle.lexical_base.specs.declared.error.Error.TheVariants as outcomes
 use Rattle.lexical_base.specs.declared.error.Class.{Class}
 use Rattle.lexical_base.specs.declared.error.Class.TheVariants as classes
 
--- the rank of an outcome: its index in the table of the 49 outcomes
+-- `rank_of error` is the rank of the outcome `error`: its index in the table of the 49 outcomes.
 abbrev pub rank_of : Error → ℕ
 rank_of (outcomes.Overflow _) = 0
 rank_of (outcomes.Underflow _) = 1
@@ -59,7 +59,7 @@ rank_of outcomes.InvalidNegativeExponentBreak = 46
 rank_of outcomes.InvalidPositiveExponentBreak = 47
 rank_of outcomes.Success = 48
 
--- the index at which a parse error was found; no other outcome holds one
+-- `index_of error` is the index that the parse error `error` holds, and `None` for every other outcome.
 abbrev pub index_of : Error → Option ℕ
 index_of (outcomes.Overflow index) = Some index
 index_of (outcomes.Underflow index) = Some index
@@ -82,7 +82,7 @@ index_of (outcomes.InvalidPositiveSign index) = Some index
 index_of (outcomes.InvalidNegativeSign index) = Some index
 index_of _ = None
 
--- the description of an outcome
+-- `description_of error` is the description of the outcome `error`.
 abbrev pub description_of : Error → List ℕ
 description_of (outcomes.Overflow _) = codes "'numeric overflow occurred'"
 description_of (outcomes.Underflow _) = codes "'numeric underflow occurred'"
@@ -141,15 +141,16 @@ description_of outcomes.InvalidNegativeExponentBreak = codes "'invalid negative 
 description_of outcomes.InvalidPositiveExponentBreak = codes "'invalid positive exponent break: value is below 0'"
 description_of outcomes.Success = codes "'not actually an error'"
 
--- the index of a parse error, and 0 for every other outcome
+-- `held_index error` is the index that the parse error `error` holds, and 0 for every other outcome.
 abbrev pub held_index : Error → ℕ
 held_index error = unwrap_or (index_of error) 0
 
--- an outcome that holds this index, or none at all
+-- `IsAt index error` holds if the outcome `error` holds `index`, or holds no index.
 abbrev pub IsAt : ℕ → Error → Type 0
 IsAt index error = IsSome (index_of error) → index_of error ≡ Some index
 
--- the class of an outcome by its rank: first come the 19 errors of parsing, then 17 of formats and 12 of options
+-- `class_of error` is the class of the outcome `error`. In the order of the ranks, 19 parse errors come first, then 17
+-- format errors and 12 option errors.
 abbrev pub class_of : Error → Class
 class_of error =
     if nat_lt (rank_of error) 19 then classes.Parse
@@ -157,18 +158,18 @@ class_of error =
     else if nat_lt (rank_of error) (19 + 17 + 12) then classes.Options
     else classes.Success
 
--- how the text of a class begins
+-- `start_of_class class` is the start of each text of the class `class`.
 abbrev pub start_of_class : Class → List ℕ
 start_of_class classes.Parse = codes "lexical parse error: "
 start_of_class classes.Format = codes "lexical number format error: "
 start_of_class classes.Options = codes "lexical options error: "
 start_of_class classes.Success = []
 
--- how the text of an outcome that may hold an index ends
+-- `end_of_text index` is the end of the text of an outcome that holds `index`. It is empty if there is no index.
 abbrev pub end_of_text : Option ℕ → List ℕ
 end_of_text (Some index) = codes " at index " ++ decimal index
 end_of_text None = []
 
--- what `Display` prints of an outcome
+-- `printed_text error` is the text that `Display` prints for the outcome `error`.
 abbrev pub printed_text : Error → List ℕ
 printed_text error = start_of_class (class_of error) ++ (description_of error ++ end_of_text (index_of error))

@@ -4,13 +4,14 @@ use Rattle.lexical_base.specs.Ascii.{ByteSet, between}
 use Rattle.lexical_base.specs.declared.error.short_text.Piece.{Piece}
 use Rattle.lexical_base.specs.declared.error.short_text.Piece.TheVariants as pieces
 
--- the bytes that are in one of two ranges, each given by its lowest and its highest byte, once the bits that `mask` lacks
--- are cleared
+-- `in_two_ranges mask first second` is the set of the bytes that are in the range `first` or `second` after the
+-- bits that `mask` lacks are cleared. Each range is given by its lowest and its highest byte.
 abbrev pub in_two_ranges : ℕ → ℕ × ℕ → ℕ × ℕ → ByteSet
 in_two_ranges mask first second byte =
     between first.0 first.1 (bit_and byte mask) || between second.0 second.1 (bit_and byte mask)
 
--- two ranges of bytes, of which the second is at least as long as the first, and is not all bytes
+-- `AreTwoRanges first second` holds if `first` and `second` are ranges of bytes, and `second` is at least as long as
+-- `first` but does not contain all bytes.
 pub record AreTwoRanges (first second : ℕ × ℕ) : Type 0 where
   pub some : first.0 ≤ first.1
   pub longer : first.1 + second.0 ≤ second.1 + first.0
@@ -18,7 +19,7 @@ pub record AreTwoRanges (first second : ℕ × ℕ) : Type 0 where
   pub first_bytes : first.1 < 256
   pub second_bytes : second.1 < 256
 
--- `max_length piece` is at least the length of the text of `piece`. A decimal number has at most 64 digits here.
+-- `max_length piece` is at least the length of the text of `piece`. For a decimal number it allows 64 digits.
 abbrev pub max_length : Piece → ℕ
 max_length (pieces.Words words) = length words.now
 max_length (pieces.Number number) = 64

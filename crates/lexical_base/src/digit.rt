@@ -1,4 +1,4 @@
-//! Conversions and tests of single digits. Nothing here iterates over a text.
+//! Converts and tests single digits. No function here iterates over a text.
 //!
 //! The digit characters are `0` to `9` and the letters `A` to `Z`, uppercase or lowercase, with the
 //! values 0 to 35. Every other byte has the value 255. A byte is a digit of a radix if its value is
@@ -9,10 +9,10 @@
 ghost use Rattle.std.specs.Prelude.{◌≡◌, ◌↔◌, ℕ, ◌+◌, ◌%◌, ◌<◌, ◌≤◌, ◌||◌, false, IsTrue, IsSome, IfSome, Some, nat_le, nat_lt, slice_get, if◌then◌else◌};
 ghost use Rattle.lexical_base.specs.Digits.{byte_value, digit_of, digit_characters, is_lowercase};
 
-// The digit characters, each at the index of its value.
+// The digit characters. Each is at the index of its value.
 const DIGIT_CHARACTERS: [u8; 36] = *b"0123456789ABCDEFGHIJKLMNOPQRSTUVWXYZ";
 
-// The value of each byte, at its index.
+// The values of all bytes. Each is at the index of its byte.
 const VALUES: [u8; 256] = [
     255, 255, 255, 255, 255, 255, 255, 255, 255, 255, 255, 255, 255, 255, 255, 255, 255, 255, 255,
     255, 255, 255, 255, 255, 255, 255, 255, 255, 255, 255, 255, 255, 255, 255, 255, 255, 255, 255,
@@ -29,7 +29,7 @@ const VALUES: [u8; 256] = [
     255, 255, 255, 255, 255, 255, 255, 255, 255, 255, 255, 255, 255, 255,
 ];
 
-// The value of `c`: 0 to 35 for a digit character, and 255 for any other byte.
+// Returns the value of the byte `c`: 0 to 35 for a digit character, and 255 for any other byte.
 #[inline(always)]
 const fn byte_value(c: u8) -> u32
     ensures { result ≡ byte_value c }
@@ -37,11 +37,11 @@ const fn byte_value(c: u8) -> u32
     VALUES[c as usize] as u32
 }
 
-/// Returns the value of the byte `c`, for a caller that knows that `c` is a digit of `radix`.
+/// Returns the value of the byte `c`, which must be a digit of `radix` for the result to be meaningful.
 ///
-/// Any `radix` is allowed. Up to radix 10 it returns `c.wrapping_sub(b'0')`, above that the value of
-/// `c`, which is 255 unless `c` is a digit character. The result is meaningful only if `c` is a
-/// digit of `radix`; [`char_to_digit_const`] tests that.
+/// Any `radix` is allowed. Up to radix 10 the result is `c.wrapping_sub(b'0')`. Above radix 10 it is the
+/// value of `c`, which is 255 unless `c` is a digit character. [`char_to_digit_const`] also tests whether
+/// `c` is a digit of `radix`.
 #[inline(always)]
 pub const fn char_to_valid_digit_const(c: u8, radix: u32) -> u32
     ensures small { radix ≤ 10 → result ≡ (c + 208) % 256 }
@@ -54,22 +54,21 @@ pub const fn char_to_valid_digit_const(c: u8, radix: u32) -> u32
     }
 }
 
-/// Returns the digit that the byte `c` is in `radix`: `Some` of its value if that is below `radix`,
-/// and `None` otherwise.
+/// Returns the value of the byte `c` as a digit of `radix`, or `None` if its value is not below `radix`.
 ///
-/// Any `radix` is allowed. From 36 to 255 all digit characters are digits; above 255 every other
-/// byte gives `Some(255)`.
+/// Any `radix` is allowed. In a radix from 36 to 255 all digit characters are digits. In a radix above
+/// 255, every other byte is a digit with the value 255.
 #[inline(always)]
 pub const fn char_to_digit_const(c: u8, radix: u32) -> Option<u32>
     ensures digit { result ≡ digit_of c radix }
-    // a digit of a radix is the same digit of each larger one
+    // A digit of a radix has the same value in every larger radix.
     ensures larger { IfSome result (λ digit. (larger : ℕ) → radix < larger → digit_of c larger ≡ Some digit) }
 {
     let digit = char_to_valid_digit_const(c, radix);
     if digit < radix { Some(digit) } else { None }
 }
 
-/// Returns whether the byte `c` is a digit of `radix`: whether [`char_to_digit_const`] returns
+/// Returns whether the byte `c` is a digit of `radix`, that is, whether [`char_to_digit_const`] returns
 /// `Some`.
 #[inline(always)]
 pub const fn char_is_digit_const(c: u8, radix: u32) -> bool
@@ -78,21 +77,21 @@ pub const fn char_is_digit_const(c: u8, radix: u32) -> bool
     matches!(char_to_digit_const(c, radix), Some(_))
 }
 
-/// Returns the digit character of `digit` in `radix`: `0` to `9`, or from 10 on an uppercase letter.
+/// Returns the digit character of `digit` in `radix`: `0` to `9`, or an uppercase letter from 10 on.
 ///
-/// `digit` must be below 36, and should be below `radix`; any `radix` is allowed. Up to radix 10 it
-/// returns `b'0' + digit` even for a digit of 10 or more, which is then not a digit character.
+/// `digit` must be below 36, and should be below `radix`. Any `radix` is allowed. Up to radix 10 the result
+/// is `b'0' + digit`, which is not a digit character if `digit` is 10 or more.
 ///
 /// # Panics
 ///
-/// A call with a `digit` of 36 or more is not proved. In plain Rust it returns some byte, or panics if
-/// overflow is checked.
+/// A call with a `digit` of 36 or more is not proved. In plain Rust such a call returns some byte, or
+/// panics if overflow is checked.
 #[inline(always)]
 #[tactic(auto, using(crate::proofs::ValueLemmas::values))]
 pub const fn digit_to_char_const(digit: u32, radix: u32) -> u8
     requires { digit < 36 }
     ensures byte { result ≡ (if (nat_le radix 10) || (nat_lt digit 10) then 48 + digit else 55 + digit) }
-    // below the radix it is the byte that `digit_to_char` returns
+    // If `digit` is below the radix, the result is the byte that `digit_to_char` returns.
     ensures character { digit < radix → slice_get digit_characters digit ≡ Some result }
     ensures value { digit < radix → byte_value result ≡ digit }
     ensures uppercase { digit < radix → is_lowercase result ≡ false }
@@ -105,19 +104,20 @@ pub const fn digit_to_char_const(digit: u32, radix: u32) -> u8
     }
 }
 
-/// Returns the digit that the byte `c` is in `radix`: `Some` of its value if that is below `radix`,
-/// and `None` otherwise. Same result as [`char_to_digit_const`], for a radix known at run time.
+/// Returns the value of the byte `c` as a digit of `radix`, or `None` if its value is not below `radix`.
+///
+/// The result is that of [`char_to_digit_const`]. This function is for a radix known only at run time.
 #[inline(always)]
 pub const fn char_to_digit(c: u8, radix: u32) -> Option<u32>
     ensures digit { result ≡ digit_of c radix }
-    // a digit of a radix is the same digit of each larger one
+    // A digit of a radix has the same value in every larger radix.
     ensures larger { IfSome result (λ digit. (larger : ℕ) → radix < larger → digit_of c larger ≡ Some digit) }
 {
     let digit = byte_value(c);
     if digit < radix { Some(digit) } else { None }
 }
 
-/// Returns whether the byte `c` is a digit of `radix`: whether [`char_to_digit`] returns `Some`.
+/// Returns whether the byte `c` is a digit of `radix`, that is, whether [`char_to_digit`] returns `Some`.
 #[inline(always)]
 pub const fn char_is_digit(c: u8, radix: u32) -> bool
     ensures { IsTrue result ↔ IsSome (digit_of c radix) }
@@ -125,13 +125,13 @@ pub const fn char_is_digit(c: u8, radix: u32) -> bool
     matches!(char_to_digit(c, radix), Some(_))
 }
 
-/// Returns the digit character of `digit`: `0` to `9`, or from 10 on an uppercase letter.
+/// Returns the digit character of `digit`: `0` to `9`, or an uppercase letter from 10 on.
 ///
-/// `digit` must be below 36. Every radix above `digit` reads the character as `digit`.
+/// `digit` must be below 36. The character has the value `digit` in every radix above `digit`.
 ///
 /// # Panics
 ///
-/// A call with a `digit` of 36 or more is not proved. In plain Rust it panics.
+/// A call with a `digit` of 36 or more is not proved. In plain Rust such a call panics.
 #[inline(always)]
 pub const fn digit_to_char(digit: u32) -> u8
     requires { digit < 36 }

@@ -1,4 +1,4 @@
-//! Tests of bytes, digits, and the error type: what the crates of number formats depend on. Nothing
+//! Tests of bytes, conversions of digits, and the error type, on which the other crates depend. Nothing
 //! here allocates.
 #![tactic(auto)]
 

@@ -1,15 +1,15 @@
--- What the mask of a byte and a shift read of a word.
+-- Lemmas that a mask and a shift read a part of a word.
 use Rattle.std.proofs.Common.{ℕ, ◌≡◌, ◌-◌, ◌*◌, ◌/◌, ◌^◌, bit_and, ap, ◌∙◌}
 use Rattle.std.proofs.lemmas.Nat.{and_shr, and_mask, shl-shr}
 use Rattle.lexical_flags.specs.Layout.{part}
 
--- a mask of n bits from bit s up, and a shift by s
+-- A mask of n bits from bit s up and a shift by s read the n bits of a word from bit s up.
 pub masked_part : (word s n : ℕ) → bit_and word ((2 ^ n - 1) * 2 ^ s) / 2 ^ s ≡ part word s n
 masked_part word s n =
     and_shr word ((2 ^ n - 1) * 2 ^ s) s ∙ ap (λ mask. bit_and (word / 2 ^ s) mask) (shl-shr (2 ^ n - 1) s)
     ∙ and_mask (word / 2 ^ s) n
 
--- the same with the mask of each byte, as the code writes it
+-- Each byte of a word is read by its mask and its shift, as the code writes them.
 pub digit_separator_part : (word : ℕ) → bit_and word 0x00000000_000000FF_00000000_00000000 / 2 ^ 64 ≡ part word 64 8
 digit_separator_part word = masked_part word 64 8
 

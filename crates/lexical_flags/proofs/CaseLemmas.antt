@@ -1,4 +1,4 @@
--- The two cases of a letter, and the roles that they play.
+-- Lemmas on the two cases of a letter, and on the roles that they play.
 use Rattle.std.proofs.Common.{ℕ, [], ◌∷◌, ◌≡◌, ◌≢◌, ◌<◌, ◌⊎◌, inl, inr, ◌∙◌, ◌↔◌, ◌==◌, ◌||◌, ◌&&◌, Bool, true, false}
 use Rattle.std.proofs.Common.{not, IsTrue, bit_or, bit_xor, eqb-true, refl, ap, sym, subst, arith, min, nat_lt}
 use Rattle.std.specs.Prelude.{position, unwrap_or}
@@ -11,11 +11,12 @@ use Rattle.lexical_flags.specs.Record.{Record, effective_exponent_radix}
 use Rattle.lexical_flags.specs.Roles.{Disjoint, AreDisjoint, cased, other_case, digits, signs, format_roles}
 use Rattle.lexical_flags.proofs.DisjointLemmas.{Disjoint-at, Disjoint-from}
 
--- the other case of a letter has the bit 32 flipped
+-- If `not letter || same` is true and `letter` is true, then `same` is true.
 letter_flipped : (letter same : Bool) → (not letter || same) ≡ true → IsTrue letter → same ≡ true
 letter_flipped true same e h = e
 letter_flipped false same e h = cc
 
+-- The other case of a letter is the letter with the bit 0x20 flipped.
 pub flipped : (byte : ℕ) → byte < 256 → IsTrue (letters byte) → bit_xor byte 32 ≡ other_case byte
 flipped byte below is_letter =
     let all : (not (letters byte) || (bit_xor byte 32 == other_case byte)) ≡ true =
@@ -23,7 +24,7 @@ flipped byte below is_letter =
     let same : (bit_xor byte 32 == other_case byte) ≡ true = letter_flipped (letters byte) _ all is_letter in
     grind (arith, nat_tests)
 
--- the bytes that play the role of a byte
+-- A byte that plays the role of `own` is `own` or its other case, and `own` is not absent.
 pub cased-cases : (counts : Bool) (own byte : ℕ) → IsTrue (cased counts own byte)
     → (own ≢ 0) × ((byte ≡ own) ⊎ (byte ≡ other_case own))
 unfolding cased
@@ -32,7 +33,7 @@ cased-cases counts own byte inside = grind (arith, nat_tests)
 other_case-twice : (byte : ℕ) → other_case (other_case byte) ≡ byte
 other_case-twice byte = grind (arith, nat_tests)
 
--- bytes that differ, and are not the two cases of a letter, have disjoint roles; so has an absent byte and any other
+-- If two bytes differ and are not the two cases of a letter, or if the first is absent, then their roles are disjoint.
 pub differ_apart : (a_counts : Bool) (a : ℕ) (b_counts : Bool) (b : ℕ) → (a ≢ 0 → (a ≢ b) × (b ≢ other_case a))
     → Disjoint (cased a_counts a) (cased b_counts b)
 differ_apart a_counts a b_counts b differ = Disjoint-from _ _ (λ byte below is_a is_b.
@@ -50,12 +51,12 @@ differ_apart a_counts a b_counts b differ = Disjoint-from _ _ (λ byte below is_
       ]
     ])
 
--- the two cases of a letter have all bits in common but one
+-- The two cases of a letter agree in all bits except 0x20.
 other_case-bits : (byte : ℕ) → byte < 256 → bit_or (other_case byte) 32 ≡ bit_or byte 32
 other_case-bits byte below =
     eqb-true _ _ (agree_below_at (λ b. bit_or (other_case b) 32 == bit_or b 32) (λ _. true) 256 byte refl below)
 
--- so bytes that differ in another bit have disjoint roles
+-- If two bytes differ in a bit other than 0x20, then their roles are disjoint.
 pub other_bits_apart : (a_counts : Bool) (a : ℕ) (b_counts : Bool) (b : ℕ) → a < 256
     → (a ≢ 0 → bit_or a 32 ≢ bit_or b 32) → Disjoint (cased a_counts a) (cased b_counts b)
 other_bits_apart a_counts a b_counts b below differ = differ_apart a_counts a b_counts b (λ some. (
@@ -63,21 +64,21 @@ other_bits_apart a_counts a b_counts b below differ = differ_apart a_counts a b_
   λ other. differ some (sym (ap (λ n. bit_or n 32) other ∙ other_case-bits a below)),
 ))
 
--- two roles of one byte are not, unless it is absent
+-- Two roles of the same byte are not disjoint, unless the byte is absent.
 pub same_clash : (a_counts : Bool) (a : ℕ) (b_counts : Bool) → a < 256 → a ≢ 0
     → Disjoint (cased a_counts a) (cased b_counts a) → ⊥
 unfolding cased
 same_clash a_counts a b_counts below some apart =
     Disjoint-at _ _ apart a below (grind (arith, nat_tests)) (grind (arith, nat_tests))
 
--- bytes that are not near have disjoint roles, whether case counts or not
+-- If two bytes cannot clash, then their roles are disjoint, whether they are case-sensitive or not.
 far_apart : (a_counts : Bool) (a : ℕ) (b_counts : Bool) (b : ℕ) {near : Bool} → a < 256
     → (IsTrue near ↔ ((a ≢ 0) × (bit_or a 32 ≡ bit_or b 32))) → near ≡ false
     → Disjoint (cased a_counts a) (cased b_counts b)
 far_apart a_counts a b_counts b below told far =
     other_bits_apart a_counts a b_counts b below (λ some same. false≢true (sym far ∙ told.1 (some, same)))
 
--- if no two of the bytes that a format names are near, their roles are disjoint
+-- If no two of separator, prefix and suffix can clash, then their roles are disjoint.
 pub own_roles_apart : (r : Record) {a b c : ℕ} {ab ac bc : Bool}
     → a ≡ r.byte layout.digit_separator → b ≡ r.byte layout.base_prefix → c ≡ r.byte layout.base_suffix
     → r.byte layout.digit_separator < 256 → r.byte layout.base_prefix < 256
@@ -100,12 +101,12 @@ own_roles_apart r {a} {b} {c} {ab} {ac} {bc} a_is b_is c_is a_fits b_fits ab_tol
     (subst (λ n. AreDisjoint (cased true a ∷ cased prefix b ∷ cased suffix n ∷ [])) c_is
     ((a_b, (a_c, tt)), ((b_c, tt), (tt, tt)))))
 
--- the two cases of a letter have disjoint roles if both roles are case-sensitive
+-- Two different bytes have disjoint roles if both roles are case-sensitive.
 both_count : (a b : ℕ) → a ≢ b → Disjoint (cased true a) (cased true b)
 unfolding cased
 both_count a b differ = Disjoint-from _ _ (λ byte below is_a is_b. grind (arith, nat_tests))
 
--- and else not
+-- The roles of the two cases of a letter are not disjoint if the first role is not case-sensitive.
 first_counts_not : (a : ℕ) (b_counts : Bool) (b : ℕ) → IsTrue (letters a) → b ≡ other_case a
     → Disjoint (cased false a) (cased b_counts b) → ⊥
 unfolding cased
@@ -137,12 +138,12 @@ unfolding byte_value
 byte_value-other_case byte = ap (λ k. unwrap_or (position (λ character. character == k) digit_characters) 255)
     (uppercase-other_case byte)
 
--- a letter is a digit in both cases or in none
+-- If the other case of a byte is a digit, then so is the byte.
 pub digits-other_case : (r : Record) (byte : ℕ) → IsTrue (digits r (other_case byte)) → IsTrue (digits r byte)
 digits-other_case r byte inside =
     subst (λ v. IsTrue (nat_lt v (min (r.byte layout.mantissa_radix) 36) || nat_lt v (min (effective_exponent_radix r) 36)))
     (byte_value-other_case byte) inside
 
--- no sign is a letter
+-- If the other case of a byte is a sign, then so is the byte.
 pub signs-other_case : (byte : ℕ) → IsTrue (signs (other_case byte)) → IsTrue (signs byte)
 signs-other_case byte inside = grind (arith, nat_tests)

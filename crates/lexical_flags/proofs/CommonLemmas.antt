@@ -1,4 +1,4 @@
--- What two words have in common is their `&`.
+-- Lemmas that the bits that two words have in common are their `&`.
 use Rattle.std.proofs.Common.{ℕ, ℤ, ◌≡◌, unsigned_abs, w32, SFits, of_z, to_z, ◌<◌, ◌*◌, ◌/◌, ◌%◌, ◌^◌, ◌==◌, ◌&&◌, min}
 use Rattle.std.proofs.Common.{if◌then◌else◌, sum_by, bit_and, refl, ap, sym, ◌∙◌, arith}
 use Rattle.std.specs.List.{range_with_len}
@@ -11,7 +11,7 @@ use Rattle.lexical_flags.specs.Layout.{part}
 use Rattle.lexical_flags.specs.Common.{common, common_at}
 use Rattle.lexical_flags.proofs.Masks.{and_all}
 
--- two bits are both 1 exactly if the smaller is
+-- Two bits are both 1 if and only if the smaller one is 1.
 both_bits : (a b unit : ℕ) → a < 2 → b < 2 → (if (a == 1) && (b == 1) then unit else 0) ≡ min a b * unit
 both_bits a b unit la lb = grind (arith, nat_tests)
 
@@ -20,7 +20,7 @@ common_at-bit v w k =
     both_bits (part v k 1) (part w k 1) (2 ^ k) (mod-lt _ (pow_pos 1)) (mod-lt _ (pow_pos 1))
     ∙ ap (λ b. b * 2 ^ k) (sym (bit_at_and v w k))
 
--- what two words have in common is their `&`, if the second has 128 bits
+-- If the second of two words has 128 bits, then the bits that they have in common are their `&`.
 pub common-bit_and : (v w : ℕ) → w < 2 ^ 128 → common v w ≡ bit_and v w
 unfolding common
 common-bit_and v w fits =
@@ -29,7 +29,7 @@ common-bit_and v w fits =
     ∙ and_mask (bit_and v w) 128
     ∙ mod-eq_of_lt (lt_of_le_of_lt (and_le_r v w) fits)
 
--- what `radix_from_flags` reads before it looks at the mantissa radix
+-- The number that `radix_from_flags` reads first is the low 32 bits of the common bits, shifted right.
 pub common_part : (v w : ℕ) (z : ℤ) → w < 2 ^ 128 → SFits w32 z →
     bit_and (bit_and v w / 2 ^ unsigned_abs (to_z w32 (of_z w32 z))) 0xFFFF_FFFF
     ≡ common v w / 2 ^ unsigned_abs z % 2 ^ 32

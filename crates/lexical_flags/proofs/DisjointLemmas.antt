@@ -1,4 +1,4 @@
--- Disjoint sets of bytes, by each byte.
+-- Lemmas on disjoint sets of bytes.
 use Rattle.std.proofs.Common.{ℕ, ◌≡◌, ◌<◌, ◌↔◌, ◌&&◌, Bool, true, IsTrue, not, sym, subst, ◌∙◌, arith}
 use Rattle.std.specs.List.{list_all, range_with_len}
 use Rattle.std.proofs.lemmas.List.Sums.{AllPass-from_list_all, list_all-from_AllPass}
@@ -6,7 +6,7 @@ use Rattle.std.proofs.lemmas.List.FromFn.{length-range_with_len, get_or-range_wi
 use Rattle.lexical_base.specs.Ascii.{ByteSet}
 use Rattle.lexical_flags.specs.Roles.{Disjoint, are_disjoint}
 
--- a test of all numbers below n
+-- A test of all numbers below n passes if and only if each of these numbers passes.
 each_below : (p : ℕ → Bool) (n : ℕ) → (list_all p (range_with_len 0 n) ≡ true) ↔ ((i : ℕ) → i < n → p i ≡ true)
 each_below p n = (
   λ test i below. subst (λ k. p k ≡ true) (get_or-range_with_len 0 n i 0 below ∙ omega arith)
@@ -19,7 +19,7 @@ each_below p n = (
 not_both : (a b : Bool) → (not (a && b) ≡ true) ↔ (IsTrue a → IsTrue b → ⊥)
 not_both a b = grind arith
 
--- sets are disjoint exactly if no byte is in both
+-- Two sets are disjoint if and only if no byte is in both.
 pub disjoint_bytes : (A B : ByteSet)
     → Disjoint A B ↔ ((byte : ℕ) → byte < 256 → IsTrue (A byte) → IsTrue (B byte) → ⊥)
 unfolding Disjoint are_disjoint

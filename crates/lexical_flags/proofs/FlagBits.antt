@@ -1,4 +1,4 @@
--- The flags of a word under a mask, and the fields of a record joined by `|`.
+-- Lemmas on the flags of a word under a mask, and on the fields of a record joined by `|`.
 use Rattle.std.proofs.Common.{ℕ, ◌≡◌, ◌≢◌, ◌+◌, ◌*◌, ◌/◌, ◌%◌, ◌^◌, ◌<◌, ◌==◌, true, false, not, ◌||◌, inl, inr}
 use Rattle.std.proofs.Common.{List, [], ◌∷◌, sum_by, bit_and, bit_or, refl, ap, sym, subst, ◌∙◌, arith}
 use Rattle.std.specs.List.{filter, fold, list_any}
@@ -16,41 +16,41 @@ use Rattle.lexical_flags.specs.declared.format_flags.TheConstants.{DIGIT_SEPARAT
 use Rattle.lexical_flags.proofs.Packing.{high, bit_value, bit_value-lt, flag_bits-value, raw-word_of, HasBytes-by_name}
 use Rattle.lexical_flags.proofs.Masks.{ascends, and_all, or_all, sum-below}
 
--- a bit times a power of two is 0 exactly if the bit is
+-- A bit times a power of two is 0 if and only if the bit is 0.
 moved_bit-set : (n p : ℕ) → n < 2 → 0 < p → not (n * p == 0) ≡ (n == 1)
 moved_bit-set n p small high = elim (cases_lt n 1) [
   | inl l ↦ let none : n ≡ 0 = omega arith in rw none (rw (zero-mul p) refl)
   | inr l ↦ let one : n ≡ 1 = omega arith in rw one (grind (arith, nat_tests))
 ]
 
--- the test of one flag, as the code writes it
+-- The test of one flag, as the code writes it, is true if and only if its bit is 1.
 pub flag_test : (word k : ℕ) → not (bit_and word (2 ^ k) == 0) ≡ (part word k 1 == 1)
 flag_test word k =
     ap (λ n. not (n == 0)) (and_pow word k)
     ∙ moved_bit-set (part word k 1) (2 ^ k) (mod-lt _ (omega arith)) (pow_pos k)
 
--- the flags that a mask has
+-- `members mask` lists the flags in `mask`.
 abbrev pub members : ℕ → List Flag
 members mask = filter (λ f. not (bit_and mask (2 ^ bit f) == 0)) flags
 
--- the test of a mask of one flag that is written as a number
+-- If a mask that is written as a number has one flag, then the test by this mask is the test of that flag.
 pub flag_by_mask : (word mask : ℕ) → 2 ^ sum_by bit (members mask) ≡ mask
     → not (bit_and word mask == 0) ≡ (word / mask % 2 == 1)
 flag_by_mask word mask is =
     subst (λ m. not (bit_and word m == 0) ≡ (word / m % 2 == 1)) is (flag_test word (sum_by bit (members mask)))
 
--- what a word has under a mask of flags that is written as a number
+-- If a flag mask is written as a number, then `&` with it is the sum of the bits of its flags in the word.
 pub flags_under : (word mask : ℕ) → mask_of (members mask) ≡ mask → ascends bit 1 0 (members mask) ≡ true
     → bit_and word mask ≡ sum_by (λ f. part word (bit f) 1 * 2 ^ bit f) (members mask)
 flags_under word mask is up = ap (bit_and word) (sym is) ∙ and_all bit (members mask) word up
 
--- what the search needs for tests of flags
+-- `flag_tests` are the lemmas that the search needs for tests of flags.
 pub ruleset flag_tests = (flags_under, nat_tests)
 
 sum-set : (m n : ℕ) → not (m + n == 0) ≡ (not (m == 0) || not (n == 0))
 sum-set m n = grind (arith, nat_tests)
 
--- the bits of some flags do not add up to 0 exactly if one of the flags is set
+-- The sum of the bits of some flags is not 0 if and only if one of the flags is set.
 sum_by-set : (fs : List Flag) (word : ℕ) → not (sum_by (λ f. part word (bit f) 1 * 2 ^ bit f) fs == 0)
     ≡ list_any (raw word).flag fs
 sum_by-set [] word = refl
@@ -61,12 +61,12 @@ sum_by-set (f ∷ fs) word =
     ∙ sum-set (part word (bit f) 1 * 2 ^ bit f) (sum_by (λ f. part word (bit f) 1 * 2 ^ bit f) fs)
     ∙ (λ i. here i || sum_by-set fs word i)
 
--- a word has a bit in common with the mask of some flags exactly if one of them is set
+-- A word has a bit in common with the mask of some flags if and only if one of the flags is set.
 pub mask_test : (fs : List Flag) (word : ℕ) → ascends bit 1 0 fs ≡ true
     → not (bit_and word (mask_of fs) == 0) ≡ list_any (raw word).flag fs
 mask_test fs word up = ap (λ n. not (n == 0)) (and_all bit fs word up) ∙ sum_by-set fs word
 
--- whether some flag allows a digit separator, as the code tests it
+-- If the test in the code succeeds, then some flag allows a digit separator.
 pub separator_flag_set : (word : ℕ) → bit_and word DIGIT_SEPARATOR_FLAG_MASK ≢ 0 → separator_allowed (raw word) ≡ true
 separator_flag_set word some = sym (mask_test digit_separator_flags word refl) ∙ ap not (ne_eqb _ _ some)
 
@@ -74,7 +74,7 @@ pub no_separator_flag_set : (word : ℕ) → bit_and word DIGIT_SEPARATOR_FLAG_M
     → separator_allowed (raw word) ≡ false
 no_separator_flag_set word none = sym (mask_test digit_separator_flags word refl) ∙ ap not (eq-eqb _ _ none)
 
--- the flags of a record joined by `|`
+-- The flags of a record joined by `|` are the sum of the flags.
 pub flags_joined : (r : Record) → fold (λ bits f. bit_or bits (flag_bits r f)) 0 flags ≡ sum_by (flag_bits r) flags
 flags_joined r =
     (λ i. fold (λ bits f. bit_or bits (flag_bits-value (r.flag f) (bit f) i)) 0 flags)
@@ -89,7 +89,7 @@ flags-lt r =
     sym (λ i. fold (λ bits f. bits + flag_bits-value (r.flag f) (bit f) i) 0 flags) in
     omega arith
 
--- and the bytes joined with them
+-- If the bytes are joined to the flags of a record by `|`, then the result is the word of the record.
 pub fields_joined : (r : Record) → HasBytes r → fold (λ bits b. bit_or bits (byte_bits r b))
     (sum_by (flag_bits r) flags) bytes ≡ word_of r
 unfolding word_of
@@ -97,7 +97,7 @@ fields_joined r h =
     or_all shift r.byte 8 h.each bytes 64 (sum_by (flag_bits r) flags) (flags-lt r) refl
     ∙ sum_by_from (byte_bits r) (sum_by (flag_bits r) flags) bytes
 
--- the record with no bytes
+-- `flags_only r` is `r` with 0 as each byte.
 abbrev flags_only : Record → Record
 flags_only r = record r { byte = λ b. 0 }
 
@@ -105,7 +105,7 @@ word_of-flags_only : (r : Record) → sum_by (flag_bits r) flags ≡ word_of (fl
 unfolding word_of
 word_of-flags_only r = omega arith
 
--- the flags alone tell whether a digit separator is allowed
+-- The word of the flags of a record allows a digit separator if and only if the record does.
 pub separator_allowed-flags : (r : Record) → separator_allowed (raw (sum_by (flag_bits r) flags)) ≡ separator_allowed r
 separator_allowed-flags r =
     let none : HasBytes (flags_only r) = HasBytes-by_name (flags_only r) (omega arith) (omega arith) (omega arith)

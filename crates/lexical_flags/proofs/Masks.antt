@@ -1,4 +1,4 @@
--- Fields one above the other, joined by `|` and picked by `&`.
+-- Lemmas on fields that are one above the other, joined by `|` and selected by `&`.
 use Rattle.std.proofs.Common.{ℕ, ◌≡◌, ◌+◌, ◌-◌, ◌*◌, ◌/◌, ◌%◌, ◌^◌, ◌<◌, ◌≤◌, Bool, true, ◌&&◌, leb, List, [], ◌∷◌}
 use Rattle.std.proofs.Common.{sum_by, bit_and, bit_or, refl, ap, sym, ◌∙◌, arith}
 use Rattle.std.specs.Int.Bits.{and_zero_r}
@@ -9,17 +9,18 @@ use Rattle.std.proofs.lemmas.Nat.{pow-add, pow_pos, shr_split, and_block, and_ma
 use Rattle.std.proofs.lemmas.Nat.{or_shifted}
 use Rattle.lexical_flags.specs.Layout.{part}
 
--- each field starts at the end of the one before or above it, the first at bit s or above
+-- `ascends start width s xs` is true if each field starts at the end of the field before or above it, and the first one
+-- starts at bit s or above.
 abbrev pub ascends : {X : Type 0} → (X → ℕ) → ℕ → ℕ → List X → Bool
 ascends start width s [] = true
 ascends start width s (x ∷ xs) = leb s (start x) && ascends start width (start x + width) xs
 
--- the end of the last field
+-- `above start width s xs` is the end of the last field.
 abbrev pub above : {X : Type 0} → (X → ℕ) → ℕ → ℕ → List X → ℕ
 above start width s [] = s
 above start width s (x ∷ xs) = above start width (start x + width) xs
 
--- one more block of n bits of a mask
+-- If a mask has one more block of n bits, then `&` with it has one more part of the word.
 pub and_block_more : (w a k n : ℕ) → a < 2 ^ k → bit_and w ((2 ^ n - 1) * 2 ^ k + a) ≡ bit_and w a + part w k n * 2 ^ k
 and_block_more w a k n l =
     let split : (w / 2 ^ k) * 2 ^ k + w % 2 ^ k ≡ w = shr_split w k in
@@ -32,12 +33,12 @@ and_block_more w a k n l =
     ap (λ x. bit_and x ((2 ^ n - 1) * 2 ^ k + a)) (sym split)
     ∙ blocks ∙ (λ i. and_mask (w / 2 ^ k) n i * 2 ^ k + low i) ∙ omega arith
 
--- one more bit of a mask
+-- If a mask has one more bit, then `&` with it has one more bit of the word.
 and_more : (w a k : ℕ) → a < 2 ^ k → bit_and w (a + 2 ^ k) ≡ bit_and w a + part w k 1 * 2 ^ k
 and_more w a k l = let mask : a + 2 ^ k ≡ (2 ^ 1 - 1) * 2 ^ k + a = omega arith in
     ap (bit_and w) mask ∙ and_block_more w a k 1 l
 
--- one more field
+-- If a field above all others is joined by `|`, then its bits are added, and the result is below its end.
 or_more : (low s k n v : ℕ) → low < 2 ^ s → s ≤ k → v < 2 ^ n
     → (bit_or low (v * 2 ^ k) ≡ low + v * 2 ^ k) × (low + v * 2 ^ k < 2 ^ (k + n))
 or_more low s k n v l start fits =
@@ -77,7 +78,7 @@ module _ {X : Type 0} (start : X → ℕ) where
       and_from xs (start x + 1) w (low + 2 ^ start x) next parts.1
       ∙ ap (λ a. fold (λ a x. a + part w (start x) 1 * 2 ^ start x) a xs) (and_more w low (start x) below)
 
-  -- a word and a mask have in common the bits that the mask has
+  -- The `&` of a word and the mask of some bits is the sum of these bits of the word.
   pub and_all : (xs : List X) (w : ℕ) → ascends start 1 0 xs ≡ true
       → bit_and w (sum_by (λ x. 2 ^ start x) xs) ≡ sum_by (λ x. part w (start x) 1 * 2 ^ start x) xs
   and_all xs w up = and_from xs 0 w 0 (omega arith) up

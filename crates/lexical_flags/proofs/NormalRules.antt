@@ -1,5 +1,5 @@
--- What filling and trimming do to the rules: filled fields meet the same ones, trimmed fields still meet those that
--- they met, and so does a clean word with such fields.
+-- Lemmas on the rules after filling and trimming. Filled fields keep the same rules. Trimmed fields keep all the rules
+-- that they kept before, and so does a clean word with such fields.
 use Rattle.std.proofs.Common.{◌≡◌, ℕ, ◌⊎◌, ◌↔◌, inl, inr, ◌||◌, true, IsTrue, refl, sym, ap, subst, arith}
 use Rattle.std.proofs.lemmas.Bool.{cases_Bool, cond-false, false≢true}
 use Rattle.std.proofs.lemmas.Bool.Decides.{nat_tests}
@@ -18,7 +18,7 @@ use Rattle.lexical_flags.proofs.DisjointLemmas.{Disjoint-from}
 use Rattle.lexical_flags.proofs.Packing.{trim-same}
 use Rattle.lexical_flags.proofs.RuleLemmas.{Holds-from_lawful, Lawful-from_all, IsErrorOf-same}
 
--- what is filled is not filled again
+-- Filling twice is filling once.
 pub fill_once : (own radix : ℕ) → effective (effective own radix) radix ≡ effective own radix
 fill_once own radix = grind (arith, nat_tests)
 
@@ -30,7 +30,7 @@ IsAbsentOrPunctuation-fill r byte =
     × (IsTrue (digits_of (r.byte layout.mantissa_radix) byte || digits_of radix byte) → ⊥) × (IsTrue (signs byte) → ⊥)))
     (fill_once (r.byte layout.exponent_radix) (r.byte layout.mantissa_radix))
 
--- the rules demand the same of filled fields
+-- The demand of a rule on the filled record is its demand on the record.
 Demands-fill : (rule : Rule) (r : Record) → Demands rule (fill r) ≡ Demands rule r
 Demands-fill rules.MantissaRadixInRange r = refl
 Demands-fill rules.ExponentBaseInRange r = ap IsRadix (fill_once (r.byte layout.exponent_base) (r.byte layout.mantissa_radix))
@@ -44,7 +44,7 @@ Disjoint-nothing : (A : ByteSet) → Disjoint (cased true 0) A
 unfolding cased
 Disjoint-nothing A = Disjoint-from _ _ (λ byte below is_zero in_a. absurd (false≢true is_zero))
 
--- fields without their separator still meet the rules that they met
+-- If a record keeps a rule, then so does the record without its separator.
 Demands-bare : (rule : Rule) (r : Record) → Demands rule r → Demands rule (set_byte r layout.digit_separator 0)
 unfolding IsPunctuation
 Demands-bare rules.MantissaRadixInRange r h = h
@@ -60,11 +60,11 @@ Demands-trim rule r h =
           (sym (cond-false (separator_allowed r) (r.byte layout.digit_separator) 0 off)) (Demands-bare rule r h)
     ]
 
--- what fields meet they meet when filled and trimmed
+-- If a record keeps a rule, then so does the filled and trimmed record.
 pub Demands-kept : (rule : Rule) (r : Record) → Demands rule r → Demands rule (trim (fill r))
 Demands-kept rule r h = Demands-trim rule (fill r) (subst (λ X. X) (sym (Demands-fill rule r)) h)
 
--- and if nothing is trimmed, nothing else
+-- If no separator is dropped, then a record keeps a rule if and only if the filled and trimmed record does.
 pub Demands-same : (rule : Rule) (r : Record) → SeparatorAllowedOrAbsent r → Demands rule r
     ↔ Demands rule (trim (fill r))
 Demands-same rule r used = (
@@ -72,25 +72,25 @@ Demands-same rule r used = (
   λ h. subst (λ X. X) (Demands-fill rule r) (subst (Demands rule) (trim-same (fill r) used) h),
 )
 
--- a clean word with the filled and trimmed fields of another
+-- In this section, `normal` is a clean word with the filled and trimmed fields of `word`.
 module _ (word normal : ℕ) (clean : IsClean normal) (fields : raw normal ≡ trim (fill (raw word))) where
-  -- keeps the rules that this one keeps
+  -- If `word` keeps a rule, then so does `normal`.
   Holds-kept : (rule : Rule) → Holds rule word → Holds rule normal
   unfolding Holds
   Holds-kept rules.ReservedBitsAreZero h = clean
   Holds-kept rule h = subst (Demands rule) (sym fields) (Demands-kept rule (raw word) h)
 
-  -- so it is lawful if this one is
+  -- If `word` is lawful, then so is `normal`.
   pub Lawful-kept : Lawful word → Lawful normal
   Lawful-kept h = Lawful-from_all normal (λ rule. Holds-kept rule (Holds-from_lawful rule word h))
 
-  -- if nothing was dropped, it keeps no other
+  -- If nothing was dropped from `word` and `normal` keeps a rule, then so does `word`.
   Holds-back : IsClean word → SeparatorAllowedOrAbsent (raw word) → (rule : Rule) → Holds rule normal → Holds rule word
   unfolding Holds
   Holds-back whole used rules.ReservedBitsAreZero h = whole
   Holds-back whole used rule h = (Demands-same rule (raw word) used).1 (subst (Demands rule) fields h)
 
-  -- so it has the same error
+  -- If nothing was dropped from `word`, then `word` and `normal` have the same error.
   pub IsErrorOf-kept : IsClean word → SeparatorAllowedOrAbsent (raw word)
       → (error : Error) → IsErrorOf word error ↔ IsErrorOf normal error
   IsErrorOf-kept whole used = IsErrorOf-same word normal (λ rule. (Holds-kept rule, Holds-back whole used rule))

@@ -1,4 +1,4 @@
--- An exponent character and a decimal point beside the five roles of a word.
+-- Lemmas on an exponent character and a decimal point, in addition to the five roles of a word.
 use Rattle.std.proofs.Common.{ℕ, ◌≡◌, ◌+◌, ◌≤◌, ◌≢◌, ◌⊎◌, ◌==◌, ◌||◌, not, if◌then◌else◌, Bool, true, false, IsTrue}
 use Rattle.std.proofs.Common.{◌↔◌, ◌∙◌, sym, inl, inr, arith}
 use Rattle.std.specs.List.{AllByRecursion}
@@ -15,11 +15,11 @@ use Rattle.lexical_flags.proofs.DisjointLemmas.{Disjoint-from, Disjoint-sym}
 use Rattle.lexical_flags.proofs.RoleLemmas.{Disjoint-digits-cased, Disjoint-signs-cased, not_in, no_digit}
 use Rattle.lexical_flags.proofs.RuleLemmas.{ErrorUnless-unique}
 
--- 0 is no text
+-- The byte 0 is not allowed ASCII.
 text-positive : (byte : ℕ) → IsTrue (allowed_ascii byte) → byte ≢ 0
 text-positive byte text = grind (arith, nat_tests)
 
--- the role of a byte that is disjoint from the five roles of a format: the byte is no digit and no sign
+-- If the role of a byte of allowed ASCII is disjoint from the five roles of a format, then the byte is punctuation.
 IsPunctuation-from_apart : (r : Record) (counts : Bool) (b : ℕ) → IsTrue (allowed_ascii b)
     → AllByRecursion (Disjoint (cased counts b)) (five_roles r) → IsPunctuation r b
 unfolding IsPunctuation
@@ -28,12 +28,13 @@ IsPunctuation-from_apart r counts b text (digits_apart, (signs_apart, own)) =
     λ A apart. not_in A counts b (Disjoint-sym _ _ apart) (grind (arith, nat_tests)) (text-positive b text) in
     (text, out (digits r) digits_apart, out signs signs_apart)
 
--- and it is not one that the format names
+-- If a set is disjoint from the five roles of a format, then it is disjoint from separator, prefix and suffix.
 own_from_five : (r : Record) (A : ByteSet) → AllByRecursion (Disjoint A) (five_roles r)
     → AllByRecursion (Disjoint A) (format_roles r)
 own_from_five r A (digits_apart, (signs_apart, own)) = own
 
--- and the other way round
+-- If a byte is punctuation and its role is disjoint from separator, prefix and suffix, then its role is disjoint from
+-- the five roles.
 five_from_own : (r : Record) (counts : Bool) (b : ℕ) → IsPunctuation r b
     → AllByRecursion (Disjoint (cased counts b)) (format_roles r) → AllByRecursion (Disjoint (cased counts b)) (five_roles r)
 unfolding IsPunctuation
@@ -42,7 +43,7 @@ five_from_own r counts b free own = (
   (Disjoint-sym _ _ (Disjoint-signs-cased counts b (λ _. free.2)), own),
 )
 
--- bytes that keep each to one role are accepted
+-- If no byte plays two of the seven roles, then the options are accepted.
 accepted_from_roles : (word e p : ℕ) → OptionsHaveOneRole word e p → OptionsFit word e p
 accepted_from_roles word e p h =
     let r : Record = raw word in
@@ -57,7 +58,7 @@ accepted_from_roles word e p h =
       point_is_new = own_from_five r (point p) others.0;
     }
 
--- and in a lawful word those that are accepted keep each to one role
+-- If options are accepted in a lawful word, then no byte plays two of the seven roles.
 roles_from_accepted : (word e p : ℕ) → Lawful word → OptionsFit word e p → OptionsHaveOneRole word e p
 unfolding IsPunctuation Lawful
 roles_from_accepted word e p lawful h =
@@ -74,7 +75,7 @@ roles_from_accepted word e p lawful h =
 pub accepted_roles : (word e p : ℕ) → Lawful word → OptionsFit word e p ↔ OptionsHaveOneRole word e p
 accepted_roles word e p lawful = (roles_from_accepted word e p lawful, accepted_from_roles word e p)
 
--- the first of four bytes in a row that is none of three
+-- `is_other n a b c` is true if `n` is none of `a`, `b` and `c`.
 is_other : ℕ → ℕ → ℕ → ℕ → Bool
 is_other n a b c = not ((n == a) || (n == b) || (n == c))
 
@@ -83,6 +84,7 @@ is_other-told : (n a b c : ℕ) → ((is_other n a b c ≡ true) × (n ≢ a) ×
 unfolding is_other
 is_other-told n a b c = grind (arith, nat_tests)
 
+-- `free_from low a b c` is the first of the four numbers from `low` up that is none of `a`, `b` and `c`.
 free_from : ℕ → ℕ → ℕ → ℕ → ℕ
 free_from low a b c =
     if is_other low a b c then low
@@ -94,7 +96,7 @@ free_from-is : (low a b c : ℕ) → (low ≤ free_from low a b c) × (free_from
 unfolding free_from
 free_from-is low a b c = grind (arith, is_other-told)
 
--- the bytes from ! to ( have no part in numbers
+-- The bytes from ! to ( are punctuation in every format.
 IsPunctuation-mark : (r : Record) (byte : ℕ) → 33 ≤ byte → byte ≤ 40 → IsPunctuation r byte
 unfolding IsPunctuation
 IsPunctuation-mark r byte low high = (
@@ -103,13 +105,13 @@ IsPunctuation-mark r byte low high = (
   (λ is_sign. grind (arith, nat_tests)),
 )
 
--- the roles of such a byte and of one that differs
+-- If a byte is from ! to (, then its role is disjoint from the role of any other byte.
 Disjoint-mark : (a : ℕ) (a_counts : Bool) (b : ℕ) (b_counts : Bool) → 33 ≤ a → a ≤ 40 → a ≢ b
     → Disjoint (cased a_counts a) (cased b_counts b)
 unfolding cased
 Disjoint-mark a a_counts b b_counts low high differ = Disjoint-from _ _ (λ byte below is_a is_b. grind (arith, nat_tests))
 
--- such a byte that differs from the three of a format has none of their roles
+-- If a byte from ! to ( differs from separator, prefix and suffix, then its role is disjoint from their roles.
 is_new : (r : Record) (byte : ℕ) (counts : Bool) → 33 ≤ byte → byte ≤ 40
     → byte ≢ r.byte layout.digit_separator → byte ≢ r.byte layout.base_prefix → byte ≢ r.byte layout.base_suffix
     → AllByRecursion (Disjoint (cased counts byte)) (format_roles r)
@@ -121,7 +123,8 @@ is_new r byte counts low high separator prefix suffix = (
   ),
 )
 
--- of each four such bytes one is left
+-- Options fit every lawful word, since at least one of any four bytes from ! to ( differs from separator, prefix and
+-- suffix.
 pub room_from_lawful : (word : ℕ) → Lawful word → SomeOptionsFit word
 room_from_lawful word lawful =
     let r : Record = raw word in
@@ -138,11 +141,11 @@ room_from_lawful word lawful =
     } in
     record { exponent_byte = e; point_byte = p; fit = roles_from_accepted word e p lawful accepted }
 
--- an exponent character and a decimal point have one error
+-- An exponent character and a decimal point have at most one error.
 pub one_options_error : (word e p : ℕ) (a b : Error) → IsOptionsError word e p a → IsOptionsError word e p b → a ≡ b
 one_options_error word e p = ErrorUnless-unique (ErrorUnless-unique (ErrorUnless-unique (λ a b h k. h ∙ sym k)))
 
--- it is Success exactly if they are accepted
+-- The error of an exponent character and a decimal point is Success if and only if they are accepted.
 pub options_success : (word e p : ℕ) (error : Error) → IsOptionsError word e p error
     → (error ≡ Success) ↔ OptionsFit word e p
 options_success word e p error (inl h) = (λ same. cc, λ accepted. absurd (h.0 accepted.exponent_is_punctuation))

@@ -1,4 +1,4 @@
--- A packed record, and the record that a word holds.
+-- Lemmas on packing a record, and on the record of a word.
 use Rattle.std.proofs.Common.{ℕ, zero, suc, ◌≡◌, ◌+◌, ◌*◌, ◌^◌, ◌<◌, ◌==◌, ◌⊎◌, ◌↔◌, Bool, true, false}
 use Rattle.std.proofs.Common.{◌-◌, IsTrue, if◌then◌else◌, length, List, [], ◌∷◌}
 use Rattle.std.proofs.Common.{◌++◌, map, sum_by, refl, ap, sym, ◌∙◌, subst, inl, inr, arith}
@@ -14,41 +14,41 @@ use Rattle.lexical_flags.specs.Record.{effective, separator_allowed, HasBytes, I
 use Rattle.lexical_flags.proofs.RecordLemmas.{record_same}
 use Rattle.lexical_flags.proofs.Segments.{joined, segments, segments-joined, joined-segments, joined-below, Fit}
 
--- how many flags there are below the digit separator flags, and how many of these
+-- `low` is the number of flags below the digit separator flags, and `high` the number of digit separator flags.
 abbrev pub low : ℕ
 low = length base_flags
 
 abbrev pub high : ℕ
 high = length digit_separator_flags
 
--- the widths of the segments of a word from the lowest up, with the three reserved ones
+-- `widths` lists the widths of the segments of a word from the lowest up, including the three reserved segments.
 abbrev widths : List ℕ
 widths =
     map (λ _. 1) base_flags ++ (32 - low) ∷ (map (λ _. 1) digit_separator_flags ++ (32 - high) ∷
     8 ∷ 16 ∷ 8 ∷ 8 ∷ 8 ∷ 8 ∷ 8 ∷ [])
 
--- the values of all segments: flags, bytes, and the three reserved ones
+-- `laid flag byte low middle high` lists the values of all segments: flags, bytes, and the three reserved segments.
 abbrev laid : (Flag → ℕ) → (Byte → ℕ) → ℕ → ℕ → ℕ → List ℕ
 laid flag byte low middle high =
     map flag base_flags ++ low ∷ (map flag digit_separator_flags ++ middle ∷ byte layout.digit_separator ∷ high
     ∷ byte layout.base_prefix ∷ byte layout.base_suffix ∷ byte layout.mantissa_radix
     ∷ byte layout.exponent_base ∷ byte layout.exponent_radix ∷ [])
 
--- the value of the segment that starts at bit k, if the first starts at bit s
+-- `value_at k s widths vs` is the value of the segment that starts at bit k, if the first segment starts at bit s.
 abbrev value_at : ℕ → ℕ → List ℕ → List ℕ → ℕ
 value_at k s [] vs = 0
 value_at k s (n ∷ ns) [] = 0
 value_at k s (n ∷ ns) (v ∷ vs) = if s == k then v else value_at k (s + n) ns vs
 
--- a `bool` as a bit
+-- `bit_value b` is the truth value `b` as a bit.
 abbrev pub bit_value : Bool → ℕ
 bit_value b = if b then 1 else 0
 
--- the values of a record, with 0 in the reserved segments
+-- `values r` lists the values of the segments of `r`, with 0 in the reserved segments.
 abbrev values : Record → List ℕ
 values r = laid (λ f. bit_value (r.flag f)) r.byte 0 0 0
 
--- the record with these values
+-- `from_values vs` is the record with the values `vs`.
 abbrev from_values : List ℕ → Record
 from_values vs = record { flag = λ f. value_at (bit f) 0 widths vs == 1; byte = λ b. value_at (shift b) 0 widths vs }
 
@@ -66,7 +66,7 @@ from_values-values r = record_same _ _ on_flag on_byte where
   on_byte layout.digit_separator = refl
   on_byte _ = refl
 
--- the fields of a word are those of its segments
+-- The record of a word is the record of the values of its segments.
 raw-segments : (w : ℕ) → raw w ≡ from_values (segments 0 widths w)
 raw-segments w = record_same _ _ on_flag on_byte where
   on_flag : (f : Flag) → (part w (bit f) 1 == 1) ≡ (value_at (bit f) 0 widths (segments 0 widths w) == 1)
@@ -77,7 +77,7 @@ raw-segments w = record_same _ _ on_flag on_byte where
   on_byte layout.digit_separator = refl
   on_byte _ = refl
 
--- a flag adds its bit times a power of two
+-- The value that a flag adds to a word is its bit times a power of two.
 pub flag_bits-value : (b : Bool) (k : ℕ) → (if b then 2 ^ k else 0) ≡ bit_value b * 2 ^ k
 flag_bits-value true k = omega arith
 flag_bits-value false k = omega arith
@@ -87,7 +87,7 @@ unfolding word_of
 word_of-joined r =
     (λ i. sum_by (λ f. flag_bits-value (r.flag f) (bit f) i) flags + sum_by (byte_bits r) bytes) ∙ omega arith
 
--- a bit is 0 or 1
+-- A bit is 0 or 1.
 pub bit_value-lt : (b : Bool) → bit_value b < 2
 bit_value-lt true = omega arith
 bit_value-lt false = omega arith
@@ -95,13 +95,13 @@ bit_value-lt false = omega arith
 values-fit : (r : Record) → HasBytes r → Fit widths (values r)
 values-fit r h = let byte = h.each in search (arith, bit_value-lt, byte)
 
--- a word of fields, segment by segment
+-- The segments of the word of a record have the values of the record.
 segments-word_of : (r : Record) → HasBytes r → segments 0 widths (word_of r) ≡ values r
 segments-word_of r h =
     ap (segments 0 widths) (word_of-joined r ∙ omega arith)
     ∙ segments-joined 0 widths (values r) 0 (omega arith) (values-fit r h)
 
--- the record of the word of a record is that record
+-- The record of the word of a record is that record.
 pub raw-word_of : (r : Record) → HasBytes r → raw (word_of r) ≡ r
 raw-word_of r h = raw-segments (word_of r) ∙ ap from_values (segments-word_of r h) ∙ from_values-values r
 
@@ -114,7 +114,7 @@ word_of-clean r h =
 word_of-lt : (r : Record) → HasBytes r → word_of r < 2 ^ 128
 word_of-lt r h = omega (arith, word_of-joined r, joined-below 0 widths (values r) 0 (omega arith) (values-fit r h))
 
--- a part of one bit, as a `bool` and back
+-- A number below 2 is the bit of the test whether it is 1.
 bit_value-test : (n : ℕ) → n < 2 → bit_value (n == 1) ≡ n
 bit_value-test zero l = refl
 bit_value-test (suc n) l = let none : n ≡ 0 = omega arith in rw none refl
@@ -129,7 +129,7 @@ word_of-raw w l clean =
     word_of-joined (raw w) ∙ ap (joined 0 widths) (values-raw w clean)
     ∙ omega (arith, joined-segments 0 widths w, mod-eq_of_lt l)
 
--- a record has bytes if each of the six is one
+-- If each of the six numbers of a record is below 256, then the record has bytes.
 pub HasBytes-by_name : (r : Record) → r.byte layout.digit_separator < 256 → r.byte layout.base_prefix < 256 → r.byte layout.base_suffix < 256
     → r.byte layout.mantissa_radix < 256 → r.byte layout.exponent_base < 256 → r.byte layout.exponent_radix < 256
     → HasBytes r
@@ -142,14 +142,14 @@ HasBytes-by_name r separator prefix suffix radix base exponent = record { each =
   fits layout.exponent_base = base
   fits layout.exponent_radix = exponent
 
--- the record of every word has bytes
+-- The record of every word has bytes.
 pub HasBytes-raw : (w : ℕ) → HasBytes (raw w)
 HasBytes-raw w = record { each = λ b. mod-lt _ (pow_pos 8) }
 
 effective-lt : (own radix : ℕ) → own < 256 → radix < 256 → effective own radix < 256
 effective-lt own radix own_fits radix_fits = grind (arith, nat_tests)
 
--- filling the exponent bytes leaves bytes
+-- If a record has bytes, then so does the filled record.
 pub HasBytes-fill : (r : Record) → HasBytes r → HasBytes (fill r)
 HasBytes-fill r h = record { each = fits } where
   fits : (b : Byte) → (fill r).byte b < 256
@@ -158,7 +158,7 @@ HasBytes-fill r h = record { each = fits } where
   fits layout.digit_separator = h.each layout.digit_separator
   fits b = h.each b
 
--- dropping the separator leaves bytes
+-- If a record has bytes, then so does the trimmed record.
 pub HasBytes-trim : (r : Record) → HasBytes r → HasBytes (trim r)
 HasBytes-trim r h = record { each = fits } where
   fits : (b : Byte) → (trim r).byte b < 256
@@ -167,15 +167,15 @@ HasBytes-trim r h = record { each = fits } where
   fits layout.base_prefix = h.each layout.base_prefix
   fits b = h.each b
 
--- what is packed is read back, without an unused separator
+-- The record of a packed record is the trimmed record.
 pub raw-pack : (r : Record) → HasBytes r → raw (pack r) ≡ trim r
 raw-pack r h = raw-word_of (trim r) (HasBytes-trim r h)
 
--- what is packed has no reserved bit set
+-- A packed record has no reserved bit set.
 pub pack-clean : (r : Record) → HasBytes r → IsClean (pack r)
 pack-clean r h = word_of-clean (trim r) (HasBytes-trim r h)
 
--- what is packed is a word
+-- A packed record is below 2^128.
 pub pack-lt : (r : Record) → HasBytes r → pack r < 2 ^ 128
 pack-lt r h = word_of-lt (trim r) (HasBytes-trim r h)
 
@@ -184,7 +184,7 @@ kept_same true n h = refl
 kept_same false n (inl on) = cc
 kept_same false n (inr absent) = sym absent
 
--- if the separator is allowed, or absent, nothing is trimmed
+-- If the separator is allowed or absent, then trimming changes nothing.
 pub trim-same : (r : Record) → IsTrue (separator_allowed r) ⊎ (r.byte layout.digit_separator ≡ 0) → trim r ≡ r
 trim-same r h = record_same _ _ (λ f. refl) on_byte where
   on_byte : (b : Byte) → (trim r).byte b ≡ r.byte b
@@ -195,7 +195,7 @@ trimmed_unused : (b : Bool) (n : ℕ) → n ≡ (if b then n else 0) → IsTrue 
 trimmed_unused true n e = inl refl
 trimmed_unused false n e = inr e
 
--- a word is packed from its own fields exactly if packing can give it
+-- Packing the fields of a word results in the word if and only if the word is built.
 pub pack-raw : (w : ℕ) → w < 2 ^ 128 → (pack (raw w) ≡ w) ↔ IsBuilt w
 pack-raw w l = (
   λ e.
@@ -208,11 +208,11 @@ pack-raw w l = (
   λ built. ap word_of (trim-same (raw w) built.separator_used) ∙ word_of-raw w l built.clean,
 )
 
--- two clean words with the same fields are one
+-- Two clean words with the same fields are equal.
 pub raw-injective : (v w : ℕ) → v < 2 ^ 128 → w < 2 ^ 128 → IsClean v → IsClean w → raw v ≡ raw w → v ≡ w
 raw-injective v w fits fits' clean clean' same = sym (word_of-raw v fits clean) ∙ ap word_of same
     ∙ word_of-raw w fits' clean'
 
--- two records give one word exactly if they agree up to an unused separator
+-- Two records have the same packed word if and only if they are equal after trimming.
 pub pack-injective : (r s : Record) → HasBytes r → HasBytes s → (pack s ≡ pack r) ↔ (trim s ≡ trim r)
 pack-injective r s h k = (λ e. sym (raw-pack s k) ∙ ap raw e ∙ raw-pack r h, λ e. ap word_of e)

@@ -1,4 +1,4 @@
--- The radixes in which a byte is free, by a table of all bytes.
+-- Lemmas on the radixes in which a byte is absent or punctuation, by a table of all bytes.
 use Rattle.std.proofs.Common.{◌≡◌, ℕ, ◌+◌, ◌<◌, ◌⊎◌, ◌↔◌, ◌==◌, ◌||◌, not, true, max, nat_lt, if◌then◌else◌, IsTrue}
 use Rattle.std.proofs.Common.{slice_index_or, eqb-true, refl, arith}
 use Rattle.std.proofs.Math.Nat.{mod-lt}
@@ -14,20 +14,20 @@ use Rattle.lexical_flags.specs.Roles.{signs}
 use Rattle.lexical_flags.specs.Rules.{IsAbsentOrPunctuation, IsPunctuation}
 use Rattle.lexical_flags.specs.declared.format_flags.rules.TheConstants.{LIMITS}
 
--- how many radixes from 0 up leave a byte free
+-- `limit byte` is the number of radixes, from 0 up, in which `byte` is absent or punctuation.
 limit : ℕ → ℕ
 limit byte =
     if byte == 0 then 256
     else if not (allowed_ascii byte) || signs byte then 0
     else if byte_value byte == 255 then 256 else byte_value byte + 1
 
--- the table holds them
+-- The table has the limit of each byte.
 limit_entry : (byte : ℕ) → byte < 256 → slice_index_or LIMITS byte 0 ≡ limit byte
 unfolding byte_value limit
 limit_entry byte below = eqb-true _ _ (agree_below_at (λ b. slice_index_or LIMITS b 0 == limit b)
     (λ _. true) 256 byte refl below)
 
--- a byte is free exactly if the larger radix is below its limit
+-- A byte is absent or punctuation if and only if the larger radix is below its limit.
 pub free_below_limit : (word byte : ℕ) → byte < 256 → let r : Record = raw word in
     IsTrue (nat_lt (max (r.byte layout.mantissa_radix) (effective_exponent_radix r)) (slice_index_or LIMITS byte 0)) ↔ IsAbsentOrPunctuation r byte
 unfolding IsPunctuation limit

@@ -1,14 +1,14 @@
--- A record is its flags and bytes.
+-- Lemmas that a record is determined by its flags and bytes.
 use Rattle.std.proofs.Common.{ℕ, ◌≡◌}
 use Rattle.lexical_flags.specs.Layout.{Flag, Byte}
 use Rattle.lexical_flags.specs.Layout as layout
 use Rattle.lexical_flags.specs.Record.{Record}
 
--- records with the same flags and bytes are equal
+-- Two records with the same flags and bytes are equal.
 pub record_same : (r s : Record) → ((f : Flag) → r.flag f ≡ s.flag f) → ((b : Byte) → r.byte b ≡ s.byte b) → r ≡ s
 record_same r s same_flags same_bytes = λ i. record { flag = λ f. same_flags f i; byte = λ b. same_bytes b i }
 
--- two functions of bytes agree if they agree in each of the six
+-- If two functions of bytes agree for each of the six bytes, then they agree for every byte.
 pub bytes_same : (p q : Byte → ℕ) → p layout.digit_separator ≡ q layout.digit_separator
     → p layout.base_prefix ≡ q layout.base_prefix → p layout.base_suffix ≡ q layout.base_suffix
     → p layout.mantissa_radix ≡ q layout.mantissa_radix → p layout.exponent_base ≡ q layout.exponent_base

@@ -1,4 +1,4 @@
--- The test of the reserved bits, by one mask.
+-- A lemma on the test of the reserved bits by one mask.
 use Rattle.std.proofs.Common.{ℕ, ◌≡◌, ◌+◌, ◌-◌, ◌%◌, ◌^◌, ◌↔◌, ◌==◌, IsTrue, eqb-true, eq-eqb, bit_and, arith}
 use Rattle.std.specs.Int.Bits.{and_zero_r}
 use Rattle.lexical_flags.specs.Layout.{IsClean}
@@ -6,7 +6,7 @@ use Rattle.lexical_flags.specs.declared.format_flags.TheConstants.{RESERVED_MASK
 use Rattle.lexical_flags.proofs.Masks.{and_block_more}
 use Rattle.lexical_flags.proofs.Packing.{low, high}
 
--- no bit under the mask is set exactly if the word is clean
+-- No bit under the mask is set if and only if the word is clean.
 pub reserved_bits : (word : ℕ) → IsTrue (bit_and word RESERVED_MASK == 0) ↔ IsClean word
 reserved_bits word =
     let nothing = and_zero_r word in

@@ -1,4 +1,4 @@
--- A rule depends on no other bit than those that it reads.
+-- Lemmas that a rule depends only on the bits that it reads.
 use Rattle.std.proofs.Common.{ℕ, ◌≡◌, ◌-◌, ◌*◌, ◌/◌, ◌^◌, ◌==◌, ◌⊎◌, ◌&&◌, ◌||◌, not, true, IsTrue, IsFalse, [], ◌∷◌}
 use Rattle.std.proofs.Common.{bit_and, refl, ap, sym, subst, ◌∙◌}
 use Rattle.std.proofs.lemmas.Nat.{and_assoc}
@@ -16,27 +16,27 @@ use Rattle.lexical_flags.proofs.ByteParts.{masked_part}
 use Rattle.lexical_flags.proofs.FlagBits.{flag_test}
 use Rattle.lexical_flags.proofs.ReservedBits.{reserved_bits}
 
--- words that agree under a mask
+-- In this section, the words `v` and `w` agree under a mask.
 module _ (v w mask : ℕ) (same : bit_and v mask ≡ bit_and w mask) where
-  -- agree under a part of it,
+  -- The words agree under each part of the mask.
   part_of_mask : (m : ℕ) → bit_and mask m ≡ m → bit_and v m ≡ bit_and w m
   part_of_mask m inside =
       ap (bit_and v) (sym inside) ∙ sym (and_assoc m v mask) ∙ ap (λ n. bit_and n m) same ∙ and_assoc m w mask
       ∙ ap (bit_and w) inside
 
-  -- in each flag
+  -- The words agree in each flag in the mask.
   pub flag : (f : Flag) → bit_and mask (2 ^ bit f) ≡ 2 ^ bit f → (part v (bit f) 1 == 1) ≡ (part w (bit f) 1 == 1)
   flag f inside =
       sym (flag_test v (bit f)) ∙ ap (λ n. not (n == 0)) (part_of_mask (2 ^ bit f) inside) ∙ flag_test w (bit f)
 
-  -- and in each byte that it has
+  -- The words agree in each byte in the mask.
   pub byte : (b : Byte) → bit_and mask ((2 ^ 8 - 1) * 2 ^ shift b) ≡ (2 ^ 8 - 1) * 2 ^ shift b
       → part v (shift b) 8 ≡ part w (shift b) 8
   byte b inside =
       sym (masked_part v (shift b) 8) ∙ ap (λ n. n / 2 ^ shift b) (part_of_mask ((2 ^ 8 - 1) * 2 ^ shift b) inside)
       ∙ masked_part w (shift b) 8
 
--- a byte that is free
+-- If two words agree in mantissa radix and exponent radix, then a byte is absent or punctuation in both or in neither.
 IsAbsentOrPunctuation-same : (v w : ℕ) (b c : ℕ) → b ≡ c → part v 104 8 ≡ part w 104 8 → part v 120 8 ≡ part w 120 8
     → ((b ≡ 0) ⊎ IsPunctuation (raw v) b) ≡ ((c ≡ 0) ⊎ IsPunctuation (raw w) c)
 unfolding IsPunctuation
@@ -44,7 +44,7 @@ IsAbsentOrPunctuation-same v w b c is m e i =
     (is i ≡ 0) ⊎ (IsTrue (allowed_ascii (is i))
     × (IsTrue (digits_of (m i) (is i) || digits_of (effective (e i) (m i)) (is i)) → ⊥) × (IsTrue (signs (is i)) → ⊥))
 
--- the demands of a rule on words that agree in the bits that it reads
+-- If two words agree in the bits that a rule reads, then the rule demands the same of both.
 Demands-same : (rule : Rule) (v w : ℕ) → bit_and v (mask_read rule) ≡ bit_and w (mask_read rule)
     → Demands rule (raw v) ≡ Demands rule (raw w)
 Demands-same rules.MantissaRadixInRange v w same = λ i. IsRadix (byte v w _ same layout.mantissa_radix refl i)
@@ -96,7 +96,7 @@ Demands-same rules.ExponentConsecutiveIsAllowed v w same = λ i.
     (flag v w _ same layout.exponent_trailing_digit_separator refl i))
 Demands-same rules.ReservedBitsAreZero v w same = refl
 
--- such words keep a rule alike
+-- If two words agree in the bits that a rule reads, and the first keeps the rule, then so does the second.
 pub kept_alike : (rule : Rule) (v w : ℕ) → bit_and v (mask_read rule) ≡ bit_and w (mask_read rule)
     → Holds rule v → Holds rule w
 unfolding Holds

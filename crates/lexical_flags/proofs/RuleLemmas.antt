@@ -1,4 +1,4 @@
--- A word is lawful exactly if it keeps every rule, and has one error.
+-- Lemmas that a word is lawful if and only if it keeps every rule, and that it has one error.
 use Rattle.std.proofs.Common.{◌≡◌, ℕ, ◌≢◌, ◌↔◌, inl, inr, Bool, true, IsTrue, List, [], ◌∷◌, ◌++◌, Option, sym, ap, ◌∙◌}
 use Rattle.std.proofs.Common.{subst, refl, arith}
 use Rattle.std.specs.List.{AllByRecursion, AllZip}
@@ -19,23 +19,27 @@ use Rattle.lexical_flags.specs.Rules.{ErrorUnless}
 use Rattle.lexical_flags.specs.Additions.BrokenRules.{ReportsRule, first_error}
 use Rattle.lexical_flags.proofs.RoleLemmas.{Disjoint-digits-cased, Disjoint-signs-cased, Disjoint-digits-signs, not_in}
 
--- what a free byte is
+-- If a byte is absent or punctuation, and not 0, then it is not a digit.
 IsAbsentOrPunctuation-digit : (r : Record) (byte : ℕ) → IsAbsentOrPunctuation r byte → byte ≢ 0 → IsTrue (digits r byte)
     → ⊥
 unfolding IsPunctuation
 IsAbsentOrPunctuation-digit r byte (inl none) positive is_digit = positive none
 IsAbsentOrPunctuation-digit r byte (inr free) positive is_digit = free.1 is_digit
 
+-- If a byte is absent or punctuation, and not 0, then it is not a sign.
 IsAbsentOrPunctuation-sign : (r : Record) (byte : ℕ) → IsAbsentOrPunctuation r byte → byte ≢ 0 → IsTrue (signs byte) → ⊥
 unfolding IsPunctuation
 IsAbsentOrPunctuation-sign r byte (inl none) positive is_sign = positive none
 IsAbsentOrPunctuation-sign r byte (inr free) positive is_sign = free.2 is_sign
 
+-- A byte that is absent or punctuation is absent or allowed ASCII.
 IsAbsentOrPunctuation-text : (r : Record) (byte : ℕ) → IsAbsentOrPunctuation r byte → IsTextOrNone byte
 unfolding IsPunctuation
 IsAbsentOrPunctuation-text r byte (inl none) = inl none
 IsAbsentOrPunctuation-text r byte (inr free) = inr free.0
 
+-- If a byte is absent or allowed ASCII, and its role is disjoint from the digits and the signs, then the byte is absent
+-- or punctuation.
 IsAbsentOrPunctuation-from : (r : Record) (counts : Bool) (byte : ℕ) → IsTextOrNone byte
     → Disjoint (digits r) (cased counts byte)
     → Disjoint signs (cased counts byte) → IsAbsentOrPunctuation r byte
@@ -53,7 +57,7 @@ IsAbsentOrPunctuation-from r counts byte text digits_apart signs_apart =
       ]
     ]
 
--- a lawful word keeps every rule
+-- A lawful word keeps every rule.
 pub Holds-from_lawful : (rule : Rule) (word : ℕ) → Lawful word → Holds rule word
 unfolding Holds Lawful
 Holds-from_lawful rules.MantissaRadixInRange word h = h.mantissa_radix
@@ -72,7 +76,7 @@ Holds-from_lawful rules.PunctuationDiffers word h = let pairs = h.roles in let o
 Holds-from_lawful rules.ReservedBitsAreZero word h = h.clean
 Holds-from_lawful _ word h = let flags = h.flags in assumption flags
 
--- the radixes of a lawful word
+-- The radixes of a lawful word are between 2 and 36.
 pub Lawful-mantissa_radix : (word : ℕ) → Lawful word → IsRadix ((raw word).byte layout.mantissa_radix)
 unfolding Lawful
 Lawful-mantissa_radix word h = h.mantissa_radix
@@ -88,7 +92,7 @@ pub Lawful-exponent_radix : (word : ℕ) → Lawful word → (raw word).byte lay
 unfolding Lawful
 Lawful-exponent_radix word h some = own_radix _ ((raw word).byte layout.mantissa_radix) some h.exponent_radix
 
--- the five roles, if the bytes are free and differ
+-- If separator, prefix and suffix are absent or punctuation, and differ, then the five roles are disjoint.
 five_apart : (r : Record) → IsAbsentOrPunctuation r (r.byte layout.digit_separator)
     → IsAbsentOrPunctuation r (r.byte layout.base_prefix) → IsAbsentOrPunctuation r (r.byte layout.base_suffix)
     → AreDisjoint (format_roles r) → AreDisjoint (five_roles r)
@@ -109,7 +113,7 @@ five_apart r separator prefix suffix own =
       ((signs_apart true _ separator, (signs_apart _ _ prefix, (signs_apart _ _ suffix, tt))), own),
     )
 
--- a word that keeps every rule is lawful
+-- A word that keeps every rule is lawful.
 pub Lawful-from_all : (word : ℕ) → ((rule : Rule) → Holds rule word) → Lawful word
 unfolding Holds Lawful
 Lawful-from_all word h =
@@ -129,26 +133,26 @@ Lawful-from_all word h =
       clean = h rules.ReservedBitsAreZero;
     }
 
--- no rule has the error Success
+-- No rule has the error Success.
 error_of-success : (rule : Rule) → error_of rule ≢ Success
 error_of-success rules.MantissaRadixInRange e = cc
 error_of-success _ e = cc
 
--- if no rule of a list is broken, each is kept
+-- If the first error of a list of rules is Success, then each rule of the list is kept.
 all_from_success : (word : ℕ) (rules : List Rule) → IsFirstError rules word Success
     → AllByRecursion (λ rule. Holds rule word) rules
 all_from_success word [] h = tt
 all_from_success word (rule ∷ rules) (inl broken) = absurd (error_of-success rule (sym broken.1))
 all_from_success word (rule ∷ rules) (inr kept) = (kept.0, all_from_success word rules kept.1)
 
--- if every rule is kept, none is broken
+-- If every rule is kept, then the first error of each list of rules is Success.
 success_from_all : (word : ℕ) (error : Error) → ((rule : Rule) → Holds rule word) → (rules : List Rule)
     → IsFirstError rules word error → error ≡ Success
 success_from_all word error all [] h = h
 success_from_all word error all (rule ∷ rules) (inl broken) = absurd (broken.0 (all rule))
 success_from_all word error all (rule ∷ rules) (inr kept) = success_from_all word error all rules kept.1
 
--- there is one error
+-- If the rest of a list of demands has at most one error, then so has the list.
 pub ErrorUnless-unique : {demand : Type 0} {own : Error} {next : Error → Type 0}
     → ((a b : Error) → next a → next b → a ≡ b)
     → (a b : Error) → ErrorUnless demand own next a → ErrorUnless demand own next b → a ≡ b
@@ -166,7 +170,7 @@ pub IsErrorOf-unique : (word : ℕ) (a b : Error) → IsErrorOf word a → IsErr
 unfolding IsErrorOf
 IsErrorOf-unique word = IsFirstError-unique word rules_in_order
 
--- the error of the rules in front is that of all
+-- If the rules in front of a list have an error, then it is the error of the whole list.
 pub first_in_front : (word : ℕ) (error : Error) → error ≢ Success → (front rest : List Rule)
     → IsFirstError front word error → IsFirstError (front ++ rest) word error
 first_in_front word error some [] rest h = absurd (some h)
@@ -174,7 +178,7 @@ first_in_front word error some (rule ∷ front) rest (inl broken) = inl broken
 first_in_front word error some (rule ∷ front) rest (inr kept) =
     inr (kept.0, first_in_front word error some front rest kept.1)
 
--- words that keep the same rules have the same error
+-- Words that keep the same rules have the same error.
 IsFirstError-same : (v w : ℕ) → ((rule : Rule) → Holds rule v ↔ Holds rule w) → (rules : List Rule) (error : Error)
     → IsFirstError rules v error → IsFirstError rules w error
 IsFirstError-same v w same [] error h = h
@@ -191,7 +195,7 @@ IsErrorOf-same v w same error = (
       (λ rule. ((same rule).1, (same rule).0)) rules_in_order error,
 )
 
--- a clean word keeps the rule whose error is InvalidFlags
+-- A clean word keeps the rule whose error is InvalidFlags.
 reserved-error : (rule : Rule) (word : ℕ) → error_of rule ≡ InvalidFlags → IsClean word → Holds rule word
 unfolding Holds
 reserved-error rules.ReservedBitsAreZero word e clean = clean
@@ -203,22 +207,22 @@ clean-first word [] clean h = cc
 clean-first word (rule ∷ rules) clean (inl broken) = broken.0 (reserved-error rule word (sym broken.1) clean)
 clean-first word (rule ∷ rules) clean (inr kept) = clean-first word rules clean kept.1
 
--- so that is never its error
+-- The error of a clean word is never InvalidFlags.
 pub not_flags : (word : ℕ) (error : Error) → IsClean word → IsErrorOf word error → error ≢ InvalidFlags
 unfolding IsErrorOf
 not_flags word error clean h e = clean-first word rules_in_order clean (subst (IsErrorOf word) e h)
 
--- every rule is in the list of all
+-- If each rule in the list of all rules is kept, then every rule is kept.
 every_rule : (word : ℕ) → AllByRecursion (λ rule. Holds rule word) rules_in_order → (rule : Rule) → Holds rule word
 every_rule word all rules.MantissaRadixInRange = assumption all
 every_rule word all _ = assumption all
 
--- a word without an error keeps every rule
+-- A word without an error keeps every rule, so it is lawful.
 pub Lawful-from_success : (word : ℕ) → IsErrorOf word Success → Lawful word
 unfolding IsErrorOf
 Lawful-from_success word h = Lawful-from_all word (every_rule word (all_from_success word rules_in_order h))
 
--- the error of a word is Success exactly if the word is lawful
+-- The error of a word is Success if and only if the word is lawful.
 pub Success-lawful : (word : ℕ) (error : Error) → IsErrorOf word error → ((error ≡ Success) ↔ Lawful word)
 unfolding IsErrorOf
 Success-lawful word error h = (
@@ -226,7 +230,7 @@ Success-lawful word error h = (
   λ lawful. success_from_all word error (λ rule. Holds-from_lawful rule word lawful) rules_in_order h,
 )
 
--- the error of the first rule that is broken, if each is in a list or not
+-- If a list reports which of some rules are broken, then its first error is the error of the first broken rule.
 first_of_list : (word : ℕ) (rules : List Rule) (broken : List (Option Rule)) → AllZip (ReportsRule word) rules broken
     → IsFirstError rules word (first_error broken)
 first_of_list word [] [] h = refl

@@ -1,33 +1,34 @@
--- A number as segments one above the other, given by their widths from the lowest up.
+-- Lemmas on a number as segments that are one above the other, given by their widths from the lowest up.
 use Rattle.std.proofs.Common.{ℕ, ◌≡◌, ◌+◌, ◌*◌, ◌/◌, ◌%◌, ◌^◌, ◌<◌, List, [], ◌∷◌, refl, ap, sym, ◌∙◌, add_assoc, arith}
 use Rattle.std.proofs.Math.Nat.{add_comm, mul-le-mul_left}
 use Rattle.std.proofs.lemmas.Nat.{pow-add, shr_high, mod_low, mod-pow-add}
 use Rattle.lexical_flags.specs.Layout.{part}
 
--- the sum of the values, each times the power of two of its segment, the first segment at bit s
+-- `joined s widths values` is the sum of the values, each times the power of two of its segment. The first segment
+-- starts at bit s.
 abbrev pub joined : ℕ → List ℕ → List ℕ → ℕ
 joined s [] values = 0
 joined s (n ∷ widths) [] = 0
 joined s (n ∷ widths) (v ∷ values) = v * 2 ^ s + joined (s + n) widths values
 
--- the values of the segments of w
+-- `segments s widths w` lists the values of the segments of `w`.
 abbrev pub segments : ℕ → List ℕ → ℕ → List ℕ
 segments s [] w = []
 segments s (n ∷ widths) w = part w s n ∷ segments (s + n) widths w
 
--- the end of the last segment
+-- `top s widths` is the end of the last segment.
 abbrev pub top : ℕ → List ℕ → ℕ
 top s [] = s
 top s (n ∷ widths) = top (s + n) widths
 
--- each value fits its segment
+-- `Fit widths values` holds if each value fits its segment.
 abbrev pub Fit : List ℕ → List ℕ → Type 0
 Fit [] [] = Unit {0}
 Fit [] (v ∷ values) = ⊥
 Fit (n ∷ widths) [] = ⊥
 Fit (n ∷ widths) (v ∷ values) = (v < 2 ^ n) × Fit widths values
 
--- what is joined from bit s up is a multiple of 2 ^ s
+-- The sum of values that are joined from bit s up is a multiple of 2 ^ s.
 joined-multiple : (s : ℕ) (widths values : List ℕ) → (q : ℕ) × (joined s widths values ≡ q * 2 ^ s)
 joined-multiple s [] values = (0, omega arith)
 joined-multiple s (n ∷ widths) [] = (0, omega arith)
@@ -35,20 +36,20 @@ joined-multiple s (n ∷ widths) (v ∷ values) =
     let above = joined-multiple (s + n) widths values in
     (v + above.0 * 2 ^ n, rw (above.1, pow-add 2 s n) (omega arith))
 
--- a value is found between what is below it and what is above
+-- A value between a number below its bits and a multiple above its bits is the part of the sum at its bits.
 part_between : (s n v low q : ℕ) → low < 2 ^ s → v < 2 ^ n → part (low + (v * 2 ^ s + q * 2 ^ (s + n))) s n ≡ v
 part_between s n v low q l fits =
     let shape : low + (v * 2 ^ s + q * 2 ^ (s + n)) ≡ (q * 2 ^ n + v) * 2 ^ s + low =
     rw (pow-add 2 s n) (omega arith) in
     ap (λ x. part x s n) shape ∙ ap (λ x. x % 2 ^ n) (shr_high (q * 2 ^ n + v) s low l) ∙ mod_low q n v fits
 
--- what is below the next segment, with a value in this one
+-- A number below a segment plus a value that fits the segment is below the next segment.
 below_next : (s n v low : ℕ) → low < 2 ^ s → v < 2 ^ n → low + v * 2 ^ s < 2 ^ (s + n)
 below_next s n v low l fits =
     let room = mul-le-mul_left (2 ^ s) fits in
     rw (pow-add 2 s n) (omega arith)
 
--- what is joined is found again
+-- The segments of joined values are these values.
 pub segments-joined : (s : ℕ) (widths values : List ℕ) (low : ℕ) → low < 2 ^ s → Fit widths values
     → segments s widths (low + joined s widths values) ≡ values
 segments-joined s [] [] low l fit = refl
@@ -63,7 +64,7 @@ segments-joined s (n ∷ widths) (v ∷ values) low l fit =
     ∙ segments-joined (s + n) widths values (low + v * 2 ^ s) (below_next s n v low l fit.0) fit.1 in
     λ i. here i ∷ rest i
 
--- what is found is joined again, and what is below is left
+-- The joined segments of a word, plus its bits below them, are the word up to the end of the last segment.
 pub joined-segments : (s : ℕ) (widths : List ℕ) (w : ℕ)
     → w % 2 ^ s + joined s widths (segments s widths w) ≡ w % 2 ^ top s widths
 joined-segments s [] w = omega arith
@@ -72,7 +73,7 @@ joined-segments s (n ∷ widths) w =
     let above = joined-segments (s + n) widths w in
     omega arith
 
--- what is joined is below the end of the last segment
+-- Joined values are below the end of the last segment.
 pub joined-below : (s : ℕ) (widths values : List ℕ) (low : ℕ) → low < 2 ^ s → Fit widths values
     → low + joined s widths values < 2 ^ top s widths
 joined-below s [] [] low l fit = omega arith

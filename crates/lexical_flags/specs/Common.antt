@@ -3,14 +3,14 @@ use Rattle.std.specs.Prelude.{ℕ, ◌^◌, ◌==◌, ◌&&◌, Bool, if◌then�
 use Rattle.std.specs.List.{range_with_len}
 use Rattle.lexical_flags.specs.Layout.{part}
 
--- whether a bit of a word is 1
+-- `has_one word bit` is true if the bit `bit` of `word` is 1.
 abbrev pub has_one : ℕ → ℕ → Bool
 has_one word bit = part word bit 1 == 1
 
--- what a bit adds that is 1 in both words
+-- `common_at v w bit` is the value of the bit `bit` if it is 1 in both `v` and `w`, and 0 otherwise.
 abbrev pub common_at : ℕ → ℕ → ℕ → ℕ
 common_at v w bit = if has_one v bit && has_one w bit then 2 ^ bit else 0
 
--- the sum over the 128 bits
+-- `common v w` is the number whose bits are 1 in both `v` and `w`: the sum over the 128 bits.
 unfoldable pub common : ℕ → ℕ → ℕ
 common v w = sum_by (common_at v w) (range_with_len 0 128)

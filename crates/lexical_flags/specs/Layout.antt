@@ -5,7 +5,7 @@ use Rattle.std.specs.Prelude.{ℕ, ◌≡◌, ◌/◌, ◌%◌, ◌^◌, List, [
 abbrev pub part : ℕ → ℕ → ℕ → ℕ
 part word s n = word / 2 ^ s % 2 ^ n
 
--- The 31 flags.
+-- `Flag` is the type of the 31 flags.
 pub data Flag : Type 0 where
   required_integer_digits : Flag
   required_fraction_digits : Flag
@@ -39,7 +39,7 @@ pub data Flag : Type 0 where
   exponent_consecutive_digit_separator : Flag
   special_digit_separator : Flag
 
--- The six bytes.
+-- `Byte` is the type of the six bytes.
 pub data Byte : Type 0 where
   digit_separator : Byte
   base_prefix : Byte
@@ -48,7 +48,7 @@ pub data Byte : Type 0 where
   exponent_base : Byte
   exponent_radix : Byte
 
--- The bit of each flag.
+-- `bit f` is the bit of the flag `f`.
 abbrev pub bit : Flag → ℕ
 bit required_integer_digits = 0
 bit required_fraction_digits = 1
@@ -82,7 +82,7 @@ bit fraction_consecutive_digit_separator = 42
 bit exponent_consecutive_digit_separator = 43
 bit special_digit_separator = 44
 
--- The lowest bit of each byte.
+-- `shift b` is the lowest bit of the byte `b`.
 abbrev pub shift : Byte → ℕ
 shift digit_separator = 64
 shift base_prefix = 88
@@ -91,7 +91,7 @@ shift mantissa_radix = 104
 shift exponent_base = 112
 shift exponent_radix = 120
 
--- The flags from bit 0 up.
+-- `base_flags` lists the flags from bit 0 up.
 abbrev pub base_flags : List Flag
 base_flags =
     required_integer_digits ∷ required_fraction_digits ∷ required_exponent_digits ∷ required_mantissa_digits ∷
@@ -100,61 +100,61 @@ base_flags =
     no_integer_leading_zeros ∷ no_float_leading_zeros ∷ required_exponent_notation ∷ case_sensitive_exponent ∷
     case_sensitive_base_prefix ∷ case_sensitive_base_suffix ∷ []
 
--- The flags that require digits.
+-- `required_digits` lists the flags that require digits.
 abbrev pub required_digits : List Flag
 required_digits =
     required_integer_digits ∷ required_fraction_digits ∷ required_exponent_digits ∷ required_mantissa_digits ∷ []
 
--- The flags that allow a digit separator between digits.
+-- `internal_digit_separator` lists the flags that allow a digit separator between digits.
 abbrev pub internal_digit_separator : List Flag
 internal_digit_separator =
     integer_internal_digit_separator ∷ fraction_internal_digit_separator ∷ exponent_internal_digit_separator ∷ []
 
--- The flags that allow a digit separator before digits.
+-- `leading_digit_separator` lists the flags that allow a digit separator before digits.
 abbrev pub leading_digit_separator : List Flag
 leading_digit_separator =
     integer_leading_digit_separator ∷ fraction_leading_digit_separator ∷ exponent_leading_digit_separator ∷ []
 
--- The flags that allow a digit separator after digits.
+-- `trailing_digit_separator` lists the flags that allow a digit separator after digits.
 abbrev pub trailing_digit_separator : List Flag
 trailing_digit_separator =
     integer_trailing_digit_separator ∷ fraction_trailing_digit_separator ∷ exponent_trailing_digit_separator ∷ []
 
--- The flags that allow several digit separators in a row.
+-- `consecutive_digit_separator` lists the flags that allow consecutive digit separators.
 abbrev pub consecutive_digit_separator : List Flag
 consecutive_digit_separator =
     integer_consecutive_digit_separator ∷ fraction_consecutive_digit_separator ∷
     exponent_consecutive_digit_separator ∷ []
 
--- The flags from bit 32 up: all that allow a digit separator somewhere.
+-- `digit_separator_flags` lists the flags from bit 32 up: all flags that allow a digit separator somewhere.
 abbrev pub digit_separator_flags : List Flag
 digit_separator_flags =
     internal_digit_separator ++ leading_digit_separator ++ trailing_digit_separator ++
     consecutive_digit_separator ++ special_digit_separator ∷ []
 
--- The digit separator flags of the integer.
+-- `integer_digit_separator_flags` lists the digit separator flags of the integer.
 abbrev pub integer_digit_separator_flags : List Flag
 integer_digit_separator_flags =
     integer_internal_digit_separator ∷ integer_leading_digit_separator ∷
     integer_trailing_digit_separator ∷ integer_consecutive_digit_separator ∷ []
 
--- The digit separator flags of the fraction.
+-- `fraction_digit_separator_flags` lists the digit separator flags of the fraction.
 abbrev pub fraction_digit_separator_flags : List Flag
 fraction_digit_separator_flags =
     fraction_internal_digit_separator ∷ fraction_leading_digit_separator ∷
     fraction_trailing_digit_separator ∷ fraction_consecutive_digit_separator ∷ []
 
--- The digit separator flags of the exponent.
+-- `exponent_digit_separator_flags` lists the digit separator flags of the exponent.
 abbrev pub exponent_digit_separator_flags : List Flag
 exponent_digit_separator_flags =
     exponent_internal_digit_separator ∷ exponent_leading_digit_separator ∷
     exponent_trailing_digit_separator ∷ exponent_consecutive_digit_separator ∷ []
 
--- All flags, in the order of their bits.
+-- `flags` lists all flags, in the order of their bits.
 abbrev pub flags : List Flag
 flags = base_flags ++ digit_separator_flags
 
--- All bytes, in the order of their bits.
+-- `bytes` lists all bytes, in the order of their bits.
 abbrev pub bytes : List Byte
 bytes = digit_separator ∷ base_prefix ∷ base_suffix ∷ mantissa_radix ∷ exponent_base ∷ exponent_radix ∷ []
 

@@ -1,4 +1,4 @@
--- For proofs: what computes on words that are literals.
+-- For proofs: the definitions that a proof unfolds to compute on words that are literals.
 use Rattle.std.specs.Prelude.{⊤}
 use Rattle.lexical_base.specs.Digits.{byte_value}
 use Rattle.lexical_flags.specs.Common.{common}
@@ -6,7 +6,7 @@ use Rattle.lexical_flags.specs.Record.{word_of}
 use Rattle.lexical_flags.specs.Roles.{Disjoint, are_disjoint, cased}
 use Rattle.lexical_flags.specs.Rules.{IsPunctuation, Holds, IsErrorOf, Lawful}
 
--- what a proof unfolds to compute on literals: the packing, the digits, the roles, the rules and the error of a word
+-- `on_literals` unfolds these definitions: the packing, the digits, the roles, the rules and the error of a word.
 unfoldable pub on_literals : ⊤
 unfolding byte_value word_of common Disjoint are_disjoint cased IsPunctuation Holds IsErrorOf Lawful
 on_literals = tt

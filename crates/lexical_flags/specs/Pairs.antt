@@ -1,8 +1,8 @@
--- Lists any two of whose elements are related.
+-- Lists in which any two elements are related.
 use Rattle.std.specs.Prelude.{List, [], ◌∷◌, ⊤}
 use Rattle.std.specs.List.{AllByRecursion}
 
--- `ArePairwise R xs` holds if `R` relates each entry of `xs` to every later one.
+-- `ArePairwise R xs` holds if `R` relates each element of `xs` to every later element.
 abbrev pub ArePairwise : {X : Type 0} → (X → X → Type 0) → List X → Type 0
 ArePairwise R [] = ⊤
 ArePairwise R (x ∷ xs) = AllByRecursion (R x) xs × ArePairwise R xs

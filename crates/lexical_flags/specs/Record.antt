@@ -1,10 +1,10 @@
--- A format as a record of its fields, and how a word holds one.
+-- A format as a record of its fields, and the words that express it.
 use Rattle.std.specs.Prelude.{ℕ, ◌+◌, ◌*◌, ◌^◌, ◌<◌, ◌≡◌, ◌==◌, ◌⊎◌, Bool, IsTrue, if◌then◌else◌, sum_by}
 use Rattle.std.specs.List.{list_any}
 use Rattle.lexical_flags.specs.Layout.{part, Flag, Byte, bit, shift, flags, bytes, digit_separator_flags, IsClean}
 use Rattle.lexical_flags.specs.Layout as layout
 
--- The fields of a format: a truth value for each flag, and a number for each byte, which is 0 if the byte is absent.
+-- `Record` has the fields of a format: a truth value for each flag, and a number for each byte, 0 if it is absent.
 pub record Record : Type 0 where
   pub flag : Flag → Bool
   pub byte : Byte → ℕ
@@ -21,11 +21,11 @@ raw word = record { flag = λ f. part word (bit f) 1 == 1; byte = λ b. part wor
 abbrev pub effective : ℕ → ℕ → ℕ
 effective byte mantissa_radix = if byte == 0 then mantissa_radix else byte
 
--- The effective exponent base.
+-- `effective_exponent_base r` is the exponent base of `r`, or the mantissa radix if the exponent base is 0.
 abbrev pub effective_exponent_base : Record → ℕ
 effective_exponent_base r = effective (r.byte layout.exponent_base) (r.byte layout.mantissa_radix)
 
--- The effective exponent radix.
+-- `effective_exponent_radix r` is the exponent radix of `r`, or the mantissa radix if the exponent radix is 0.
 abbrev pub effective_exponent_radix : Record → ℕ
 effective_exponent_radix r = effective (r.byte layout.exponent_radix) (r.byte layout.mantissa_radix)
 
@@ -46,11 +46,11 @@ SeparatorAllowedOrAbsent r = IsTrue (separator_allowed r) ⊎ (r.byte layout.dig
 abbrev pub trim : Record → Record
 trim r = set_byte r layout.digit_separator (if separator_allowed r then r.byte layout.digit_separator else 0)
 
--- What a flag adds to a word.
+-- `flag_bits r f` is the part of the sum `word_of r` that comes from the flag `f`.
 abbrev pub flag_bits : Record → Flag → ℕ
 flag_bits r f = if r.flag f then 2 ^ bit f else 0
 
--- What a byte adds to a word.
+-- `byte_bits r b` is the part of the sum `word_of r` that comes from the byte `b`.
 abbrev pub byte_bits : Record → Byte → ℕ
 byte_bits r b = r.byte b * 2 ^ shift b
 

@@ -19,7 +19,7 @@ Disjoint A B = IsTrue (are_disjoint A B)
 abbrev pub AreDisjoint : List ByteSet → Type 0
 AreDisjoint sets = ArePairwise Disjoint sets
 
--- `other_case byte` is a letter in the other case, and any other byte unchanged.
+-- `other_case byte` is the other case of `byte` if `byte` is a letter, and `byte` otherwise.
 abbrev pub other_case : ℕ → ℕ
 other_case byte = if between 65 90 byte then byte + 32 else if between 97 122 byte then byte - 32 else byte
 
@@ -28,42 +28,42 @@ other_case byte = if between 65 90 byte then byte + 32 else if between 97 122 by
 unfoldable pub cased : Bool → ℕ → ByteSet
 cased case_sensitive byte c = not (byte == 0) && ((c == byte) || (not case_sensitive && (c == other_case byte)))
 
--- The digits of the mantissa and of the exponent.
+-- `digits r` is the set of the digits of the mantissa and of the exponent of `r`.
 abbrev pub digits : Record → ByteSet
 digits r byte = digits_of (r.byte layout.mantissa_radix) byte || digits_of (effective_exponent_radix r) byte
 
--- The signs + and -.
+-- `signs` is the set of the signs + and -.
 abbrev pub signs : ByteSet
 signs byte = (byte == 43) || (byte == 45)
 
--- The digit separator.
+-- `separator r` is the role of the digit separator of `r`.
 abbrev pub separator : Record → ByteSet
 separator r = cased true (r.byte layout.digit_separator)
 
--- The base prefix.
+-- `prefix r` is the role of the base prefix of `r`.
 abbrev pub prefix : Record → ByteSet
 prefix r = cased (r.flag layout.case_sensitive_base_prefix) (r.byte layout.base_prefix)
 
--- The base suffix.
+-- `suffix r` is the role of the base suffix of `r`.
 abbrev pub suffix : Record → ByteSet
 suffix r = cased (r.flag layout.case_sensitive_base_suffix) (r.byte layout.base_suffix)
 
--- The exponent character, which an options type chooses and not the format.
+-- `exponent r chosen` is the role of the exponent character `chosen`, which the options choose and not the format.
 abbrev pub exponent : Record → ℕ → ByteSet
 exponent r chosen = cased (r.flag layout.case_sensitive_exponent) chosen
 
--- The decimal point, which an options type chooses and not the format.
+-- `point chosen` is the role of the decimal point `chosen`, which the options choose and not the format.
 abbrev pub point : ℕ → ByteSet
 point chosen = cased true chosen
 
--- The roles of the bytes that a format names.
+-- `format_roles r` lists the roles of the bytes in `r`: separator, prefix and suffix.
 abbrev pub format_roles : Record → List ByteSet
 format_roles r = separator r ∷ prefix r ∷ suffix r ∷ []
 
--- The five roles of a format.
+-- `five_roles r` lists the five roles of `r`: digits, signs, separator, prefix and suffix.
 abbrev pub five_roles : Record → List ByteSet
 five_roles r = digits r ∷ signs ∷ format_roles r
 
--- The five roles of a format, the exponent character and the decimal point.
+-- `seven_roles r exponent_byte point_byte` lists the roles of the exponent character, the decimal point, and `r`.
 abbrev pub seven_roles : Record → ℕ → ℕ → List ByteSet
 seven_roles r exponent_byte point_byte = exponent r exponent_byte ∷ point point_byte ∷ five_roles r

@@ -1,4 +1,4 @@
--- The rules of a format word, and the error of the first that it breaks.
+-- The rules of a format word, and the error of the first rule that it breaks.
 use Rattle.std.specs.Prelude.{ℕ, Bool, false, not, ◌≡◌, ◌≤◌, ◌⊎◌, ◌&&◌, ◌||◌, IsTrue, IsFalse, List, [], ◌∷◌, ◌++◌}
 use Rattle.std.specs.List.{AllByRecursion}
 use Rattle.lexical_base.specs.Ascii.{allowed_ascii}
@@ -20,7 +20,7 @@ use Rattle.lexical_flags.specs.Layout.{IsClean}
 use Rattle.lexical_flags.specs.Record.{Record, raw, effective_exponent_base, effective_exponent_radix}
 use Rattle.lexical_flags.specs.Roles.{AreDisjoint, digits, signs, format_roles, five_roles}
 
--- `IsRadix radix` holds if numbers can be written in `radix`.
+-- `IsRadix radix` holds if `radix` is between 2 and 36, so that numbers can be written in it.
 abbrev pub IsRadix : ℕ → Type 0
 IsRadix radix = (2 ≤ radix) × (radix ≤ 36)
 
@@ -36,7 +36,8 @@ IsAbsentOrPunctuation r byte = (byte ≡ 0) ⊎ IsPunctuation r byte
 abbrev pub IsTextOrNone : ℕ → Type 0
 IsTextOrNone byte = (byte ≡ 0) ⊎ IsTrue (allowed_ascii byte)
 
--- The flags of a part of a number allow separators in a row, but none between, before or after digits.
+-- `lacks_position consecutive internal leading trailing` is true if, of these four flags, only the first is set: then
+-- consecutive separators are allowed in a part of a number, but no position of a separator is.
 abbrev pub lacks_position : Bool → Bool → Bool → Bool → Bool
 lacks_position consecutive internal leading trailing = consecutive && not (internal || leading || trailing)
 
@@ -74,7 +75,7 @@ unfoldable pub Holds : Rule → ℕ → Type 0
 Holds rules.ReservedBitsAreZero word = IsClean word
 Holds rule word = Demands rule (raw word)
 
--- The error of each rule.
+-- `error_of rule` is the error of `rule`.
 abbrev pub error_of : Rule → Error
 error_of rules.MantissaRadixInRange = errors.InvalidMantissaRadix
 error_of rules.ExponentBaseInRange = errors.InvalidExponentBase
@@ -93,16 +94,16 @@ error_of rules.FractionConsecutiveIsAllowed = errors.InvalidConsecutiveFractionD
 error_of rules.ExponentConsecutiveIsAllowed = errors.InvalidConsecutiveExponentDigitSeparator
 error_of rules.ReservedBitsAreZero = errors.InvalidFlags
 
--- The radix rules, in their order.
+-- `radix_rules` lists the radix rules, in their order.
 abbrev pub radix_rules : List Rule
 radix_rules = rules.MantissaRadixInRange ∷ rules.ExponentBaseInRange ∷ rules.ExponentRadixInRange ∷ []
 
--- The punctuation rules, in their order.
+-- `punctuation_rules` lists the punctuation rules, in their order.
 abbrev pub punctuation_rules : List Rule
 punctuation_rules =
     rules.DigitSeparatorIsPunctuation ∷ rules.BasePrefixIsPunctuation ∷ rules.BaseSuffixIsPunctuation ∷ rules.PunctuationDiffers ∷ []
 
--- The flag rules, in their order.
+-- `flag_rules` lists the flag rules, in their order.
 abbrev pub flag_rules : List Rule
 flag_rules =
     rules.ExponentFlagsAgree ∷ rules.MantissaSignFlagsAgree ∷ rules.ExponentSignFlagsAgree ∷
@@ -110,7 +111,7 @@ flag_rules =
     rules.IntegerConsecutiveIsAllowed ∷ rules.FractionConsecutiveIsAllowed ∷
     rules.ExponentConsecutiveIsAllowed ∷ []
 
--- All rules, in their order.
+-- `rules_in_order` lists all rules, in their order.
 abbrev pub rules_in_order : List Rule
 rules_in_order = radix_rules ++ punctuation_rules ++ flag_rules ++ rules.ReservedBitsAreZero ∷ []
 
@@ -127,7 +128,8 @@ IsFirstError (rule ∷ rules) word error = ErrorUnless (Holds rule word) (error_
 unfoldable pub IsErrorOf : ℕ → Error → Type 0
 IsErrorOf word error = IsFirstError rules_in_order word error
 
--- What makes a word lawful: radixes in range, flags that agree, allowed ASCII, no byte with two roles, no reserved bit.
+-- `LawfulParts word` holds if the radixes of `word` are in range, its flags agree, each other byte is absent or allowed
+-- ASCII, no byte plays two roles, and the reserved bits are 0.
 pub record LawfulParts (word : ℕ) : Type 0 where
   pub mantissa_radix : IsRadix ((raw word).byte layout.mantissa_radix)
   pub exponent_base : IsRadix (effective_exponent_base (raw word))

@@ -1,9 +1,9 @@
 //! The layout of a format word: the bits of each flag and byte, and the functions that read them.
-//! The tests of the validity rules, whose file is `format_flags/rules.rt`, are re-exported.
+//! The tests of the rules, which are in `format_flags/rules.rt`, are re-exported.
 //!
-//! A format word is a `u128`. Flags stand from bit 0 up and from bit 32 up; six bytes stand from bit 64
-//! up: digit separator, base prefix, base suffix, mantissa radix, exponent base and exponent radix. The
-//! other bits are reserved: no field takes them, and they are 0 in a lawful format.
+//! A format word is a `u128`. Flags are at the bits from 0 up and from 32 up. Six bytes are at the bits from
+//! 64 up: digit separator, base prefix, base suffix, mantissa radix, exponent base and exponent radix. The
+//! other bits are reserved: they hold no field, and are 0 in a lawful format.
 #![tactic(auto, using(crate::proofs::ByteParts::byte_parts))]
 
 ghost use Rattle.std.specs.Prelude.{◌≡◌, ◌/◌, ◌%◌, ◌^◌, ◌≤ℤ◌, ◌<ℤ◌, pos, unsigned_abs};
@@ -182,19 +182,19 @@ pub const EXPONENT_RADIX: u128 = 0xFF000000_00000000_00000000_00000000;
 /// Mask of the mantissa radix and the exponent radix, without the exponent base.
 pub const RADIX_MASK: u128 = 0xFF00FF00_00000000_00000000_00000000;
 
-// MASKS OF FLAGS
+// FLAG MASKS
 
 /// Mask of all flags.
 pub const FLAG_MASK: u128 = 0x1FFF_0003_FFFF;
 
 /// Mask of the flags that a parser's front end handles: required digits, exponents (except the case of
-/// the character), leading zeros of floats, and digit separators (except in special values).
+/// the exponent character), leading zeros of floats, and digit separators (except in special values).
 pub const INTERFACE_FLAG_MASK: u128 = 0xFFF_0000_63CF;
 
 /// Mask of the [group][lexical_builder::format_builder::NumberFormatBuilder::digit_separator_flags].
 pub const DIGIT_SEPARATOR_FLAG_MASK: u128 = 0x1FFF_0000_0000;
 
-/// Mask of the flags of exponents, without [`CASE_SENSITIVE_EXPONENT`].
+/// Mask of the exponent flags, without [`CASE_SENSITIVE_EXPONENT`].
 pub const EXPONENT_FLAG_MASK: u128 = 0x924_0000_43C4;
 
 /// Mask of the [group][lexical_builder::format_builder::NumberFormatBuilder::integer_digit_separator_flags].
@@ -206,16 +206,16 @@ pub const FRACTION_DIGIT_SEPARATOR_FLAG_MASK: u128 = 0x492_0000_0000;
 /// Mask of the [group][lexical_builder::format_builder::NumberFormatBuilder::exponent_digit_separator_flags].
 pub const EXPONENT_DIGIT_SEPARATOR_FLAG_MASK: u128 = 0x924_0000_0000;
 
-// Mask of the reserved bits: all but the flags, the digit separator, and what stands from the base
+// Mask of the reserved bits: all bits except the flags, the digit separator, and the bits from the base
 // prefix up.
 const RESERVED_MASK: u128 = !(FLAG_MASK | DIGIT_SEPARATOR | !0 << BASE_PREFIX_SHIFT);
 
 // EXTRACTORS
 
-// An exponent byte and the mantissa radix are both read before one is chosen, so that the compiler needs no
-// branch.
+// Each function reads the exponent byte and the mantissa radix before it chooses one of them, so that the
+// compiler needs no branch.
 
-/// Returns the digit separator, even if no flag allows one; 0 if there is none.
+/// Returns the digit separator, even if no flag allows one, or 0 if it is absent.
 #[inline(always)]
 pub const fn digit_separator(format: u128) -> u8
     ensures { result ≡ (raw format).byte layout.digit_separator }
@@ -223,7 +223,7 @@ pub const fn digit_separator(format: u128) -> u8
     ((format & DIGIT_SEPARATOR) >> DIGIT_SEPARATOR_SHIFT) as u8
 }
 
-/// Returns the base prefix, 0 if there is none.
+/// Returns the base prefix, or 0 if it is absent.
 #[inline(always)]
 pub const fn base_prefix(format: u128) -> u8
     ensures { result ≡ (raw format).byte layout.base_prefix }
@@ -231,7 +231,7 @@ pub const fn base_prefix(format: u128) -> u8
     ((format & BASE_PREFIX) >> BASE_PREFIX_SHIFT) as u8
 }
 
-/// Returns the base suffix, 0 if there is none.
+/// Returns the base suffix, or 0 if it is absent.
 #[inline(always)]
 pub const fn base_suffix(format: u128) -> u8
     ensures { result ≡ (raw format).byte layout.base_suffix }
@@ -239,7 +239,7 @@ pub const fn base_suffix(format: u128) -> u8
     ((format & BASE_SUFFIX) >> BASE_SUFFIX_SHIFT) as u8
 }
 
-/// Returns the mantissa radix: 0 to 255, and 2 to 36 if lawful.
+/// Returns the mantissa radix, which is at most 255, and between 2 and 36 in a lawful format.
 #[inline(always)]
 pub const fn mantissa_radix(format: u128) -> u32
     ensures value { result ≡ (raw format).byte layout.mantissa_radix }
@@ -248,7 +248,8 @@ pub const fn mantissa_radix(format: u128) -> u32
     ((format & MANTISSA_RADIX) >> MANTISSA_RADIX_SHIFT) as u32
 }
 
-/// Returns the exponent base, or the mantissa radix if that byte is 0; 2 to 36 if lawful.
+/// Returns the exponent base, or the mantissa radix if that byte is 0. In a lawful format, the result is
+/// between 2 and 36.
 #[inline(always)]
 pub const fn exponent_base(format: u128) -> u32
     ensures value { result ≡ effective_exponent_base (raw format) }
@@ -259,7 +260,8 @@ pub const fn exponent_base(format: u128) -> u32
     if base == 0 { radix } else { base }
 }
 
-/// Returns the exponent radix, or the mantissa radix if that byte is 0; 2 to 36 if lawful.
+/// Returns the exponent radix, or the mantissa radix if that byte is 0. In a lawful format, the result is
+/// between 2 and 36.
 #[inline(always)]
 pub const fn exponent_radix(format: u128) -> u32
     ensures value { result ≡ effective_exponent_radix (raw format) }
@@ -270,15 +272,15 @@ pub const fn exponent_radix(format: u128) -> u32
     if radix == 0 { mantissa_radix } else { radix }
 }
 
-/// Returns the bits that `format` and `mask` have in common, shifted right by `shift`, low 32 bits;
-/// the mantissa radix if these are 0. `shift` must be 0 to 127.
+/// Returns the low 32 bits of `(format & mask) >> shift`, or the mantissa radix if they are 0.
 ///
-/// With the mask and the shift of a byte, that is the byte, or the mantissa radix if the byte is 0.
+/// With the mask and the shift of a byte, the result is the byte, or the mantissa radix if the byte is 0.
+/// `shift` must be between 0 and 127.
 ///
 /// # Panics
 ///
-/// A call with another `shift` is not proved. In plain Rust it returns some number, or panics if overflow
-/// is checked.
+/// A call with any other `shift` is not proved. In plain Rust such a call returns some number, or panics if
+/// overflow is checked.
 #[inline(always)]
 #[tactic(auto, using(crate::proofs::ByteParts::byte_parts, crate::proofs::CommonLemmas::common_part))]
 pub const fn radix_from_flags(format: u128, mask: u128, shift: i32) -> u32

@@ -1,4 +1,4 @@
-//! Laws of the layout, of the rules and of the roles, stated as the clauses of functions with empty bodies.
+//! Laws on the layout, the rules and the roles, stated as the clauses of functions with empty bodies.
 
 ghost use Rattle.std.specs.Prelude.{◌≡◌, ℕ, ◌*◌, ◌/◌, ◌^◌, ◌<◌, ◌↔◌, [], ◌∷◌, length, map, pos, bit_or, IsTrue, bit_and};
 ghost use Rattle.lexical_base.specs.declared.error.Error.{Error};
@@ -21,15 +21,15 @@ use crate::format_flags::*;
 
 pub mod examples;
 
-/// The value of every constant of `format_flags`, and what must hold between them.
+/// States the value of every constant of `format_flags`, and how the constants are related.
 pub fn layout_facts()
-    // Each flag is a power of two, and the double of the one before.
+    // Each flag is a power of two, and twice the flag before it.
     ensures flag { (f : Flag) → flag_constant f ≡ 2 ^ bit f }
     ensures base_flags { map flag_constant layout.base_flags ≡ doublings 1 (length layout.base_flags) }
     ensures separator_flags { map flag_constant layout.digit_separator_flags
         ≡ doublings (2 ^ 32) (length layout.digit_separator_flags) }
 
-    // Each byte is eight bits from its shift up.
+    // Each byte takes the eight bits from its shift up.
     ensures shift { (b : Byte) → byte_shift b ≡ pos (shift b) }
     ensures mask { (b : Byte) → byte_constant b ≡ 255 * 2 ^ shift b }
     ensures shifted_mask { (b : Byte) → byte_constant b / 2 ^ shift b ≡ 255 }
@@ -39,11 +39,11 @@ pub fn layout_facts()
     ensures radix_shift { RADIX_SHIFT ≡ MANTISSA_RADIX_SHIFT }
     ensures radix_mask { RADIX_MASK ≡ bit_or MANTISSA_RADIX EXPONENT_RADIX }
 
-    // Flags with the same bit are the same flag, and bytes with the same shift the same byte.
+    // Flags with the same bit are the same flag. Bytes with the same shift are the same byte.
     ensures bit_is_injective { (f g : Flag) → bit f ≡ bit g → f ≡ g }
     ensures shift_is_injective { (b d : Byte) → shift b ≡ shift d → b ≡ d }
 
-    // Each mask of flags is the sum of its flags.
+    // Each flag mask is the sum of its flags.
     ensures required_digits { REQUIRED_DIGITS ≡ mask_of layout.required_digits }
     ensures internal { INTERNAL_DIGIT_SEPARATOR ≡ mask_of layout.internal_digit_separator }
     ensures leading { LEADING_DIGIT_SEPARATOR ≡ mask_of layout.leading_digit_separator }
@@ -57,29 +57,30 @@ pub fn layout_facts()
     ensures fraction { FRACTION_DIGIT_SEPARATOR_FLAG_MASK ≡ mask_of layout.fraction_digit_separator_flags }
     ensures exponent { EXPONENT_DIGIT_SEPARATOR_FLAG_MASK ≡ mask_of layout.exponent_digit_separator_flags }
 
-    // The digit separator flags are those of the integer, the fraction, the exponent and special values.
+    // The digit separator flags consist of the separator flags of the integer, the fraction, the exponent and special
+    // values, which share no bit.
     ensures separators_share_no_bit { ArePairwise ShareNoBit (INTEGER_DIGIT_SEPARATOR_FLAG_MASK
         ∷ FRACTION_DIGIT_SEPARATOR_FLAG_MASK ∷ EXPONENT_DIGIT_SEPARATOR_FLAG_MASK ∷ SPECIAL_DIGIT_SEPARATOR ∷ []) }
     ensures separators_together { bit_or INTEGER_DIGIT_SEPARATOR_FLAG_MASK (bit_or FRACTION_DIGIT_SEPARATOR_FLAG_MASK
         (bit_or EXPONENT_DIGIT_SEPARATOR_FLAG_MASK SPECIAL_DIGIT_SEPARATOR)) ≡ DIGIT_SEPARATOR_FLAG_MASK }
 {}
 
-/// What the rules demand of a normal form: of fields whose exponent bytes are filled in, and whose
-/// digit separator is dropped if no flag allows one; and that a word has one error.
+/// States which rules a word with the filled and trimmed fields of another word keeps, and that a word has
+/// at most one error.
 #[inline(always)]
 pub const fn rule_facts()
-    // A word without reserved bits that has these fields is lawful if the word is; and if no reserved bit and no
-    // separator is dropped, it has the same error.
+    // If `word` is lawful, then so is `normal`, the clean word with its filled and trimmed fields. If `word` is clean
+    // and trimming drops no separator, then both words have the same error.
     ensures kept_lawful { (word normal : ℕ) → IsClean normal → raw normal ≡ trim (fill (raw word))
         → Lawful word → Lawful normal }
     ensures same_error { (word normal : ℕ) → IsClean normal → raw normal ≡ trim (fill (raw word))
         → IsClean word → SeparatorAllowedOrAbsent (raw word)
         → (error : Error) → IsErrorOf word error ↔ IsErrorOf normal error }
 
-    // A word is lawful exactly if it keeps every rule.
+    // A word is lawful if and only if it keeps every rule.
     ensures lawful { (word : ℕ) → Lawful word ↔ ((rule : Rule) → Holds rule word) }
 
-    // Words that agree in the bits that a rule reads keep it alike.
+    // If two words agree in the bits that a rule reads, and one of them keeps the rule, then so does the other.
     ensures depends { (rule : Rule) → (v w : ℕ) → bit_and v (mask_read rule) ≡ bit_and w (mask_read rule)
         → Holds rule v → Holds rule w }
 
@@ -88,13 +89,13 @@ pub const fn rule_facts()
         → error ≡ other }
 {}
 
-/// Which bytes play which roles.
+/// States which roles have a byte in common.
 pub fn role_facts()
-    // Two sets are disjoint exactly if no byte is in both.
+    // Two sets are disjoint if and only if no byte is in both.
     ensures disjoint { (A B : ByteSet)
         → Disjoint A B ↔ ((byte : ℕ) → byte < 256 → IsTrue (A byte) → IsTrue (B byte) → ⊥) }
 
-    // In a lawful format with accepted options a byte plays at most one role.
+    // In a lawful format with accepted options, each byte plays at most one role.
     ensures lawful { (word exponent_byte point_byte : ℕ) → Lawful word → OptionsFit word exponent_byte point_byte
         → OptionsHaveOneRole word exponent_byte point_byte }
 {}

@@ -1,23 +1,24 @@
 // Made by rust/tools/erase.py from crates/lexical_base/src/error/short_text.rt: change that file.
 
-//! Sentences that are put together from a few pieces.
+//! Short texts that consist of a few pieces.
 
 use crate::error::Sink;
 use core::fmt;
 
-/// A piece of a sentence.
+/// A piece of a short text.
 #[derive(Clone, Copy)]
 #[doc(hidden)]
 pub enum Piece {
-    /// These words.
+    /// This text.
     Words(&'static str),
     /// A number in decimal.
     Number(usize),
     /// `0x` and a number in hexadecimal, with uppercase letters and without leading zeros, such as `0x80000000`.
     Hexadecimal(u128),
-    /// `the`, a name, and its byte in decimal.
+    /// The word `the`, a name, and the byte of that name in decimal.
     NumberedByte(&'static str, u8),
-    /// The same with the byte as a character between quotes, if it can be seen and is not a quote itself.
+    /// The word `the`, a name, and the byte of that name. The byte is a character between quotes if that
+    /// character is visible and not a quote itself, and a decimal number otherwise.
     QuotedByte(&'static str, u8),
 }
 
@@ -25,13 +26,13 @@ pub enum Piece {
 #[doc(hidden)]
 pub const EMPTY_PIECE: Piece = Piece::Words("");
 
-/// A sentence of at most four pieces. Every one that the library returns is a text of less than 256 bytes.
+/// A text of at most four pieces. Every one that the library returns has fewer than 256 bytes.
 #[derive(Clone, Copy)]
 #[doc(hidden)]
 pub struct ShortText(pub Piece, pub Piece, pub Piece, pub Piece);
 
 impl ShortText {
-    /// Puts the sentence into a sink. Fails only if the sink does.
+    /// Puts the text into a sink. Fails only if the sink does.
     #[doc(hidden)]
     pub fn put_into<S: Sink>(&self, out: &mut S) -> Result<(), fmt::Error> {
         self.0.put_into(out)?;
@@ -41,7 +42,7 @@ impl ShortText {
     }
 }
 
-/// Writes the sentence, whatever options the formatter has. Fails only if the formatter does.
+/// Writes the text and ignores all options of the formatter. Fails only if the formatter does.
 impl fmt::Display for ShortText {
     fn fmt(&self, f: &mut fmt::Formatter<'_>) -> fmt::Result {
         self.put_into(f)
@@ -49,7 +50,7 @@ impl fmt::Display for ShortText {
 }
 
 impl Piece {
-    // Puts the piece.
+    // Puts the piece into a sink.
     fn put_into<S: Sink>(self, out: &mut S) -> fmt::Result {
         match self {
             Piece::Words(words) => out.put(words),
@@ -73,12 +74,12 @@ impl Piece {
     }
 }
 
-// Returns whether a byte is a character that can be seen and is not the quote.
+// Returns whether a byte is a visible character and not the quote.
 const fn can_be_quoted(byte: u8) -> bool {
     byte.is_ascii_graphic() && byte != b'\''
 }
 
-// Puts a name and its byte in decimal.
+// Puts a name and its byte, in decimal, into a sink.
 fn put_numbered<S: Sink>(out: &mut S, name: &str, byte: u8) -> fmt::Result {
     out.put("the ")?;
     out.put(name)?;
@@ -86,7 +87,7 @@ fn put_numbered<S: Sink>(out: &mut S, name: &str, byte: u8) -> fmt::Result {
     put_decimal(out, byte as usize)
 }
 
-// Puts `n` in decimal.
+// Puts `n`, in decimal, into a sink.
 pub(crate) fn put_decimal<S: Sink>(out: &mut S, n: usize) -> fmt::Result {
     let has_front = n >= 10;
     if has_front {
@@ -95,7 +96,7 @@ pub(crate) fn put_decimal<S: Sink>(out: &mut S, n: usize) -> fmt::Result {
     out.put(digit_text(n % 10))
 }
 
-// Puts `n` in hexadecimal, with uppercase letters.
+// Puts `n`, in hexadecimal with uppercase letters, into a sink.
 fn put_hexadecimal<S: Sink>(out: &mut S, n: u128) -> fmt::Result {
     let has_front = n >= 16;
     if has_front {
@@ -104,7 +105,7 @@ fn put_hexadecimal<S: Sink>(out: &mut S, n: u128) -> fmt::Result {
     out.put(digit_text((n % 16) as usize))
 }
 
-// The digit character of `digit`, which is below 16. Letters are uppercase.
+// Returns the digit character of `digit`, which is below 16. Letters are uppercase.
 #[inline(always)]
 const fn digit_text(digit: usize) -> &'static str {
     match digit {

@@ -1,20 +1,20 @@
 // Made by rust/tools/erase.py from crates/lexical_base/src/error/sink.rt: change that file.
 
-//! What a text is put into, piece by piece.
+//! Sinks: the targets into which a text is put, piece by piece.
 
 use core::fmt;
 
-/// What a text is put into, piece by piece: a formatter, or a buffer of your own.
+/// A target into which a text is put, piece by piece, such as a formatter or a buffer of your own.
 ///
-/// What a piece does to it, and when it has failed, is up to the sink. So a function over any `Sink` knows that
-/// it has failed only from a piece that failed, and no longer after the next one.
+/// Each sink defines what a piece does to it. It also defines what counts as failure. So a function over any
+/// `Sink` knows that the sink has failed only right after a piece that failed, and not after the next piece.
 #[doc(hidden)]
 pub trait Sink {
-    /// Puts a piece.
+    /// Puts a piece into the sink.
     fn put(&mut self, piece: &str) -> fmt::Result;
 }
 
-// Std says nothing of a formatter that failed.
+// Std has no contract for a formatter that failed, so `has_failed` always holds.
 impl Sink for fmt::Formatter<'_> {
     fn put(&mut self, piece: &str) -> fmt::Result {
         self.write_str(piece)

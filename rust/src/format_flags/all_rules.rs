@@ -1,24 +1,24 @@
 // Made by rust/tools/erase.py from crates/lexical_flags/src/format_flags/all_rules.rt: change that file.
 
-//! The rules as values.
+//! The rules of a format word, as values.
 
 use crate::error::Error;
 use crate::format_flags::rules::*;
 use crate::format_flags::*;
 
-/// A rule of format words. A word that breaks none is lawful.
+/// A rule that a format word keeps or breaks. A word that breaks no rule is lawful.
 ///
-/// The variants are in the order in which the rules are tried; each is named by what it demands. *Punctuation* is
-/// allowed ASCII that is neither a sign nor a digit of the mantissa or the exponent. A rule has no `Display`: a `Reason`
-/// states what breaks it in the word at hand.
+/// The variants are in the order in which the rules are tried. The name of each states its demand. *Punctuation* is
+/// allowed ASCII that is neither a sign nor a digit of the mantissa or the exponent. A rule has no `Display`, since a
+/// `Reason` states why a given word breaks it.
 #[derive(Debug, Clone, Copy, PartialEq, Eq, Hash, PartialOrd, Ord)]
 #[non_exhaustive]
 pub enum Rule {
-    /// The mantissa radix is 2 to 36.
+    /// The mantissa radix is between 2 and 36.
     MantissaRadixInRange,
-    /// The exponent base, or the mantissa radix if that is 0, is 2 to 36.
+    /// The exponent base, or the mantissa radix if the exponent base is 0, is between 2 and 36.
     ExponentBaseInRange,
-    /// The exponent radix, or the mantissa radix if that is 0, is 2 to 36.
+    /// The exponent radix, or the mantissa radix if the exponent radix is 0, is between 2 and 36.
     ExponentRadixInRange,
     /// The digit separator is absent or punctuation.
     DigitSeparatorIsPunctuation,
@@ -26,7 +26,7 @@ pub enum Rule {
     BasePrefixIsPunctuation,
     /// The base suffix is absent or punctuation.
     BaseSuffixIsPunctuation,
-    /// No byte is two of digit separator, base prefix and base suffix.
+    /// No byte plays two of the roles digit separator, base prefix and base suffix.
     PunctuationDiffers,
     /// Exponents are not both forbidden and required.
     ExponentFlagsAgree,
@@ -34,15 +34,15 @@ pub enum Rule {
     MantissaSignFlagsAgree,
     /// The sign of the exponent is not required while `+` is forbidden.
     ExponentSignFlagsAgree,
-    /// The case of special values does not count while there are none.
+    /// Special values are not both forbidden and case-sensitive.
     SpecialCaseFlagsAgree,
-    /// No separator is allowed in special values while there are none.
+    /// Digit separators are not allowed in special values while special values are forbidden.
     SpecialSeparatorFlagsAgree,
-    /// In the integer, separators in a row are allowed only where one is.
+    /// Consecutive digit separators are allowed in the integer only if some position of a separator is.
     IntegerConsecutiveIsAllowed,
-    /// In the fraction, separators in a row are allowed only where one is.
+    /// Consecutive digit separators are allowed in the fraction only if some position of a separator is.
     FractionConsecutiveIsAllowed,
-    /// In the exponent, separators in a row are allowed only where one is.
+    /// Consecutive digit separators are allowed in the exponent only if some position of a separator is.
     ExponentConsecutiveIsAllowed,
     /// All reserved bits are 0.
     ReservedBitsAreZero,
@@ -69,11 +69,11 @@ pub const RULES: [Rule; 16] = [
     Rule::ReservedBitsAreZero,
 ];
 
-// The bytes that say which bytes are digits.
+// Mask of the bytes that decide which bytes are digits.
 const DIGIT_RADIXES: u128 = MANTISSA_RADIX | EXPONENT_RADIX;
 
 impl Rule {
-    /// Returns the error of a word that breaks this rule, and no rule before it.
+    /// Returns the error of a word that breaks this rule and no rule before it.
     #[must_use]
     pub const fn error(self) -> Error {
         match self {
@@ -95,7 +95,7 @@ impl Rule {
         }
     }
 
-    /// Returns whether a word keeps this rule.
+    /// Returns whether the word `format` keeps this rule.
     #[must_use]
     pub const fn is_kept(self, format: u128) -> bool {
         match self {
@@ -118,7 +118,7 @@ impl Rule {
         }
     }
 
-    /// Returns this rule if a word breaks it, and `None` if it keeps it.
+    /// Returns this rule if the word `format` breaks it, and `None` otherwise.
     #[must_use]
     #[doc(hidden)]
     pub const fn if_broken(self, format: u128) -> Option<Rule> {
@@ -129,9 +129,9 @@ impl Rule {
         }
     }
 
-    /// Returns the bits of a word that this rule reads: those of certain fields, and for
-    /// [`Rule::ReservedBitsAreZero`] those that no field has. Words that agree in these bits all keep the
-    /// rule, or all break it.
+    /// Returns the bits of a word that this rule reads. For [`Rule::ReservedBitsAreZero`], these are the
+    /// reserved bits, and for any other rule the bits of certain fields. Words that agree in these bits all keep
+    /// the rule, or all break it.
     #[must_use]
     pub const fn mask(self) -> u128 {
         match self {
@@ -161,11 +161,11 @@ impl Rule {
     }
 }
 
-/// Returns the rules that a word breaks: at the index of each rule in [`RULES`], that rule if the word
-/// breaks it, and else `None`.
+/// Returns the rules that the word `format` breaks. At the index of each rule in [`RULES`], the result has
+/// that rule if the word breaks it, and `None` otherwise.
 ///
-/// `broken_rules(format).into_iter().flatten()` goes through them. The error of the first is that of
-/// [`format_error_impl`].
+/// `broken_rules(format).into_iter().flatten()` iterates over the broken rules. The error of the first one is the
+/// result of [`format_error_impl`].
 #[must_use]
 #[doc(hidden)]
 pub const fn broken_rules(format: u128) -> [Option<Rule>; RULES.len()] {

@@ -1,8 +1,8 @@
 // Made by rust/tools/erase.py from crates/lexical_flags/src/format_flags/rules.rt: change that file.
 
-//! The rules of a format word: a test for each, and the error of the first that a word breaks.
+//! The rules of a format word: a test for each rule, and the error of the first rule that a word breaks.
 //!
-//! A word that breaks no rule is *lawful*; the view of a word calls it valid.
+//! A word that breaks no rule is *lawful*. The view of a word, as `lexical-util`, calls it valid.
 
 use crate::ascii::is_valid_letter;
 use crate::digit::char_is_digit;
@@ -11,9 +11,9 @@ use crate::format_flags::*;
 
 // BYTES
 
-// For each byte, at its index, the number of radixes in which it is absent or punctuation: those below the entry.
-// A digit is punctuation in the radixes up to its value, 0 and other allowed ASCII in all 256, and a sign or any
-// other byte in none.
+// The entry of a byte, at its index, is the number of radixes in which the byte is absent or punctuation. These are
+// the radixes below the entry. A digit is punctuation in the radixes up to its value. The entry of 0 and of other
+// allowed ASCII is 256, all radixes. The entry of a sign or of any other byte is 0.
 const LIMITS: [u16; 256] = [
     256, 0, 0, 0, 0, 0, 0, 0, 0, 256, 256, 256, 256, 256, 0, 0, 0, 0, 0, 0, 0, 0, 0, 0, 0, 0, 0, 0,
     0, 0, 0, 0, 256, 256, 256, 256, 256, 256, 256, 256, 256, 256, 256, 0, 256, 0, 256, 256, 1, 2,
@@ -27,7 +27,7 @@ const LIMITS: [u16; 256] = [
     0, 0, 0, 0, 0, 0, 0, 0, 0, 0, 0, 0, 0,
 ];
 
-// The larger of two radixes: `max` of a trait cannot be called in a `const fn`.
+// Returns the larger of two radixes. A `const fn` cannot call `max`, since it is the method of a trait.
 #[inline(always)]
 const fn larger(a: u32, b: u32) -> u32 {
     if a < b {
@@ -38,9 +38,9 @@ const fn larger(a: u32, b: u32) -> u32 {
 }
 
 /// Returns whether `byte` is a digit of numbers in this format: a digit of the mantissa radix or of
-/// the exponent radix. Letters are digits in both cases.
+/// the exponent radix. A letter that is a digit is one in both cases.
 ///
-/// If the exponent radix of the format is 0, the mantissa radix stands for it. The exponent base has no digits. Any
+/// If the exponent radix of the format is 0, the mantissa radix is used instead. The exponent base has no digits. Any
 /// word and any byte may be passed.
 #[must_use]
 #[inline(always)]
@@ -48,59 +48,59 @@ pub const fn is_digit(format: u128, byte: u8) -> bool {
     char_is_digit(byte, larger(mantissa_radix(format), exponent_radix(format)))
 }
 
-// Whether a byte is absent, or text that is no digit and no sign.
+// Returns whether a byte is absent or punctuation.
 #[inline(always)]
 const fn is_absent_or_punctuation(format: u128, byte: u8) -> bool {
     let radix = larger(mantissa_radix(format), exponent_radix(format));
     radix < LIMITS[byte as usize] as u32
 }
 
-// Whether a byte is such text.
+// Returns whether a byte is punctuation: allowed ASCII that is neither a digit nor a sign.
 #[inline(always)]
 const fn is_punctuation(format: u128, byte: u8) -> bool {
     byte != 0 && is_absent_or_punctuation(format, byte)
 }
 
-// Whether two bytes are the two cases of one letter.
+// Returns whether two bytes are the two cases of one letter.
 #[inline(always)]
 const fn is_case_pair(a: u8, b: u8) -> bool {
     a ^ 0x20 == b && is_valid_letter(a)
 }
 
-// Whether no byte plays both of two roles. A role that is not case-sensitive is played by both
-// cases of its letter. A byte of 0 is absent: no byte plays its role.
+// Returns whether no byte plays both of two roles. If a role is not case-sensitive, both cases of its
+// letter play it. A byte of 0 is absent, and then no byte plays its role.
 #[inline(always)]
 const fn roles_disjoint(a: u8, a_case_sensitive: bool, b: u8, b_case_sensitive: bool) -> bool {
     a == 0 || (a != b && (!is_case_pair(a, b) || (a_case_sensitive & b_case_sensitive)))
 }
 
-// Returns what `roles_disjoint` returns. Two bytes that differ in a bit other than 0x20, as most do, are
-// settled by one comparison.
+// Returns the same result as `roles_disjoint`, but with a single comparison if the two bytes differ in a
+// bit other than 0x20, as most pairs of bytes do.
 #[inline(always)]
 const fn roles_disjoint_fast(a: u8, a_case_sensitive: bool, b: u8, b_case_sensitive: bool) -> bool {
     (a | 0x20) != (b | 0x20) || roles_disjoint(a, a_case_sensitive, b, b_case_sensitive)
 }
 
-// Whether two bytes, of which the first is there, have all bits but 0x20 in common. If not, their roles are
-// disjoint, whether case counts or not.
+// Returns whether `a` is not absent and the two bytes agree in all bits except 0x20. If this is false, the roles
+// of the bytes are disjoint, whether they are case-sensitive or not.
 #[inline(always)]
 const fn may_clash(a: u8, b: u8) -> bool {
     (a != 0) & (a | 0x20 == b | 0x20)
 }
 
-// Whether the base prefix is case-sensitive.
+// Returns whether the base prefix is case-sensitive.
 #[inline(always)]
 const fn prefix_is_case_sensitive(format: u128) -> bool {
     format & CASE_SENSITIVE_BASE_PREFIX != 0
 }
 
-// Whether the base suffix is case-sensitive.
+// Returns whether the base suffix is case-sensitive.
 #[inline(always)]
 const fn suffix_is_case_sensitive(format: u128) -> bool {
     format & CASE_SENSITIVE_BASE_SUFFIX != 0
 }
 
-// Whether the exponent character is case-sensitive.
+// Returns whether the exponent character is case-sensitive.
 #[inline(always)]
 const fn exponent_is_case_sensitive(format: u128) -> bool {
     format & CASE_SENSITIVE_EXPONENT != 0
@@ -108,26 +108,26 @@ const fn exponent_is_case_sensitive(format: u128) -> bool {
 
 // RADIXES
 
-/// Returns whether numbers can be written in a radix, that is, whether it is 2 to 36.
+/// Returns whether `radix` is between 2 and 36, so that numbers can be written in it.
 #[must_use]
 #[inline(always)]
 pub const fn is_valid_radix(radix: u32) -> bool {
     radix >= 2 && radix <= 36
 }
 
-// Whether the mantissa radix is 2 to 36.
+// Returns whether the mantissa radix is between 2 and 36.
 #[inline(always)]
 pub(crate) const fn is_valid_mantissa_radix(format: u128) -> bool {
     is_valid_radix(mantissa_radix(format))
 }
 
-// Whether the exponent base, or the mantissa radix if that is 0, is 2 to 36.
+// Returns whether the exponent base, or the mantissa radix if the exponent base is 0, is between 2 and 36.
 #[inline(always)]
 pub(crate) const fn is_valid_exponent_base(format: u128) -> bool {
     is_valid_radix(exponent_base(format))
 }
 
-// Whether the exponent radix, or the mantissa radix if that is 0, is 2 to 36.
+// Returns whether the exponent radix, or the mantissa radix if the exponent radix is 0, is between 2 and 36.
 #[inline(always)]
 pub(crate) const fn is_valid_exponent_radix(format: u128) -> bool {
     is_valid_radix(exponent_radix(format))
@@ -135,18 +135,18 @@ pub(crate) const fn is_valid_exponent_radix(format: u128) -> bool {
 
 // PUNCTUATION
 
-/// Returns whether the digit separator is 0, or allowed ASCII that is no sign and no digit of the
+/// Returns whether the digit separator is 0, or allowed ASCII that is neither a sign nor a digit of the
 /// mantissa or of the exponent.
 ///
 /// The raw byte is tested: a digit is rejected even if no flag allows a separator, and 0 is accepted
-/// even if one does.
+/// even if a flag does.
 #[must_use]
 #[inline(always)]
 pub const fn is_valid_digit_separator(format: u128) -> bool {
     is_absent_or_punctuation(format, digit_separator(format))
 }
 
-/// Returns whether the base prefix is 0, or allowed ASCII that is no sign and no digit of the
+/// Returns whether the base prefix is 0, or allowed ASCII that is neither a sign nor a digit of the
 /// mantissa or of the exponent.
 #[must_use]
 #[inline(always)]
@@ -154,7 +154,7 @@ pub const fn is_valid_base_prefix(format: u128) -> bool {
     is_absent_or_punctuation(format, base_prefix(format))
 }
 
-/// Returns whether the base suffix is 0, or allowed ASCII that is no sign and no digit of the
+/// Returns whether the base suffix is 0, or allowed ASCII that is neither a sign nor a digit of the
 /// mantissa or of the exponent.
 #[must_use]
 #[inline(always)]
@@ -164,11 +164,11 @@ pub const fn is_valid_base_suffix(format: u128) -> bool {
 
 /// Returns whether digit separator, base prefix and base suffix differ from each other.
 ///
-/// A byte of 0 is absent and equals no other. A base prefix that is a letter stands for both cases
-/// of it unless [`CASE_SENSITIVE_BASE_PREFIX`] is set, and a base suffix unless
-/// [`CASE_SENSITIVE_BASE_SUFFIX`] is set: the prefix `h` and the suffix `H` clash unless both flags
-/// are set. The digit separator is always one byte. `lexical-util` compares the raw bytes, so it
-/// accepts such a prefix and suffix with any flags.
+/// A byte of 0 is absent, and is not compared. If the base prefix is a letter, it means both cases of that
+/// letter unless [`CASE_SENSITIVE_BASE_PREFIX`] is set. The base suffix does likewise unless
+/// [`CASE_SENSITIVE_BASE_SUFFIX`] is set. So the prefix `h` and the suffix `H` clash unless both flags are
+/// set. The digit separator is always case-sensitive. `lexical-util` compares the raw bytes, so it accepts
+/// such a prefix and suffix with any flags.
 #[must_use]
 #[inline(always)]
 pub const fn is_valid_punctuation(format: u128) -> bool {
@@ -186,7 +186,7 @@ pub const fn is_valid_punctuation(format: u128) -> bool {
 }
 
 /// Returns which of digit separator, base prefix and base suffix share a byte: separator and prefix,
-/// separator and suffix, prefix and suffix. It tells which of them break [`Rule::PunctuationDiffers`].
+/// separator and suffix, prefix and suffix. These pairs are the ones that break [`Rule::PunctuationDiffers`].
 #[must_use]
 #[doc(hidden)]
 pub const fn clashes(format: u128) -> [bool; 3] {
@@ -202,7 +202,7 @@ pub const fn clashes(format: u128) -> [bool; 3] {
     ]
 }
 
-// Whether a byte clashes with none of digit separator, base prefix and base suffix.
+// Returns whether the role of a byte is disjoint from the roles of digit separator, base prefix and base suffix.
 #[inline(always)]
 const fn is_disjoint_from_format_roles(format: u128, byte: u8, case_sensitive: bool) -> bool {
     let prefix_case = prefix_is_case_sensitive(format);
@@ -215,13 +215,12 @@ const fn is_disjoint_from_format_roles(format: u128, byte: u8, case_sensitive: b
 /// Returns whether `exponent` can be the exponent character and `decimal_point` the decimal point in
 /// numbers of this format.
 ///
-/// Both have to be allowed ASCII that is no sign and no digit of the mantissa or of the exponent, so
-/// neither may be 0. They have to differ from each other and from digit separator, base prefix and
-/// base suffix. An exponent character that is a letter stands for both cases of it unless
-/// [`CASE_SENSITIVE_EXPONENT`] is set; base prefix and base suffix are compared as in
-/// [`is_valid_punctuation`]. The decimal point is always one byte. In a lawful format, no byte then
-/// has two meanings, and for every lawful format some such pair exists. `lexical-util` compares the
-/// raw bytes.
+/// Both must be allowed ASCII that is neither a sign nor a digit of the mantissa or of the exponent, so
+/// neither may be 0. They must differ from each other and from digit separator, base prefix and base
+/// suffix. If the exponent character is a letter, it means both cases of that letter unless
+/// [`CASE_SENSITIVE_EXPONENT`] is set. Base prefix and base suffix are compared as in
+/// [`is_valid_punctuation`]. The decimal point is always case-sensitive. In a lawful format, no byte then
+/// plays two roles. Every lawful format has some such pair. `lexical-util` compares the raw bytes.
 ///
 /// ```
 /// use peltzivar::format::{is_valid_options_punctuation, STANDARD};
@@ -243,7 +242,7 @@ const fn is_disjoint_from_format_roles(format: u128, byte: u8, case_sensitive: b
 ///
 /// ```text
 /// ensures accepted { IsTrue result ↔ OptionsFit format exponent decimal_point }
-/// // In a lawful format this is all that it takes for each byte to play at most one role.
+/// // In a lawful format, the options are accepted if and only if each byte plays at most one role.
 /// ensures roles { Lawful format → (IsTrue result ↔ OptionsHaveOneRole format exponent decimal_point) }
 /// ensures exists { Lawful format → SomeOptionsFit format }
 /// ```
@@ -258,18 +257,19 @@ pub const fn is_valid_options_punctuation(format: u128, exponent: u8, decimal_po
         && is_disjoint_from_format_roles(format, exponent, exponent_case)
 }
 
-/// Returns what is wrong with an exponent character and a decimal point in numbers of this format, and
-/// `Success` if [`is_valid_options_punctuation`] accepts them.
+/// Returns the error of an exponent character and a decimal point in numbers of this format, or `Success` if
+/// [`is_valid_options_punctuation`] accepts them.
 ///
-/// It is `InvalidExponentSymbol` if the exponent character is a digit, a sign, or not allowed ASCII, else
-/// `InvalidDecimalPoint` if the decimal point is one of these, and else `InvalidPunctuation`.
+/// 1. If the exponent character is a digit, a sign, or not allowed ASCII, the error is `InvalidExponentSymbol`.
+/// 2. Otherwise, if the decimal point is a digit, a sign, or not allowed ASCII, it is `InvalidDecimalPoint`.
+/// 3. Otherwise, if the two share a byte with each other or with another role, it is `InvalidPunctuation`.
 #[must_use]
 #[doc(hidden)]
 pub const fn options_error(format: u128, exponent: u8, decimal_point: u8) -> Error {
     first_options_error(format, exponent, decimal_point)
 }
 
-// The error of the first demand that is not met.
+// Returns the error of the first demand that the options do not meet, or `Success`.
 #[inline(always)]
 const fn first_options_error(format: u128, exponent: u8, decimal_point: u8) -> Error {
     if !is_punctuation(format, exponent) {
@@ -292,43 +292,43 @@ pub const fn is_valid_exponent_flags(format: u128) -> bool {
     format & NO_EXPONENT_NOTATION == 0 || format & REQUIRED_EXPONENT_NOTATION == 0
 }
 
-// Not both NO_POSITIVE_MANTISSA_SIGN and REQUIRED_MANTISSA_SIGN.
+// Returns whether NO_POSITIVE_MANTISSA_SIGN and REQUIRED_MANTISSA_SIGN are not both set.
 #[inline(always)]
 pub(crate) const fn is_valid_mantissa_sign_flags(format: u128) -> bool {
     format & NO_POSITIVE_MANTISSA_SIGN == 0 || format & REQUIRED_MANTISSA_SIGN == 0
 }
 
-// Not both NO_POSITIVE_EXPONENT_SIGN and REQUIRED_EXPONENT_SIGN.
+// Returns whether NO_POSITIVE_EXPONENT_SIGN and REQUIRED_EXPONENT_SIGN are not both set.
 #[inline(always)]
 pub(crate) const fn is_valid_exponent_sign_flags(format: u128) -> bool {
     format & NO_POSITIVE_EXPONENT_SIGN == 0 || format & REQUIRED_EXPONENT_SIGN == 0
 }
 
-// Not both NO_SPECIAL and CASE_SENSITIVE_SPECIAL.
+// Returns whether NO_SPECIAL and CASE_SENSITIVE_SPECIAL are not both set.
 #[inline(always)]
 pub(crate) const fn is_valid_special_case_flags(format: u128) -> bool {
     format & NO_SPECIAL == 0 || format & CASE_SENSITIVE_SPECIAL == 0
 }
 
-// Not both NO_SPECIAL and SPECIAL_DIGIT_SEPARATOR.
+// Returns whether NO_SPECIAL and SPECIAL_DIGIT_SEPARATOR are not both set.
 #[inline(always)]
 pub(crate) const fn is_valid_special_separator_flags(format: u128) -> bool {
     format & NO_SPECIAL == 0 || format & SPECIAL_DIGIT_SEPARATOR == 0
 }
 
-// Not INTEGER_CONSECUTIVE_DIGIT_SEPARATOR alone among the four separator flags of the integer.
+// Returns whether INTEGER_CONSECUTIVE_DIGIT_SEPARATOR is not the only separator flag of the integer that is set.
 #[inline(always)]
 pub(crate) const fn is_valid_integer_consecutive_flags(format: u128) -> bool {
     format & INTEGER_DIGIT_SEPARATOR_FLAG_MASK != INTEGER_CONSECUTIVE_DIGIT_SEPARATOR
 }
 
-// Not FRACTION_CONSECUTIVE_DIGIT_SEPARATOR alone among the four separator flags of the fraction.
+// Returns whether FRACTION_CONSECUTIVE_DIGIT_SEPARATOR is not the only separator flag of the fraction that is set.
 #[inline(always)]
 pub(crate) const fn is_valid_fraction_consecutive_flags(format: u128) -> bool {
     format & FRACTION_DIGIT_SEPARATOR_FLAG_MASK != FRACTION_CONSECUTIVE_DIGIT_SEPARATOR
 }
 
-// Not EXPONENT_CONSECUTIVE_DIGIT_SEPARATOR alone among the four separator flags of the exponent.
+// Returns whether EXPONENT_CONSECUTIVE_DIGIT_SEPARATOR is not the only separator flag of the exponent that is set.
 #[inline(always)]
 pub(crate) const fn is_valid_exponent_consecutive_flags(format: u128) -> bool {
     format & EXPONENT_DIGIT_SEPARATOR_FLAG_MASK != EXPONENT_CONSECUTIVE_DIGIT_SEPARATOR
@@ -350,7 +350,7 @@ pub const fn is_separator_allowed(format: u128) -> bool {
 
 // THE FIRST BROKEN RULE
 
-// The error of the first broken rule of punctuation, or `Success`.
+// Returns the error of the first broken punctuation rule, or `Success`.
 #[inline(always)]
 const fn first_broken_punctuation(format: u128) -> Error {
     if !is_valid_digit_separator(format) {
@@ -366,7 +366,7 @@ const fn first_broken_punctuation(format: u128) -> Error {
     }
 }
 
-// The error of the first broken rule of flags, or `Success`.
+// Returns the error of the first broken flag rule, or `Success`.
 #[inline(always)]
 const fn first_broken_flags(format: u128) -> Error {
     if !is_valid_exponent_flags(format) {
@@ -388,7 +388,7 @@ const fn first_broken_flags(format: u128) -> Error {
     }
 }
 
-// The error of the rule of reserved bits if it is broken, or `Success`.
+// Returns `InvalidFlags` if a reserved bit is set, and `Success` otherwise.
 #[inline(always)]
 const fn first_broken_reserved(format: u128) -> Error {
     if is_clean(format) {
@@ -398,8 +398,8 @@ const fn first_broken_reserved(format: u128) -> Error {
     }
 }
 
-// The error of the first broken rule of all, or `Success`, by one clause, from which `format_error_impl`
-// has its others.
+// Returns the error of the first broken rule, or `Success`. The other clauses of `format_error_impl` follow
+// from its clause.
 const fn first_broken(format: u128) -> Error {
     match radix_error_impl(format) {
         Error::Success => {}
@@ -417,9 +417,9 @@ const fn first_broken(format: u128) -> Error {
 }
 
 /// Returns the error of the first of mantissa radix, exponent base and exponent radix that is not
-/// 2 to 36, and `Success` if all are.
+/// between 2 and 36, or `Success` if all are.
 ///
-/// If the exponent base or the exponent radix is 0, the mantissa radix stands for it.
+/// If the exponent base or the exponent radix is 0, the mantissa radix is tested instead.
 #[must_use]
 #[inline(always)]
 #[doc(hidden)]
@@ -435,42 +435,46 @@ pub const fn radix_error_impl(format: u128) -> Error {
     }
 }
 
-/// Returns the error of the first rule that a format breaks, and `Success` if it breaks none, that
+/// Returns the error of the first rule that a format breaks, or `Success` if it breaks none, that
 /// is, if it is lawful.
 ///
 /// The rules in their order, each with its error:
 ///
-/// 1. The mantissa radix is 2 to 36: `InvalidMantissaRadix`.
-/// 2. The exponent base, or the mantissa radix if that is 0, is 2 to 36: `InvalidExponentBase`.
-/// 3. The exponent radix, or the mantissa radix if that is 0, is 2 to 36: `InvalidExponentRadix`.
+/// 1. The mantissa radix is between 2 and 36: `InvalidMantissaRadix`.
+/// 2. The effective exponent base, which is the mantissa radix if that byte is 0, is between 2 and 36:
+///    `InvalidExponentBase`.
+/// 3. The effective exponent radix, which is the mantissa radix if that byte is 0, is between 2 and 36:
+///    `InvalidExponentRadix`.
 /// 4. The digit separator is valid ([`is_valid_digit_separator`]): `InvalidDigitSeparator`.
 /// 5. The base prefix is valid ([`is_valid_base_prefix`]): `InvalidBasePrefix`.
 /// 6. The base suffix is valid ([`is_valid_base_suffix`]): `InvalidBaseSuffix`.
 /// 7. These three differ ([`is_valid_punctuation`]): `InvalidPunctuation`.
-/// 8. Not both [`NO_EXPONENT_NOTATION`] and [`REQUIRED_EXPONENT_NOTATION`]: `InvalidExponentFlags`.
-/// 9. Not both [`NO_POSITIVE_MANTISSA_SIGN`] and [`REQUIRED_MANTISSA_SIGN`]: `InvalidMantissaSign`.
-/// 10. Not both [`NO_POSITIVE_EXPONENT_SIGN`] and [`REQUIRED_EXPONENT_SIGN`]: `InvalidExponentSign`.
-/// 11. Not both [`NO_SPECIAL`] and [`CASE_SENSITIVE_SPECIAL`]: `InvalidSpecial`.
-/// 12. Not both [`NO_SPECIAL`] and [`SPECIAL_DIGIT_SEPARATOR`]: `InvalidSpecial`.
-/// 13. Not [`INTEGER_CONSECUTIVE_DIGIT_SEPARATOR`] without an internal, leading or trailing flag of
-///     the integer: `InvalidConsecutiveIntegerDigitSeparator`.
-/// 14. Not [`FRACTION_CONSECUTIVE_DIGIT_SEPARATOR`] without such a flag of the fraction:
-///     `InvalidConsecutiveFractionDigitSeparator`.
-/// 15. Not [`EXPONENT_CONSECUTIVE_DIGIT_SEPARATOR`] without such a flag of the exponent:
-///     `InvalidConsecutiveExponentDigitSeparator`.
+/// 8. [`NO_EXPONENT_NOTATION`] and [`REQUIRED_EXPONENT_NOTATION`] are not both set: `InvalidExponentFlags`.
+/// 9. [`NO_POSITIVE_MANTISSA_SIGN`] and [`REQUIRED_MANTISSA_SIGN`] are not both set: `InvalidMantissaSign`.
+/// 10. [`NO_POSITIVE_EXPONENT_SIGN`] and [`REQUIRED_EXPONENT_SIGN`] are not both set: `InvalidExponentSign`.
+/// 11. [`NO_SPECIAL`] and [`CASE_SENSITIVE_SPECIAL`] are not both set: `InvalidSpecial`.
+/// 12. [`NO_SPECIAL`] and [`SPECIAL_DIGIT_SEPARATOR`] are not both set: `InvalidSpecial`.
+/// 13. [`INTEGER_CONSECUTIVE_DIGIT_SEPARATOR`] is set only with an internal, leading or trailing flag of the
+///     integer: `InvalidConsecutiveIntegerDigitSeparator`.
+/// 14. [`FRACTION_CONSECUTIVE_DIGIT_SEPARATOR`] is set only with an internal, leading or trailing flag of
+///     the fraction: `InvalidConsecutiveFractionDigitSeparator`.
+/// 15. [`EXPONENT_CONSECUTIVE_DIGIT_SEPARATOR`] is set only with an internal, leading or trailing flag of
+///     the exponent: `InvalidConsecutiveExponentDigitSeparator`.
 /// 16. All reserved bits are 0: `InvalidFlags`.
 ///
-/// `lexical-util` compares raw bytes in the seventh rule, and has no rule on reserved bits.
+/// `lexical-util` compares raw bytes in the seventh rule, and has no rule for reserved bits.
 #[must_use]
 #[doc(hidden)]
 pub const fn format_error_impl(format: u128) -> Error {
     first_broken(format)
 }
 
-/// Returns `format` if it is lawful, or else the error of the first rule that it breaks
-/// ([`format_error_impl`]), which is never `Success`.
+/// Returns `format` if it is lawful. Use it with `?`: `let format = check(format)?;`.
 ///
-/// This is for `?`: `let format = check(format)?;`.
+/// # Errors
+///
+/// If `format` is not lawful, the error of the first rule that it breaks ([`format_error_impl`]), which is
+/// never `Success`.
 #[inline(always)]
 #[doc(hidden)]
 pub const fn check(format: u128) -> Result<u128, Error> {

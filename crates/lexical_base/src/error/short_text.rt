@@ -1,4 +1,4 @@
-//! Sentences that are put together from a few pieces.
+//! Short texts that consist of a few pieces.
 
 ghost use Rattle.std.specs.Prelude.{◌≡◌, ◌<◌, ◌∷◌, [], length, IsErr, OnOk, Some, true};
 ghost use Rattle.std.specs.Fmt.{WritesInCalls, decimal, digit_glyph, digits_onto};
@@ -8,25 +8,26 @@ use crate::error::Sink;
 use std::fmt;
 use std::marker::Model;
 
-/// A piece of a sentence.
+/// A piece of a short text.
 #[derive(Clone, Copy)]
 pub enum Piece {
-    /// These words.
+    /// This text.
     Words(&'static str),
     /// A number in decimal.
     Number(usize),
     /// `0x` and a number in hexadecimal, with uppercase letters and without leading zeros, such as `0x80000000`.
     Hexadecimal(u128),
-    /// `the`, a name, and its byte in decimal.
+    /// The word `the`, a name, and the byte of that name in decimal.
     NumberedByte(&'static str, u8),
-    /// The same with the byte as a character between quotes, if it can be seen and is not a quote itself.
+    /// The word `the`, a name, and the byte of that name. The byte is a character between quotes if that
+    /// character is visible and not a quote itself, and a decimal number otherwise.
     QuotedByte(&'static str, u8),
 }
 
 /// The empty piece.
 pub const EMPTY_PIECE: Piece = Piece::Words("");
 
-/// A sentence of at most four pieces. Every one that the library returns is a text of less than 256 bytes.
+/// A text of at most four pieces. Every one that the library returns has fewer than 256 bytes.
 #[derive(Drop)]
 pub struct ShortText(pub Piece, pub Piece, pub Piece, pub Piece);
 
@@ -43,7 +44,7 @@ impl Model for ShortText {
 }
 
 impl ShortText {
-    /// Puts the sentence into a sink. Fails only if the sink does.
+    /// Puts the text into a sink. Fails only if the sink does.
     pub fn put_into<S: Sink>(&self, out: &mut S) -> Result<(), fmt::Error>
         ensures text { OnOk result (WritesInCalls S.takes out.old self.now out.new) }
         ensures failed { IsErr result → S.has_failed out.new }
@@ -56,7 +57,7 @@ impl ShortText {
     }
 }
 
-/// Writes the sentence, whatever options the formatter has. Fails only if the formatter does.
+/// Writes the text and ignores all options of the formatter. Fails only if the formatter does.
 impl fmt::Display for ShortText {
     ghost output = { λ sentence. Some sentence };
 
@@ -68,7 +69,7 @@ impl fmt::Display for ShortText {
 }
 
 impl Piece {
-    // Puts the piece.
+    // Puts the piece into a sink.
     fn put_into<S: Sink>(self, out: &mut S) -> fmt::Result
         ensures text { OnOk result (WritesInCalls S.takes out.old (piece_text self) out.new) }
         ensures failed { IsErr result → S.has_failed out.new }
@@ -95,14 +96,14 @@ impl Piece {
     }
 }
 
-// Returns whether a byte is a character that can be seen and is not the quote.
+// Returns whether a byte is a visible character and not the quote.
 const fn can_be_quoted(byte: u8) -> bool
     ensures { result ≡ can_be_quoted byte }
 {
     byte.is_ascii_graphic() && byte != b'\''
 }
 
-// Puts a name and its byte in decimal.
+// Puts a name and its byte, in decimal, into a sink.
 fn put_numbered<S: Sink>(out: &mut S, name: &str, byte: u8) -> fmt::Result
     ensures text { OnOk result (WritesInCalls S.takes out.old (numbered_byte name.now byte) out.new) }
     ensures failed { IsErr result → S.has_failed out.new }
@@ -113,7 +114,7 @@ fn put_numbered<S: Sink>(out: &mut S, name: &str, byte: u8) -> fmt::Result
     put_decimal(out, byte as usize)
 }
 
-// Puts `n` in decimal.
+// Puts `n`, in decimal, into a sink.
 pub(crate) fn put_decimal<S: Sink>(out: &mut S, n: usize) -> fmt::Result
     ensures text { OnOk result (WritesInCalls S.takes out.old (decimal n) out.new) }
     ensures failed { IsErr result → S.has_failed out.new }
@@ -125,7 +126,7 @@ pub(crate) fn put_decimal<S: Sink>(out: &mut S, n: usize) -> fmt::Result
     out.put(digit_text(n % 10))
 }
 
-// Puts `n` in hexadecimal, with uppercase letters.
+// Puts `n`, in hexadecimal with uppercase letters, into a sink.
 fn put_hexadecimal<S: Sink>(out: &mut S, n: u128) -> fmt::Result
     ensures text { OnOk result (WritesInCalls S.takes out.old (digits_onto 32 16 true n []) out.new) }
     ensures failed { IsErr result → S.has_failed out.new }
@@ -137,7 +138,7 @@ fn put_hexadecimal<S: Sink>(out: &mut S, n: u128) -> fmt::Result
     out.put(digit_text((n % 16) as usize))
 }
 
-// The digit character of `digit`, which is below 16. Letters are uppercase.
+// Returns the digit character of `digit`, which is below 16. Letters are uppercase.
 #[inline(always)]
 const fn digit_text(digit: usize) -> &'static str
     ensures { digit < 16 → result.now ≡ digit_glyph true digit ∷ [] }

@@ -1,28 +1,28 @@
-//! What a text is put into, piece by piece.
+//! Sinks: the targets into which a text is put, piece by piece.
 
 ghost use Rattle.std.specs.Prelude.{ℕ, List, IsErr, OnOk, ⊤};
 ghost use Rattle.std.specs.Fmt.{HasWrittenStyled, IsFlush};
 
 use std::fmt;
 
-/// What a text is put into, piece by piece: a formatter, or a buffer of your own.
+/// A target into which a text is put, piece by piece, such as a formatter or a buffer of your own.
 ///
-/// What a piece does to it, and when it has failed, is up to the sink. So a function over any `Sink` knows that
-/// it has failed only from a piece that failed, and no longer after the next one.
+/// Each sink defines what a piece does to it. It also defines what counts as failure. So a function over any
+/// `Sink` knows that the sink has failed only right after a piece that failed, and not after the next piece.
 pub trait Sink {
-    // Relates the sink before a piece that succeeds, the bytes of the piece, and the sink after it.
+    // Relates the sink before a piece that succeeds, the bytes of the piece, and the sink after the piece.
     ghost takes: { Self → List ℕ → Self → Type 0 };
 
-    // The last piece failed.
+    // Holds after a piece that failed.
     ghost has_failed: { Self → Type 0 };
 
-    /// Puts a piece.
+    /// Puts a piece into the sink.
     fn put(&mut self, piece: &str) -> fmt::Result
         ensures taken { OnOk result (takes self.old piece.now self.new) }
         ensures failed { IsErr result → has_failed self.new };
 }
 
-// Std says nothing of a formatter that failed.
+// Std has no contract for a formatter that failed, so `has_failed` always holds.
 impl<W: fmt::Write> Sink for fmt::Formatter<W> {
     ghost takes = { λ f text g. IsFlush f → HasWrittenStyled W.write_str_gives f text g };
 

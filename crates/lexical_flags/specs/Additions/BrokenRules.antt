@@ -13,7 +13,7 @@ use Rattle.lexical_flags.specs.Rules.{Holds, error_of}
 use Rattle.lexical_flags.specs.declared.format_flags.all_rules.Rule.{Rule}
 use Rattle.lexical_flags.specs.declared.format_flags.all_rules.Rule.TheVariants as rules
 
--- The flags that each rule reads.
+-- `flags_read rule` lists the flags that `rule` reads.
 abbrev pub flags_read : Rule → List Flag
 flags_read rules.PunctuationDiffers = layout.case_sensitive_base_prefix ∷ layout.case_sensitive_base_suffix ∷ []
 flags_read rules.ExponentFlagsAgree = layout.no_exponent_notation ∷ layout.required_exponent_notation ∷ []
@@ -26,7 +26,7 @@ flags_read rules.FractionConsecutiveIsAllowed = fraction_digit_separator_flags
 flags_read rules.ExponentConsecutiveIsAllowed = exponent_digit_separator_flags
 flags_read _ = []
 
--- The bytes that each rule reads.
+-- `bytes_read rule` lists the bytes that `rule` reads.
 abbrev pub bytes_read : Rule → List Byte
 bytes_read rules.MantissaRadixInRange = layout.mantissa_radix ∷ []
 bytes_read rules.ExponentBaseInRange = layout.exponent_base ∷ layout.mantissa_radix ∷ []
@@ -38,7 +38,7 @@ bytes_read rules.BaseSuffixIsPunctuation = layout.base_suffix ∷ layout.mantiss
 bytes_read rules.PunctuationDiffers = layout.digit_separator ∷ layout.base_prefix ∷ layout.base_suffix ∷ []
 bytes_read _ = []
 
--- The bits that a rule reads: those of its fields, and for the last rule the reserved bits.
+-- `mask_read rule` is the mask of the bits that `rule` reads: the bits of its fields, or the reserved bits.
 abbrev pub mask_read : Rule → ℕ
 mask_read rules.ReservedBitsAreZero = reserved_mask
 mask_read rule = mask_of (flags_read rule) + sum_by byte_mask (bytes_read rule)
@@ -48,13 +48,14 @@ abbrev pub ReportsRule : ℕ → Rule → Option Rule → Type 0
 ReportsRule word rule broken =
     ((Holds rule word → ⊥) × (broken ≡ Some rule)) ⊎ (Holds rule word × (broken ≡ None))
 
--- The error of the first of some broken rules, and `Success` if there is none.
+-- `first_error broken` is the error of the first rule in `broken`, or `Success` if `broken` has no rule.
 abbrev pub first_error : List (Option Rule) → Error
 first_error [] = errors.Success
 first_error (None ∷ broken) = first_error broken
 first_error (Some rule ∷ broken) = error_of rule
 
--- Whether separator and prefix, separator and suffix, and prefix and suffix share a byte.
+-- `clashes r` lists for three pairs of roles whether they share a byte: separator and prefix, separator and suffix, and
+-- prefix and suffix.
 abbrev pub clashes : Record → List Bool
 clashes r =
     not (are_disjoint (separator r) (prefix r))

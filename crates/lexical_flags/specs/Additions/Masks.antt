@@ -1,21 +1,21 @@
--- For `mask`, `interface_flags` and `exponent_flags`: masks as sums of bits, and the flags of two masks.
+-- For `mask`, `interface_flags` and `exponent_flags`: masks as sums of powers of two, and the flags of two masks.
 use Rattle.std.specs.Prelude.{ℕ, ◌+◌, ◌-◌, ◌*◌, ◌^◌, List, [], ◌∷◌, ◌++◌, sum_by}
 use Rattle.lexical_flags.specs.Layout.{Flag, Byte, bit, shift}
 use Rattle.lexical_flags.specs.Layout as layout
 
--- The mask of a byte.
+-- `byte_mask b` is the mask of the byte `b`.
 abbrev pub byte_mask : Byte → ℕ
 byte_mask b = 255 * 2 ^ shift b
 
--- The mask of some flags.
+-- `mask_of fs` is the mask of the flags `fs`.
 abbrev pub mask_of : List Flag → ℕ
 mask_of fs = sum_by (λ f. 2 ^ bit f) fs
 
--- The mask of the reserved bits.
+-- `reserved_mask` is the mask of the reserved bits.
 abbrev pub reserved_mask : ℕ
 reserved_mask = (2 ^ 14 - 1) * 2 ^ 18 + (2 ^ 19 - 1) * 2 ^ 45 + (2 ^ 16 - 1) * 2 ^ 72
 
--- The flags that a parser's front end handles.
+-- `interface_flags` lists the flags that a parser's front end handles.
 abbrev pub interface_flags : List Flag
 interface_flags =
     layout.required_digits ++
@@ -23,7 +23,7 @@ interface_flags =
     layout.no_float_leading_zeros ∷ layout.required_exponent_notation ∷ [] ++
     layout.internal_digit_separator ++ layout.leading_digit_separator ++ layout.trailing_digit_separator ++ layout.consecutive_digit_separator
 
--- The flags of exponents, except the case of the exponent character.
+-- `exponent_flags` lists the exponent flags, except the flag for the case of the exponent character.
 abbrev pub exponent_flags : List Flag
 exponent_flags =
     layout.required_exponent_digits ∷ layout.no_exponent_notation ∷ layout.no_positive_exponent_sign ∷

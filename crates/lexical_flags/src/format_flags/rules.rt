@@ -1,6 +1,6 @@
-//! The rules of a format word: a test for each, and the error of the first that a word breaks.
+//! The rules of a format word: a test for each rule, and the error of the first rule that a word breaks.
 //!
-//! A word that breaks no rule is *lawful*; the view of a word calls it valid.
+//! A word that breaks no rule is *lawful*. The view of a word, as `lexical-util`, calls it valid.
 #![tactic(auto, using(crate::proofs::FlagBits::flag_tests), unfolding(crate::specs::Rules::Holds, crate::specs::Rules::IsPunctuation))]
 
 ghost use Rattle.std.specs.Prelude.{◌≡◌, ◌≢◌, ◌↔◌, [], ◌∷◌, Err, IfErr, IsTrue, bit_or, max};
@@ -26,9 +26,9 @@ use lexical_base::laws::digit_facts;
 
 // BYTES
 
-// For each byte, at its index, the number of radixes in which it is absent or punctuation: those below the entry.
-// A digit is punctuation in the radixes up to its value, 0 and other allowed ASCII in all 256, and a sign or any
-// other byte in none.
+// The entry of a byte, at its index, is the number of radixes in which the byte is absent or punctuation. These are
+// the radixes below the entry. A digit is punctuation in the radixes up to its value. The entry of 0 and of other
+// allowed ASCII is 256, all radixes. The entry of a sign or of any other byte is 0.
 const LIMITS: [u16; 256] = [
     256, 0, 0, 0, 0, 0, 0, 0, 0, 256, 256, 256, 256, 256, 0, 0, 0, 0, 0, 0, 0, 0, 0, 0, 0, 0, 0, 0,
     0, 0, 0, 0, 256, 256, 256, 256, 256, 256, 256, 256, 256, 256, 256, 0, 256, 0, 256, 256, 1, 2,
@@ -42,7 +42,7 @@ const LIMITS: [u16; 256] = [
     0, 0, 0, 0, 0, 0, 0, 0, 0, 0, 0, 0, 0,
 ];
 
-// The larger of two radixes: `max` of a trait cannot be called in a `const fn`.
+// Returns the larger of two radixes. A `const fn` cannot call `max`, since it is the method of a trait.
 #[inline(always)]
 const fn larger(a: u32, b: u32) -> u32
     ensures { result ≡ max a b }
@@ -51,9 +51,9 @@ const fn larger(a: u32, b: u32) -> u32
 }
 
 /// Returns whether `byte` is a digit of numbers in this format: a digit of the mantissa radix or of
-/// the exponent radix. Letters are digits in both cases.
+/// the exponent radix. A letter that is a digit is one in both cases.
 ///
-/// If the exponent radix of the format is 0, the mantissa radix stands for it. The exponent base
+/// If the exponent radix of the format is 0, the mantissa radix is used instead. The exponent base
 /// has no digits. Any word and any byte may be passed. `lexical-util` has no such function.
 #[inline(always)]
 pub const fn is_digit(format: u128, byte: u8) -> bool
@@ -63,7 +63,7 @@ pub const fn is_digit(format: u128, byte: u8) -> bool
     char_is_digit(byte, larger(mantissa_radix(format), exponent_radix(format)))
 }
 
-// Whether a byte is absent, or text that is no digit and no sign.
+// Returns whether a byte is absent or punctuation.
 #[inline(always)]
 #[tactic(auto)]
 const fn is_absent_or_punctuation(format: u128, byte: u8) -> bool
@@ -73,7 +73,7 @@ const fn is_absent_or_punctuation(format: u128, byte: u8) -> bool
     radix < LIMITS[byte as usize] as u32
 }
 
-// Whether a byte is such text.
+// Returns whether a byte is punctuation: allowed ASCII that is neither a digit nor a sign.
 #[inline(always)]
 const fn is_punctuation(format: u128, byte: u8) -> bool
     ensures { IsTrue result ↔ IsPunctuation (raw format) byte }
@@ -81,7 +81,7 @@ const fn is_punctuation(format: u128, byte: u8) -> bool
     byte != 0 && is_absent_or_punctuation(format, byte)
 }
 
-// Whether two bytes are the two cases of one letter.
+// Returns whether two bytes are the two cases of one letter.
 #[inline(always)]
 #[tactic(auto)]
 const fn is_case_pair(a: u8, b: u8) -> bool
@@ -90,8 +90,8 @@ const fn is_case_pair(a: u8, b: u8) -> bool
     a ^ 0x20 == b && is_valid_letter(a)
 }
 
-// Whether no byte plays both of two roles. A role that is not case-sensitive is played by both
-// cases of its letter. A byte of 0 is absent: no byte plays its role.
+// Returns whether no byte plays both of two roles. If a role is not case-sensitive, both cases of its
+// letter play it. A byte of 0 is absent, and then no byte plays its role.
 #[inline(always)]
 #[tactic(auto, using(crate::proofs::CaseLemmas::same_clash, crate::proofs::CaseLemmas::differ_apart))]
 const fn roles_disjoint(a: u8, a_case_sensitive: bool, b: u8, b_case_sensitive: bool) -> bool
@@ -100,8 +100,8 @@ const fn roles_disjoint(a: u8, a_case_sensitive: bool, b: u8, b_case_sensitive: 
     a == 0 || (a != b && (!is_case_pair(a, b) || (a_case_sensitive & b_case_sensitive)))
 }
 
-// Returns what `roles_disjoint` returns. Two bytes that differ in a bit other than 0x20, as most do, are
-// settled by one comparison.
+// Returns the same result as `roles_disjoint`, but with a single comparison if the two bytes differ in a
+// bit other than 0x20, as most pairs of bytes do.
 #[inline(always)]
 #[tactic(auto, using(crate::proofs::CaseLemmas::other_bits_apart))]
 const fn roles_disjoint_fast(a: u8, a_case_sensitive: bool, b: u8, b_case_sensitive: bool) -> bool
@@ -110,8 +110,8 @@ const fn roles_disjoint_fast(a: u8, a_case_sensitive: bool, b: u8, b_case_sensit
     (a | 0x20) != (b | 0x20) || roles_disjoint(a, a_case_sensitive, b, b_case_sensitive)
 }
 
-// Whether two bytes, of which the first is there, have all bits but 0x20 in common. If not, their roles are
-// disjoint, whether case counts or not.
+// Returns whether `a` is not absent and the two bytes agree in all bits except 0x20. If this is false, the roles
+// of the bytes are disjoint, whether they are case-sensitive or not.
 #[inline(always)]
 const fn may_clash(a: u8, b: u8) -> bool
     ensures { IsTrue result ↔ ((a ≢ 0) × (bit_or a 32 ≡ bit_or b 32)) }
@@ -119,7 +119,7 @@ const fn may_clash(a: u8, b: u8) -> bool
     (a != 0) & (a | 0x20 == b | 0x20)
 }
 
-// Whether the base prefix is case-sensitive.
+// Returns whether the base prefix is case-sensitive.
 #[inline(always)]
 const fn prefix_is_case_sensitive(format: u128) -> bool
     ensures { result ≡ (raw format).flag layout.case_sensitive_base_prefix }
@@ -127,7 +127,7 @@ const fn prefix_is_case_sensitive(format: u128) -> bool
     format & CASE_SENSITIVE_BASE_PREFIX != 0
 }
 
-// Whether the base suffix is case-sensitive.
+// Returns whether the base suffix is case-sensitive.
 #[inline(always)]
 const fn suffix_is_case_sensitive(format: u128) -> bool
     ensures { result ≡ (raw format).flag layout.case_sensitive_base_suffix }
@@ -135,7 +135,7 @@ const fn suffix_is_case_sensitive(format: u128) -> bool
     format & CASE_SENSITIVE_BASE_SUFFIX != 0
 }
 
-// Whether the exponent character is case-sensitive.
+// Returns whether the exponent character is case-sensitive.
 #[inline(always)]
 const fn exponent_is_case_sensitive(format: u128) -> bool
     ensures { result ≡ (raw format).flag layout.case_sensitive_exponent }
@@ -145,7 +145,7 @@ const fn exponent_is_case_sensitive(format: u128) -> bool
 
 // RADIXES
 
-/// Returns whether numbers can be written in a radix, that is, whether it is 2 to 36.
+/// Returns whether `radix` is between 2 and 36, so that numbers can be written in it.
 #[inline(always)]
 pub const fn is_valid_radix(radix: u32) -> bool
     ensures { IsTrue result ↔ IsRadix radix }
@@ -153,7 +153,7 @@ pub const fn is_valid_radix(radix: u32) -> bool
     radix >= 2 && radix <= 36
 }
 
-// Whether the mantissa radix is 2 to 36.
+// Returns whether the mantissa radix is between 2 and 36.
 #[inline(always)]
 pub(crate) const fn is_valid_mantissa_radix(format: u128) -> bool
     ensures { IsTrue result ↔ Holds rules.MantissaRadixInRange format }
@@ -161,7 +161,7 @@ pub(crate) const fn is_valid_mantissa_radix(format: u128) -> bool
     is_valid_radix(mantissa_radix(format))
 }
 
-// Whether the exponent base, or the mantissa radix if that is 0, is 2 to 36.
+// Returns whether the exponent base, or the mantissa radix if the exponent base is 0, is between 2 and 36.
 #[inline(always)]
 pub(crate) const fn is_valid_exponent_base(format: u128) -> bool
     ensures { IsTrue result ↔ Holds rules.ExponentBaseInRange format }
@@ -169,7 +169,7 @@ pub(crate) const fn is_valid_exponent_base(format: u128) -> bool
     is_valid_radix(exponent_base(format))
 }
 
-// Whether the exponent radix, or the mantissa radix if that is 0, is 2 to 36.
+// Returns whether the exponent radix, or the mantissa radix if the exponent radix is 0, is between 2 and 36.
 #[inline(always)]
 pub(crate) const fn is_valid_exponent_radix(format: u128) -> bool
     ensures { IsTrue result ↔ Holds rules.ExponentRadixInRange format }
@@ -179,11 +179,11 @@ pub(crate) const fn is_valid_exponent_radix(format: u128) -> bool
 
 // PUNCTUATION
 
-/// Returns whether the digit separator is 0, or allowed ASCII that is no sign and no digit of the
+/// Returns whether the digit separator is 0, or allowed ASCII that is neither a sign nor a digit of the
 /// mantissa or of the exponent.
 ///
 /// The raw byte is tested: a digit is rejected even if no flag allows a separator, and 0 is accepted
-/// even if one does.
+/// even if a flag does.
 #[inline(always)]
 pub const fn is_valid_digit_separator(format: u128) -> bool
     ensures { IsTrue result ↔ Holds rules.DigitSeparatorIsPunctuation format }
@@ -191,7 +191,7 @@ pub const fn is_valid_digit_separator(format: u128) -> bool
     is_absent_or_punctuation(format, digit_separator(format))
 }
 
-/// Returns whether the base prefix is 0, or allowed ASCII that is no sign and no digit of the
+/// Returns whether the base prefix is 0, or allowed ASCII that is neither a sign nor a digit of the
 /// mantissa or of the exponent.
 #[inline(always)]
 pub const fn is_valid_base_prefix(format: u128) -> bool
@@ -200,7 +200,7 @@ pub const fn is_valid_base_prefix(format: u128) -> bool
     is_absent_or_punctuation(format, base_prefix(format))
 }
 
-/// Returns whether the base suffix is 0, or allowed ASCII that is no sign and no digit of the
+/// Returns whether the base suffix is 0, or allowed ASCII that is neither a sign nor a digit of the
 /// mantissa or of the exponent.
 #[inline(always)]
 pub const fn is_valid_base_suffix(format: u128) -> bool
@@ -211,11 +211,11 @@ pub const fn is_valid_base_suffix(format: u128) -> bool
 
 /// Returns whether digit separator, base prefix and base suffix differ from each other.
 ///
-/// A byte of 0 is absent and equals no other. A base prefix that is a letter stands for both cases
-/// of it unless [`CASE_SENSITIVE_BASE_PREFIX`] is set, and a base suffix unless
-/// [`CASE_SENSITIVE_BASE_SUFFIX`] is set: the prefix `h` and the suffix `H` clash unless both flags
-/// are set. The digit separator is always one byte. `lexical-util` compares the raw bytes, so it
-/// accepts such a prefix and suffix with any flags.
+/// A byte of 0 is absent, and is not compared. If the base prefix is a letter, it means both cases of that
+/// letter unless [`CASE_SENSITIVE_BASE_PREFIX`] is set. The base suffix does likewise unless
+/// [`CASE_SENSITIVE_BASE_SUFFIX`] is set. So the prefix `h` and the suffix `H` clash unless both flags are
+/// set. The digit separator is always case-sensitive. `lexical-util` compares the raw bytes, so it accepts
+/// such a prefix and suffix with any flags.
 #[inline(always)]
 pub const fn is_valid_punctuation(format: u128) -> bool
     ensures { IsTrue result ↔ Holds rules.PunctuationDiffers format }
@@ -235,7 +235,7 @@ pub const fn is_valid_punctuation(format: u128) -> bool
 }
 
 /// Returns which of digit separator, base prefix and base suffix share a byte: separator and prefix,
-/// separator and suffix, prefix and suffix. It tells which of them break [`Rule::PunctuationDiffers`].
+/// separator and suffix, prefix and suffix. These pairs are the ones that break [`Rule::PunctuationDiffers`].
 #[tactic(auto, unfolding(crate::specs::Roles::Disjoint))]
 pub const fn clashes(format: u128) -> [bool; 3]
     ensures { result ≡ clashes (raw format) }
@@ -252,7 +252,7 @@ pub const fn clashes(format: u128) -> [bool; 3]
     ]
 }
 
-// Whether a byte clashes with none of digit separator, base prefix and base suffix.
+// Returns whether the role of a byte is disjoint from the roles of digit separator, base prefix and base suffix.
 #[inline(always)]
 const fn is_disjoint_from_format_roles(format: u128, byte: u8, case_sensitive: bool) -> bool
     ensures { IsTrue result ↔ AllByRecursion (Disjoint (cased case_sensitive byte)) (format_roles (raw format)) }
@@ -267,13 +267,12 @@ const fn is_disjoint_from_format_roles(format: u128, byte: u8, case_sensitive: b
 /// Returns whether `exponent` can be the exponent character and `decimal_point` the decimal point in
 /// numbers of this format.
 ///
-/// Both have to be allowed ASCII that is no sign and no digit of the mantissa or of the exponent, so
-/// neither may be 0. They have to differ from each other and from digit separator, base prefix and
-/// base suffix. An exponent character that is a letter stands for both cases of it unless
-/// [`CASE_SENSITIVE_EXPONENT`] is set; base prefix and base suffix are compared as in
-/// [`is_valid_punctuation`]. The decimal point is always one byte. In a lawful format, no byte then
-/// has two meanings, and for every lawful format some such pair exists. `lexical-util` compares the
-/// raw bytes.
+/// Both must be allowed ASCII that is neither a sign nor a digit of the mantissa or of the exponent, so
+/// neither may be 0. They must differ from each other and from digit separator, base prefix and base
+/// suffix. If the exponent character is a letter, it means both cases of that letter unless
+/// [`CASE_SENSITIVE_EXPONENT`] is set. Base prefix and base suffix are compared as in
+/// [`is_valid_punctuation`]. The decimal point is always case-sensitive. In a lawful format, no byte then
+/// plays two roles. Every lawful format has some such pair. `lexical-util` compares the raw bytes.
 ///
 /// In plain Rust:
 ///
@@ -288,7 +287,7 @@ const fn is_disjoint_from_format_roles(format: u128, byte: u8, case_sensitive: b
 #[tactic(auto)]
 pub const fn is_valid_options_punctuation(format: u128, exponent: u8, decimal_point: u8) -> bool
     ensures accepted { IsTrue result ↔ OptionsFit format exponent decimal_point }
-    // In a lawful format this is all that it takes for each byte to play at most one role.
+    // In a lawful format, the options are accepted if and only if each byte plays at most one role.
     ensures roles { Lawful format → (IsTrue result ↔ OptionsHaveOneRole format exponent decimal_point) }
     ensures exists { Lawful format → SomeOptionsFit format }
 {
@@ -300,12 +299,14 @@ pub const fn is_valid_options_punctuation(format: u128, exponent: u8, decimal_po
         && is_disjoint_from_format_roles(format, exponent, exponent_case)
 }
 
-/// Returns what is wrong with an exponent character and a decimal point in numbers of this format, and
-/// `Success` if [`is_valid_options_punctuation`] accepts them.
+/// Returns the error of an exponent character and a decimal point in numbers of this format, or `Success` if
+/// [`is_valid_options_punctuation`] accepts them.
 ///
-/// It is `InvalidExponentSymbol` if the exponent character is a digit, a sign, or not allowed ASCII, else
-/// `InvalidDecimalPoint` if the decimal point is one of these, and else `InvalidPunctuation`. `lexical-util` has no such
-/// function.
+/// 1. If the exponent character is a digit, a sign, or not allowed ASCII, the error is `InvalidExponentSymbol`.
+/// 2. Otherwise, if the decimal point is a digit, a sign, or not allowed ASCII, it is `InvalidDecimalPoint`.
+/// 3. Otherwise, if the two share a byte with each other or with another role, it is `InvalidPunctuation`.
+///
+/// `lexical-util` has no such function.
 pub const fn options_error(format: u128, exponent: u8, decimal_point: u8) -> Error
     ensures first { IsOptionsError format exponent decimal_point result }
     ensures accepted { (result ≡ Error.Success) ↔ OptionsFit format exponent decimal_point }
@@ -314,7 +315,7 @@ pub const fn options_error(format: u128, exponent: u8, decimal_point: u8) -> Err
     first_options_error(format, exponent, decimal_point)
 }
 
-// The error of the first demand that is not met.
+// Returns the error of the first demand that the options do not meet, or `Success`.
 #[inline(always)]
 const fn first_options_error(format: u128, exponent: u8, decimal_point: u8) -> Error
     ensures { IsOptionsError format exponent decimal_point result }
@@ -340,7 +341,7 @@ pub const fn is_valid_exponent_flags(format: u128) -> bool
     format & NO_EXPONENT_NOTATION == 0 || format & REQUIRED_EXPONENT_NOTATION == 0
 }
 
-// Not both NO_POSITIVE_MANTISSA_SIGN and REQUIRED_MANTISSA_SIGN.
+// Returns whether NO_POSITIVE_MANTISSA_SIGN and REQUIRED_MANTISSA_SIGN are not both set.
 #[inline(always)]
 pub(crate) const fn is_valid_mantissa_sign_flags(format: u128) -> bool
     ensures { IsTrue result ↔ Holds rules.MantissaSignFlagsAgree format }
@@ -348,7 +349,7 @@ pub(crate) const fn is_valid_mantissa_sign_flags(format: u128) -> bool
     format & NO_POSITIVE_MANTISSA_SIGN == 0 || format & REQUIRED_MANTISSA_SIGN == 0
 }
 
-// Not both NO_POSITIVE_EXPONENT_SIGN and REQUIRED_EXPONENT_SIGN.
+// Returns whether NO_POSITIVE_EXPONENT_SIGN and REQUIRED_EXPONENT_SIGN are not both set.
 #[inline(always)]
 pub(crate) const fn is_valid_exponent_sign_flags(format: u128) -> bool
     ensures { IsTrue result ↔ Holds rules.ExponentSignFlagsAgree format }
@@ -356,7 +357,7 @@ pub(crate) const fn is_valid_exponent_sign_flags(format: u128) -> bool
     format & NO_POSITIVE_EXPONENT_SIGN == 0 || format & REQUIRED_EXPONENT_SIGN == 0
 }
 
-// Not both NO_SPECIAL and CASE_SENSITIVE_SPECIAL.
+// Returns whether NO_SPECIAL and CASE_SENSITIVE_SPECIAL are not both set.
 #[inline(always)]
 pub(crate) const fn is_valid_special_case_flags(format: u128) -> bool
     ensures { IsTrue result ↔ Holds rules.SpecialCaseFlagsAgree format }
@@ -364,7 +365,7 @@ pub(crate) const fn is_valid_special_case_flags(format: u128) -> bool
     format & NO_SPECIAL == 0 || format & CASE_SENSITIVE_SPECIAL == 0
 }
 
-// Not both NO_SPECIAL and SPECIAL_DIGIT_SEPARATOR.
+// Returns whether NO_SPECIAL and SPECIAL_DIGIT_SEPARATOR are not both set.
 #[inline(always)]
 pub(crate) const fn is_valid_special_separator_flags(format: u128) -> bool
     ensures { IsTrue result ↔ Holds rules.SpecialSeparatorFlagsAgree format }
@@ -372,7 +373,7 @@ pub(crate) const fn is_valid_special_separator_flags(format: u128) -> bool
     format & NO_SPECIAL == 0 || format & SPECIAL_DIGIT_SEPARATOR == 0
 }
 
-// Not INTEGER_CONSECUTIVE_DIGIT_SEPARATOR alone among the four separator flags of the integer.
+// Returns whether INTEGER_CONSECUTIVE_DIGIT_SEPARATOR is not the only separator flag of the integer that is set.
 #[inline(always)]
 pub(crate) const fn is_valid_integer_consecutive_flags(format: u128) -> bool
     ensures { IsTrue result ↔ Holds rules.IntegerConsecutiveIsAllowed format }
@@ -380,7 +381,7 @@ pub(crate) const fn is_valid_integer_consecutive_flags(format: u128) -> bool
     format & INTEGER_DIGIT_SEPARATOR_FLAG_MASK != INTEGER_CONSECUTIVE_DIGIT_SEPARATOR
 }
 
-// Not FRACTION_CONSECUTIVE_DIGIT_SEPARATOR alone among the four separator flags of the fraction.
+// Returns whether FRACTION_CONSECUTIVE_DIGIT_SEPARATOR is not the only separator flag of the fraction that is set.
 #[inline(always)]
 pub(crate) const fn is_valid_fraction_consecutive_flags(format: u128) -> bool
     ensures { IsTrue result ↔ Holds rules.FractionConsecutiveIsAllowed format }
@@ -388,7 +389,7 @@ pub(crate) const fn is_valid_fraction_consecutive_flags(format: u128) -> bool
     format & FRACTION_DIGIT_SEPARATOR_FLAG_MASK != FRACTION_CONSECUTIVE_DIGIT_SEPARATOR
 }
 
-// Not EXPONENT_CONSECUTIVE_DIGIT_SEPARATOR alone among the four separator flags of the exponent.
+// Returns whether EXPONENT_CONSECUTIVE_DIGIT_SEPARATOR is not the only separator flag of the exponent that is set.
 #[inline(always)]
 pub(crate) const fn is_valid_exponent_consecutive_flags(format: u128) -> bool
     ensures { IsTrue result ↔ Holds rules.ExponentConsecutiveIsAllowed format }
@@ -416,7 +417,7 @@ pub const fn is_separator_allowed(format: u128) -> bool
 
 // THE FIRST BROKEN RULE
 
-// The error of the first broken rule of punctuation, or `Success`.
+// Returns the error of the first broken punctuation rule, or `Success`.
 #[inline(always)]
 #[tactic(auto)]
 const fn first_broken_punctuation(format: u128) -> Error
@@ -435,7 +436,7 @@ const fn first_broken_punctuation(format: u128) -> Error
     }
 }
 
-// The error of the first broken rule of flags, or `Success`.
+// Returns the error of the first broken flag rule, or `Success`.
 #[inline(always)]
 #[tactic(auto)]
 const fn first_broken_flags(format: u128) -> Error
@@ -460,7 +461,7 @@ const fn first_broken_flags(format: u128) -> Error
     }
 }
 
-// The error of the rule of reserved bits if it is broken, or `Success`.
+// Returns `InvalidFlags` if a reserved bit is set, and `Success` otherwise.
 #[inline(always)]
 #[tactic(auto, unfolding(crate::specs::Rules::Holds))]
 const fn first_broken_reserved(format: u128) -> Error
@@ -473,8 +474,8 @@ const fn first_broken_reserved(format: u128) -> Error
     }
 }
 
-// The error of the first broken rule of all, or `Success`, by one clause, from which `format_error_impl`
-// has its others.
+// Returns the error of the first broken rule, or `Success`. The other clauses of `format_error_impl` follow
+// from its clause.
 #[tactic(auto, unfolding(crate::specs::Rules::IsErrorOf))]
 const fn first_broken(format: u128) -> Error
     ensures { IsErrorOf format result }
@@ -495,9 +496,9 @@ const fn first_broken(format: u128) -> Error
 }
 
 /// Returns the error of the first of mantissa radix, exponent base and exponent radix that is not
-/// 2 to 36, and `Success` if all are.
+/// between 2 and 36, or `Success` if all are.
 ///
-/// If the exponent base or the exponent radix is 0, the mantissa radix stands for it.
+/// If the exponent base or the exponent radix is 0, the mantissa radix is tested instead.
 #[inline(always)]
 #[tactic(auto)]
 pub const fn radix_error_impl(format: u128) -> Error
@@ -515,47 +516,51 @@ pub const fn radix_error_impl(format: u128) -> Error
     }
 }
 
-/// Returns the error of the first rule that a format breaks, and `Success` if it breaks none, that
+/// Returns the error of the first rule that a format breaks, or `Success` if it breaks none, that
 /// is, if it is lawful.
 ///
 /// The rules in their order, each with its error:
 ///
-/// 1. The mantissa radix is 2 to 36: `InvalidMantissaRadix`.
-/// 2. The exponent base, or the mantissa radix if that is 0, is 2 to 36: `InvalidExponentBase`.
-/// 3. The exponent radix, or the mantissa radix if that is 0, is 2 to 36: `InvalidExponentRadix`.
+/// 1. The mantissa radix is between 2 and 36: `InvalidMantissaRadix`.
+/// 2. The effective exponent base, which is the mantissa radix if that byte is 0, is between 2 and 36:
+///    `InvalidExponentBase`.
+/// 3. The effective exponent radix, which is the mantissa radix if that byte is 0, is between 2 and 36:
+///    `InvalidExponentRadix`.
 /// 4. The digit separator is valid ([`is_valid_digit_separator`]): `InvalidDigitSeparator`.
 /// 5. The base prefix is valid ([`is_valid_base_prefix`]): `InvalidBasePrefix`.
 /// 6. The base suffix is valid ([`is_valid_base_suffix`]): `InvalidBaseSuffix`.
 /// 7. These three differ ([`is_valid_punctuation`]): `InvalidPunctuation`.
-/// 8. Not both [`NO_EXPONENT_NOTATION`] and [`REQUIRED_EXPONENT_NOTATION`]: `InvalidExponentFlags`.
-/// 9. Not both [`NO_POSITIVE_MANTISSA_SIGN`] and [`REQUIRED_MANTISSA_SIGN`]: `InvalidMantissaSign`.
-/// 10. Not both [`NO_POSITIVE_EXPONENT_SIGN`] and [`REQUIRED_EXPONENT_SIGN`]: `InvalidExponentSign`.
-/// 11. Not both [`NO_SPECIAL`] and [`CASE_SENSITIVE_SPECIAL`]: `InvalidSpecial`.
-/// 12. Not both [`NO_SPECIAL`] and [`SPECIAL_DIGIT_SEPARATOR`]: `InvalidSpecial`.
-/// 13. Not [`INTEGER_CONSECUTIVE_DIGIT_SEPARATOR`] without an internal, leading or trailing flag of
-///     the integer: `InvalidConsecutiveIntegerDigitSeparator`.
-/// 14. Not [`FRACTION_CONSECUTIVE_DIGIT_SEPARATOR`] without such a flag of the fraction:
-///     `InvalidConsecutiveFractionDigitSeparator`.
-/// 15. Not [`EXPONENT_CONSECUTIVE_DIGIT_SEPARATOR`] without such a flag of the exponent:
-///     `InvalidConsecutiveExponentDigitSeparator`.
+/// 8. [`NO_EXPONENT_NOTATION`] and [`REQUIRED_EXPONENT_NOTATION`] are not both set: `InvalidExponentFlags`.
+/// 9. [`NO_POSITIVE_MANTISSA_SIGN`] and [`REQUIRED_MANTISSA_SIGN`] are not both set: `InvalidMantissaSign`.
+/// 10. [`NO_POSITIVE_EXPONENT_SIGN`] and [`REQUIRED_EXPONENT_SIGN`] are not both set: `InvalidExponentSign`.
+/// 11. [`NO_SPECIAL`] and [`CASE_SENSITIVE_SPECIAL`] are not both set: `InvalidSpecial`.
+/// 12. [`NO_SPECIAL`] and [`SPECIAL_DIGIT_SEPARATOR`] are not both set: `InvalidSpecial`.
+/// 13. [`INTEGER_CONSECUTIVE_DIGIT_SEPARATOR`] is set only with an internal, leading or trailing flag of the
+///     integer: `InvalidConsecutiveIntegerDigitSeparator`.
+/// 14. [`FRACTION_CONSECUTIVE_DIGIT_SEPARATOR`] is set only with an internal, leading or trailing flag of
+///     the fraction: `InvalidConsecutiveFractionDigitSeparator`.
+/// 15. [`EXPONENT_CONSECUTIVE_DIGIT_SEPARATOR`] is set only with an internal, leading or trailing flag of
+///     the exponent: `InvalidConsecutiveExponentDigitSeparator`.
 /// 16. All reserved bits are 0: `InvalidFlags`.
 ///
-/// `lexical-util` compares raw bytes in the seventh rule, and has no rule on reserved bits.
+/// `lexical-util` compares raw bytes in the seventh rule, and has no rule for reserved bits.
 pub const fn format_error_impl(format: u128) -> Error
     ensures first { IsErrorOf format result }
     ensures lawful { (result ≡ Error.Success) ↔ Lawful format }
     ensures unique { (other : Error) → IsErrorOf format other → other ≡ result }
 
-    // The error of reserved bits needs one that is set.
+    // If all reserved bits are 0, the error is not `InvalidFlags`.
     ensures clean { IsClean format → result ≢ Error.InvalidFlags }
 {
     first_broken(format)
 }
 
-/// Returns `format` if it is lawful, or else the error of the first rule that it breaks
-/// ([`format_error_impl`]), which is never `Success`.
+/// Returns `format` if it is lawful. Use it with `?`: `let format = check(format)?;`.
 ///
-/// This is for `?`: `let format = check(format)?;`.
+/// # Errors
+///
+/// If `format` is not lawful, the error of the first rule that it breaks ([`format_error_impl`]), which is
+/// never `Success`.
 #[inline(always)]
 pub const fn check(format: u128) -> Result<u128, Error>
     ensures lawful { OkIff result (Lawful format) format }

@@ -1,4 +1,4 @@
-//! Each predicate that only one side of a public clause names has an example here that holds and one that does not.
+//! Examples of each predicate that only one side of a public clause names: one that holds, and one that does not.
 #![tactic(auto, unfolding(crate::specs::Literals::on_literals))]
 
 ghost use Rattle.std.specs.Prelude.{[], ◌∷◌, Some, None};
@@ -10,29 +10,29 @@ ghost use Rattle.lexical_flags.specs.declared.format_flags.all_rules.Rule.TheVar
 ghost use Rattle.lexical_flags.specs.Pairs.{ArePairwise};
 ghost use Rattle.lexical_flags.specs.Record.{raw, SeparatorAllowedOrAbsent};
 
-/// Masks that have a bit in common, and masks that have none.
+/// States examples of masks that share a bit, and of masks that do not.
 pub fn mask_examples()
     ensures no_bit { ShareNoBit 0x55 0xAA }
     ensures common { ShareNoBit 1 3 → ⊥ }
 
-    // In a list each mask is compared with every later one.
+    // In a list, each mask is compared with every later mask.
     ensures list { ArePairwise ShareNoBit (1 ∷ 2 ∷ 4 ∷ []) }
     ensures first_and_third { ArePairwise ShareNoBit (1 ∷ 2 ∷ 5 ∷ []) → ⊥ }
 {}
 
-/// Separators: one with the flag of bit 44, and one without a flag.
+/// States examples of a separator that flag 44 allows, and of one that no flag allows.
 pub fn built_examples()
     ensures allowed { SeparatorAllowedOrAbsent (raw 0x00000A00_0000005F_00001000_0000000C) }
     ensures not_allowed { SeparatorAllowedOrAbsent (raw 0x00000A00_0000005F_00000000_0000000C) → ⊥ }
 {}
 
-/// The prefix and the suffix h clash, whatever is chosen beside them; without them there is room.
+/// States that options fit a word without prefix and suffix, and that no options fit a word in which both are `h`.
 pub fn room_examples()
     ensures room { SomeOptionsFit 0x0A0A0A00_00000000_00000000_0000000C }
     ensures no_room { SomeOptionsFit 0x00000A68_68000000_00000000_0000000C → ⊥ }
 {}
 
-/// Broken rules: flags 4 and 5 exclude each other.
+/// States which rules a word breaks in which flags 4 and 5 are both set.
 pub fn broken_examples()
     ensures broken { AllZip (ReportsRule 0x0A0A0A00_00000000_00000000_0000003C)
         (rules.ExponentFlagsAgree ∷ rules.MantissaSignFlagsAgree ∷ []) (None ∷ Some rules.MantissaSignFlagsAgree ∷ []) }

@@ -11,7 +11,7 @@ use Rattle.lexical_base.proofs.PieceLemmas.{first}
 use Rattle.lexical_base.proofs.ShortTextLemmas.{few}
 use Rattle.lexical_base.proofs.error.Error.put_into.Goals as goal
 
--- the text of an outcome from the results of the calls
+-- The text of an outcome consists of the results of the calls.
 whole : (error : Error) {class : Class} {start description : List ℕ} {index : Option ℕ}
     → start ≡ start_of_class class → class ≡ class_of error → description ≡ description_of error
     → index ≡ index_of error → start ++ (description ++ end_of_text index) ≡ printed_text error

@@ -2,7 +2,7 @@ use Rattle.std.proofs.Common.{rules}
 use Rattle.lexical_base.proofs.OutcomeLemmas.{tied, reversed}
 use Rattle.lexical_base.proofs.error.ErrorOrd.cmp.Goals as goal
 
--- the others follow from it
+-- The clauses `equal` and `reversed` follow from this one.
 pub returns-in-Equal-clause-value : goal.returns-in-Equal-clause-value
 returns-in-Equal-clause-value c = search rules
 

@@ -3,7 +3,7 @@ use Rattle.std.proofs.lemmas.Grind.{common_steps}
 use Rattle.lexical_base.proofs.OutcomeLemmas.{same}
 use Rattle.lexical_base.proofs.error.ErrorPartialEq.eq.Goals as goal
 
--- the check proves these goals as well, after a search through all pairs of outcomes
+-- The check also proves these goals, but only after a search through all pairs of outcomes.
 pub returns-then-rank : goal.returns-then-rank
 returns-then-rank c = record {
   value = grind (arith, common_steps);

@@ -25,7 +25,7 @@ returns-clause-text g t c =
           rw only at (rw w.out-is at end)
     ]
 
--- search proves this goal as well; given here so that the must-fail edit
--- put_decimal_returns_its_own_error.edit fails soon
+-- Search also proves this goal. The answer is given so that the must-fail edit put_decimal_returns_its_own_error.edit
+-- fails soon.
 pub returns-clause-failed : goal.returns-clause-failed
 returns-clause-failed g t c = c.put.ensures.failed

@@ -1,4 +1,4 @@
--- without these a search takes ten seconds if a goal is false
+-- Without these answers, the search takes ten seconds if a goal is false.
 use Rattle.std.proofs.Common.{rules}
 use Rattle.lexical_flags.proofs.format_flags.rules.first_options_error.Goals as goal
 

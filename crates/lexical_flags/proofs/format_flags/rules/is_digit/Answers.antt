@@ -1,4 +1,4 @@
--- without this a search takes a second
+-- Without this answer, the search takes a second.
 use Rattle.std.proofs.Common.{rules}
 use Rattle.lexical_flags.proofs.format_flags.rules.is_digit.Goals as goal
 

@@ -1,4 +1,4 @@
--- without these a search takes three seconds, and ten and more if a goal is false
+-- Without these answers, the search takes three seconds, and ten or more if a goal is false.
 use Rattle.std.proofs.Common.{rules}
 use Rattle.lexical_flags.proofs.OptionLemmas.{accepted_roles, room_from_lawful}
 use Rattle.lexical_flags.proofs.format_flags.rules.is_valid_options_punctuation.Goals as goal

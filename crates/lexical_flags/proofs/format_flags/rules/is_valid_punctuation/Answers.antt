@@ -16,8 +16,8 @@ returns-then-not-is_near c =
     c.may_clash.ensures c.may_clash-2.ensures c.may_clash-3.ensures c.if-not-is_near.true in
     (λ _. apart, λ _. ap not c.if-not-is_near.true)
 
--- search proves these goals as well; given here so that the must-fail edit
--- is_valid_punctuation_ignores_the_case_flags.edit fails soon
+-- Search also proves these goals. The answers are given so that the must-fail edit
+-- is_valid_punctuation_ignores_the_case_flags.edit fails soon.
 pub returns-then-roles_disjoint-2 : goal.returns-then-roles_disjoint-2
 unfolding Holds
 returns-then-roles_disjoint-2 c =

@@ -6,7 +6,7 @@ use Rattle.lexical_flags.specs.Record.{Record, raw}
 use Rattle.lexical_flags.specs.Roles.{Disjoint, prefix, suffix}
 use Rattle.lexical_flags.proofs.laws.examples.room_examples.Goals as goal
 
--- a byte that is both prefix and suffix leaves no pair of bytes one role each
+-- If a byte is both prefix and suffix, then no exponent character and decimal point give each byte one role.
 clashes : (e p : ℕ) → OptionsHaveOneRole 0x00000A68_68000000_00000000_0000000C e p → ⊥
 unfolding on_literals
 clashes e p h =
