@@ -1,4 +1,4 @@
-//! Slices of bytes as chunks of one length: the part of `as_chunks` that `ascii` uses. Stable Rust has it from 1.88 on.
+//! Slices of bytes as chunks of one length, as `ascii` uses them. Stable Rust has `as_chunks` from 1.88 on.
 
 /// Chunks of `N` bytes, one after another.
 pub(crate) struct Chunks<'a, const N: usize>(&'a [u8]);
@@ -42,7 +42,7 @@ impl<'a, const N: usize> Iterator for Chunks<'a, N> {
 mod tests {
     use super::SplitChunks;
 
-    /// Bytes whose values are their indices are split as `chunks_exact` splits them.
+    /// Bytes whose values are their indices are split as by `chunks_exact`.
     #[test]
     fn each_chunk_and_each_block_is_met_in_order() {
         let bytes: [u8; 64] = core::array::from_fn(|index| index as u8);

@@ -1,5 +1,5 @@
-//! What `{:?}` prints of a builder, a view and a format: the format word, each field that differs from a new builder's,
-//! and the reserved bits and broken rules, if there are any.
+//! `Debug` of builders, views and formats prints the format word, each field that differs from a new builder's, and the
+//! reserved bits and broken rules, if there are any.
 
 use core::fmt;
 
@@ -10,7 +10,7 @@ use crate::format_flags::{Rule, DIGIT_SEPARATOR_SHIFT};
 use crate::lawful::Format;
 use crate::view::FormatView;
 
-/// A byte that is printed as its character if it is ASCII that can be seen, and as a number if not.
+/// A byte that is printed as its character if that is visible ASCII, and as a number otherwise.
 struct Character(u8);
 
 impl fmt::Debug for Character {
@@ -32,7 +32,7 @@ fn number(byte: OptionU8) -> u8 {
     byte.map_or(0, |byte| byte.get())
 }
 
-/// Writes a struct with the word and the fields of `fields`, a word too.
+/// Writes a struct with `word` and the fields of the word `fields`.
 fn write(f: &mut fmt::Formatter<'_>, name: &str, word: u128, fields: u128) -> fmt::Result {
     let mut text = f.debug_struct(name);
     text.field("word", &format_args!("{word:#034X}"));
@@ -68,7 +68,7 @@ impl fmt::Debug for BrokenRules {
     }
 }
 
-/// Writes the word that the builder packs and its fields, also a digit separator that it does not pack.
+/// Writes the word that the builder packs, and its fields, also a digit separator that it does not pack.
 impl fmt::Debug for NumberFormatBuilder {
     fn fmt(&self, f: &mut fmt::Formatter<'_>) -> fmt::Result {
         let word = self.build_unchecked();

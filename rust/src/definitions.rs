@@ -1,10 +1,10 @@
 // Made by rust/tools/erase.py from crates/*/specs: change those files.
 
-//! The terms of the parts `Proved`: all definitions that their clauses use, and that these use.
+//! The definitions that the clauses of the parts `Proved` use, and the definitions that those use.
 //!
-//! `f x` is `f` applied to `x`. `.now` is the value that a reference points to, and a builder means the record of
+//! `f x` is `f` applied to `x`. `.now` is the value behind a reference. In a clause, a builder is the record of
 //! its fields. Names such as `edits.Flag` or `rules.PunctuationDiffers` are variants of `Edit`, `FlagSetter`,
-//! `Rule` or `Error`; `layout.` names a flag or a byte.
+//! `Rule` or `Error`; a name after `layout.` is a flag or a byte.
 //!
 //! # Sets of bytes
 //!
@@ -1129,7 +1129,7 @@
 //!   exponent_radix : (raw word).byte layout.exponent_radix ≡ 0 → (raw word).byte layout.mantissa_radix ≡ 0
 //! ```
 //!
-//! # Names of the prover's library
+//! # Names of Rattle's standard library
 //!
 //! | Name | Meaning |
 //! |---|---|
@@ -1148,7 +1148,7 @@
 //! | `+` | Addition, and `*`, `/`, `%` and `^` are multiplication, division without remainder, remainder and power. |
 //! | `-` | Subtraction, which returns 0 if the second number is larger. |
 //! | `<` | `a < b` holds if `a` is less than `b`, and `a ≤ b` if it is at most `b`. |
-//! | `==` | `x == y` is the truth value of `x ≡ y`; `beq` is the same for truth values. |
+//! | `==` | `x == y` is the truth value of `x ≡ y` for numbers, and `beq x y` the one for truth values. |
 //! | `&&` | `a && b` is true if both are, `a \|\| b` if one is, and `not a` if `a` is false. |
 //! | `if` | `if b then x else y` is `x` if `b` is true, and `y` otherwise. |
 //! | `nat_le` | `nat_le a b` is the truth value of `a ≤ b`, and `nat_lt a b` the one of `a < b`. |
@@ -1166,7 +1166,7 @@
 //! | `flat_map` | `flat_map f xs` joins the lists `f x` for each `x` in `xs`. |
 //! | `filter` | `filter p xs` is the list of each `x` in `xs` for which `p x` is true. |
 //! | `filter_map` | `filter_map f xs` is the list of each `y` for which `f x` is `Some y`, for `x` in `xs`. |
-//! | `list_any` | `list_any p xs` is true if `p x` is for some `x` in `xs`, and `list_all p xs` if it is for each. |
+//! | `list_any` | `list_any p xs` is true if `p x` is true for some `x` in `xs`, and `list_all p xs` if it is for each. |
 //! | `sum_by` | `sum_by f xs` is the sum of `f x` for each `x` in `xs`. |
 //! | `last_or` | `last_or option xs` is `Some` of the last entry of `xs`, or `option` if `xs` is empty. |
 //! | `position` | `position p xs` is `Some` of the index of the first entry for which `p` is true, or `None`. |

@@ -294,8 +294,8 @@ pub const fn apply_all(mut builder: NumberFormatBuilder, edits: &[Edit]) -> Numb
 /// - No other word without reserved bits has these fields.
 /// - Legal writes ([`IsLegal`](crate::definitions#islegal)) that give each field the same last value
 ///   ([`SameWrites`](crate::definitions#samewrites)) give the same result. So edits of different fields can be in
-///   any order, and a group is its flags in any order.
-/// - Each value fits its field.
+///   any order, and a group edit equals the edits of its flags in any order.
+/// - Each value fits its field ([`IsLegal`](crate::definitions#islegal)).
 ///
 /// ```text
 /// ensures word { result ≡ edited format (all_writes edits.now) }
@@ -333,17 +333,18 @@ pub const fn edit_word(format: u128, edits: &[Edit]) -> u128 {
 /// - Its reserved bits are 0 ([`IsClean`](crate::definitions#isclean)).
 /// - No other word without reserved bits has these fields.
 /// - The normal form of a normal form is itself.
-/// - A word is its own normal form if and only if it [`IsNormal`](crate::definitions#isnormal).
+/// - A word is its own normal form if and only if it is normal ([`IsNormal`](crate::definitions#isnormal)).
 /// - Word and normal form are equivalent ([`SameFormat`](crate::definitions#sameformat)).
-/// - In each list of flags, [`any_flag`](crate::definitions#any_flag) is set in both or in neither.
-/// - Each list of flags has the same bits in both ([`bits_of`](crate::definitions#bits_of)).
+/// - For each list of flags, both words have one of the flags set, or neither has
+///   ([`any_flag`](crate::definitions#any_flag)).
+/// - For each list of flags, both words have the same bits ([`bits_of`](crate::definitions#bits_of)).
 /// - The normal form of a [`Lawful`](crate::definitions#lawful) word is lawful.
 /// - If neither a reserved bit nor a separator is dropped ([`IsClean`](crate::definitions#isclean),
 ///   [`SeparatorAllowedOrAbsent`](crate::definitions#separatorallowedorabsent)), both words have the same error
 ///   ([`IsErrorOf`](crate::definitions#iserrorof)).
 /// - If no separator is dropped, both words give the same word when they are
 ///   [`edited`](crate::definitions#edited).
-/// - The result [`IsNormal`](crate::definitions#isnormal).
+/// - The result is normal ([`IsNormal`](crate::definitions#isnormal)).
 ///
 /// ```text
 /// ensures word { result ≡ normal_form_of format }
@@ -408,8 +409,8 @@ pub const fn normal_form(format: u128) -> u128 {
 ///   that is [`Lawful`](crate::definitions#lawful).
 /// - Its fields ([`raw`](crate::definitions#raw)) are those of the word, filled
 ///   ([`fill`](crate::definitions#fill)) and trimmed ([`trim`](crate::definitions#trim)).
-/// - A word that is returned [`IsNormal`](crate::definitions#isnormal).
-/// - It is equivalent to the given one ([`SameFormat`](crate::definitions#sameformat)).
+/// - A returned word is normal ([`IsNormal`](crate::definitions#isnormal)).
+/// - A returned word is equivalent to the given word ([`SameFormat`](crate::definitions#sameformat)).
 /// - An `Err` has the error of the first rule that the normal form breaks
 ///   ([`IsErrorOf`](crate::definitions#iserrorof)).
 /// - It is never `Err(Success)`.
@@ -434,7 +435,7 @@ pub const fn migrate(format: u128) -> Result<u128, Error> {
 ///
 /// For all arguments:
 ///
-/// - The result is true if and only if both words have one normal form
+/// - The result is true if and only if the words have one normal form
 ///   ([`normal_form_of`](crate::definitions#normal_form_of)).
 /// - This holds if and only if their fields ([`raw`](crate::definitions#raw)) express the same format
 ///   ([`SameFormat`](crate::definitions#sameformat)).

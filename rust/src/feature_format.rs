@@ -31,7 +31,7 @@ impl<const FORMAT: u128> NumberFormat<FORMAT> {
         NumberFormat
     }
 
-    /// Returns the same view as a value, whose word may also be known only when the program runs.
+    /// Returns the view of the word, whose type is also for words that are known only when the program runs.
     #[must_use]
     #[inline(always)]
     pub const fn view(&self) -> FormatView {
@@ -89,7 +89,7 @@ impl From<u128> for FormatView {
     }
 }
 
-/// Fields that are constants and methods: a row has its sentence, both names and the type.
+/// Fields that are constants and methods. Each row has the sentence, both names and the type of a field.
 macro_rules! fields {
     ($($(#[$doc:meta])* $CONST:ident $get:ident $Type:ty;)*) => {
         impl<const FORMAT: u128> NumberFormat<FORMAT> {
@@ -110,7 +110,7 @@ macro_rules! fields {
     };
 }
 
-/// What is a method alone.
+/// Methods without a constant. Each row has the sentence, the name and the type of a method.
 macro_rules! methods {
     ($($(#[$doc:meta])* $get:ident $Type:ty;)*) => {
         impl<const FORMAT: u128> NumberFormat<FORMAT> {
@@ -139,7 +139,7 @@ fields! {
     /// Whether a parser refuses `.`: a float with no significant digit
     /// ([setter][NumberFormatBuilder::required_mantissa_digits]).
     REQUIRED_MANTISSA_DIGITS required_mantissa_digits bool;
-    /// Whether any is set of the flags of a group: digits that must be there
+    /// Whether any flag of a group is set: digits that must be there
     /// ([setter][NumberFormatBuilder::required_digits]).
     REQUIRED_DIGITS required_digits bool;
     /// Whether a parser refuses `+1`: a `+` before an integer or a float
@@ -189,7 +189,7 @@ fields! {
     /// Whether a parser accepts `1e1_2`: a separator between exponent digits
     /// ([setter][NumberFormatBuilder::exponent_internal_digit_separator]).
     EXPONENT_INTERNAL_DIGIT_SEPARATOR exponent_internal_digit_separator bool;
-    /// Whether any is set of the flags of a group: a separator between digits
+    /// Whether any flag of a group is set: a separator between digits
     /// ([setter][NumberFormatBuilder::internal_digit_separator]).
     INTERNAL_DIGIT_SEPARATOR internal_digit_separator bool;
     /// Whether a parser accepts `_12`: a separator before integer digits
@@ -201,7 +201,7 @@ fields! {
     /// Whether a parser accepts `1e_12`: a separator before exponent digits
     /// ([setter][NumberFormatBuilder::exponent_leading_digit_separator]).
     EXPONENT_LEADING_DIGIT_SEPARATOR exponent_leading_digit_separator bool;
-    /// Whether any is set of the flags of a group: a separator before digits
+    /// Whether any flag of a group is set: a separator before digits
     /// ([setter][NumberFormatBuilder::leading_digit_separator]).
     LEADING_DIGIT_SEPARATOR leading_digit_separator bool;
     /// Whether a parser accepts `12_`: a separator after integer digits
@@ -213,7 +213,7 @@ fields! {
     /// Whether a parser accepts `1e12_`: a separator after exponent digits
     /// ([setter][NumberFormatBuilder::exponent_trailing_digit_separator]).
     EXPONENT_TRAILING_DIGIT_SEPARATOR exponent_trailing_digit_separator bool;
-    /// Whether any is set of the flags of a group: a separator after digits
+    /// Whether any flag of a group is set: a separator after digits
     /// ([setter][NumberFormatBuilder::trailing_digit_separator]).
     TRAILING_DIGIT_SEPARATOR trailing_digit_separator bool;
     /// Whether a parser accepts `1__2` if it accepts `1_2`, `__12` if `_12`, and `12__` if `12_`
@@ -225,7 +225,7 @@ fields! {
     /// Whether a parser accepts `1e1__2` if it accepts `1e1_2`, `1e__12` if `1e_12`, and `1e12__` if `1e12_`
     /// ([setter][NumberFormatBuilder::exponent_consecutive_digit_separator]).
     EXPONENT_CONSECUTIVE_DIGIT_SEPARATOR exponent_consecutive_digit_separator bool;
-    /// Whether any is set of the flags of a group: several separators in a row, where one is allowed
+    /// Whether any flag of a group is set: several separators in a row, where one is allowed
     /// ([setter][NumberFormatBuilder::consecutive_digit_separator]).
     CONSECUTIVE_DIGIT_SEPARATOR consecutive_digit_separator bool;
     /// Whether a parser accepts `N__a_N_` for `NaN`: separators before, between and after letters, also in a row
@@ -239,7 +239,7 @@ fields! {
     BASE_SUFFIX base_suffix u8;
     /// The [mantissa radix][NumberFormatBuilder::mantissa_radix], 0 to 255.
     MANTISSA_RADIX mantissa_radix u32;
-    /// The radix of the integer and fraction digits, by another name.
+    /// The mantissa radix: another name of [`MANTISSA_RADIX`][Self::MANTISSA_RADIX].
     RADIX radix u32;
     /// The [exponent base][NumberFormatBuilder::exponent_base], or the mantissa radix if that byte is 0.
     EXPONENT_BASE exponent_base u32;

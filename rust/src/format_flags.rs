@@ -35,7 +35,7 @@ pub const REQUIRED_EXPONENT_DIGITS: u128 = 0x4;
 /// ([setter][crate::format_builder::NumberFormatBuilder::required_mantissa_digits]).
 pub const REQUIRED_MANTISSA_DIGITS: u128 = 0x8;
 
-/// Mask of the flags of a group: digits that must be there
+/// Mask of a flag group: digits that must be there
 /// ([setter][crate::format_builder::NumberFormatBuilder::required_digits]).
 pub const REQUIRED_DIGITS: u128 = 0xF;
 
@@ -144,19 +144,19 @@ pub const FRACTION_CONSECUTIVE_DIGIT_SEPARATOR: u128 = 0x400_0000_0000;
 /// ([setter][crate::format_builder::NumberFormatBuilder::exponent_consecutive_digit_separator]).
 pub const EXPONENT_CONSECUTIVE_DIGIT_SEPARATOR: u128 = 0x800_0000_0000;
 
-/// Mask of the flags of a group: a separator between digits
+/// Mask of a flag group: a separator between digits
 /// ([setter][crate::format_builder::NumberFormatBuilder::internal_digit_separator]).
 pub const INTERNAL_DIGIT_SEPARATOR: u128 = 0x7_0000_0000;
 
-/// Mask of the flags of a group: a separator before digits
+/// Mask of a flag group: a separator before digits
 /// ([setter][crate::format_builder::NumberFormatBuilder::leading_digit_separator]).
 pub const LEADING_DIGIT_SEPARATOR: u128 = 0x38_0000_0000;
 
-/// Mask of the flags of a group: a separator after digits
+/// Mask of a flag group: a separator after digits
 /// ([setter][crate::format_builder::NumberFormatBuilder::trailing_digit_separator]).
 pub const TRAILING_DIGIT_SEPARATOR: u128 = 0x1C0_0000_0000;
 
-/// Mask of the flags of a group: several separators in a row, where one is allowed
+/// Mask of a flag group: several separators in a row, where one is allowed
 /// ([setter][crate::format_builder::NumberFormatBuilder::consecutive_digit_separator]).
 pub const CONSECUTIVE_DIGIT_SEPARATOR: u128 = 0xE00_0000_0000;
 
@@ -220,22 +220,22 @@ pub const FLAG_MASK: u128 = 0x1FFF_0003_FFFF;
 /// the exponent character), leading zeros of floats, and digit separators (except in special values).
 pub const INTERFACE_FLAG_MASK: u128 = 0xFFF_0000_63CF;
 
-/// Mask of the flags of a group: every separator, also in special values
+/// Mask of a flag group: every separator, also in special values
 /// ([setter][crate::format_builder::NumberFormatBuilder::digit_separator_flags]).
 pub const DIGIT_SEPARATOR_FLAG_MASK: u128 = 0x1FFF_0000_0000;
 
 /// Mask of the exponent flags, without [`CASE_SENSITIVE_EXPONENT`].
 pub const EXPONENT_FLAG_MASK: u128 = 0x924_0000_43C4;
 
-/// Mask of the flags of a group: separators in the integer
+/// Mask of a flag group: separators in the integer
 /// ([setter][crate::format_builder::NumberFormatBuilder::integer_digit_separator_flags]).
 pub const INTEGER_DIGIT_SEPARATOR_FLAG_MASK: u128 = 0x249_0000_0000;
 
-/// Mask of the flags of a group: separators in the fraction
+/// Mask of a flag group: separators in the fraction
 /// ([setter][crate::format_builder::NumberFormatBuilder::fraction_digit_separator_flags]).
 pub const FRACTION_DIGIT_SEPARATOR_FLAG_MASK: u128 = 0x492_0000_0000;
 
-/// Mask of the flags of a group: separators in the exponent
+/// Mask of a flag group: separators in the exponent
 /// ([setter][crate::format_builder::NumberFormatBuilder::exponent_digit_separator_flags]).
 pub const EXPONENT_DIGIT_SEPARATOR_FLAG_MASK: u128 = 0x924_0000_0000;
 

@@ -1,5 +1,5 @@
-//! Lanes of bytes: the part of `std::simd` that `ascii` uses, which stable Rust lacks. The compiler makes vector
-//! instructions of these loops, whose lengths it knows.
+//! Lanes of bytes: the part of `std::simd` that `ascii` uses, which stable Rust lacks. The compiler turns these loops
+//! of constant length into vector instructions.
 
 use core::array;
 use core::ops::{BitAnd, Sub};
@@ -8,7 +8,7 @@ use core::ops::{BitAnd, Sub};
 #[derive(Clone, Copy)]
 pub(crate) struct Simd<T, const N: usize>([T; N]);
 
-/// Whether something holds of each of `N` lanes.
+/// A truth value for each of `N` lanes.
 pub(crate) struct Mask<const N: usize>([bool; N]);
 
 impl<const N: usize> Simd<u8, N> {
@@ -24,7 +24,7 @@ impl<const N: usize> Simd<u8, N> {
         Simd(values)
     }
 
-    /// Returns what `of` gives of each lane and the lane of `other` at the same index.
+    /// Applies `of` to each lane and the lane of `other` at the same index.
     #[inline(always)]
     fn zip(mut self, other: Self, of: impl Fn(u8, u8) -> u8) -> Self {
         for (lane, other) in self.0.iter_mut().zip(other.0) {
@@ -78,10 +78,10 @@ impl<const N: usize> Sub for Simd<u8, N> {
 }
 
 impl<const N: usize> Mask<N> {
-    /// Returns whether it holds of any lane.
+    /// Returns whether any lane is true.
     #[inline(always)]
     pub(crate) fn any(self) -> bool {
-        // It looks at all of them: a test after each would be slower.
+        // All lanes are read, since a test after each would be slower.
         self.0.into_iter().fold(false, |any, lane| any | lane)
     }
 }
@@ -90,7 +90,7 @@ impl<const N: usize> Mask<N> {
 mod tests {
     use super::Simd;
 
-    /// Each operation on each pair of bytes, in the last of three lanes, beside the same on numbers.
+    /// Each operation on each pair of bytes, in the last of three lanes, is compared with that on numbers.
     #[test]
     fn each_pair_of_bytes() {
         for a in 0..=255u8 {

@@ -14,8 +14,8 @@ use crate::word::STANDARD;
 /// A lawful format: a format word that breaks no rule. Take it as an argument where a number is parsed, written or
 /// checked.
 ///
-/// It reads as its [`FormatView`], by `Deref`; in a `const fn`, call [`view`][Self::view] first. Equality, order and
-/// hash are those of the word. Two words can express the same format, so compare [normal forms][Self::normal_form].
+/// It dereferences to its [`FormatView`]; in a `const fn`, call [`view`][Self::view] first. Equality, order and hash
+/// are those of the word. Two words can express the same format, so compare [normal forms][Self::normal_form].
 ///
 /// ```
 /// use peltzivar::{Error, Format, FormatView};
@@ -30,13 +30,14 @@ use crate::word::STANDARD;
 ///
 /// # Proved
 ///
-/// Every way to a `Format` leads through [`Format::new`], which tests all [rules][crate::Rule]. What is proved of
-/// lawful words holds for each of them:
+/// [`Format::new`] makes each `Format`, and tests all [rules][crate::Rule]. So what is proved of words that are
+/// [`Lawful`](crate::definitions#lawful) holds for the word of each `Format`:
 ///
-/// - Mantissa radix, exponent base and exponent radix are between 2 and 36.
-/// - Digit separator, base prefix and base suffix are absent or punctuation, and no byte plays two of the roles digit,
-///   sign, separator, prefix and suffix. If [`check_options`][Self::check_options] accepts them, this holds with the
-///   exponent character and the decimal point too; some pair of them always fits.
+/// - The mantissa radix, the exponent base and the exponent radix are between 2 and 36.
+/// - The digit separator, the base prefix and the base suffix are absent or punctuation, and no byte plays two of the
+///   roles digit, sign, separator, prefix and suffix. This also holds with the exponent character and the decimal point
+///   that [`check_options`][Self::check_options] accepts. It accepts some pair for each format
+///   ([`SomeOptionsFit`](crate::definitions#someoptionsfit)).
 /// - No two flags contradict each other, and all reserved bits are 0.
 /// - Its [normal form][Self::normal_form] is a `Format` too.
 #[derive(Clone, Copy, PartialEq, Eq, PartialOrd, Ord, Hash)]
@@ -113,7 +114,7 @@ impl Format {
     }
 }
 
-/// A format can be read as its view.
+/// A format has all methods of its view.
 impl Deref for Format {
     type Target = FormatView;
 

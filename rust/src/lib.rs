@@ -1,9 +1,9 @@
-//! Number formats in a `u128`: how a number may be written, as 31 flags and six bytes, built field by field, read,
-//! checked and edited.
+//! Number formats in a `u128`: how numbers may be written, as 31 flags and six bytes. This crate builds, reads, checks
+//! and edits formats, for authors of number parsers, writers and checkers. It does not parse.
 //!
-//! A format is for parsers and writers of numbers. It is a [`u128`], the *format word*, so it can be a const argument.
-//! A word that breaks no rule is *lawful*: each radix is 2 to 36, no two flags contradict, each byte is text with one
-//! meaning, and no reserved bit is set.
+//! The [`u128`] is the *format word*, so a format can be a const argument. It is *lawful* if it keeps every [`Rule`]:
+//! each radix is between 2 and 36, no two flags contradict each other, each byte is ASCII with one meaning, and the
+//! *reserved* bits, which hold no field, are 0.
 //!
 //! ```
 //! use core::num::NonZeroU8;
@@ -17,7 +17,7 @@
 //!     .internal_digit_separator(true)
 //!     .build_or_panic();
 //!
-//! /// Returns the digits of a text, without separators, or `None` if it has another byte.
+//! /// Returns how many digits a text has, or `None` if it has a byte that is neither a digit nor a separator.
 //! fn digits<const FORMAT: u128>(text: &[u8]) -> Option<usize> {
 //!     let format = NumberFormat::<FORMAT>::new();
 //!     let is_separator = |byte: u8| format.internal_digit_separator() && byte == format.digit_separator();
@@ -32,11 +32,11 @@
 //!
 //! | To | Use |
 //! |---|---|
-//! | write a format as a constant | [`NumberFormatBuilder`], and its [`build_or_panic`][NumberFormatBuilder::build_or_panic] |
+//! | write a format as a constant | [`NumberFormatBuilder`] and its [`build_or_panic`][NumberFormatBuilder::build_or_panic] |
 //! | take a checked format as an argument | [`Format`], or `impl Into<Format>` |
 //! | read the fields of any word, lawful or not | [`FormatView`]; [`NumberFormat`] for a word that is known when the program is compiled |
-//! | parse settings | [`Edit`], by `str::parse`; [`collect`][Iterator::collect] the edits into a builder, and call [`build_format`][NumberFormatBuilder::build_format] |
-//! | report all that is wrong with a word, and what mends it | [`FormatView::reasons`], [`Reason::mask`], [`FormatView::mends`], [`FormatView::notes`] |
+//! | parse settings | [`Edit`], by `str::parse`; [`collect`][Iterator::collect] makes a builder of edits, and [`build_format`][NumberFormatBuilder::build_format] checks it |
+//! | report each problem of a word, and what mends it | [`FormatView::reasons`], [`Reason::mask`], [`FormatView::mends`], [`FormatView::notes`] |
 //! | derive a format from another | [`NumberFormatBuilder::from`], or [`edits::edit_word`] |
 //! | compare two formats | [`Format::normal_form`], [`edits::same_format`] |
 //! | store words as text | `Display` and `FromStr` of [`Format`] and [`FormatView`] |
@@ -44,24 +44,25 @@
 //!
 //! # From `lexical-util`
 //!
-//! Modules, types and methods have the names that they have in `lexical-util` 1.0.7: a program changes the name of the
-//! crate in its `use` lines. These differ:
+//! Modules, types and methods have the names that they have in `lexical-util` 1.0.7. A program changes the name of the
+//! crate in its `use` lines, or depends on the package `lexical-util` of the repository, which has this crate under
+//! that name. These differ:
 //!
-//! - `build_strict` returns a `Result`; in a constant take `build_or_panic`.
-//! - A letter that is base prefix, base suffix or exponent character stands for both its cases unless a flag says that
-//!   case counts, and a reserved bit makes a word unlawful.
+//! - `build_strict` returns a `Result`; in a constant, call `build_or_panic`.
+//! - A base prefix, base suffix or exponent character that is a letter means both cases of it, unless a flag makes it
+//!   case-sensitive. A reserved bit makes a word unlawful.
 //! - The slice tests of [`ascii`] are not `const`, and `build` is not deprecated.
-//! - The formats that `lexical-util` has ready made, such as `JSON`, are not here: copy one from `examples/recipes.rs`.
+//! - The ready made formats of `lexical-util`, such as `JSON`, are not here: copy one from `examples/recipes.rs`.
 //!
 //! [`Format`], [`FormatView`], [`edits`] and [`reasons`] are new.
 //!
 //! # What is proved
 //!
-//! The library is written in Rattle, Rust with contracts, and a prover has accepted every function. A program of the
-//! repository removes what only the prover reads; the files that begin with `Made by` are the rest. The parts `Proved`
-//! below state the contracts, and [`definitions`] has the terms that they use. Written by hand are [`Format`], the
-//! iterators, the conversions, text and `{:?}` of words, [`NumberFormat`], and lanes and chunks of bytes. Nothing is
-//! proved when you build this crate: you trust that program, the parts that are written by hand, and `rustc`.
+//! The library is written in Rattle, which is Rust with contracts, and a prover accepted every function. From these
+//! sources, a program of the repository generated the files that begin with `Made by`. The parts `Proved` state
+//! contracts, and [`definitions`] has their terms. [`Format`], [`Mend`], [`NumberFormat`], the iterators and
+//! conversions, `Display`, `FromStr` and `Debug` of words, `build_or_panic`, and lanes and chunks of bytes are written
+//! by hand. A build of this crate proves nothing: you trust that program, what is written by hand, and `rustc`.
 #![no_std]
 #![forbid(unsafe_code)]
 

@@ -12,10 +12,10 @@ impl FormatView {
         broken_rules(self.word()).into_iter().flatten()
     }
 
-    /// Returns the reasons for which the word is not lawful, rule by rule. There are none if and only if it is lawful.
+    /// Returns the reasons why the word is not lawful, in the order of the rules. A lawful word has none.
     ///
-    /// Each cause is one reason: an absent exponent base or exponent radix follows the mantissa radix, and is never a
-    /// reason.
+    /// Each cause is one reason. An absent exponent base or exponent radix follows the mantissa radix, and is never a
+    /// reason itself.
     ///
     /// ```
     /// let view = peltzivar::FormatView::new(0x00002500_00000000_00000000_0000003C);
@@ -29,13 +29,13 @@ impl FormatView {
         reasons(self.word()).into_iter().flatten()
     }
 
-    /// Returns the fields that are set and change no number that can be written. A lawful word may have them.
+    /// Returns notes on the fields that are set and change no number that can be written. A lawful word may have notes.
     pub fn notes(&self) -> impl Iterator<Item = Note> + Clone {
         notes(self.word()).into_iter().flatten()
     }
 
-    /// Returns the setter calls that make the word from a new builder: an edit for each field that differs from the
-    /// builder's, as [`edits_of`] lists them.
+    /// Returns the setter calls that give a new builder the fields of the word: one edit for each field that differs,
+    /// as [`edits_of`] lists them.
     pub fn edits(&self) -> impl Iterator<Item = Edit> + Clone {
         let (edits, count) = edits_of(self.word());
         edits.into_iter().take(count)
@@ -43,8 +43,8 @@ impl FormatView {
 }
 
 impl NumberFormatBuilder {
-    /// Returns the fields that are set and change no number that can be written. A digit separator that no flag allows
-    /// is among them, though the word does not have it.
+    /// Returns notes on the fields that are set and change no number that can be written. A digit separator that no
+    /// flag allows has a note, although the packed word does not have it.
     pub fn notes(&self) -> impl Iterator<Item = Note> + Clone {
         notes_of_fields(self).into_iter().flatten()
     }
@@ -91,6 +91,6 @@ impl FlagSetter {
 }
 
 impl Edit {
-    /// The names of all setters, and so of all settings.
+    /// The names of all setters, which are the names of all settings.
     pub const NAMES: &'static [&'static str] = &SETTER_NAMES;
 }

@@ -1,4 +1,4 @@
-//! Mends of a word: edits after which it is no longer to blame for a reason.
+//! Mends: edits of a field that a reason blames.
 
 use core::fmt;
 
@@ -6,7 +6,7 @@ use crate::edits::{field_edits_of, Edit};
 use crate::reasons::{mend, Reason, MAX_MENDING_EDITS};
 use crate::view::FormatView;
 
-/// One to three edits that mend one field of a word ([`FormatView::mends`]).
+/// One to three edits that mend one field of a word. [`FormatView::mends`] returns them.
 #[derive(Debug, Clone, Copy, PartialEq, Eq, Hash)]
 pub struct Mend {
     edits: [Edit; MAX_MENDING_EDITS],
@@ -32,11 +32,11 @@ impl fmt::Display for Mend {
 }
 
 impl FormatView {
-    /// Returns what mends the word where one of its [reasons][Self::reasons] blames it: at most one [`Mend`] for each
-    /// field to blame. A mend clears a flag or a byte, or sets the mantissa radix to 10.
+    /// Returns the mends for one of the [reasons][Self::reasons] of the word: at most one [`Mend`] for each field that
+    /// the reason blames. A mend clears a flag or a byte, or sets the mantissa radix to 10.
     ///
-    /// After [`edit_word`][crate::edits::edit_word] with one of them, the word keeps each rule that it kept before, and
-    /// each rule that only this reason broke.
+    /// After [`edit_word`][crate::edits::edit_word] with the edits of one mend, the word keeps each rule that it kept
+    /// before, and each rule that only this reason broke.
     ///
     /// ```
     /// use peltzivar::{edits::edit_word, Format, FormatView};

@@ -1,11 +1,11 @@
-//! The text with which the compiler stops at a constant that is not lawful.
+//! The text of the compiler's error for a constant that is not lawful.
 
 use crate::digit::digit_to_char;
 use crate::error::{Piece, ShortText};
 use crate::format_flags::format_error_impl;
 use crate::reasons::{reasons, Reason};
 
-/// Returns the first reason for which a word is not lawful.
+/// Returns the first reason why a word is not lawful.
 const fn first_reason(word: u128) -> Option<Reason> {
     let reasons = reasons(word);
     let mut index = 0;
@@ -18,14 +18,14 @@ const fn first_reason(word: u128) -> Option<Reason> {
     None
 }
 
-/// A text of at most 512 bytes, which a constant can be stopped with: the error of a word, and its first reason.
+/// The error of a word and its first reason, as a text of at most 512 bytes that a `const fn` can build.
 pub(crate) struct Refusal {
     bytes: [u8; 512],
     length: usize,
 }
 
 impl Refusal {
-    /// Returns `'DESCRIPTION': REASON`, where the reason is the sentence that [`FormatView::reasons`] begins with.
+    /// Returns `'DESCRIPTION': REASON`. The reason is the sentence of the first of [`FormatView::reasons`].
     ///
     /// [`FormatView::reasons`]: crate::view::FormatView::reasons
     pub(crate) const fn of(word: u128) -> Self {

@@ -1,4 +1,4 @@
-//! Words, edits and setters as text, there and back.
+//! Words, edits and setters as text, and errors as errors of the standard library.
 
 use core::fmt;
 use core::str::FromStr;

@@ -70,7 +70,7 @@ impl FormatView {
     /// - The result is the error of the first rule that the word breaks, or `Success`
     ///   ([`IsErrorOf`](crate::definitions#iserrorof)).
     /// - It is `Success` if and only if the word is [`Lawful`](crate::definitions#lawful).
-    /// - No other error is the word's.
+    /// - No other error is the error of the word ([`IsErrorOf`](crate::definitions#iserrorof)).
     ///
     /// ```text
     /// ensures first { IsErrorOf self.now result }

@@ -1,8 +1,8 @@
-"""What erase.py changes in the documentation of the library: a reader of plain Rust meets no source of Rattle.
+"""What erase.py changes in the documentation of the library, so that it does not mention the sources in Rattle.
 
-PROVED has the calls whose documentation shows their clauses, with a sentence for each. Names between backquotes become
-links if the page `definitions` has them. PHRASES are left out or replaced, and FOREIGN may not remain. The first line
-of a flag's constant and getter is the one of its setter.
+PROVED lists the calls whose documentation shows their clauses, with a sentence for each clause. A name between
+backquotes becomes a link if the page `definitions` has it. PHRASES are removed or replaced, and no match of FOREIGN may
+remain. The first line of a flag's constant or getter repeats the first line of its setter.
 """
 import functools
 import pathlib
@@ -22,7 +22,8 @@ PROVED = {
             "fields": "Its fields (`raw`) are those of the builder, without a separator that no flag allows (`trim`).",
             "clean": "Its reserved bits are 0 (`IsClean`).",
             "bytes": "Each byte of the builder is between 0 and 255 (`HasBytes`).",
-            "alike": "Other fields pack into the same word if and only if they are the same after `trim`.",
+            "alike": "Any fields (`HasBytes`) pack into the same word if and only if they and the builder's are equal"
+            " after `trim`.",
         },
         "build_strict": {
             "lawful": "The result is `Ok` of the packed word (`pack`) if and only if that word is `Lawful`.",
@@ -38,26 +39,27 @@ PROVED = {
     "format_flags/rules.rt": {
         "is_valid_options_punctuation": {
             "accepted": "The result is true if and only if both bytes fit the format (`OptionsFit`).",
-            "roles": "For a `Lawful` word this holds if and only if no byte plays two of the seven roles"
-            " (`OptionsHaveOneRole`).",
-            "exists": "For each `Lawful` word some pair of bytes fits (`SomeOptionsFit`).",
+            "roles": "For a `Lawful` word this holds if and only if both bytes are allowed ASCII, and no byte plays two"
+            " of the seven roles (`OptionsHaveOneRole`).",
+            "exists": "For each `Lawful` word there is a pair of bytes that fits (`SomeOptionsFit`).",
         },
     },
     "edits/listing.rt": {
         "is_built": {
-            "rule": "The result is true if and only if the reserved bits are 0 and a separator has a flag (`IsBuilt`).",
-            "image": "This holds if and only if setter calls on a new builder make the word (`IsBuiltByWrites`).",
+            "rule": "The result is true if and only if the reserved bits are 0, and the digit separator is absent or a"
+            " flag allows one (`IsBuilt`).",
+            "image": "This holds if and only if setter calls on a new builder can make the word (`IsBuiltByWrites`).",
         },
         "edits_of": {
-            "list": "The list has an edit for each write (`IsEditOf`): first those that the word needs"
-            " (`needed_writes`), then the others (`other_writes`).",
-            "number": "The number is how many writes the word needs.",
+            "list": "The list has an edit for each write (`IsEditOf`): first for the writes that the word needs"
+            " (`needed_writes`), then for the others (`other_writes`).",
+            "number": "The number counts the writes that the word needs (`needed_writes`).",
             "legal": "Each value fits its field (`IsLegal`).",
             "first": "The first part, applied to a new builder (`after`, `new_record`), gives the fields (`raw`) of the"
             " word.",
-            "whole": "So does the whole list.",
-            "builds": "These fields pack (`pack`) into the word itself if and only if it `IsBuilt`.",
-            "fewest": "No shorter list of writes packs into the word.",
+            "whole": "The whole list also gives the fields (`raw`) of the word.",
+            "builds": "These fields pack (`pack`) into the word if and only if a builder can make it (`IsBuilt`).",
+            "fewest": "No list of fewer writes (`IsLegal`) packs into the word.",
         },
     },
     "edits.rt": {
@@ -72,8 +74,9 @@ PROVED = {
             "clean": "Its reserved bits are 0 (`IsClean`).",
             "unique": "No other word without reserved bits has these fields.",
             "same_writes": "Legal writes (`IsLegal`) that give each field the same last value (`SameWrites`) give the"
-            " same result. So edits of different fields can be in any order, and a group is its flags in any order.",
-            "legal": "Each value fits its field.",
+            " same result. So edits of different fields can be in any order, and a group edit equals the edits of its"
+            " flags in any order.",
+            "legal": "Each value fits its field (`IsLegal`).",
         },
         "normal_form": {
             "word": "The result is the word edited by no writes (`normal_form_of`).",
@@ -81,27 +84,27 @@ PROVED = {
             "clean": "Its reserved bits are 0 (`IsClean`).",
             "unique": "No other word without reserved bits has these fields.",
             "idempotent": "The normal form of a normal form is itself.",
-            "unchanged": "A word is its own normal form if and only if it `IsNormal`.",
+            "unchanged": "A word is its own normal form if and only if it is normal (`IsNormal`).",
             "same": "Word and normal form are equivalent (`SameFormat`).",
-            "groups": "In each list of flags, `any_flag` is set in both or in neither.",
-            "flags": "Each list of flags has the same bits in both (`bits_of`).",
+            "groups": "For each list of flags, both words have one of the flags set, or neither has (`any_flag`).",
+            "flags": "For each list of flags, both words have the same bits (`bits_of`).",
             "lawful": "The normal form of a `Lawful` word is lawful.",
             "error": "If neither a reserved bit nor a separator is dropped (`IsClean`, `SeparatorAllowedOrAbsent`),"
             " both words have the same error (`IsErrorOf`).",
             "edits": "If no separator is dropped, both words give the same word when they are `edited`.",
-            "normal": "The result `IsNormal`.",
+            "normal": "The result is normal (`IsNormal`).",
         },
         "migrate": {
             "lawful": "The result is `Ok` of the normal form (`normal_form_of`) if and only if that is `Lawful`.",
             "fields": "Its fields (`raw`) are those of the word, filled (`fill`) and trimmed (`trim`).",
-            "normal": "A word that is returned `IsNormal`.",
-            "same": "It is equivalent to the given one (`SameFormat`).",
+            "normal": "A returned word is normal (`IsNormal`).",
+            "same": "A returned word is equivalent to the given word (`SameFormat`).",
             "error": "An `Err` has the error of the first rule that the normal form breaks (`IsErrorOf`).",
             "not_success": "It is never `Err(Success)`.",
             "not_flags": "It is never `Err(InvalidFlags)`, since reserved bits are dropped.",
         },
         "same_format": {
-            "normal_forms": "The result is true if and only if both words have one normal form (`normal_form_of`).",
+            "normal_forms": "The result is true if and only if the words have one normal form (`normal_form_of`).",
             "fields": "This holds if and only if their fields (`raw`) express the same format (`SameFormat`).",
         },
     },
@@ -109,13 +112,13 @@ PROVED = {
         "error": {
             "first": "The result is the error of the first rule that the word breaks, or `Success` (`IsErrorOf`).",
             "lawful": "It is `Success` if and only if the word is `Lawful`.",
-            "unique": "No other error is the word's.",
+            "unique": "No other error is the error of the word (`IsErrorOf`).",
         },
         "rebuild": {"": "The result has the fields of the word (`raw`), with exponent bytes that are filled (`fill`)."},
     },
 }
 
-# Texts of documentation comments, over the ends of lines, and what stands in their place.
+# Texts of documentation comments, also across line ends, and their replacements.
 PHRASES = [
     ("In plain Rust:", ""),
     ("In plain Rust, `broken_rules(format)", "`broken_rules(format)"),
@@ -144,10 +147,12 @@ PHRASES = [
      " [`NumberFormat`][crate::feature_format::NumberFormat] has each field also as a constant."),
 ]
 
-# What no documentation of the library may have. The module `word` is hidden.
-FOREIGN = re.compile(r"\.rt\b|\.antt\b|[Ii]n plain Rust|\bcrates? (above|below)|not proved|has no such|[Ss]earch|\bword::")
+# No documentation of the library may match this. The module `word` is hidden.
+FOREIGN = re.compile(
+    r"\.rt\b|\.antt\b|[Ii]n plain Rust|\bcrates? (above|below)|not proved|has no such|[Ss]earch|\bword::"
+)
 
-# Names of the prover's standard library that clauses and definitions use, each with its meaning.
+# Names of Rattle's standard library that clauses and definitions use, each with its meaning.
 STD = {
     "ℕ": "The natural numbers.",
     "Bool": "The truth values `true` and `false`.",
@@ -165,7 +170,7 @@ STD = {
     "+": "Addition, and `*`, `/`, `%` and `^` are multiplication, division without remainder, remainder and power.",
     "-": "Subtraction, which returns 0 if the second number is larger.",
     "<": "`a < b` holds if `a` is less than `b`, and `a ≤ b` if it is at most `b`.",
-    "==": "`x == y` is the truth value of `x ≡ y`; `beq` is the same for truth values.",
+    "==": "`x == y` is the truth value of `x ≡ y` for numbers, and `beq x y` the one for truth values.",
     "&&": "`a && b` is true if both are, `a || b` if one is, and `not a` if `a` is false.",
     "if": "`if b then x else y` is `x` if `b` is true, and `y` otherwise.",
     "nat_le": "`nat_le a b` is the truth value of `a ≤ b`, and `nat_lt a b` the one of `a < b`.",
@@ -183,7 +188,7 @@ STD = {
     "flat_map": "`flat_map f xs` joins the lists `f x` for each `x` in `xs`.",
     "filter": "`filter p xs` is the list of each `x` in `xs` for which `p x` is true.",
     "filter_map": "`filter_map f xs` is the list of each `y` for which `f x` is `Some y`, for `x` in `xs`.",
-    "list_any": "`list_any p xs` is true if `p x` is for some `x` in `xs`, and `list_all p xs` if it is for each.",
+    "list_any": "`list_any p xs` is true if `p x` is true for some `x` in `xs`, and `list_all p xs` if it is for each.",
     "sum_by": "`sum_by f xs` is the sum of `f x` for each `x` in `xs`.",
     "last_or": "`last_or option xs` is `Some` of the last entry of `xs`, or `option` if `xs` is empty.",
     "position": "`position p xs` is `Some` of the index of the first entry for which `p` is true, or `None`.",
@@ -193,11 +198,11 @@ STD = {
 
 
 class Unfit(Exception):
-    """A table here that does not fit the sources."""
+    """A table of this file does not fit the sources."""
 
 
 def lines_of(comment):
-    """The lines of a block of documentation without their marks, and the mark of each."""
+    """Returns the mark of the lines of a documentation block, and the lines without it."""
     return re.match(r" *//[/!]", comment)[0], re.findall(r"^ *//[/!] ?(.*)$", comment, re.M)
 
 
@@ -206,7 +211,7 @@ def is_prose(paragraph):
 
 
 class Comments:
-    """The comments of the library's documentation, with the phrases that were found in them."""
+    """The documentation comments of the library, and the phrases that were found in them."""
 
     def __init__(self):
         self.used = set()
@@ -219,7 +224,7 @@ class Comments:
         return {name: " ".join(comment.replace("///", "").split()) for comment, name in found}
 
     def of_file(self, text, name):
-        """The text of a file with other documentation comments."""
+        """Returns the text of a file with changed documentation comments."""
         text = re.sub(r"(?:^ *//[/!].*\n)+", lambda it: self.block(it[0]), text, flags=re.M)
         for line in text.splitlines():
             if re.match(r" *//[/!]", line) and (it := FOREIGN.search(line)):
@@ -227,7 +232,7 @@ class Comments:
         return text
 
     def block(self, comment):
-        """A block of comment lines with PHRASES replaced, and the sentences of setters at constants and getters."""
+        """Returns comment lines with PHRASES replaced, and with a setter's sentence at its constant and getters."""
         mark, lines = lines_of(comment)
         paragraphs, fenced = [[]], False
         for line in lines:
@@ -256,7 +261,7 @@ class Comments:
         return textwrap.wrap(" ".join(text.split()), width, break_long_words=False, break_on_hyphens=False)
 
     def sentence(self, setter):
-        """What a setter's flag asks of a parser, or what its group is; without the full stop."""
+        """Returns what a flag asks of a parser, or what a group is for, from its setter; without the full stop."""
         text = re.match(r"(.*?)\.(?: |$)", self.setters[setter])[1]
         for start in ("If set, a parser ", "Sets the flags about ", "Sets all flags of the group: "):
             if text.startswith(start):
@@ -264,12 +269,13 @@ class Comments:
         raise Unfit(f"the setter {setter} begins in another way: {text}")
 
     def pointed(self, it):
-        """The first line of a constant or a getter that points to a setter."""
+        """Returns the first line of a constant or a getter that links to a setter."""
         before, kind, path, setter, _ = it.groups()
         link = f"([setter][{path}{setter}])."
         if kind == "group":
-            start = "Mask of" if before.startswith("Mask") else "Returns whether any is set of"
-            return f"{start} the flags of a group: {self.sentence(setter)} {link}"
+            is_mask = before.startswith("Mask")
+            start = "Mask of a flag group" if is_mask else "Returns whether any flag of a group is set"
+            return f"{start}: {self.sentence(setter)} {link}"
         if before.startswith("Returns"):
             return self.getter(setter, path)
         return f"If set, a parser {self.sentence(setter)} {link}"
@@ -282,7 +288,7 @@ class Comments:
 
 
 def proved(file, name, clauses):
-    """The part `Proved` of a call's documentation, from its clauses."""
+    """Returns the part `Proved` of a call's documentation, from its clauses."""
     sentences = PROVED[file][name]
     names = [it or "" for it in re.findall(r"^ *ensures(?: (\w+))? \{", clauses, re.M)]
     if names != list(sentences):
@@ -294,7 +300,7 @@ def proved(file, name, clauses):
 
 
 def shown():
-    """The definitions that the page has, file by file, in an order to be read in."""
+    """Returns the definitions of the page, file by file, in reading order."""
     starts = []
     for function in model.functions():
         crate, _, *place = function.path.relative_to(CRATES).parts
@@ -321,14 +327,14 @@ LIBRARIES = ["lexical_base", "lexical_flags", "lexical_builder", "lexical_util"]
 
 
 def known_std():
-    """The names of STD, and those that its sentences give a meaning to."""
+    """Returns the names of STD, and the names that its sentences explain."""
     texts = " ".join(STD.values())
     words = (re.findall(r"\w+|\S+", code) for code in re.findall(r"`([^`]+)`", texts))
     return {"if◌then◌else", *STD}.union(*words)
 
 
 def link(name):
-    """A name as a link to its part of the page, or as code if it has none."""
+    """Returns a name as a link to its part of the page, or as code if the page does not have it."""
     return f"[`{name}`](crate::definitions#{name.lower()})" if name in all_names() else f"`{name}`"
 
 
@@ -341,7 +347,7 @@ def all_names(cache=[]):
 
 
 def part(file, name):
-    """The part of a definition: its sentence and its text, of which a long one is cut."""
+    """Returns the part of a definition: its sentence and its text, which is shortened if it is long."""
     lines = model.FILES[file].lines[name]
     words = " ".join(line[3:] for line in lines if line.startswith("-- "))
     if not words or FOREIGN.search(words):
@@ -353,17 +359,17 @@ def part(file, name):
 
 
 def definitions():
-    """The text of the module `definitions`: all that the shown clauses cite."""
+    """Returns the text of the module `definitions`: all definitions that the shown clauses cite."""
     head = (
-        "The terms of the parts `Proved`: all definitions that their clauses use, and that these use.\n\n"
-        "`f x` is `f` applied to `x`. `.now` is the value that a reference points to, and a builder means the record of\n"
+        "The definitions that the clauses of the parts `Proved` use, and the definitions that those use.\n\n"
+        "`f x` is `f` applied to `x`. `.now` is the value behind a reference. In a clause, a builder is the record of\n"
         "its fields. Names such as `edits.Flag` or `rules.PunctuationDiffers` are variants of `Edit`, `FlagSetter`,\n"
-        "`Rule` or `Error`; `layout.` names a flag or a byte."
+        "`Rule` or `Error`; a name after `layout.` is a flag or a byte."
     )
     parts = [head]
     for file, names in shown().items():
         title = " ".join(line[3:] for line in model.FILES[file].header).rstrip(".") or file
         parts += [f"# {title}", *(part(file, it) for it in names)]
     rows = "\n".join(f"| `{name}` | {text} |".replace("||", "\\|\\|") for name, text in STD.items())
-    parts += [f"# Names of the prover's library\n\n| Name | Meaning |\n|---|---|\n{rows}"]
+    parts += [f"# Names of Rattle's standard library\n\n| Name | Meaning |\n|---|---|\n{rows}"]
     return "\n".join(f"//! {line}".rstrip() for line in "\n\n".join(parts).split("\n")) + "\n"

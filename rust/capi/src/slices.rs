@@ -1,10 +1,10 @@
-//! Slices of what C passes as a pointer and a length. A null pointer with length 0 is an empty slice.
+//! Slices from a pointer and a length that C passes. A null pointer with length 0 is an empty slice.
 
 use crate::outputs::Buffer;
 use core::mem::MaybeUninit;
 use core::slice;
 
-/// Returns the `len` values from `start` on.
+/// Returns the `len` values that begin at `start`.
 ///
 /// # Safety
 ///
@@ -14,12 +14,12 @@ pub unsafe fn of<'a, T>(start: *const T, len: usize) -> &'a [T] {
     if len == 0 {
         return &[];
     }
-    // SAFETY: the caller promises the values. Bytes and edits need no alignment, all their bits are values, and no object
-    // of C has more than `isize::MAX` bytes.
+    // SAFETY: the caller promises the values. Bytes and edits need no alignment, any bits are a value of them, and no
+    // object of C has more than `isize::MAX` bytes.
     unsafe { slice::from_raw_parts(start, len) }
 }
 
-/// Returns the `len` bytes from `start` on, to be written. They may be unset.
+/// Returns the `len` bytes that begin at `start`, to be written. They may be unset.
 ///
 /// # Safety
 ///
@@ -29,7 +29,7 @@ pub unsafe fn of_mut<'a>(start: *mut u8, len: usize) -> &'a mut Buffer {
     if len == 0 {
         return &mut [];
     }
-    // SAFETY: the caller promises the bytes. A byte that may be unset needs no alignment and no value, and no object of C
-    // has more than `isize::MAX` bytes.
+    // SAFETY: the caller promises the bytes. A byte that may be unset needs no alignment and no value, and no object of
+    // C has more than `isize::MAX` bytes.
     unsafe { slice::from_raw_parts_mut(start.cast::<MaybeUninit<u8>>(), len) }
 }

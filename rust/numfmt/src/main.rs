@@ -1,9 +1,9 @@
-//! `numfmt` shows, edits, compares, checks, explains and migrates number formats, and writes them as Rust code: the
-//! program of `crates/numfmt`, whose other files `rust/tools/erase.py` makes. `crates/numfmt/src/main.rt` has its
-//! commands.
+//! `numfmt` shows, edits, compares, checks, explains and migrates number formats, and prints them as Rust code. This
+//! file is written by hand, and `rust/tools/erase.py` generates the others from `crates/numfmt`, whose `src/main.rt`
+//! has the commands.
 //!
-//! Two statuses differ from those of the proved program, since std decides them: without memory this one aborts, and a
-//! closed output is `/dev/null`.
+//! Two statuses differ from those of the proved program, since std decides them: if memory runs out, this program
+//! aborts, and a closed output counts as `/dev/null`.
 
 #[allow(clippy::ptr_arg, reason = "as it is proved")]
 mod command;
@@ -31,7 +31,7 @@ fn main() -> ExitCode {
     };
     let mut text = Vec::new();
     let status = program::run(&args, &mut text);
-    // One write of whole lines: `Stdout` keeps none of it, and so cannot write again after a write that failed.
+    // All lines are written at once: `Stdout` then keeps nothing that it could write after a failed write.
     match io::stdout().write_all(&text) {
         Ok(()) => ExitCode::from(status),
         Err(_) => ExitCode::from(3),

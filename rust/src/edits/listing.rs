@@ -14,9 +14,9 @@ use crate::view::FormatView;
 ///
 /// For all arguments:
 ///
-/// - The result is true if and only if the reserved bits are 0 and a separator has a flag
-///   ([`IsBuilt`](crate::definitions#isbuilt)).
-/// - This holds if and only if setter calls on a new builder make the word
+/// - The result is true if and only if the reserved bits are 0, and the digit separator is absent or a flag
+///   allows one ([`IsBuilt`](crate::definitions#isbuilt)).
+/// - This holds if and only if setter calls on a new builder can make the word
 ///   ([`IsBuiltByWrites`](crate::definitions#isbuiltbywrites)).
 ///
 /// ```text
@@ -57,18 +57,18 @@ const fn is_separator_allowed_or_absent(format: u128) -> bool {
 ///
 /// For all arguments:
 ///
-/// - The list has an edit for each write ([`IsEditOf`](crate::definitions#iseditof)): first those that the word
-///   needs ([`needed_writes`](crate::definitions#needed_writes)), then the others
+/// - The list has an edit for each write ([`IsEditOf`](crate::definitions#iseditof)): first for the writes that
+///   the word needs ([`needed_writes`](crate::definitions#needed_writes)), then for the others
 ///   ([`other_writes`](crate::definitions#other_writes)).
-/// - The number is how many writes the word needs.
+/// - The number counts the writes that the word needs ([`needed_writes`](crate::definitions#needed_writes)).
 /// - Each value fits its field ([`IsLegal`](crate::definitions#islegal)).
 /// - The first part, applied to a new builder ([`after`](crate::definitions#after),
 ///   [`new_record`](crate::definitions#new_record)), gives the fields ([`raw`](crate::definitions#raw)) of the
 ///   word.
-/// - So does the whole list.
-/// - These fields pack ([`pack`](crate::definitions#pack)) into the word itself if and only if it
-///   [`IsBuilt`](crate::definitions#isbuilt).
-/// - No shorter list of writes packs into the word.
+/// - The whole list also gives the fields ([`raw`](crate::definitions#raw)) of the word.
+/// - These fields pack ([`pack`](crate::definitions#pack)) into the word if and only if a builder can make it
+///   ([`IsBuilt`](crate::definitions#isbuilt)).
+/// - No list of fewer writes ([`IsLegal`](crate::definitions#islegal)) packs into the word.
 ///
 /// ```text
 /// ensures list { AllZip IsEditOf (needed_writes (raw format) ++ other_writes (raw format)) result.0 }

@@ -235,9 +235,9 @@ const fn is_disjoint_from_format_roles(format: u128, byte: u8, case_sensitive: b
 /// For all arguments:
 ///
 /// - The result is true if and only if both bytes fit the format ([`OptionsFit`](crate::definitions#optionsfit)).
-/// - For a [`Lawful`](crate::definitions#lawful) word this holds if and only if no byte plays two of the seven
-///   roles ([`OptionsHaveOneRole`](crate::definitions#optionshaveonerole)).
-/// - For each [`Lawful`](crate::definitions#lawful) word some pair of bytes fits
+/// - For a [`Lawful`](crate::definitions#lawful) word this holds if and only if both bytes are allowed ASCII, and
+///   no byte plays two of the seven roles ([`OptionsHaveOneRole`](crate::definitions#optionshaveonerole)).
+/// - For each [`Lawful`](crate::definitions#lawful) word there is a pair of bytes that fits
 ///   ([`SomeOptionsFit`](crate::definitions#someoptionsfit)).
 ///
 /// ```text

@@ -40,7 +40,7 @@ impl FormatView {
         has_any!(self, REQUIRED_MANTISSA_DIGITS)
     }
 
-    /// Returns whether any is set of the flags of a group: digits that must be there
+    /// Returns whether any flag of a group is set: digits that must be there
     /// ([setter][super::NumberFormatBuilder::required_digits]).
     #[must_use]
     #[inline(always)]
@@ -257,7 +257,7 @@ impl FormatView {
         has_any!(self, EXPONENT_CONSECUTIVE_DIGIT_SEPARATOR)
     }
 
-    /// Returns whether any is set of the flags of a group: a separator between digits
+    /// Returns whether any flag of a group is set: a separator between digits
     /// ([setter][super::NumberFormatBuilder::internal_digit_separator]).
     #[must_use]
     #[inline(always)]
@@ -265,7 +265,7 @@ impl FormatView {
         has_any!(self, INTERNAL_DIGIT_SEPARATOR)
     }
 
-    /// Returns whether any is set of the flags of a group: a separator before digits
+    /// Returns whether any flag of a group is set: a separator before digits
     /// ([setter][super::NumberFormatBuilder::leading_digit_separator]).
     #[must_use]
     #[inline(always)]
@@ -273,7 +273,7 @@ impl FormatView {
         has_any!(self, LEADING_DIGIT_SEPARATOR)
     }
 
-    /// Returns whether any is set of the flags of a group: a separator after digits
+    /// Returns whether any flag of a group is set: a separator after digits
     /// ([setter][super::NumberFormatBuilder::trailing_digit_separator]).
     #[must_use]
     #[inline(always)]
@@ -281,7 +281,7 @@ impl FormatView {
         has_any!(self, TRAILING_DIGIT_SEPARATOR)
     }
 
-    /// Returns whether any is set of the flags of a group: several separators in a row, where one is allowed
+    /// Returns whether any flag of a group is set: several separators in a row, where one is allowed
     /// ([setter][super::NumberFormatBuilder::consecutive_digit_separator]).
     #[must_use]
     #[inline(always)]
