@@ -58,7 +58,8 @@ END
     chmod +x "$1"
 }
 
-tests=(docs/check_test.py .ci/rows_test.sh {rust/tools,c}/test.sh crates/{numfmt,recorded}/built-program-test.sh)
+tests=(explorer/build docs/check_test.py .ci/rows_test.sh {rust/tools,c,explorer}/test.sh)
+tests+=(crates/{numfmt,recorded}/built-program-test.sh)
 for test in "${tests[@]}" ../*/test.sh; do stub "$work/repository/${test#../}" "${test#../}"; done
 stub "$work/bin/python3" docs/check.py
 stub "$work/bin/shellcheck" shellcheck

@@ -37,7 +37,7 @@ import check_prose
 import erase
 import make_python
 
-PAGES = sorted(page for folder in (".", "docs", "compare", "bench", "rust") for page in (TOP / folder).glob("*.md"))
+PAGES = sorted(page for folder in (".", "docs", "compare", "bench", "rust", "explorer") for page in (TOP / folder).glob("*.md"))
 SOURCES = [("crates", "*.rt"), ("crates", "*.antt"), ("rust", "*.rs"), ("rust", "*.toml"), ("c", "*.[chp]*")]
 LANGUAGES = ["rust", "antt", "c", "python", "toml"]
 LIBRARIES = ["lexical_base", "lexical_flags", "lexical_builder", "lexical_util"]
@@ -217,7 +217,7 @@ def commands(text):
 
 def not_called():
     """Returns the tests that neither `.ci/run` nor a script that it runs calls."""
-    scripts = [(TOP / name).read_text() for name in (".ci/run", "rust/tools/test.sh", "c/test.sh")]
+    scripts = [(TOP / name).read_text() for name in (".ci/run", "rust/tools/test.sh", "c/test.sh", "explorer/test.sh")]
     calls = re.sub(r"^ *#.*", "", "\n".join(scripts), flags=re.M)
     for folder in sorted(path.name for path in TOP.iterdir() if path.is_dir() and path.name != ".git"):
         for path in files_of(folder, "*test.*"):

@@ -11,7 +11,7 @@ import sys
 import tempfile
 
 TOP = pathlib.Path(__file__).resolve().parent.parent
-COPIED = ["*.md", "crates.txt", ".ci", "bench", "c", "compare", "crates", "docs", "rust"]
+COPIED = ["*.md", "crates.txt", ".ci", "bench", "c", "compare", "crates", "docs", "explorer", "rust"]
 
 # A file, a piece of it (`None`: its end, also of a new file), what stands there instead, and what has to be printed.
 FLAGS, FORMAT, DIGIT = "crates/lexical_flags/src/format_flags.rt", "docs/FORMAT.md", "crates/lexical_base/src/digit.rt"

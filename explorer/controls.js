@@ -84,7 +84,8 @@ class Controls {
     makeBytes() {
         const rows = this.data.bytes.map(({ name, meaning, part }) => {
             const parsed = (text) => this.parsed(name, text);
-            return this.byteRow(name, name, part, meaning, parsed, (edit) => this.edit([edit]));
+            const text = meaning.replace(/^0 is none; else /, "");
+            return this.byteRow(name, name, part, text, parsed, (edit) => this.edit([edit]));
         });
         for (const [name, label, meaning] of [
             ["exponent", "exponent character", "an option of the parser, such as the `e` in `1e5`"],
@@ -98,14 +99,17 @@ class Controls {
 
     byteRow(name, title, part, meaning, parsed, use) {
         const problem = element("span", { class: "problem", id: `${name}-problem`, role: "status" });
+        let before;
+        const focus = (event) => (before = event.target.value);
+        /* While a text is refused, the byte is the one before the text was typed. */
         const input = (event) => {
             const { edit, message } = parsed(event.target.value);
             setText(problem, message ?? "");
             event.target.setAttribute("aria-invalid", String(Boolean(message)));
-            if (edit) use(edit);
+            use(edit ?? parsed(before).edit);
         };
         const blur = () => this.show(this.shown);
-        const box = element("input", { id: name, input, blur, autocomplete: "off", spellcheck: "false", size: 4 });
+        const box = element("input", { id: name, input, focus, blur, autocomplete: "off", spellcheck: "false", size: 4 });
         box.setAttribute("aria-describedby", `${name}-problem ${name}-meaning`);
         const other = element("span", { class: "other" });
         this.inputs.set(name, { box, other, problem });
@@ -125,14 +129,16 @@ class Controls {
         return { edit, message: message && message.replace("digit_separator", `the ${label}`) };
     }
 
-    /* Shows a state: {word, exponent, point, blamed}, and its bytes as they are, where an absent byte is 0. */
+    /* Shows a state: {word, exponent, point}, its bytes, where an absent one is 0, and those where it is filled. */
     show(shown) {
         this.shown = shown;
         for (const [name, box] of this.boxes) box.checked = this.library.flag(shown.word, name);
         for (const group of this.data.groups) this.showGroup(group);
-        for (const { name, isNumber } of this.data.bytes) this.showByte(name, shown.bytes[name], isNumber);
-        this.showByte("exponent", shown.exponent);
-        this.showByte("point", shown.point);
+        for (const { name, isNumber } of this.data.bytes) {
+            this.showByte(name, shown.bytes[name], isNumber, shown.filled[name]);
+        }
+        this.showByte("exponent", shown.exponent, false, shown.exponent);
+        this.showByte("point", shown.point, false, shown.point);
     }
 
     /* Shows whether all flags of a group are set, or only some. */
@@ -144,10 +150,12 @@ class Controls {
         box.indeterminate = isSome && !box.checked;
     }
 
-    showByte(name, byte, isNumber) {
+    /* Shows a byte. Beside it are its numbers, or the number that an absent byte is filled with. */
+    showByte(name, byte, isNumber, filled) {
         const { box, other, problem } = this.inputs.get(name);
         const isAbsent = byte === 0 && name !== "mantissa_radix";
-        setText(other, isAbsent || isNumber ? "" : `${byte} = 0x${byte.toString(16).toUpperCase().padStart(2, "0")}`);
+        const numbers = `${byte} = 0x${byte.toString(16).toUpperCase().padStart(2, "0")}`;
+        setText(other, byte === filled ? (isAbsent || isNumber ? "" : numbers) : `is ${filled}`);
         if (document.activeElement === box) return;
         box.value = isAbsent ? "" : byteText(byte, isNumber || this.asNumbers || (byte >= 48 && byte < 58)) || "0";
         box.placeholder = "none";

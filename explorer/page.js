@@ -2,6 +2,7 @@
 "use strict";
 
 const LANGUAGES = ["rust", "c", "python", "settings"];
+const SAVING_DELAY = 200;
 
 class Page {
     constructor(library, data) {
@@ -26,14 +27,14 @@ class Page {
     listen() {
         addEventListener("hashchange", () => this.read());
         find("word").addEventListener("input", (event) => this.paste(event.target.value));
-        find("word").addEventListener("blur", () => this.show());
+        find("word").addEventListener("blur", () => this.showWord());
         find("standard").addEventListener("click", () => this.jump({ word: this.library.standard, exponent: 101, point: 46 }));
         find("recipe").addEventListener("change", (event) => this.start(this.data.recipes[event.target.value]));
         find("as-numbers").addEventListener("change", (event) => {
             this.controls.asNumbers = event.target.checked;
             this.show();
         });
-        for (const [id, text] of [["copy-code", () => find("code").textContent], ["copy-link", () => location.href]]) {
+        for (const [id, text] of [["copy-code", () => find("code").textContent], ["copy-link", () => this.link()]]) {
             find(id).addEventListener("click", (event) => copy(event.target, text()));
         }
         for (const name of ["pointerover", "focusin"]) {
@@ -100,18 +101,31 @@ class Page {
         if (!message) this.change({ word });
     }
 
-    /* Changes the state, in the place of the old one. */
+    /* Changes the state, in the place of the old one. The fragment follows when no other change comes. */
     change(part) {
         this.state = { ...this.state, ...part };
-        history.replaceState(null, "", this.fragment());
+        clearTimeout(this.saving);
+        this.saving = setTimeout(() => this.save(), SAVING_DELAY);
         this.show();
+    }
+
+    save() {
+        clearTimeout(this.saving);
+        history.replaceState(null, "", this.fragment());
     }
 
     /* Changes the state, and keeps the old one for the way back. */
     jump(part) {
+        this.save();
+        this.state = { ...this.state, ...part };
         history.pushState(null, "", this.fragment());
-        this.change(part);
+        this.show();
         find("verdict").focus();
+    }
+
+    link() {
+        this.save();
+        return location.href;
     }
 
     fragment() {
@@ -128,29 +142,33 @@ class Page {
         this.show();
     }
 
+    /* Shows the word as text, and forgets what was pasted. */
+    showWord() {
+        find("word").value = this.library.wordText(this.state.word);
+        find("word").removeAttribute("aria-invalid");
+        setText(find("word-problem"), "");
+    }
+
     show() {
         const { word, exponent, point } = this.state;
-        const text = this.library.wordText(word);
-        if (document.activeElement !== find("word")) {
-            find("word").value = text;
-            find("word").removeAttribute("aria-invalid");
-            setText(find("word-problem"), "");
-        }
+        if (document.activeElement !== find("word")) this.showWord();
         const blamed = this.report.show(this.state);
-        this.controls.show({ word, exponent, point, bytes: this.library.rawBytes(word) });
-        showBits(this.cells, word, text);
-        showNumber(this.library, this.state, this.library.bytesOf(word, this.data.bytes.map(({ name }) => name)));
-        this.blame(new Set(blamed));
+        const filled = this.library.bytesOf(word, this.data.bytes.map(({ name }) => name));
+        this.controls.show({ word, exponent, point, bytes: this.library.rawBytes(word), filled });
+        showBits(this.cells, word, this.library.wordText(word));
+        showNumber(this.library, this.state, filled);
+        this.blame(new Set(blamed), new Set(this.code.edits(word).map(({ name }) => name)));
         this.showCode();
     }
 
-    /* Marks the fields that reasons blame. */
-    blame(names) {
+    /* Marks the fields that reasons blame, and those that differ from the standard format. */
+    blame(blamed, changed) {
         for (const node of document.querySelectorAll("[data-field]")) {
-            const isBlamed = node.dataset.field.split(" ").some((name) => names.has(name));
-            node.classList.toggle("blamed", isBlamed);
+            const names = node.dataset.field.split(" ");
+            node.classList.toggle("blamed", names.some((name) => blamed.has(name)));
+            node.classList.toggle("changed", names.some((name) => changed.has(name)));
         }
-        for (const [name, box] of this.controls.boxes) box.setAttribute("aria-invalid", String(names.has(name)));
+        for (const [name, box] of this.controls.boxes) box.setAttribute("aria-invalid", String(blamed.has(name)));
     }
 
     showCode() {

@@ -63,7 +63,7 @@ class Report {
         const title = `back to ${this.library.editText(standard)}`;
         const click = () => this.edit([standard]);
         const undo = element("button", { type: "button", class: "undo", title, "aria-label": title, click }, "\u00d7");
-        return element("li", { "data-field": edit.name }, element("code", {}, this.code.setting(edit)), undo);
+        return element("li", { class: "chip", "data-field": edit.name }, element("code", {}, this.code.setting(edit)), undo);
     }
 
     showNormal(word) {

@@ -1,0 +1,381 @@
+"""Does in headless Chromium what a user of index.html does, and keeps a picture of each step:
+
+    python3 explorer/browser_test.py FOLDER
+
+The page comes from the disk. Expected values are those of docs/FORMAT.md and known words and sentences.
+"""
+import pathlib
+import sys
+import time
+
+from selenium import webdriver
+from selenium.webdriver.chrome.options import Options
+from selenium.webdriver.chrome.service import Service
+from selenium.webdriver.common.by import By
+from selenium.webdriver.common.keys import Keys
+from selenium.webdriver.support.ui import Select, WebDriverWait
+
+PAGE = (pathlib.Path(__file__).resolve().parent / "index.html").as_uri()
+STANDARD = "0x00000A0000000000000000000000000C"
+# How long the first paint after a load and an edit may take, in milliseconds: the least of some tries.
+MOST_PAINT, MOST_EDIT, TRIES = 100, 10, 30
+OPTIONS = ["--headless=new", "--no-sandbox", "--disable-gpu", "--hide-scrollbars", "--disable-dev-shm-usage"]
+LARGE, PHONE = (1280, 1500), (390, 3600)
+
+
+class Browser:
+    """A browser with the page, and the folder for pictures."""
+
+    def __init__(self, folder):
+        options = Options()
+        for option in OPTIONS:
+            options.add_argument(option)
+        options.set_capability("goog:loggingPrefs", {"browser": "ALL", "performance": "ALL"})
+        self.driver = webdriver.Chrome(service=Service("chromedriver"), options=options)
+        self.folder = folder
+        self.show()
+
+    def show(self, size=LARGE, scheme="light"):
+        """Sets the size of the window and the scheme of colours."""
+        metrics = {"width": size[0], "height": size[1], "deviceScaleFactor": 1, "mobile": False}
+        self.driver.execute_cdp_cmd("Emulation.setDeviceMetricsOverride", metrics)
+        features = [{"name": "prefers-color-scheme", "value": scheme}]
+        self.driver.execute_cdp_cmd("Emulation.setEmulatedMedia", {"features": features})
+
+    def load(self, fragment=""):
+        """Loads the page with a fragment, as from a link."""
+        self.driver.get("about:blank")
+        self.driver.get(PAGE + fragment)
+        self.wait(lambda: self.run("return document.documentElement.dataset.ready"))
+
+    def wait(self, condition):
+        WebDriverWait(self.driver, 20, 0.02).until(lambda _: condition())
+
+    def run(self, script, *arguments):
+        return self.driver.execute_script(script, *arguments)
+
+    def find(self, selector):
+        return self.driver.find_element(By.CSS_SELECTOR, selector)
+
+    def all(self, selector):
+        return self.driver.find_elements(By.CSS_SELECTOR, selector)
+
+    def text(self, selector):
+        return self.find(selector).text
+
+    def texts(self, selector):
+        return [it.text for it in self.all(selector)]
+
+    def value(self, selector):
+        return self.find(selector).get_property("value")
+
+    def type(self, selector, text):
+        """Writes a text in the place of what is there."""
+        self.find(selector).send_keys(Keys.CONTROL, "a")
+        self.find(selector).send_keys(text or Keys.DELETE)
+
+    def click(self, selector, text=None):
+        """Clicks the element, or the first of these with the text."""
+        found = self.all(selector)
+        chosen = next(it for it in found if text is None or it.text == text)
+        self.run("arguments[0].scrollIntoView({block: 'center'})", chosen)
+        chosen.click()
+
+    def word(self):
+        return self.value("#word")
+
+    def fragment(self):
+        time.sleep(0.3)
+        return self.run("return location.hash")
+
+    def classes(self, selector):
+        return self.find(selector).get_attribute("class").split()
+
+    def log(self):
+        """Returns what the browser complains of."""
+        return [it["message"] for it in self.driver.get_log("browser")]
+
+
+def same(got, wanted):
+    if got != wanted:
+        raise AssertionError(f"\n  wanted: {wanted!r}\n  got:    {got!r}")
+
+
+def the_standard_format_is_shown(page):
+    page.load()
+    same(page.word(), STANDARD)
+    same(page.text("#verdict"), "Lawful")
+    same(page.texts("#changes li"), [])
+    same(page.text("#options"), "Exponent character and decimal point fit the format.")
+
+
+def a_flag_is_set(page):
+    page.click("#no_special")
+    same(page.word(), "0x00000A0000000000000000000000040C")
+    same(page.texts("#changes code"), ["no_special=true"])
+    same("never" in page.classes("#special .part"), True)
+
+
+def a_flag_is_set_by_its_label(page):
+    page.click("label[for=no_integer_leading_zeros]")
+    same(page.word(), "0x00000A0000000000000000000000140C")
+
+
+def a_flag_is_set_by_the_keyboard(page):
+    page.find("#no_float_leading_zeros").send_keys(Keys.SPACE)
+    same(page.word(), "0x00000A0000000000000000000000340C")
+
+
+def a_change_is_taken_back(page):
+    page.click("#changes li:first-child .undo")
+    same(page.word(), "0x00000A0000000000000000000000300C")
+
+
+def a_bit_is_clicked(page):
+    page.click(".bit[data-field=no_positive_mantissa_sign]")
+    same(page.word(), "0x00000A0000000000000000000000301C")
+    same(page.find("#no_positive_mantissa_sign").is_selected(), True)
+
+
+def the_standard_format_is_taken(page):
+    page.click("#standard")
+    same(page.word(), STANDARD)
+
+
+def a_character_is_typed(page):
+    page.type("#base_prefix", "x")
+    same(page.word(), "0x00000A0078000000000000000000000C")
+    same(page.texts("#number .title")[1], "prefix")
+    same(page.texts("#number .written")[1], "0x")
+
+
+def a_radix_is_typed(page):
+    page.type("#mantissa_radix", "16")
+    same(page.word(), "0x0000100078000000000000000000000C")
+    same("'invalid exponent symbol: must be ASCII and not a digit or a" in page.text("#options"), True)
+
+
+def an_exponent_character_is_typed(page):
+    page.type("#exponent", "p")
+    same(page.text("#options"), "Exponent character and decimal point fit the format.")
+    same(page.fragment(), "#word=0x0000100078000000000000000000000C&exponent=112&point=46")
+
+
+def a_value_that_is_none_is_refused(page):
+    page.type("#mantissa_radix", "256")
+    same(page.text("#mantissa_radix-problem"), "mantissa_radix takes a number, 2 to 36 in a lawful format")
+    same(page.find("#mantissa_radix").get_attribute("aria-invalid"), "true")
+    same(page.word(), "0x0000100078000000000000000000000C")
+
+
+def a_refused_value_is_replaced(page):
+    page.find("#mantissa_radix").send_keys(Keys.TAB)
+    same(page.value("#mantissa_radix"), "16")
+    same(page.text("#mantissa_radix-problem"), "")
+
+
+def a_separator_without_a_flag_has_a_note(page):
+    page.type("#digit_separator", "_")
+    same(page.texts("#notes .note")[0].splitlines()[0], "no number can have the digit separator '_': no flag allows one")
+    same(page.text("#verdict"), "Lawful")
+
+
+def a_group_of_flags_is_set(page):
+    page.click("#internal_digit_separator")
+    same(page.word(), "0x000010007800005F000000070000000C")
+    same(page.texts("#notes .note"), [])
+    same(page.texts("#number .written")[2], "1_F_0")
+
+
+def a_group_is_partly_set(page):
+    page.click("#fraction_internal_digit_separator")
+    same(page.find("#internal_digit_separator").get_property("indeterminate"), True)
+    same(page.word(), "0x000010007800005F000000050000000C")
+
+
+def a_clash_has_a_reason(page):
+    page.type("#base_prefix", "b")
+    same(page.text("#verdict"), "Not lawful: 1 reason")
+    same(page.text("#first-error"), "lexical number format error: 'invalid base prefix character'")
+    same(page.text(".reason strong"), "the base prefix 'b' is a digit in radix 16")
+    same(page.texts(".reason .link"), ["base_prefix", "mantissa_radix"])
+    blamed = [it.get_attribute("data-field") for it in page.all(".field.blamed")]
+    same(sorted(blamed), ["base_prefix", "mantissa_radix"])
+
+
+def a_link_leads_to_its_control(page):
+    page.click(".reason .link", "base_prefix")
+    same(page.run("return document.activeElement.id"), "base_prefix")
+
+
+def a_button_mends_it(page):
+    same(page.texts(".reason .mend"), ["base_prefix=none", "radix=10 exponent_base=none exponent_radix=none"])
+    page.click(".reason .mend", "base_prefix=none")
+    same(page.text("#verdict"), "Lawful")
+    same(page.word(), "0x000010000000005F000000050000000C")
+
+
+def the_way_back_has_the_old_word(page):
+    page.driver.back()
+    page.wait(lambda: page.word() == "0x000010006200005F000000050000000C")
+
+
+def a_word_is_pasted(page):
+    page.type("#word", "0xC")
+    same(page.text("#first-error"), "lexical number format error: 'invalid radix for mantissa digits'")
+    same(page.texts(".reason strong"), ["the mantissa radix 0 is not between 2 and 36"])
+    same(len(page.all(".rules li")), 3)
+    same(page.value("#mantissa_radix"), "0")
+
+
+def what_is_no_word_is_refused(page):
+    for text, message in (("<img src=x onerror=alert(1)>", "invalid digit"), ("0x", "empty"), ("0x" + 33 * "0", "overflow")):
+        page.type("#word", text)
+        same(message in page.text("#word-problem"), True)
+        same(page.find("#word").get_attribute("aria-invalid"), "true")
+    same(page.all("img"), [])
+
+
+def reserved_bits_have_a_reason(page):
+    page.type("#word", "0x00000A00000000000000000080000000")
+    same(page.texts(".reason strong"), ["reserved bits are set: 0x80000000"])
+    page.click(".reason .mend", "clear the reserved bits")
+    same(page.text("#verdict"), "Lawful")
+
+
+def the_normal_form_is_used(page):
+    page.load(f"#word={STANDARD}")
+    same(page.text("#normal code"), "0x0A0A0A0000000000000000000000000C")
+    page.click("#use-normal")
+    same(page.text("#normal"), "The word is its own normal form.")
+    same(page.value("#exponent_radix"), "10")
+
+
+def a_recipe_is_taken(page):
+    Select(page.find("#recipe")).select_by_visible_text("JSON's numbers")
+    same(page.word(), "0x00000A0000000000000000000000341F")
+    same(page.text("#about").startswith("JSON's numbers (RFC 8259"), True)
+    same(len(page.all("#recipe-settings li")), 5)
+
+
+def a_recipe_brings_its_exponent_character(page):
+    Select(page.find("#recipe")).select_by_visible_text("C's hexadecimal floating constants")
+    same(page.value("#exponent"), "p")
+    same(page.value("#digit_separator"), "'")
+    same(page.text("#verdict"), "Lawful")
+
+
+def code_is_shown_in_each_language(page):
+    page.load("#word=0x0000100078000000000000000000040C")
+    rust = ".no_special(true)\n    .base_prefix(NonZeroU8::new(120))\n    .mantissa_radix(16)"
+    rows = {
+        "rust": rust,
+        "c": "{PELTZIVAR_SET_BASE_PREFIX, 'x'},\n    {PELTZIVAR_SET_MANTISSA_RADIX, 16},",
+        "python": 'no_special=True,\n    base_prefix="x",\n    mantissa_radix=16,',
+        "settings": "no_special=true\nbase_prefix='x'\nmantissa_radix=16",
+    }
+    for name, wanted in rows.items():
+        page.click(f"#tab-{name}")
+        same(wanted in page.text("#code"), True)
+
+
+def tabs_follow_the_arrows(page):
+    page.find("#tab-settings").send_keys(Keys.ARROW_RIGHT)
+    same(page.run("return document.activeElement.id"), "tab-rust")
+    same(page.find("#tab-rust").get_attribute("aria-selected"), "true")
+
+
+def code_is_copied(page):
+    page.click("#copy-code")
+    page.wait(lambda: page.text("#copy-code") == "copied")
+
+
+def numbers_are_shown_in_the_place_of_characters(page):
+    page.click("#as-numbers")
+    same(page.value("#base_prefix"), "120")
+    page.click("#as-numbers")
+    same(page.value("#base_prefix"), "x")
+
+
+def what_belongs_together_is_marked(page):
+    page.run("document.getElementById('base_prefix').focus()")
+    same(len(page.all(".bit.marked")), 8)
+    same("bits 88 to 95" in page.text("#hint"), True)
+    same("marked" in page.classes("#number .part:nth-child(2)"), True)
+
+
+def a_link_has_the_whole_state(page):
+    page.load("#word=0x0A0A10006200005F000000070001400C&exponent=112&point=44")
+    same(page.word(), "0x0A0A10006200005F000000070001400C")
+    same(page.value("#point"), ",")
+    page.load("#word=nonsense&exponent=300&point=")
+    same((page.word(), page.value("#exponent"), page.value("#point")), (STANDARD, "e", "."))
+
+
+def all_controls_have_names(page):
+    unnamed = """return [...document.querySelectorAll("input, button, select")].filter((it) =>
+        !(it.labels?.length || it.getAttribute("aria-label") || it.textContent.trim())).map((it) => it.outerHTML)"""
+    same(page.run(unnamed), [])
+
+
+def it_fits_a_phone_and_a_dark_screen(page):
+    page.show(PHONE, "dark")
+    page.load("#word=0x0A0A10006200005F000000070001400C&exponent=112&point=46")
+    same(page.run("return document.documentElement.scrollWidth"), PHONE[0])
+
+
+def nothing_is_requested_and_nothing_fails(page):
+    page.show()
+    requests = "return performance.getEntriesByType('resource').map((it) => it.name)"
+    same(page.run(requests), [])
+    same(page.log(), [])
+
+
+def least(measure, most):
+    """Returns the least of some measures. The first that is below the most ends them."""
+    best = measure()
+    for _ in range(TRIES):
+        if best < most:
+            break
+        best = min(best, measure())
+    return best
+
+
+def loading_and_editing_are_fast(page):
+    def paint():
+        page.load()
+        page.wait(lambda: page.run("return performance.getEntriesByName('first-contentful-paint').length"))
+        return page.run("return performance.getEntriesByName('first-contentful-paint')[0].startTime")
+
+    edit = """const start = performance.now(); document.getElementById("no_special").click();
+        document.body.offsetHeight; return performance.now() - start"""
+    page.show(LARGE)
+    paints, edits = least(paint, MOST_PAINT), least(lambda: page.run(edit), MOST_EDIT)
+    print(f"first paint {paints:.0f} ms, edit {edits:.1f} ms")
+    same((paints < MOST_PAINT, edits < MOST_EDIT), (True, True))
+
+
+STEPS = [
+    it for name, it in globals().copy().items() if callable(it) and getattr(it, "__code__", None) and it.__code__.co_varnames[:1] == ("page",)
+]
+
+
+def main(folder):
+    folder.mkdir(exist_ok=True)
+    page = Browser(folder)
+    failed = 0
+    for number, step in enumerate(STEPS, 1):
+        name = step.__name__
+        try:
+            step(page)
+        except Exception as error:
+            failed += 1
+            print(f"{name}: {type(error).__name__}: {error}")
+        page.driver.save_screenshot(str(folder / f"{number:02}-{name}.png"))
+    page.driver.quit()
+    print(f"{len(STEPS) - failed} steps passed, {failed} failed")
+    return 1 if failed else 0
+
+
+if __name__ == "__main__":
+    sys.exit(main(pathlib.Path(sys.argv[1])))
