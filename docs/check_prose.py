@@ -18,7 +18,7 @@ def case_flags():
     bits = {name: bit for bit, name, _ in check_format.FLAGS}
     flags = [bits[f"case_sensitive_{it}"] for it in ("base_prefix", "base_suffix", "exponent")]
     return (
-        "If a base prefix, a base suffix or an exponent character is a letter, it stands for both cases of it, "
+        "If a base prefix, a base suffix or an exponent character is a letter, it stands for both cases, "
         f"unless its flag {listed(flags, 'or')} is set."
     )
 

@@ -46,7 +46,7 @@ PLANTS = [
     (FORMAT, " 127       120 ", " 127       121 ", "docs/FORMAT.md: the drawing has other bits than the tables"),
     (FORMAT, "| not both flags 4 and 5 |", "| not both flags 4 and 6 |",
      "docs/FORMAT.md: rule 9 demands another thing: not both flags 4 and 6"),
-    (FORMAT, "16, 17 or 15 is", "17, 16 or 15 is", "docs/FORMAT.md: does not have: If a base prefix, a base suffix"),
+    (FORMAT, "its flag 16, 17", "its flag 17, 17", "docs/FORMAT.md: does not have: If a base prefix, a base suffix"),
     (FORMAT, "Exit status: 0;", "Exit status: 4;", "docs/FORMAT.md: does not have: Exit status: 0;"),
     ("rust/src/feature_format.rs", "/// Whether a parser refuses `.`:", "/// Whether a parser refuses `,`:",
      "docs/FORMAT.md: rust/src/feature_format.rs: `required_mantissa_digits` does not say: refuses `.`"),

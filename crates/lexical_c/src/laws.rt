@@ -2,7 +2,7 @@
 
 ghost use Rattle.std.specs.Prelude.{◌≡◌, [], ◌∷◌};
 ghost use Rattle.lexical_util.specs.declared.error.Error.TheVariants as errors;
-ghost use Rattle.lexical_c.specs.Outcomes.{IsCodeOfSome};
+ghost use Rattle.lexical_c.specs.Outcomes.{IsCodeOfSome, IsWrittenIfLawful};
 ghost use Rattle.lexical_c.specs.Texts.{IsWritten};
 
 /// States the number of `Success`, and the result of writing a text into a buffer.
@@ -13,4 +13,10 @@ pub fn returned_examples()
     // The front of a longer text is written.
     ensures front { IsWritten (1 ∷ 2 ∷ []) 2 (9 ∷ 9 ∷ []) (1 ∷ 0 ∷ []) }
     ensures other_byte { IsWritten (1 ∷ 2 ∷ []) 2 (9 ∷ 9 ∷ []) (1 ∷ 2 ∷ []) → ⊥ }
+{}
+
+/// An output that a call left alone although the word is lawful. Each call proves an example that holds.
+#[tactic(auto, unfolding(lexical_util::specs::Unfoldable::on_literals))]
+pub fn written_examples()
+    ensures unchanged { IsWrittenIfLawful 0x00000A00_00000000_00000000_0000000C 0 7 7 → ⊥ }
 {}

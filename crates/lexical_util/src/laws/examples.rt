@@ -7,6 +7,8 @@ ghost use Rattle.lexical_builder.specs.Writes.{write_flag, write_byte, SameWrite
 ghost use Rattle.lexical_util.specs.Additions.Notes.{set_flags, ReplacesFields, SameRules, SameOtherRules};
 ghost use Rattle.lexical_util.specs.Additions.Reasons.{Blames};
 ghost use Rattle.lexical_util.specs.Additions.Mends.{Mends};
+ghost use Rattle.lexical_util.specs.Additions.SettingNumbers.{HasByte};
+ghost use Rattle.lexical_util.specs.Listing.{IsEditOf};
 ghost use Rattle.lexical_util.specs.declared.edits.Edit.TheVariants as edits;
 ghost use Rattle.lexical_util.specs.declared.edits.FlagSetter.TheVariants as setters;
 ghost use Rattle.lexical_util.specs.declared.reasons.Reason.TheVariants as reasons;
@@ -22,6 +24,16 @@ pub fn write_examples()
     ensures other_last { SameWrites
         (write_byte layout.mantissa_radix 8 ∷ write_byte layout.mantissa_radix 16 ∷ [])
         (write_byte layout.mantissa_radix 16 ∷ write_byte layout.mantissa_radix 8 ∷ []) → ⊥ }
+{}
+
+/// Edits: one that makes a write alone and one that makes more writes; one of a program, and one whose byte is too large.
+pub fn edit_examples()
+    ensures flag { IsEditOf (write_flag layout.required_integer_digits true)
+        (edits.Flag setters.RequiredIntegerDigits true) }
+    ensures group { IsEditOf (write_flag layout.required_integer_digits true)
+        (edits.Flag setters.RequiredDigits true) → ⊥ }
+    ensures byte { HasByte (edits.MantissaRadix 16) }
+    ensures large { HasByte (edits.MantissaRadix 256) → ⊥ }
 {}
 
 /// Notes: words with and without the case flag of an absent prefix, and words that keep the same rules and that do not.
