@@ -22,7 +22,7 @@ CUES = {
     "internal": "between",
     "leading": "before",
     "trailing": "after",
-    "consecutive": "in a row",
+    "consecutive": "consecutive",
     "integer": "integer",
     "fraction": "fraction",
     "exponent": "exponent",
@@ -85,7 +85,7 @@ def docs_of(setter):
 def meanings():
     """Returns the meanings of flags, groups and bytes that are not those of their setters."""
     told = [(name, f"If set, a parser {meaning}") for _, name, meaning in FLAGS]
-    told += [(name, f"Sets the flags about {meaning}") for name, _, meaning in GROUPS]
+    told += [(name, f"Sets all flags of the group: {meaning}") for name, _, meaning in GROUPS]
     told += [(name, re.sub("^.*; (else )?", "", meaning)) for _, _, name, meaning in BYTES]
     for name, meaning in told:
         if not re.search(re.escape(meaning) + "[.:,;]", docs_of(name)):
@@ -110,7 +110,7 @@ def pointers():
     """Returns the constants and getters that point to another setter than that of their field."""
     for path in POINTING:
         text = (CRATES / f"lexical_{path}.rt").read_text()
-        pointer = r"(?:Builder::|of \[`Self::)(\w+)`?\].*\n(?: *[/#].*\n)* *pub const (?:fn )?(\w+)"
+        pointer = r"(?:Builder::|of \[`Self::|the \[[a-z ]+\]\[Self::)(\w+)`?\].*\n(?: *[/#].*\n)* *pub const (?:fn )?(\w+)"
         for setter, item in re.findall(pointer, text):
             if re.sub("_mask$", "s", item.lower().removeprefix("get_")) != setter:
                 yield f"{path}.rt: `{item}` points to the setter `{setter}`"
@@ -121,7 +121,7 @@ def demand(number, error, word):
     field = re.sub(r"(?<=[a-z])(?=[A-Z])", " ", error).lower()
     flags = [str(bit) for bit in bits_of(int(word, 16)) if bit < 64]
     if int(number) <= 3:
-        return f"the {field} is 2 to 36"
+        return f"the {field} is between 2 and 36"
     if int(number) <= 6:
         return f"the {field} is 0 or punctuation"
     if error == "Punctuation":

@@ -429,11 +429,11 @@
 //!   each : (b : Byte) → r.byte b < 256
 //! ```
 //!
-//! # The record of a new builder, and that of one radix
+//! # The record of a new builder, and the record of one radix
 //!
 //! ## `new_record`
 //!
-//! The record of a new builder: mantissa radix 10, and digits required in the mantissa and the exponent.
+//! `new_record` is the record of a new builder: mantissa radix 10, and digits required in mantissa and exponent.
 //!
 //! ```text
 //! new_record : Record
@@ -447,7 +447,7 @@
 //!
 //! ## `byte_of_option`
 //!
-//! The byte, or 0 if it is absent.
+//! `byte_of_option byte` is the byte in the option `byte`, or 0 if it is absent.
 //!
 //! ```text
 //! byte_of_option : Option ℕ → ℕ
@@ -457,18 +457,18 @@
 //!
 //! ## `option_of_byte`
 //!
-//! The byte as an option, absent if it is 0.
+//! `option_of_byte byte` is `byte` as an option, which is `None` if `byte` is 0.
 //!
 //! ```text
 //! option_of_byte : ℕ → Option ℕ
 //! option_of_byte byte = if byte == 0 then None else Some byte
 //! ```
 //!
-//! # Writes of fields, and the record that they leave
+//! # Writes of fields, and the record after them
 //!
 //! ## `Write`
 //!
-//! A field and its new value.
+//! `Write` is the type of writes: a field and its new value.
 //!
 //! ```text
 //! data Write : Type 0 where
@@ -488,7 +488,7 @@
 //!
 //! ## `write_flags`
 //!
-//! The writes of one value to several flags.
+//! `write_flags fs value` lists the writes of `value` to each of the flags `fs`.
 //!
 //! ```text
 //! write_flags : List Flag → Bool → List Write
@@ -517,7 +517,7 @@
 //!
 //! ## `last_flag`
 //!
-//! The last value that some writes give a flag, or `None` if they do not write it.
+//! `last_flag writes f` is the last value that `writes` write to the flag `f`, or `None` if they do not write it.
 //!
 //! ```text
 //! last_flag : List Write → Flag → Option Bool
@@ -526,7 +526,7 @@
 //!
 //! ## `last_byte`
 //!
-//! The last value that some writes give a byte, or `None` if they do not write it.
+//! `last_byte writes b` is the last value that `writes` write to the byte `b`, or `None` if they do not write it.
 //!
 //! ```text
 //! last_byte : List Write → Byte → Option ℕ
@@ -535,7 +535,7 @@
 //!
 //! ## `after`
 //!
-//! `after r writes` is the record in which each field has the value of the last write to it, or else its value in `r`.
+//! `after r writes` is the record in which each field has the value of the last write to it, or its value in `r`.
 //!
 //! ```text
 //! after : Record → List Write → Record
@@ -545,7 +545,7 @@
 //!
 //! ## `changes`
 //!
-//! `changes r write` is true if `write` gives its field another value than `r` has.
+//! `changes r write` is true if the value of `write` differs from the value of its field in `r`.
 //!
 //! ```text
 //! changes : Record → Write → Bool

@@ -19,128 +19,132 @@ pub use crate::format_flags::rules::{
 
 // FLAGS OTHER THAN DIGIT SEPARATOR FLAGS
 
-/// If set, a parser refuses `.5`: a float with no digits before its decimal point
+/// If set, a parser refuses `.5`: the flag requires digits before the decimal point
 /// ([setter][crate::format_builder::NumberFormatBuilder::required_integer_digits]).
 pub const REQUIRED_INTEGER_DIGITS: u128 = 0x1;
 
-/// If set, a parser refuses `1.`: a decimal point with no digits after it
+/// If set, a parser refuses `1.`: the flag requires digits after a decimal point
 /// ([setter][crate::format_builder::NumberFormatBuilder::required_fraction_digits]).
 pub const REQUIRED_FRACTION_DIGITS: u128 = 0x2;
 
-/// If set, a parser refuses `1e`: an exponent character with no digits after it
+/// If set, a parser refuses `1e`: the flag requires digits after an exponent character
 /// ([setter][crate::format_builder::NumberFormatBuilder::required_exponent_digits]).
 pub const REQUIRED_EXPONENT_DIGITS: u128 = 0x4;
 
-/// If set, a parser refuses `.`: a float with no significant digit
+/// If set, a parser refuses `.`: the flag requires a significant digit in a float
 /// ([setter][crate::format_builder::NumberFormatBuilder::required_mantissa_digits]).
 pub const REQUIRED_MANTISSA_DIGITS: u128 = 0x8;
 
-/// Mask of a flag group: digits that must be there
+/// Mask of a flag group: digits that must be present
 /// ([setter][crate::format_builder::NumberFormatBuilder::required_digits]).
 pub const REQUIRED_DIGITS: u128 = 0xF;
 
-/// If set, a parser refuses `+1`: a `+` before an integer or a float
+/// If set, a parser refuses `+1`: the flag forbids a `+` before an integer or a float
 /// ([setter][crate::format_builder::NumberFormatBuilder::no_positive_mantissa_sign]).
 pub const NO_POSITIVE_MANTISSA_SIGN: u128 = 0x10;
 
-/// If set, a parser refuses `1`: an integer or a float with no sign
+/// If set, a parser refuses `1`: the flag requires a sign before an integer or a float
 /// ([setter][crate::format_builder::NumberFormatBuilder::required_mantissa_sign]).
 pub const REQUIRED_MANTISSA_SIGN: u128 = 0x20;
 
-/// If set, a parser refuses `1e5`: a float with an exponent
+/// If set, a parser refuses `1e5`: the flag forbids an exponent in a float
 /// ([setter][crate::format_builder::NumberFormatBuilder::no_exponent_notation]).
 pub const NO_EXPONENT_NOTATION: u128 = 0x40;
 
-/// If set, a parser refuses `1e+5` ([setter][crate::format_builder::NumberFormatBuilder::no_positive_exponent_sign]).
+/// If set, a parser refuses `1e+5`: the flag forbids a `+` in the exponent
+/// ([setter][crate::format_builder::NumberFormatBuilder::no_positive_exponent_sign]).
 pub const NO_POSITIVE_EXPONENT_SIGN: u128 = 0x80;
 
-/// If set, a parser refuses `1e5`: an exponent with no sign
+/// If set, a parser refuses `1e5`: the flag requires a sign in the exponent
 /// ([setter][crate::format_builder::NumberFormatBuilder::required_exponent_sign]).
 pub const REQUIRED_EXPONENT_SIGN: u128 = 0x100;
 
-/// If set, a parser refuses `1e5`, not `1.0e5`: an exponent needs a decimal point, but no digits after it
-/// ([setter][crate::format_builder::NumberFormatBuilder::no_exponent_without_fraction]).
+/// If set, a parser refuses `1e5`, not `1.0e5`: the flag requires a decimal point before an exponent, but no digits
+/// after that point ([setter][crate::format_builder::NumberFormatBuilder::no_exponent_without_fraction]).
 pub const NO_EXPONENT_WITHOUT_FRACTION: u128 = 0x200;
 
-/// If set, a parser refuses `NaN` and `inf`, and every other special value
+/// If set, a parser refuses `NaN` and `inf`, and every other special value: the flag forbids special values
 /// ([setter][crate::format_builder::NumberFormatBuilder::no_special]).
 pub const NO_SPECIAL: u128 = 0x400;
 
-/// If set, a parser refuses `nan`, if `NaN` is the spelling
+/// If set, a parser refuses `nan`, if `NaN` is the spelling: the flag makes special values case-sensitive
 /// ([setter][crate::format_builder::NumberFormatBuilder::case_sensitive_special]).
 pub const CASE_SENSITIVE_SPECIAL: u128 = 0x800;
 
-/// If set, a parser refuses `01` as an integer, not `0`
+/// If set, a parser refuses `01` as an integer, not `0`: the flag forbids leading zeros in an integer
 /// ([setter][crate::format_builder::NumberFormatBuilder::no_integer_leading_zeros]).
 pub const NO_INTEGER_LEADING_ZEROS: u128 = 0x1000;
 
-/// If set, a parser refuses `01.0`, not `0.1`
+/// If set, a parser refuses `01.0`, not `0.1`: the flag forbids leading zeros in a float
 /// ([setter][crate::format_builder::NumberFormatBuilder::no_float_leading_zeros]).
 pub const NO_FLOAT_LEADING_ZEROS: u128 = 0x2000;
 
-/// If set, a parser refuses `1.0`: a float with no exponent
+/// If set, a parser refuses `1.0`: the flag requires an exponent in a float
 /// ([setter][crate::format_builder::NumberFormatBuilder::required_exponent_notation]).
 pub const REQUIRED_EXPONENT_NOTATION: u128 = 0x4000;
 
-/// If set, a parser refuses `1E5`, if the exponent character is `e`
-/// ([setter][crate::format_builder::NumberFormatBuilder::case_sensitive_exponent]).
+/// If set, a parser refuses `1E5`, if the exponent character is `e`: the flag makes the exponent character
+/// case-sensitive ([setter][crate::format_builder::NumberFormatBuilder::case_sensitive_exponent]).
 pub const CASE_SENSITIVE_EXPONENT: u128 = 0x8000;
 
-/// If set, a parser refuses `0X1F`, if the base prefix is `x`
+/// If set, a parser refuses `0X1F`, if the base prefix is `x`: the flag makes the base prefix case-sensitive
 /// ([setter][crate::format_builder::NumberFormatBuilder::case_sensitive_base_prefix]).
 pub const CASE_SENSITIVE_BASE_PREFIX: u128 = 0x1_0000;
 
-/// If set, a parser refuses `1FH`, if the base suffix is `h`
+/// If set, a parser refuses `1FH`, if the base suffix is `h`: the flag makes the base suffix case-sensitive
 /// ([setter][crate::format_builder::NumberFormatBuilder::case_sensitive_base_suffix]).
 pub const CASE_SENSITIVE_BASE_SUFFIX: u128 = 0x2_0000;
 
 // DIGIT SEPARATOR FLAGS
 
-/// If set, a parser accepts `1_2`: a separator between integer digits
+/// If set, a parser accepts `1_2`: the flag allows a digit separator between integer digits
 /// ([setter][crate::format_builder::NumberFormatBuilder::integer_internal_digit_separator]).
 pub const INTEGER_INTERNAL_DIGIT_SEPARATOR: u128 = 0x1_0000_0000;
 
-/// If set, a parser accepts `0.1_2`: a separator between fraction digits
+/// If set, a parser accepts `0.1_2`: the flag allows a digit separator between fraction digits
 /// ([setter][crate::format_builder::NumberFormatBuilder::fraction_internal_digit_separator]).
 pub const FRACTION_INTERNAL_DIGIT_SEPARATOR: u128 = 0x2_0000_0000;
 
-/// If set, a parser accepts `1e1_2`: a separator between exponent digits
+/// If set, a parser accepts `1e1_2`: the flag allows a digit separator between exponent digits
 /// ([setter][crate::format_builder::NumberFormatBuilder::exponent_internal_digit_separator]).
 pub const EXPONENT_INTERNAL_DIGIT_SEPARATOR: u128 = 0x4_0000_0000;
 
-/// If set, a parser accepts `_12`: a separator before integer digits
+/// If set, a parser accepts `_12`: the flag allows a digit separator before integer digits
 /// ([setter][crate::format_builder::NumberFormatBuilder::integer_leading_digit_separator]).
 pub const INTEGER_LEADING_DIGIT_SEPARATOR: u128 = 0x8_0000_0000;
 
-/// If set, a parser accepts `0._12`: a separator before fraction digits
+/// If set, a parser accepts `0._12`: the flag allows a digit separator before fraction digits
 /// ([setter][crate::format_builder::NumberFormatBuilder::fraction_leading_digit_separator]).
 pub const FRACTION_LEADING_DIGIT_SEPARATOR: u128 = 0x10_0000_0000;
 
-/// If set, a parser accepts `1e_12`: a separator before exponent digits
+/// If set, a parser accepts `1e_12`: the flag allows a digit separator before exponent digits
 /// ([setter][crate::format_builder::NumberFormatBuilder::exponent_leading_digit_separator]).
 pub const EXPONENT_LEADING_DIGIT_SEPARATOR: u128 = 0x20_0000_0000;
 
-/// If set, a parser accepts `12_`: a separator after integer digits
+/// If set, a parser accepts `12_`: the flag allows a digit separator after integer digits
 /// ([setter][crate::format_builder::NumberFormatBuilder::integer_trailing_digit_separator]).
 pub const INTEGER_TRAILING_DIGIT_SEPARATOR: u128 = 0x40_0000_0000;
 
-/// If set, a parser accepts `0.12_`: a separator after fraction digits
+/// If set, a parser accepts `0.12_`: the flag allows a digit separator after fraction digits
 /// ([setter][crate::format_builder::NumberFormatBuilder::fraction_trailing_digit_separator]).
 pub const FRACTION_TRAILING_DIGIT_SEPARATOR: u128 = 0x80_0000_0000;
 
-/// If set, a parser accepts `1e12_`: a separator after exponent digits
+/// If set, a parser accepts `1e12_`: the flag allows a digit separator after exponent digits
 /// ([setter][crate::format_builder::NumberFormatBuilder::exponent_trailing_digit_separator]).
 pub const EXPONENT_TRAILING_DIGIT_SEPARATOR: u128 = 0x100_0000_0000;
 
-/// If set, a parser accepts `1__2` if it accepts `1_2`, `__12` if `_12`, and `12__` if `12_`
+/// If set, a parser accepts `1__2` if it accepts `1_2`, `__12` if `_12`, and `12__` if `12_`: the flag allows
+/// consecutive digit separators in each position of the integer that allows one
 /// ([setter][crate::format_builder::NumberFormatBuilder::integer_consecutive_digit_separator]).
 pub const INTEGER_CONSECUTIVE_DIGIT_SEPARATOR: u128 = 0x200_0000_0000;
 
-/// If set, a parser accepts `0.1__2` if it accepts `0.1_2`, `0.__12` if `0._12`, and `0.12__` if `0.12_`
+/// If set, a parser accepts `0.1__2` if it accepts `0.1_2`, `0.__12` if `0._12`, and `0.12__` if `0.12_`: the flag
+/// allows consecutive digit separators in each position of the fraction that allows one
 /// ([setter][crate::format_builder::NumberFormatBuilder::fraction_consecutive_digit_separator]).
 pub const FRACTION_CONSECUTIVE_DIGIT_SEPARATOR: u128 = 0x400_0000_0000;
 
-/// If set, a parser accepts `1e1__2` if it accepts `1e1_2`, `1e__12` if `1e_12`, and `1e12__` if `1e12_`
+/// If set, a parser accepts `1e1__2` if it accepts `1e1_2`, `1e__12` if `1e_12`, and `1e12__` if `1e12_`: the flag
+/// allows consecutive digit separators in each position of the exponent that allows one
 /// ([setter][crate::format_builder::NumberFormatBuilder::exponent_consecutive_digit_separator]).
 pub const EXPONENT_CONSECUTIVE_DIGIT_SEPARATOR: u128 = 0x800_0000_0000;
 
@@ -156,11 +160,12 @@ pub const LEADING_DIGIT_SEPARATOR: u128 = 0x38_0000_0000;
 /// ([setter][crate::format_builder::NumberFormatBuilder::trailing_digit_separator]).
 pub const TRAILING_DIGIT_SEPARATOR: u128 = 0x1C0_0000_0000;
 
-/// Mask of a flag group: several separators in a row, where one is allowed
+/// Mask of a flag group: consecutive separators, where one is allowed
 /// ([setter][crate::format_builder::NumberFormatBuilder::consecutive_digit_separator]).
 pub const CONSECUTIVE_DIGIT_SEPARATOR: u128 = 0xE00_0000_0000;
 
-/// If set, a parser accepts `N__a_N_` for `NaN`: separators before, between and after letters, also in a row
+/// If set, a parser accepts `N__a_N_` for `NaN`: the flag allows digit separators before, between and after the
+/// letters of a special value, also consecutive ones
 /// ([setter][crate::format_builder::NumberFormatBuilder::special_digit_separator]).
 pub const SPECIAL_DIGIT_SEPARATOR: u128 = 0x1000_0000_0000;
 
@@ -220,7 +225,7 @@ pub const FLAG_MASK: u128 = 0x1FFF_0003_FFFF;
 /// the exponent character), leading zeros of floats, and digit separators (except in special values).
 pub const INTERFACE_FLAG_MASK: u128 = 0xFFF_0000_63CF;
 
-/// Mask of a flag group: every separator, also in special values
+/// Mask of a flag group: every separator, including special values
 /// ([setter][crate::format_builder::NumberFormatBuilder::digit_separator_flags]).
 pub const DIGIT_SEPARATOR_FLAG_MASK: u128 = 0x1FFF_0000_0000;
 

@@ -261,12 +261,13 @@ class Comments:
         return textwrap.wrap(" ".join(text.split()), width, break_long_words=False, break_on_hyphens=False)
 
     def sentence(self, setter):
-        """Returns what a flag asks of a parser, or what a group is for, from its setter; without the full stop."""
-        text = re.match(r"(.*?)\.(?: |$)", self.setters[setter])[1]
-        for start in ("If set, a parser ", "Sets the flags about ", "Sets all flags of the group: "):
-            if text.startswith(start):
-                return text.removeprefix(start)
-        raise Unfit(f"the setter {setter} begins in another way: {text}")
+        """Returns the effect of a flag or the fields of a group, from the comment of its setter; without the full stop."""
+        text = self.setters[setter]
+        if group := re.match(r"Sets all flags of the group: (.*?)\.(?: |$)", text):
+            return group[1]
+        if flag := re.match(r"(.*?)\. If set, a parser (.*?)\.(?: |$)", text):
+            return f"{flag[2]}: the flag {flag[1][0].lower()}{flag[1][1:]}"
+        raise Unfit(f"the setter {setter} does not state the effect of its flag: {text}")
 
     def pointed(self, it):
         """Returns the first line of a constant or a getter that links to a setter."""

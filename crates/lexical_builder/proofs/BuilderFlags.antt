@@ -1,4 +1,5 @@
--- The flags of a builder: each at its bit, moved to and from a word, and written under a mask; and the bytes of a word.
+-- Lemmas on the flags of a builder: their bits, how they are moved to and from a word, and how they are written under a
+-- mask. One lemma is on the bytes of a word.
 use Rattle.std.proofs.Common.{ℕ, zero, suc, ◌≡◌, ◌+◌, ◌-◌, ◌*◌, ◌/◌, ◌%◌, ◌^◌, ◌<◌, ◌==◌, min, max, Bool, true, false}
 use Rattle.std.proofs.Common.{if◌then◌else◌, length, map, sum_by, bit_and, bit_or, w32, refl, ap, ◌∙◌, arith}
 use Rattle.std.proofs.Math.Nat.{mod-lt}
@@ -15,26 +16,26 @@ use Rattle.lexical_builder.specs.Private.{flags_in}
 bit-lt : (n k : ℕ) → part n k 1 < 2
 bit-lt n k = mod-lt _ (omega arith)
 
--- each flag has a bit
+-- The bit of each flag in a builder is below 32.
 pub builder_bit-lt : (f : Flag) → builder_bit f < 32
 builder_bit-lt layout.required_integer_digits = omega arith
 builder_bit-lt _ = omega arith
 
--- a flag of a word is found at its bit
+-- Each flag of a word is at its bit in the flags of a builder.
 pub part-flags_in : (word : ℕ) (f : Flag) → part (flags_in word) (builder_bit f) 1 ≡ part word (bit f) 1
 part-flags_in word layout.required_integer_digits = omega arith
 part-flags_in word _ = omega arith
 
--- A byte of the upper half of a word is a byte of the word.
+-- The byte at a bit of the upper half of a word is the byte of the word 64 bits above.
 pub part-upper : (word s : ℕ) → part (word / 2 ^ 64) s 8 ≡ part word (64 + s) 8
 part-upper word s = ap (λ n. n % 2 ^ 8) (shr-shr word 64 s)
 
--- the mask of a flag is moved to the flag's bit
+-- The mask of a flag in a word is moved to the mask of its bit in a builder.
 pub flags_in-mask : (f : Flag) → flags_in (2 ^ bit f) ≡ 2 ^ builder_bit f
 flags_in-mask layout.required_integer_digits = refl
 flags_in-mask _ = refl
 
--- two blocks of a word, moved together and joined by `|`
+-- The two blocks of flags in a word, moved together and joined by `|`, are the flags of a builder.
 pub blocks_joined-builder : (word : ℕ) → bit_or (bit_and word (2 ^ low - 1))
     (bit_and word ((2 ^ high - 1) * 2 ^ 32) / 2 ^ 32 * 2 ^ low % 2 ^ 32) ≡ flags_in word
 blocks_joined-builder word =
@@ -45,12 +46,12 @@ blocks_joined-builder word =
     (λ i. bit_or (first i) (second i)) ∙ or_comm (part word 0 low) (part word 32 high * 2 ^ low)
     ∙ or_shifted (part word 32 high) low (part word 0 low) (mod-lt _ (pow_pos low)) ∙ omega arith
 
--- a bit times its value
+-- The value of a bit if it is set, and 0 otherwise, is the bit times the value.
 bit_value : (n value : ℕ) → n < 2 → (if n == 1 then value else 0) ≡ n * value
 bit_value zero value l = omega arith
 bit_value (suc n) value l = let none : n ≡ 0 = omega arith in rw none (omega arith)
 
--- the flags of a builder as the bits of a word
+-- The sum of the flags of a builder, at their bits in a word, is the two blocks of flags in the word.
 pub flags_as_blocks : (n : ℕ) → sum_by (λ f. if part n (builder_bit f) 1 == 1 then 2 ^ bit f else 0) flags
     ≡ part n 0 low + part n low high * 2 ^ 32
 flags_as_blocks n =
@@ -60,7 +61,7 @@ flags_as_blocks n =
     (λ i. sum_by (λ f. bit_value (part n (builder_bit f) 1) (2 ^ bit f) (bit-lt n (builder_bit f)) i) flags)
     ∙ omega arith
 
--- two blocks of a builder, moved apart and joined by `|`
+-- The two blocks of flags in a builder, moved apart and joined by `|`, are the two blocks of flags in a word.
 pub blocks_joined-word : (n : ℕ) → n < 2 ^ length flags → bit_or (bit_and n (2 ^ low - 1))
     (bit_and (n * 2 ^ (32 - low) % 2 ^ 128) ((2 ^ high - 1) * 2 ^ 32)) ≡ part n 0 low + part n low high * 2 ^ 32
 blocks_joined-word n l =
@@ -72,7 +73,7 @@ blocks_joined-word n l =
     (λ i. bit_or (first i) (second i)) ∙ or_comm (part n 0 low) (part n low high * 2 ^ 32)
     ∙ or_shifted (part n low high) 32 (part n 0 low) below ∙ omega arith
 
--- a bit that is cleared where a mask has one, and then set or not
+-- If a bit is cleared where a mask is 1 and then set to a value, it has the value there, and is unchanged otherwise.
 set_bit : (a m : ℕ) (value : Bool) → a < 2 → m < 2 → (max (min a (1 - m)) (if value then m else 0) == 1)
     ≡ (if m == 1 then value else (a == 1))
 set_bit a m true l k = grind (arith, nat_tests)
@@ -82,7 +83,7 @@ part-if : (value : Bool) (m i : ℕ) → part (if value then m else 0) i 1 ≡ (
 part-if true m i = refl
 part-if false m i = bit_at-zero i
 
--- the bits of a mask, cleared and then set or not
+-- If the bits in a mask are cleared and then set to a value, they have the value, and all other bits are unchanged.
 pub replaced_test : (a m i : ℕ) (value : Bool) → m < 2 ^ 32 → i < 32
     → (part (bit_or (bit_and a (2 ^ 32 - 1 - m)) (if value then m else 0)) i 1 == 1) ≡
     (if part m i 1 == 1 then value else (part a i 1 == 1))

@@ -1,4 +1,4 @@
--- The format of one radix is lawful exactly if numbers can be written in that radix.
+-- Lemmas that the format of one radix is lawful if and only if the radix is between 2 and 36.
 use Rattle.std.proofs.Common.{ℕ, ◌≡◌, ◌↔◌, ◌<◌, inl, inr, ◌∙◌, refl, sym, subst, arith}
 use Rattle.std.proofs.lemmas.Bool.Decides.{nat_tests}
 use Rattle.lexical_flags.specs.Layout as layout
@@ -10,7 +10,7 @@ use Rattle.lexical_flags.specs.Rules.{IsRadix, Demands, Holds, Lawful}
 use Rattle.lexical_flags.proofs.Packing.{raw-pack, pack-clean, trim-same}
 use Rattle.lexical_builder.specs.Writes.{radix_record}
 
--- each byte of its record is 0 to 255
+-- If a radix is below 256, then each byte of its record is below 256.
 radix-bytes : (radix : ℕ) → radix < 256 → HasBytes (radix_record radix)
 radix-bytes radix fits = record { each = each } where
   each : (b : layout.Byte) → (radix_record radix).byte b < 256
@@ -21,7 +21,7 @@ raw-radix : (radix : ℕ) → radix < 256 → raw (pack (radix_record radix)) �
 raw-radix radix fits = raw-pack (radix_record radix) (radix-bytes radix fits)
     ∙ trim-same (radix_record radix) (inr refl)
 
--- its fields meet what each rule demands
+-- If a radix is between 2 and 36, then its record keeps each rule.
 radix-demands : (radix : ℕ) → IsRadix radix → (rule : Rule) → Demands rule (radix_record radix)
 unfolding on_literals
 radix-demands radix h rules.ExponentBaseInRange = grind (arith, nat_tests)
@@ -36,7 +36,7 @@ unfolding Holds
 radix-kept radix fits h rules.ReservedBitsAreZero = pack-clean (radix_record radix) (radix-bytes radix fits)
 radix-kept radix fits h rule = subst (Demands rule) (sym (raw-radix radix fits)) (radix-demands radix h rule)
 
--- so the format is lawful exactly for a radix
+-- The format of a radix is lawful if and only if the radix is between 2 and 36.
 pub radix-lawful : (radix : ℕ) → radix < 256 → ((word : ℕ) → Lawful word ↔ ((rule : Rule) → Holds rule word))
     → Lawful (pack (radix_record radix)) ↔ IsRadix radix
 unfolding Holds

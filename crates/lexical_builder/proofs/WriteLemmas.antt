@@ -1,4 +1,4 @@
--- What writes leave in a record, and that one list of writes after another is both lists in a row.
+-- Lemmas on the record after writes. Two lists of writes one after another have the effect of one joined list.
 use Rattle.std.proofs.Common.{◌≡◌, ℕ, ◌<◌, ◌==◌, List, [], ◌∷◌, ◌++◌, Option, Some, None, unwrap_or, filter_map, refl}
 use Rattle.std.proofs.Common.{sym, ap, subst, ◌∙◌, arith, All}
 use Rattle.std.proofs.lemmas.Bool.{cond_both}
@@ -16,7 +16,8 @@ use Rattle.lexical_builder.specs.Writes.{SameWrites, write_flags, last_byte}
 use Rattle.lexical_builder.specs.BuilderBits.{byte_index, builder_record_of_parts}
 use Rattle.lexical_builder.specs.Private.{flags_with}
 
--- the value that writes leave in a field that began with d, if h says what one write gives it
+-- `left_by h writes d` is the value of a field after `writes`, if the value was `d` and `h` is the value that one write
+-- writes to the field.
 abbrev pub left_by : {T : Type 0} → (Write → Option T) → List Write → T → T
 left_by h writes d = unwrap_or (last_or None (filter_map h writes)) d
 
@@ -29,12 +30,12 @@ last_or-cons : {T : Type 0} (o : Option T) (d : T) (xs : List T)
 last_or-cons None d xs = refl
 last_or-cons (Some v) d xs = last_or-some v d xs
 
--- the first of the writes sets what the others start from
+-- The value after a list of writes is the value after the rest, starting from the value after the first write.
 pub left_by-cons : {T : Type 0} (h : Write → Option T) (x : Write) (writes : List Write) (d : T)
     → left_by h (x ∷ writes) d ≡ left_by h writes (unwrap_or (h x) d)
 left_by-cons h x writes d = last_or-cons (h x) d (filter_map h writes)
 
--- the second list starts from what the first has left
+-- The value after two lists of writes is the value after the second, starting from the value after the first.
 left_by-append : {T : Type 0} (h : Write → Option T) (first second : List Write) (d : T)
     → left_by h (first ++ second) d ≡ left_by h second (left_by h first d)
 left_by-append h [] second d = refl
@@ -42,7 +43,7 @@ left_by-append h (x ∷ first) second d =
     left_by-cons h x (first ++ second) d ∙ left_by-append h first second (unwrap_or (h x) d)
     ∙ ap (left_by h second) (sym (left_by-cons h x first d))
 
--- what the flags that a test picks are given, as a flag sees it
+-- If the flags that pass a test are written, a flag has the new value if it is one of them, and is unchanged otherwise.
 written : (p : Flag → Bool) (value : Bool) (f : Flag) (d : Bool) (fs : List Flag)
     → left_by (λ x. flag_written x f) (write_flags (filter p fs) value) d
     ≡ (if list_any (λ g. (bit g == bit f) && p g) fs then value else d)
@@ -66,7 +67,7 @@ written p value f d (g ∷ fs) =
       picked false true rest = refl
       picked false false rest = refl
 
--- the flags of a mask are written, and no other
+-- If the flags in a mask are written, they have the new value, and all other flags are unchanged.
 pub after-mask : (r : Record) (mask : ℕ) (value : Bool) (f : Flag) → (after r (write_flags (flags_with mask) value)).flag f
     ≡ (if part mask (bit f) 1 == 1 then value else r.flag f)
 unfolding after
@@ -77,7 +78,7 @@ after-mask r mask value f =
       in_mask layout.required_integer_digits = or-false _
       in_mask _ = or-false _
 
--- and no byte
+-- Writing flags changes no byte.
 pub after-mask_byte : (r : Record) (fs : List Flag) (value : Bool) (b : Byte)
     → (after r (write_flags fs value)).byte b ≡ r.byte b
 unfolding after
@@ -86,7 +87,7 @@ after-mask_byte r fs value b = ap (λ o. unwrap_or o (r.byte b)) (none fs) where
   none [] = refl
   none (f ∷ fs) = none fs
 
--- one byte is written, found by its index
+-- If one byte is written, the byte at its index has the new value, and all other bytes are unchanged.
 pub after-byte : (r : Record) (c : Byte) (value : ℕ) (b : Byte)
     → (after r (write_byte c value ∷ [])).byte b ≡ (if byte_index b == byte_index c then value else r.byte b)
 unfolding after
@@ -106,7 +107,7 @@ after-byte r c value b =
       chosen true = refl
       chosen false = refl
 
--- the parts of a new builder
+-- The record of these flags and bytes is the record of a new builder.
 pub new_parts : builder_record_of_parts 0xC (0 ∷ 0 ∷ 0 ∷ 10 ∷ 0 ∷ 0 ∷ []) ≡ new_record
 new_parts = record_same _ _ on_flag on_byte where
   on_flag : (f : Flag) → (builder_record_of_parts 0xC (0 ∷ 0 ∷ 0 ∷ 10 ∷ 0 ∷ 0 ∷ [])).flag f ≡ new_record.flag f
@@ -117,19 +118,19 @@ new_parts = record_same _ _ on_flag on_byte where
   on_byte layout.digit_separator = refl
   on_byte _ = refl
 
--- no write changes nothing
+-- The empty list of writes changes nothing.
 pub after_none : (r : Record) → after r [] ≡ r
 unfolding after
 after_none r = refl
 
--- two lists one after the other are one list
+-- Two lists of writes one after another have the effect of one joined list.
 pub after-append : (r : Record) (first second : List Write) → after (after r first) second ≡ after r (first ++ second)
 unfolding after
 after-append r first second = record_same _ _
     (λ f. sym (left_by-append (λ x. flag_written x f) first second (r.flag f)))
     (λ b. sym (left_by-append (λ x. byte_written x b) first second (r.byte b)))
 
--- only the last write of each field counts
+-- If two lists write the same fields, each with the same last value, then they have the same effect.
 pub after-same : (r : Record) (writes others : List Write) → SameWrites writes others → after r writes ≡ after r others
 unfolding after
 after-same r writes others same = record_same _ _ (λ f. ap (λ o. unwrap_or o (r.flag f)) (same.same_flags f))
@@ -148,12 +149,12 @@ left_by-fits (x ∷ writes) b d legal fits = subst (λ n. n < 256) (sym (left_by
     (left_by-fits writes b (unwrap_or (byte_written x b) d) (All-tail IsLegal x writes legal)
     (byte_written-fits x b d (All-head IsLegal x writes legal) fits))
 
--- legal writes leave bytes
+-- If a record has bytes, then it has bytes after legal writes.
 pub HasBytes-after : (r : Record) (writes : List Write) → HasBytes r → All IsLegal writes → HasBytes (after r writes)
 unfolding after
 HasBytes-after r writes bytes legal = record { each = λ b. left_by-fits writes b (r.byte b) legal (bytes.each b) }
 
--- the record of a new builder has bytes
+-- The record of a new builder has bytes.
 pub HasBytes-new : HasBytes new_record
 HasBytes-new = record { each = on_byte } where
   on_byte : (b : Byte) → new_record.byte b < 256

@@ -6,11 +6,11 @@ use Rattle.lexical_flags.specs.Layout as layout
 use Rattle.lexical_flags.specs.Record.{Record}
 use Rattle.lexical_builder.specs.declared.format_builder.NumberFormatBuilder.TheInside.{Inside}
 
--- the bit of a flag in a builder: that in a word, but the digit separator flags follow the others at once
+-- `builder_bit f` is the bit of the flag `f` in a builder. The digit separator flags directly follow the other flags.
 abbrev pub builder_bit : Flag → ℕ
 builder_bit f = if nat_lt (bit f) 32 then bit f else bit f - 32 + length base_flags
 
--- the index of a byte in a builder
+-- `byte_index b` is the index of the byte `b` in a builder.
 abbrev pub byte_index : Byte → ℕ
 byte_index layout.digit_separator = 0
 byte_index layout.base_prefix = 1
@@ -19,11 +19,11 @@ byte_index layout.mantissa_radix = 3
 byte_index layout.exponent_base = 4
 byte_index layout.exponent_radix = 5
 
--- the record with the flags at these bits, and these six bytes
+-- `builder_record_of_parts flags bytes` is the record with the flags at the bits of `flags`, and the six bytes `bytes`.
 abbrev pub builder_record_of_parts : ℕ → List ℕ → Record
 builder_record_of_parts flags bytes =
     record { flag = λ f. part flags (builder_bit f) 1 == 1; byte = λ b. slice_index bytes (byte_index b) }
 
--- the record that a builder stands for
+-- `builder_record inside` is the record that the builder `inside` represents.
 abbrev pub builder_record : Inside → Record
 builder_record inside = builder_record_of_parts inside.flags inside.bytes

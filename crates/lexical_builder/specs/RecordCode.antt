@@ -1,5 +1,5 @@
--- For the type's `impl Model`: bookkeeping by which proofs tell records apart, and no part of the model. No contract cites
--- it.
+-- For the type's `impl Model`: bookkeeping that proofs need to distinguish records. It is not part of the model, and no
+-- contract cites it.
 use Rattle.std.specs.Prelude.{◌≡◌, ℕ, Bool, false, refl, List, map, slice_index_or}
 use Rattle.std.specs.Coded.{Coded, code_by, coded×, coded_bool, coded_list, coded_ℕ}
 use Rattle.lexical_flags.specs.Layout.{Flag, Byte, flags, bytes}
@@ -7,11 +7,11 @@ use Rattle.lexical_flags.specs.Layout as layout
 use Rattle.lexical_flags.specs.Record.{Record}
 use Rattle.lexical_builder.specs.BuilderBits.{builder_bit, byte_index}
 
--- its flags and its bytes
+-- `to_lists r` is the list of the flags of `r` and the list of its bytes.
 abbrev to_lists : Record → List Bool × List ℕ
 to_lists r = (map r.flag flags, map r.byte bytes)
 
--- and back
+-- `from_lists p` is the record with the flags and bytes in the two lists of `p`.
 abbrev from_lists : List Bool × List ℕ → Record
 from_lists p = record {
   flag = λ f. slice_index_or p.0 (builder_bit f) false;

@@ -1,4 +1,4 @@
--- Writes of fields, and the record that they leave.
+-- Writes of fields, and the record after them.
 use Rattle.std.specs.Prelude.{◌≡◌, ℕ, ◌<◌, ◌==◌, Bool, not, if◌then◌else◌, List, Option, Some, None, map, unwrap_or}
 use Rattle.std.specs.Prelude.{filter_map, ⊤}
 use Rattle.std.specs.List.{last_or}
@@ -7,7 +7,7 @@ use Rattle.lexical_flags.specs.Layout.{Flag, Byte, bit, shift}
 use Rattle.lexical_flags.specs.Record.{Record}
 pub use Rattle.lexical_builder.specs.NewRecord.{new_record, radix_record}
 
--- A field and its new value.
+-- `Write` is the type of writes: a field and its new value.
 pub data Write : Type 0 where
   write_flag : Flag → Bool → Write
   write_byte : Byte → ℕ → Write
@@ -17,7 +17,7 @@ abbrev pub IsLegal : Write → Type 0
 IsLegal (write_flag f value) = ⊤
 IsLegal (write_byte b value) = value < 256
 
--- The writes of one value to several flags.
+-- `write_flags fs value` lists the writes of `value` to each of the flags `fs`.
 abbrev pub write_flags : List Flag → Bool → List Write
 write_flags fs value = map (λ f. write_flag f value) fs
 
@@ -31,20 +31,20 @@ abbrev pub byte_written : Write → Byte → Option ℕ
 byte_written (write_flag f value) b = None
 byte_written (write_byte c value) b = if shift c == shift b then Some value else None
 
--- The last value that some writes give a flag, or `None` if they do not write it.
+-- `last_flag writes f` is the last value that `writes` write to the flag `f`, or `None` if they do not write it.
 abbrev pub last_flag : List Write → Flag → Option Bool
 last_flag writes f = last_or None (filter_map (λ x. flag_written x f) writes)
 
--- The last value that some writes give a byte, or `None` if they do not write it.
+-- `last_byte writes b` is the last value that `writes` write to the byte `b`, or `None` if they do not write it.
 abbrev pub last_byte : List Write → Byte → Option ℕ
 last_byte writes b = last_or None (filter_map (λ x. byte_written x b) writes)
 
--- `after r writes` is the record in which each field has the value of the last write to it, or else its value in `r`.
+-- `after r writes` is the record in which each field has the value of the last write to it, or its value in `r`.
 unfoldable pub after : Record → List Write → Record
 after r writes =
     record { flag = λ f. unwrap_or (last_flag writes f) (r.flag f); byte = λ b. unwrap_or (last_byte writes b) (r.byte b) }
 
--- `changes r write` is true if `write` gives its field another value than `r` has.
+-- `changes r write` is true if the value of `write` differs from the value of its field in `r`.
 abbrev pub changes : Record → Write → Bool
 changes r (write_flag f value) = not (beq (r.flag f) value)
 changes r (write_byte b value) = not (r.byte b == value)

@@ -23,21 +23,22 @@ mod setters;
 
 pub use non_zero::NonZeroU8;
 
-// The bit at which the digit separator flags of a builder start; those of a format word start at bit 32.
+// The bit at which the digit separator flags of a builder start. In a format word they start at bit 32.
 const FIRST_SEPARATOR: u32 = u128::count_ones(flags::FLAG_MASK % (1 << 32));
 
-// The flags below them, which are at the same bits of a format word, and the digit separator flags.
+// Masks of the flags below the digit separator flags, which have the same bits in a format word, and of the digit
+// separator flags.
 const LOW_FLAGS: u32 = (1 << FIRST_SEPARATOR) - 1;
 
 const SEPARATOR_FLAGS: u32 = (flags::DIGIT_SEPARATOR_FLAG_MASK >> (32 - FIRST_SEPARATOR)) as u32;
 
-// The flags of a new builder, at the bits of a format word.
+// Mask of the flags of a new builder, at the bits of a format word.
 const NEW_FLAGS: u128 = 0xC;
 
-// 1 in each of mantissa radix, exponent base and exponent radix of a format word.
+// The format word that has 1 as mantissa radix, exponent base and exponent radix.
 const ONE_IN_EACH_RADIX: u128 = 0x01010100_00000000_00000000_00000000;
 
-// The index of each byte of a builder.
+// The index of each byte in a builder.
 const DIGIT_SEPARATOR: usize = 0;
 
 const BASE_PREFIX: usize = 1;
@@ -50,7 +51,7 @@ const EXPONENT_BASE: usize = 4;
 
 const EXPONENT_RADIX: usize = 5;
 
-// The lowest bit of each byte but the separator in the upper half of a format word.
+// The lowest bit of each byte, except the separator, in the upper half of a format word.
 const PREFIX_SHIFT: i32 = flags::BASE_PREFIX_SHIFT - 64;
 
 const SUFFIX_SHIFT: i32 = flags::BASE_SUFFIX_SHIFT - 64;
@@ -64,13 +65,13 @@ const RADIX_SHIFT: i32 = flags::EXPONENT_RADIX_SHIFT - 64;
 /// A byte that may be absent.
 pub type OptionU8 = Option<NonZeroU8>;
 
-/// The fields of a number format, to be set one by one and packed into a format word.
+/// The fields of a number format, which are set one by one and packed into a format word.
 ///
 /// A builder has the flags, the mantissa radix, and five bytes that may be absent: digit
 /// separator, base prefix, base suffix, exponent base and exponent radix. A setter takes the
-/// builder and returns it with its field changed; every other field keeps its value. So setters
-/// of different fields can be called in any order, and of several calls for one field the last
-/// counts.
+/// builder and returns it with one field, or the flags of one group, changed. Every other field
+/// keeps its value. So setters of different fields can be called in any order. If several calls set
+/// the same field, the last one wins.
 ///
 /// In plain Rust:
 ///
@@ -83,7 +84,7 @@ pub type OptionU8 = Option<NonZeroU8>;
 #[derive(Drop)]
 pub struct NumberFormatBuilder {
     flags: u32,
-    // 0 for a byte that is absent.
+    // A byte that is absent is 0.
     bytes: [u8; 6],
 }
 
@@ -119,9 +120,10 @@ impl Default for NumberFormatBuilder {
 impl NumberFormatBuilder {
     // CONSTRUCTORS
 
-    /// Returns a builder with the default fields: mantissa radix 10, no digit separator, prefix,
-    /// suffix, exponent base or exponent radix, `required_exponent_digits` and
-    /// `required_mantissa_digits` true, and every other flag false.
+    /// Returns a builder with the default fields.
+    ///
+    /// The mantissa radix is 10, and all other bytes are absent. The flags `required_exponent_digits` and
+    /// `required_mantissa_digits` are true, and all other flags are false.
     #[inline(always)]
     #[tactic(auto, using(crate::proofs::WriteLemmas::new_parts), unfolding(lexical_flags::specs::Literals::on_literals))]
     pub const fn new() -> Self
@@ -171,8 +173,9 @@ impl NumberFormatBuilder {
         Self::from_radix(16)
     }
 
-    /// Returns the format of a new builder with `radix` as mantissa radix, exponent base and
-    /// exponent radix. The radix is not checked; the word is lawful only for 2 to 36.
+    /// Returns the format of a new builder with `radix` as mantissa radix, exponent base and exponent radix.
+    ///
+    /// The radix is not checked. The format is lawful if and only if `radix` is between 2 and 36.
     #[inline(always)]
     #[tactic(auto, unfolding(lexical_flags::specs::Record::word_of))]
     pub const fn from_radix(radix: u8) -> u128
@@ -187,9 +190,10 @@ impl NumberFormatBuilder {
 impl NumberFormatBuilder {
     // BUILDERS
 
-    /// Packs the fields into a format word, lawful or not. Every field is written unchanged,
-    /// except the digit separator: it is written only if one of the digit separator flags
-    /// (`special_digit_separator` included) is set, and is 0 otherwise.
+    /// Packs the fields into a format word, lawful or not.
+    ///
+    /// Every field is packed unchanged, except the digit separator. It is packed if one of the digit separator
+    /// flags, including `special_digit_separator`, is set, and is 0 otherwise.
     #[inline(always)]
     pub const fn build_unchecked(&self) -> u128
         ensures word { result ≡ pack self.now }
@@ -197,8 +201,8 @@ impl NumberFormatBuilder {
         ensures clean { IsClean result }
         ensures bytes { HasBytes self.now }
 
-        // Another builder packs into the same word exactly if it has the same fields, the
-        // separator ignored if neither has a flag for it.
+        // Another builder packs into the same word if and only if it has the same fields. A separator that no flag
+        // allows is ignored.
         ensures alike { (s : Record) → HasBytes s → (pack s ≡ result) ↔ (trim s ≡ trim self.now) }
     {
         let [
@@ -211,7 +215,7 @@ impl NumberFormatBuilder {
         ] = self.bytes;
         let flags = word_flags(self.flags);
         let separator = used_separator(flags, separator);
-        // The separator is joined last, since it has to wait for a test.
+        // The separator is joined last, since it depends on a test.
         flags
             | (prefix as u128) << flags::BASE_PREFIX_SHIFT
             | (suffix as u128) << flags::BASE_SUFFIX_SHIFT
@@ -221,11 +225,14 @@ impl NumberFormatBuilder {
             | (separator as u128) << flags::DIGIT_SEPARATOR_SHIFT
     }
 
-    /// Packs the fields into a format word. Returns the word if it is lawful, or else what is
-    /// wrong with it, which is never `Success`. The builder is not changed.
+    /// Packs the fields into a format word, and returns the word if it is lawful. The builder is not changed.
     ///
-    /// In `lexical-util` it panics with the description of the error. So does `build_or_panic` in plain Rust,
-    /// which is for constants, where a `Result` cannot be unwrapped.
+    /// In `lexical-util` this call panics with the description of the error. So does `build_or_panic` in plain
+    /// Rust, which is for constants, where a `Result` cannot be unwrapped.
+    ///
+    /// # Errors
+    ///
+    /// If the word is not lawful, the error of the first rule that it breaks, which is never `Success`.
     #[inline(always)]
     pub const fn build_strict(&self) -> Result<u128, Error>
         ensures lawful { OkIff result (Lawful (pack self.now)) (pack self.now) }
@@ -233,13 +240,13 @@ impl NumberFormatBuilder {
         ensures error { IfErr result (IsErrorOf (pack self.now)) }
         ensures not_success { result ≢ Err Error.Success }
 
-        // What is packed has no reserved bit set.
+        // A packed word has no reserved bit set.
         ensures not_flags { result ≢ Err Error.InvalidFlags }
     {
         check(self.build_unchecked())
     }
 
-    /// Another name of `build_unchecked`. Deprecated in `lexical-util`.
+    /// Another name of `build_unchecked`. It is deprecated in `lexical-util`.
     #[inline(always)]
     pub const fn build(&self) -> u128
         ensures { result ≡ pack self.now }
@@ -247,10 +254,11 @@ impl NumberFormatBuilder {
         self.build_unchecked()
     }
 
-    /// Returns a builder with the fields of a format word as they are written. An exponent base or
-    /// exponent radix of 0 stays absent, so it follows a later change of the mantissa radix;
-    /// [`rebuild`][Self::rebuild] replaces it by the mantissa radix. The digit separator is read even
-    /// if no flag allows one. The reserved bits are dropped.
+    /// Returns a builder with the fields of a format word, unchanged.
+    ///
+    /// An exponent base or exponent radix of 0 stays absent, so it follows a later change of the mantissa
+    /// radix. [`rebuild`][Self::rebuild] replaces it by the mantissa radix. The digit separator is read even if
+    /// no flag allows one. The reserved bits are dropped.
     ///
     /// In plain Rust:
     ///
@@ -280,10 +288,11 @@ impl NumberFormatBuilder {
         }
     }
 
-    /// Returns a builder with the fields of a format word, to be changed and packed again. An
-    /// exponent base or exponent radix of 0 becomes the mantissa radix, so that a later change
-    /// of the mantissa radix does not change it; if the mantissa radix is 0 too, it stays 0. The
-    /// digit separator is read even if no flag allows one. The reserved bits are dropped.
+    /// Returns a builder with the fields of a format word, so that they can be changed and packed again.
+    ///
+    /// An exponent base or exponent radix of 0 becomes the mantissa radix, so that a later change of the
+    /// mantissa radix does not change it. If the mantissa radix is also 0, the byte stays 0. The digit separator
+    /// is read even if no flag allows one. The reserved bits are dropped.
     #[inline(always)]
     pub const fn rebuild(format: u128) -> Self
         ensures { result ≡ fill (raw format) }
@@ -307,8 +316,9 @@ impl NumberFormatBuilder {
 
     // PARTS
 
-    /// Returns a builder with these flags and bytes, as [`to_parts`][Self::to_parts] returns them. The bits
-    /// above the flags are ignored.
+    /// Returns a builder with these flags and bytes, which are those that [`to_parts`][Self::to_parts] returns.
+    ///
+    /// The bits above the flags are ignored.
     #[inline(always)]
     pub const fn from_parts(flags: u32, bytes: [u8; 6]) -> Self
         ensures { result ≡ builder_record_of_parts (flags % 2 ^ length layout.flags) bytes }
@@ -319,8 +329,10 @@ impl NumberFormatBuilder {
         }
     }
 
-    /// Returns the flags, the first in bit 0, and the bytes digit separator, base prefix, base suffix,
-    /// mantissa radix, exponent base and exponent radix, each 0 if it is absent.
+    /// Returns the flags and the bytes of the builder.
+    ///
+    /// The first flag is at bit 0. The bytes are digit separator, base prefix, base suffix, mantissa radix,
+    /// exponent base and exponent radix. A byte that is absent is 0.
     #[inline(always)]
     pub const fn to_parts(&self) -> (u32, [u8; 6])
         ensures fields { builder_record_of_parts result.0 result.1 ≡ self.now }
@@ -329,7 +341,7 @@ impl NumberFormatBuilder {
         (self.flags, self.bytes)
     }
 
-    // Whether the flag with this mask is set.
+    // Returns whether the flag with this mask is set.
     #[inline(always)]
     const fn has_flag(&self, mask: u128) -> bool
         requires { 2 ^ bit (flag_with mask) ≡ mask }
@@ -338,7 +350,7 @@ impl NumberFormatBuilder {
         self.flags & builder_flags(mask) != 0
     }
 
-    // Sets all flags of a mask to one value.
+    // Sets all flags in a mask to `value`.
     #[inline(always)]
     const fn with_flags(mut self, mask: u128, value: bool) -> Self
         ensures { result ≡ after self (write_flags (flags_with mask) value) }
@@ -347,7 +359,7 @@ impl NumberFormatBuilder {
         self
     }
 
-    // Sets the byte at an index.
+    // Sets the byte at `index`.
     #[inline(always)]
     const fn with_byte(mut self, index: usize, value: u8) -> Self
         requires below { index < 6 }
@@ -359,7 +371,7 @@ impl NumberFormatBuilder {
     }
 }
 
-// An exponent byte of a format word, or the mantissa radix if that is 0.
+// Returns an exponent byte of a format word, or the mantissa radix if the byte is 0.
 #[inline(always)]
 const fn byte_or_radix(byte: u8, mantissa_radix: u8) -> u8
     ensures { result ≡ effective byte mantissa_radix }
@@ -367,7 +379,7 @@ const fn byte_or_radix(byte: u8, mantissa_radix: u8) -> u8
     if byte == 0 { mantissa_radix } else { byte }
 }
 
-// The flags of a format word, at the bits of a builder.
+// Returns the flags of a format word, at the bits of a builder.
 #[inline(always)]
 const fn builder_flags(format: u128) -> u32
     ensures { result ≡ flags_in format }
@@ -377,7 +389,7 @@ const fn builder_flags(format: u128) -> u32
     low | separators << FIRST_SEPARATOR
 }
 
-// The flags of a builder, at the bits of a format word.
+// Returns the flags of a builder, at the bits of a format word.
 #[inline(always)]
 const fn word_flags(flags: u32) -> u128
     requires { flags < 2 ^ length layout.flags }
@@ -387,7 +399,7 @@ const fn word_flags(flags: u32) -> u128
         | ((flags as u128) << (32 - FIRST_SEPARATOR)) & flags::DIGIT_SEPARATOR_FLAG_MASK
 }
 
-// The bits with all bits of a mask set to one value.
+// Returns `bits` with all bits in `mask` set to `value`.
 #[inline(always)]
 const fn replace_bits(bits: u32, mask: u32, value: bool) -> u32
     ensures each { (i : ℕ) → i < 32 → (part result i 1 == 1)
@@ -397,7 +409,7 @@ const fn replace_bits(bits: u32, mask: u32, value: bool) -> u32
     (bits & !mask) | bits_if(value, mask)
 }
 
-// The bits if the condition holds, or else 0.
+// Returns `bits` if the condition is true, and 0 otherwise.
 #[inline(always)]
 const fn bits_if(condition: bool, bits: u32) -> u32
     ensures { result ≡ (if condition then bits else 0) }
@@ -405,7 +417,7 @@ const fn bits_if(condition: bool, bits: u32) -> u32
     if condition { bits } else { 0 }
 }
 
-// The digit separator, or 0 if none of these flags of a format word allows one.
+// Returns the digit separator, or 0 if none of these flags of a format word allows one.
 #[inline(always)]
 const fn used_separator(flags: u128, separator: u8) -> u8
     ensures { result ≡ (if separator_allowed (raw flags) then separator else 0) }
@@ -417,7 +429,7 @@ const fn used_separator(flags: u128, separator: u8) -> u8
     }
 }
 
-// The byte, or 0 if it is absent.
+// Returns the byte, or 0 if it is absent.
 #[inline(always)]
 const fn byte_or_zero(byte: OptionU8) -> u8
     ensures { result ≡ byte_of_option byte }

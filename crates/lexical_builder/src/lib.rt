@@ -1,4 +1,4 @@
-//! Builds number formats: the fields of a format by name, and the format word that they are packed into.
+//! Builds number formats: sets the fields of a format by name, and packs them into a format word.
 #![tactic(auto)]
 
 pub mod format_builder;

@@ -13,7 +13,7 @@ use lexical_flags::format_flags as flags;
 impl NumberFormatBuilder {
     // GETTERS
 
-    /// Returns the byte of [`Self::digit_separator`]; `None` if there is none.
+    /// Returns the [digit separator][Self::digit_separator], or `None` if it is absent.
     #[inline(always)]
     pub const fn get_digit_separator(&self) -> OptionU8
         ensures { result ≡ option_of_byte (self.now.byte layout.digit_separator) }
@@ -21,7 +21,7 @@ impl NumberFormatBuilder {
         NonZeroU8::new(self.bytes[DIGIT_SEPARATOR])
     }
 
-    /// Returns the byte of [`Self::mantissa_radix`].
+    /// Returns the [mantissa radix][Self::mantissa_radix].
     #[inline(always)]
     pub const fn get_mantissa_radix(&self) -> u8
         ensures { result ≡ self.now.byte layout.mantissa_radix }
@@ -29,7 +29,7 @@ impl NumberFormatBuilder {
         self.bytes[MANTISSA_RADIX]
     }
 
-    /// Returns the byte of [`Self::exponent_base`]; `None` if it follows the mantissa radix.
+    /// Returns the [exponent base][Self::exponent_base], or `None` if it follows the mantissa radix.
     #[inline(always)]
     pub const fn get_exponent_base(&self) -> OptionU8
         ensures { result ≡ option_of_byte (self.now.byte layout.exponent_base) }
@@ -37,7 +37,7 @@ impl NumberFormatBuilder {
         NonZeroU8::new(self.bytes[EXPONENT_BASE])
     }
 
-    /// Returns the byte of [`Self::exponent_radix`]; `None` if it follows the mantissa radix.
+    /// Returns the [exponent radix][Self::exponent_radix], or `None` if it follows the mantissa radix.
     #[inline(always)]
     pub const fn get_exponent_radix(&self) -> OptionU8
         ensures { result ≡ option_of_byte (self.now.byte layout.exponent_radix) }
@@ -45,7 +45,7 @@ impl NumberFormatBuilder {
         NonZeroU8::new(self.bytes[EXPONENT_RADIX])
     }
 
-    /// Returns the byte of [`Self::base_prefix`]; `None` if there is none.
+    /// Returns the [base prefix][Self::base_prefix], or `None` if it is absent.
     #[inline(always)]
     pub const fn get_base_prefix(&self) -> OptionU8
         ensures { result ≡ option_of_byte (self.now.byte layout.base_prefix) }
@@ -53,7 +53,7 @@ impl NumberFormatBuilder {
         NonZeroU8::new(self.bytes[BASE_PREFIX])
     }
 
-    /// Returns the byte of [`Self::base_suffix`]; `None` if there is none.
+    /// Returns the [base suffix][Self::base_suffix], or `None` if it is absent.
     #[inline(always)]
     pub const fn get_base_suffix(&self) -> OptionU8
         ensures { result ≡ option_of_byte (self.now.byte layout.base_suffix) }

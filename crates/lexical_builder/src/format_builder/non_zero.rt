@@ -1,11 +1,11 @@
-//! Nonzero bytes.
+//! The type of nonzero bytes.
 
 ghost use Rattle.std.specs.Prelude.{◌≡◌, ◌≢◌, ℕ, ◌↔◌, IsNone};
 ghost use Rattle.lexical_builder.specs.OptionByte.{option_of_byte};
 
 use std::marker::Model;
 
-/// A nonzero byte. In a format word 0 means that the byte is absent.
+/// A nonzero byte. In a format word, a byte of 0 is absent.
 #[derive(Debug, Clone, Copy, PartialEq, Eq, PartialOrd, Ord, Hash)]
 pub struct NonZeroU8 {
     value: u8,
@@ -35,7 +35,7 @@ impl NonZeroU8 {
         }
     }
 
-    /// Returns the byte, 1 to 255.
+    /// Returns the byte, which is between 1 and 255.
     #[inline(always)]
     pub const fn get(self) -> u8
         ensures value { result ≡ self }

@@ -1,4 +1,4 @@
-//! The setters of a builder. Each takes the builder and returns it with its fields changed.
+//! The setters of a builder. Each takes the builder and returns it with one or more fields changed.
 #![tactic(auto, unfolding(crate::specs::Writes::after))]
 
 ghost use Rattle.std.specs.Prelude.{◌≡◌, [], ◌∷◌};
@@ -16,8 +16,8 @@ impl NumberFormatBuilder {
     // SETTERS
 
     /// Sets the digit separator: a byte that groups digits, such as the `_` in `1_000`, where the digit separator flags
-    /// allow it. In a lawful format it is allowed ASCII (see `is_valid_ascii`), no sign, and no digit of mantissa or
-    /// exponent. It is packed only if a digit separator flag is set.
+    /// allow it. In a lawful format it is punctuation: allowed ASCII (see `is_valid_ascii`) that is neither a sign nor
+    /// a digit of mantissa or exponent. It is packed only if a digit separator flag is set.
     #[inline(always)]
     pub const fn digit_separator(self, character: OptionU8) -> Self
         ensures { result ≡ after self (write_byte layout.digit_separator (byte_of_option character) ∷ []) }
@@ -33,8 +33,8 @@ impl NumberFormatBuilder {
         self.mantissa_radix(radix)
     }
 
-    /// Sets the mantissa radix: the radix of the integer and fraction digits, 2 to 36 if lawful. An exponent base or
-    /// exponent radix that is absent follows it.
+    /// Sets the mantissa radix: the radix of the integer and fraction digits. In a lawful format it is between 2 and
+    /// 36. An exponent base or exponent radix that is absent follows it.
     #[inline(always)]
     pub const fn mantissa_radix(self, radix: u8) -> Self
         ensures { result ≡ after self (write_byte layout.mantissa_radix radix ∷ []) }
@@ -42,7 +42,8 @@ impl NumberFormatBuilder {
         self.with_byte(MANTISSA_RADIX, radix)
     }
 
-    /// Sets the exponent base: with base 2, `1p3` means 1 × 2^3. It is 2 to 36 if lawful; `None` is the mantissa radix.
+    /// Sets the exponent base: with base 2, `1p3` means 1 × 2^3. In a lawful format it is between 2 and 36. `None`
+    /// means the mantissa radix.
     #[inline(always)]
     pub const fn exponent_base(self, base: OptionU8) -> Self
         ensures { result ≡ after self (write_byte layout.exponent_base (byte_of_option base) ∷ []) }
@@ -50,8 +51,8 @@ impl NumberFormatBuilder {
         self.with_byte(EXPONENT_BASE, byte_or_zero(base))
     }
 
-    /// Sets the exponent radix: the radix of the digits of an exponent, 2 to 36 if lawful; `None` is the mantissa
-    /// radix.
+    /// Sets the exponent radix: the radix of the digits of an exponent. In a lawful format it is between 2 and 36.
+    /// `None` means the mantissa radix.
     #[inline(always)]
     pub const fn exponent_radix(self, radix: OptionU8) -> Self
         ensures { result ≡ after self (write_byte layout.exponent_radix (byte_of_option radix) ∷ []) }
@@ -60,7 +61,8 @@ impl NumberFormatBuilder {
     }
 
     /// Sets the base prefix: the byte that may follow a leading zero to show the radix, such as the `x` in `0x1F`. In a
-    /// lawful format it is allowed ASCII (see `is_valid_ascii`), no sign, and no digit of mantissa or exponent.
+    /// lawful format it is punctuation: allowed ASCII (see `is_valid_ascii`) that is neither a sign nor a digit of
+    /// mantissa or exponent.
     #[inline(always)]
     pub const fn base_prefix(self, base_prefix: OptionU8) -> Self
         ensures { result ≡ after self (write_byte layout.base_prefix (byte_of_option base_prefix) ∷ []) }
@@ -69,7 +71,8 @@ impl NumberFormatBuilder {
     }
 
     /// Sets the base suffix: the byte that may follow the digits to show the radix, such as the `h` in `1Fh`. In a
-    /// lawful format it is allowed ASCII (see `is_valid_ascii`), no sign, and no digit of mantissa or exponent.
+    /// lawful format it is punctuation: allowed ASCII (see `is_valid_ascii`) that is neither a sign nor a digit of
+    /// mantissa or exponent.
     #[inline(always)]
     pub const fn base_suffix(self, base_suffix: OptionU8) -> Self
         ensures { result ≡ after self (write_byte layout.base_suffix (byte_of_option base_suffix) ∷ []) }
@@ -77,7 +80,7 @@ impl NumberFormatBuilder {
         self.with_byte(BASE_SUFFIX, byte_or_zero(base_suffix))
     }
 
-    /// If set, a parser refuses `.5`: a float with no digits before its decimal point.
+    /// Requires digits before the decimal point. If set, a parser refuses `.5`.
     #[inline(always)]
     pub const fn required_integer_digits(self, flag: bool) -> Self
         ensures { result ≡ after self (write_flag layout.required_integer_digits flag ∷ []) }
@@ -85,7 +88,7 @@ impl NumberFormatBuilder {
         self.with_flags(flags::REQUIRED_INTEGER_DIGITS, flag)
     }
 
-    /// If set, a parser refuses `1.`: a decimal point with no digits after it. `1` is still accepted.
+    /// Requires digits after a decimal point. If set, a parser refuses `1.`. `1` is still accepted.
     #[inline(always)]
     pub const fn required_fraction_digits(self, flag: bool) -> Self
         ensures { result ≡ after self (write_flag layout.required_fraction_digits flag ∷ []) }
@@ -93,7 +96,7 @@ impl NumberFormatBuilder {
         self.with_flags(flags::REQUIRED_FRACTION_DIGITS, flag)
     }
 
-    /// If set, a parser refuses `1e`: an exponent character with no digits after it. Default: true.
+    /// Requires digits after an exponent character. If set, a parser refuses `1e`. Default: true.
     #[inline(always)]
     pub const fn required_exponent_digits(self, flag: bool) -> Self
         ensures { result ≡ after self (write_flag layout.required_exponent_digits flag ∷ []) }
@@ -101,8 +104,8 @@ impl NumberFormatBuilder {
         self.with_flags(flags::REQUIRED_EXPONENT_DIGITS, flag)
     }
 
-    /// If set, a parser refuses `.`: a float with no significant digit. If not set, `.` is 0; the empty text is refused
-    /// anyway. Default: true.
+    /// Requires a significant digit in a float. If set, a parser refuses `.`. If not set, `.` is 0. The empty text is
+    /// refused in any case. Default: true.
     #[inline(always)]
     pub const fn required_mantissa_digits(self, flag: bool) -> Self
         ensures { result ≡ after self (write_flag layout.required_mantissa_digits flag ∷ []) }
@@ -110,7 +113,7 @@ impl NumberFormatBuilder {
         self.with_flags(flags::REQUIRED_MANTISSA_DIGITS, flag)
     }
 
-    /// Sets the flags about digits that must be there. A parser of integers requires a digit regardless.
+    /// Sets all flags of the group: digits that must be present. An integer parser requires a digit in any case.
     #[inline(always)]
     pub const fn required_digits(self, flag: bool) -> Self
         ensures { result ≡ after self (write_flags layout.required_digits flag) }
@@ -118,7 +121,7 @@ impl NumberFormatBuilder {
         self.with_flags(flags::REQUIRED_DIGITS, flag)
     }
 
-    /// If set, a parser refuses `+1`: a `+` before an integer or a float. `-1` is still accepted.
+    /// Forbids a `+` before an integer or a float. If set, a parser refuses `+1`. `-1` is still accepted.
     #[inline(always)]
     pub const fn no_positive_mantissa_sign(self, flag: bool) -> Self
         ensures { result ≡ after self (write_flag layout.no_positive_mantissa_sign flag ∷ []) }
@@ -126,7 +129,7 @@ impl NumberFormatBuilder {
         self.with_flags(flags::NO_POSITIVE_MANTISSA_SIGN, flag)
     }
 
-    /// If set, a parser refuses `1`: an integer or a float with no sign. A writer then writes `+1`.
+    /// Requires a sign before an integer or a float. If set, a parser refuses `1`. A writer then writes `+1`.
     #[inline(always)]
     pub const fn required_mantissa_sign(self, flag: bool) -> Self
         ensures { result ≡ after self (write_flag layout.required_mantissa_sign flag ∷ []) }
@@ -134,7 +137,7 @@ impl NumberFormatBuilder {
         self.with_flags(flags::REQUIRED_MANTISSA_SIGN, flag)
     }
 
-    /// If set, a parser refuses `1e5`: a float with an exponent. A writer then writes all digits instead.
+    /// Forbids an exponent in a float. If set, a parser refuses `1e5`. A writer then writes all digits instead.
     #[inline(always)]
     pub const fn no_exponent_notation(self, flag: bool) -> Self
         ensures { result ≡ after self (write_flag layout.no_exponent_notation flag ∷ []) }
@@ -142,7 +145,7 @@ impl NumberFormatBuilder {
         self.with_flags(flags::NO_EXPONENT_NOTATION, flag)
     }
 
-    /// If set, a parser refuses `1e+5`. `1e5` and `1e-5` are still accepted.
+    /// Forbids a `+` in the exponent. If set, a parser refuses `1e+5`. `1e5` and `1e-5` are still accepted.
     #[inline(always)]
     pub const fn no_positive_exponent_sign(self, flag: bool) -> Self
         ensures { result ≡ after self (write_flag layout.no_positive_exponent_sign flag ∷ []) }
@@ -150,7 +153,7 @@ impl NumberFormatBuilder {
         self.with_flags(flags::NO_POSITIVE_EXPONENT_SIGN, flag)
     }
 
-    /// If set, a parser refuses `1e5`: an exponent with no sign. A writer then writes `1e+5`.
+    /// Requires a sign in the exponent. If set, a parser refuses `1e5`. A writer then writes `1e+5`.
     #[inline(always)]
     pub const fn required_exponent_sign(self, flag: bool) -> Self
         ensures { result ≡ after self (write_flag layout.required_exponent_sign flag ∷ []) }
@@ -158,7 +161,8 @@ impl NumberFormatBuilder {
         self.with_flags(flags::REQUIRED_EXPONENT_SIGN, flag)
     }
 
-    /// If set, a parser refuses `1e5`, not `1.0e5`: an exponent needs a decimal point, but no digits after it.
+    /// Requires a decimal point before an exponent, but no digits after that point. If set, a parser refuses `1e5`, not
+    /// `1.0e5`.
     #[inline(always)]
     pub const fn no_exponent_without_fraction(self, flag: bool) -> Self
         ensures { result ≡ after self (write_flag layout.no_exponent_without_fraction flag ∷ []) }
@@ -166,7 +170,7 @@ impl NumberFormatBuilder {
         self.with_flags(flags::NO_EXPONENT_WITHOUT_FRACTION, flag)
     }
 
-    /// If set, a parser refuses `NaN` and `inf`, and every other special value.
+    /// Forbids special values. If set, a parser refuses `NaN` and `inf`, and every other special value.
     #[inline(always)]
     pub const fn no_special(self, flag: bool) -> Self
         ensures { result ≡ after self (write_flag layout.no_special flag ∷ []) }
@@ -174,7 +178,8 @@ impl NumberFormatBuilder {
         self.with_flags(flags::NO_SPECIAL, flag)
     }
 
-    /// If set, a parser refuses `nan`, if `NaN` is the spelling. If not set, it accepts any case.
+    /// Makes special values case-sensitive. If set, a parser refuses `nan`, if `NaN` is the spelling. If not set, it
+    /// accepts any case.
     #[inline(always)]
     pub const fn case_sensitive_special(self, flag: bool) -> Self
         ensures { result ≡ after self (write_flag layout.case_sensitive_special flag ∷ []) }
@@ -182,7 +187,7 @@ impl NumberFormatBuilder {
         self.with_flags(flags::CASE_SENSITIVE_SPECIAL, flag)
     }
 
-    /// If set, a parser refuses `01` as an integer, not `0`.
+    /// Forbids leading zeros in an integer. If set, a parser refuses `01` as an integer, not `0`.
     #[inline(always)]
     pub const fn no_integer_leading_zeros(self, flag: bool) -> Self
         ensures { result ≡ after self (write_flag layout.no_integer_leading_zeros flag ∷ []) }
@@ -190,7 +195,7 @@ impl NumberFormatBuilder {
         self.with_flags(flags::NO_INTEGER_LEADING_ZEROS, flag)
     }
 
-    /// If set, a parser refuses `01.0`, not `0.1`. As a float it refuses `01` too.
+    /// Forbids leading zeros in a float. If set, a parser refuses `01.0`, not `0.1`. As a float, it also refuses `01`.
     #[inline(always)]
     pub const fn no_float_leading_zeros(self, flag: bool) -> Self
         ensures { result ≡ after self (write_flag layout.no_float_leading_zeros flag ∷ []) }
@@ -198,7 +203,8 @@ impl NumberFormatBuilder {
         self.with_flags(flags::NO_FLOAT_LEADING_ZEROS, flag)
     }
 
-    /// If set, a parser refuses `1.0`: a float with no exponent. A writer then writes an exponent with every float.
+    /// Requires an exponent in a float. If set, a parser refuses `1.0`. A writer then writes every float with an
+    /// exponent.
     #[inline(always)]
     pub const fn required_exponent_notation(self, flag: bool) -> Self
         ensures { result ≡ after self (write_flag layout.required_exponent_notation flag ∷ []) }
@@ -206,7 +212,8 @@ impl NumberFormatBuilder {
         self.with_flags(flags::REQUIRED_EXPONENT_NOTATION, flag)
     }
 
-    /// If set, a parser refuses `1E5`, if the exponent character is `e`. If not set, it accepts both cases.
+    /// Makes the exponent character case-sensitive. If set, a parser refuses `1E5`, if the exponent character is `e`.
+    /// If not set, it accepts both cases.
     #[inline(always)]
     pub const fn case_sensitive_exponent(self, flag: bool) -> Self
         ensures { result ≡ after self (write_flag layout.case_sensitive_exponent flag ∷ []) }
@@ -214,7 +221,8 @@ impl NumberFormatBuilder {
         self.with_flags(flags::CASE_SENSITIVE_EXPONENT, flag)
     }
 
-    /// If set, a parser refuses `0X1F`, if the base prefix is `x`. If not set, it accepts both cases.
+    /// Makes the base prefix case-sensitive. If set, a parser refuses `0X1F`, if the base prefix is `x`. If not set, it
+    /// accepts both cases.
     #[inline(always)]
     pub const fn case_sensitive_base_prefix(self, flag: bool) -> Self
         ensures { result ≡ after self (write_flag layout.case_sensitive_base_prefix flag ∷ []) }
@@ -222,7 +230,8 @@ impl NumberFormatBuilder {
         self.with_flags(flags::CASE_SENSITIVE_BASE_PREFIX, flag)
     }
 
-    /// If set, a parser refuses `1FH`, if the base suffix is `h`. If not set, it accepts both cases.
+    /// Makes the base suffix case-sensitive. If set, a parser refuses `1FH`, if the base suffix is `h`. If not set, it
+    /// accepts both cases.
     #[inline(always)]
     pub const fn case_sensitive_base_suffix(self, flag: bool) -> Self
         ensures { result ≡ after self (write_flag layout.case_sensitive_base_suffix flag ∷ []) }
@@ -230,7 +239,7 @@ impl NumberFormatBuilder {
         self.with_flags(flags::CASE_SENSITIVE_BASE_SUFFIX, flag)
     }
 
-    /// If set, a parser accepts `1_2`: a separator between integer digits.
+    /// Allows a digit separator between integer digits. If set, a parser accepts `1_2`.
     #[inline(always)]
     pub const fn integer_internal_digit_separator(self, flag: bool) -> Self
         ensures { result ≡ after self (write_flag layout.integer_internal_digit_separator flag ∷ []) }
@@ -238,7 +247,7 @@ impl NumberFormatBuilder {
         self.with_flags(flags::INTEGER_INTERNAL_DIGIT_SEPARATOR, flag)
     }
 
-    /// If set, a parser accepts `0.1_2`: a separator between fraction digits.
+    /// Allows a digit separator between fraction digits. If set, a parser accepts `0.1_2`.
     #[inline(always)]
     pub const fn fraction_internal_digit_separator(self, flag: bool) -> Self
         ensures { result ≡ after self (write_flag layout.fraction_internal_digit_separator flag ∷ []) }
@@ -246,7 +255,7 @@ impl NumberFormatBuilder {
         self.with_flags(flags::FRACTION_INTERNAL_DIGIT_SEPARATOR, flag)
     }
 
-    /// If set, a parser accepts `1e1_2`: a separator between exponent digits.
+    /// Allows a digit separator between exponent digits. If set, a parser accepts `1e1_2`.
     #[inline(always)]
     pub const fn exponent_internal_digit_separator(self, flag: bool) -> Self
         ensures { result ≡ after self (write_flag layout.exponent_internal_digit_separator flag ∷ []) }
@@ -254,7 +263,7 @@ impl NumberFormatBuilder {
         self.with_flags(flags::EXPONENT_INTERNAL_DIGIT_SEPARATOR, flag)
     }
 
-    /// Sets the flags about a separator between digits.
+    /// Sets all flags of the group: a separator between digits.
     #[inline(always)]
     pub const fn internal_digit_separator(self, flag: bool) -> Self
         ensures { result ≡ after self (write_flags layout.internal_digit_separator flag) }
@@ -262,7 +271,7 @@ impl NumberFormatBuilder {
         self.with_flags(flags::INTERNAL_DIGIT_SEPARATOR, flag)
     }
 
-    /// If set, a parser accepts `_12`: a separator before integer digits.
+    /// Allows a digit separator before integer digits. If set, a parser accepts `_12`.
     #[inline(always)]
     pub const fn integer_leading_digit_separator(self, flag: bool) -> Self
         ensures { result ≡ after self (write_flag layout.integer_leading_digit_separator flag ∷ []) }
@@ -270,7 +279,7 @@ impl NumberFormatBuilder {
         self.with_flags(flags::INTEGER_LEADING_DIGIT_SEPARATOR, flag)
     }
 
-    /// If set, a parser accepts `0._12`: a separator before fraction digits.
+    /// Allows a digit separator before fraction digits. If set, a parser accepts `0._12`.
     #[inline(always)]
     pub const fn fraction_leading_digit_separator(self, flag: bool) -> Self
         ensures { result ≡ after self (write_flag layout.fraction_leading_digit_separator flag ∷ []) }
@@ -278,7 +287,7 @@ impl NumberFormatBuilder {
         self.with_flags(flags::FRACTION_LEADING_DIGIT_SEPARATOR, flag)
     }
 
-    /// If set, a parser accepts `1e_12`: a separator before exponent digits.
+    /// Allows a digit separator before exponent digits. If set, a parser accepts `1e_12`.
     #[inline(always)]
     pub const fn exponent_leading_digit_separator(self, flag: bool) -> Self
         ensures { result ≡ after self (write_flag layout.exponent_leading_digit_separator flag ∷ []) }
@@ -286,7 +295,7 @@ impl NumberFormatBuilder {
         self.with_flags(flags::EXPONENT_LEADING_DIGIT_SEPARATOR, flag)
     }
 
-    /// Sets the flags about a separator before digits.
+    /// Sets all flags of the group: a separator before digits.
     #[inline(always)]
     pub const fn leading_digit_separator(self, flag: bool) -> Self
         ensures { result ≡ after self (write_flags layout.leading_digit_separator flag) }
@@ -294,7 +303,7 @@ impl NumberFormatBuilder {
         self.with_flags(flags::LEADING_DIGIT_SEPARATOR, flag)
     }
 
-    /// If set, a parser accepts `12_`: a separator after integer digits.
+    /// Allows a digit separator after integer digits. If set, a parser accepts `12_`.
     #[inline(always)]
     pub const fn integer_trailing_digit_separator(self, flag: bool) -> Self
         ensures { result ≡ after self (write_flag layout.integer_trailing_digit_separator flag ∷ []) }
@@ -302,7 +311,7 @@ impl NumberFormatBuilder {
         self.with_flags(flags::INTEGER_TRAILING_DIGIT_SEPARATOR, flag)
     }
 
-    /// If set, a parser accepts `0.12_`: a separator after fraction digits.
+    /// Allows a digit separator after fraction digits. If set, a parser accepts `0.12_`.
     #[inline(always)]
     pub const fn fraction_trailing_digit_separator(self, flag: bool) -> Self
         ensures { result ≡ after self (write_flag layout.fraction_trailing_digit_separator flag ∷ []) }
@@ -310,7 +319,7 @@ impl NumberFormatBuilder {
         self.with_flags(flags::FRACTION_TRAILING_DIGIT_SEPARATOR, flag)
     }
 
-    /// If set, a parser accepts `1e12_`: a separator after exponent digits.
+    /// Allows a digit separator after exponent digits. If set, a parser accepts `1e12_`.
     #[inline(always)]
     pub const fn exponent_trailing_digit_separator(self, flag: bool) -> Self
         ensures { result ≡ after self (write_flag layout.exponent_trailing_digit_separator flag ∷ []) }
@@ -318,7 +327,7 @@ impl NumberFormatBuilder {
         self.with_flags(flags::EXPONENT_TRAILING_DIGIT_SEPARATOR, flag)
     }
 
-    /// Sets the flags about a separator after digits.
+    /// Sets all flags of the group: a separator after digits.
     #[inline(always)]
     pub const fn trailing_digit_separator(self, flag: bool) -> Self
         ensures { result ≡ after self (write_flags layout.trailing_digit_separator flag) }
@@ -326,8 +335,9 @@ impl NumberFormatBuilder {
         self.with_flags(flags::TRAILING_DIGIT_SEPARATOR, flag)
     }
 
-    /// If set, a parser accepts `1__2` if it accepts `1_2`, `__12` if `_12`, and `12__` if `12_`.
-    /// Lawful only with another flag of integer digits.
+    /// Allows consecutive digit separators in each position of the integer that allows one. If set, a parser accepts
+    /// `1__2` if it accepts `1_2`, `__12` if `_12`, and `12__` if `12_`. The flag is lawful only with another separator
+    /// flag of the integer.
     #[inline(always)]
     pub const fn integer_consecutive_digit_separator(self, flag: bool) -> Self
         ensures { result ≡ after self (write_flag layout.integer_consecutive_digit_separator flag ∷ []) }
@@ -335,8 +345,9 @@ impl NumberFormatBuilder {
         self.with_flags(flags::INTEGER_CONSECUTIVE_DIGIT_SEPARATOR, flag)
     }
 
-    /// If set, a parser accepts `0.1__2` if it accepts `0.1_2`, `0.__12` if `0._12`, and `0.12__` if `0.12_`.
-    /// Lawful only with another flag of fraction digits.
+    /// Allows consecutive digit separators in each position of the fraction that allows one. If set, a parser accepts
+    /// `0.1__2` if it accepts `0.1_2`, `0.__12` if `0._12`, and `0.12__` if `0.12_`. The flag is lawful only with
+    /// another separator flag of the fraction.
     #[inline(always)]
     pub const fn fraction_consecutive_digit_separator(self, flag: bool) -> Self
         ensures { result ≡ after self (write_flag layout.fraction_consecutive_digit_separator flag ∷ []) }
@@ -344,8 +355,9 @@ impl NumberFormatBuilder {
         self.with_flags(flags::FRACTION_CONSECUTIVE_DIGIT_SEPARATOR, flag)
     }
 
-    /// If set, a parser accepts `1e1__2` if it accepts `1e1_2`, `1e__12` if `1e_12`, and `1e12__` if `1e12_`.
-    /// Lawful only with another flag of exponent digits.
+    /// Allows consecutive digit separators in each position of the exponent that allows one. If set, a parser accepts
+    /// `1e1__2` if it accepts `1e1_2`, `1e__12` if `1e_12`, and `1e12__` if `1e12_`. The flag is lawful only with
+    /// another separator flag of the exponent.
     #[inline(always)]
     pub const fn exponent_consecutive_digit_separator(self, flag: bool) -> Self
         ensures { result ≡ after self (write_flag layout.exponent_consecutive_digit_separator flag ∷ []) }
@@ -353,7 +365,7 @@ impl NumberFormatBuilder {
         self.with_flags(flags::EXPONENT_CONSECUTIVE_DIGIT_SEPARATOR, flag)
     }
 
-    /// Sets the flags about several separators in a row, where one is allowed.
+    /// Sets all flags of the group: consecutive separators, where one is allowed.
     #[inline(always)]
     pub const fn consecutive_digit_separator(self, flag: bool) -> Self
         ensures { result ≡ after self (write_flags layout.consecutive_digit_separator flag) }
@@ -361,7 +373,8 @@ impl NumberFormatBuilder {
         self.with_flags(flags::CONSECUTIVE_DIGIT_SEPARATOR, flag)
     }
 
-    /// If set, a parser accepts `N__a_N_` for `NaN`: separators before, between and after letters, also in a row.
+    /// Allows digit separators before, between and after the letters of a special value, also consecutive ones. If set,
+    /// a parser accepts `N__a_N_` for `NaN`.
     #[inline(always)]
     pub const fn special_digit_separator(self, flag: bool) -> Self
         ensures { result ≡ after self (write_flag layout.special_digit_separator flag ∷ []) }
@@ -369,7 +382,7 @@ impl NumberFormatBuilder {
         self.with_flags(flags::SPECIAL_DIGIT_SEPARATOR, flag)
     }
 
-    /// Sets the flags about every separator, also in special values.
+    /// Sets all flags of the group: every separator, including special values.
     #[inline(always)]
     pub const fn digit_separator_flags(self, flag: bool) -> Self
         ensures { result ≡ after self (write_flags layout.digit_separator_flags flag) }
@@ -377,7 +390,7 @@ impl NumberFormatBuilder {
         self.with_flags(flags::DIGIT_SEPARATOR_FLAG_MASK, flag)
     }
 
-    /// Sets the flags about separators in the integer.
+    /// Sets all flags of the group: separators in the integer.
     #[inline(always)]
     pub const fn integer_digit_separator_flags(self, flag: bool) -> Self
         ensures { result ≡ after self (write_flags layout.integer_digit_separator_flags flag) }
@@ -385,7 +398,7 @@ impl NumberFormatBuilder {
         self.with_flags(flags::INTEGER_DIGIT_SEPARATOR_FLAG_MASK, flag)
     }
 
-    /// Sets the flags about separators in the fraction.
+    /// Sets all flags of the group: separators in the fraction.
     #[inline(always)]
     pub const fn fraction_digit_separator_flags(self, flag: bool) -> Self
         ensures { result ≡ after self (write_flags layout.fraction_digit_separator_flags flag) }
@@ -393,7 +406,7 @@ impl NumberFormatBuilder {
         self.with_flags(flags::FRACTION_DIGIT_SEPARATOR_FLAG_MASK, flag)
     }
 
-    /// Sets the flags about separators in the exponent.
+    /// Sets all flags of the group: separators in the exponent.
     #[inline(always)]
     pub const fn exponent_digit_separator_flags(self, flag: bool) -> Self
         ensures { result ≡ after self (write_flags layout.exponent_digit_separator_flags flag) }

@@ -3,8 +3,8 @@ use Rattle.std.specs.Result.{OkIff}
 use Rattle.lexical_flags.specs.Rules.{IsErrorOf, Lawful}
 use Rattle.lexical_builder.proofs.format_builder.NumberFormatBuilder.build_strict.Goals as goal
 
--- search proves these goals as well; given here so that the must-fail edit
--- build_strict_refuses_every_builder.edit fails soon
+-- Search also proves these goals. The answers are given so that the must-fail edit
+-- build_strict_refuses_every_builder.edit fails soon.
 pub returns-clause-lawful : goal.returns-clause-lawful
 returns-clause-lawful c =
     subst (λ word. OkIff c.check.result (Lawful word) word) c.build_unchecked.ensures.word c.check.ensures.lawful

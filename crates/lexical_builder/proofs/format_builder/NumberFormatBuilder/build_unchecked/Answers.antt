@@ -19,7 +19,7 @@ or_swapped a b s = same_from_bits _ _ (λ i. omega (
   bit_at_or a s i,
 ))
 
--- what is joined last may as well be joined first
+-- Joining a field last has the same result as joining it first.
 joined_first : (fields : List ℕ) (a s : ℕ) → bit_or (fold bit_or a fields) s ≡ fold bit_or (bit_or a s) fields
 joined_first [] a s = refl
 joined_first (b ∷ fields) a s = joined_first fields (bit_or a b) s

@@ -1,4 +1,4 @@
--- The word is lawful exactly if that of its record is.
+-- The word is lawful if and only if the packed record of the radix is.
 use Rattle.std.proofs.Common.{◌↔◌, sym, subst, arith}
 use Rattle.lexical_flags.specs.Record.{word_of}
 use Rattle.lexical_flags.specs.Rules.{IsRadix, Lawful}

@@ -1,4 +1,4 @@
--- without this a search takes two seconds
+-- Without this answer, the search takes two seconds.
 use Rattle.std.proofs.Common.{ℕ, ◌≡◌, ◌<◌, ◌==◌, ◌∙◌, if◌then◌else◌, List, [], ◌∷◌, length, slice_index, slice_set, refl, ap}
 use Rattle.std.proofs.Common.{sym, arith, rules}
 use Rattle.std.proofs.lemmas.List.{get_or-set_same, get_or-set_other}
@@ -11,7 +11,7 @@ use Rattle.lexical_builder.specs.Writes.{after, write_byte}
 use Rattle.lexical_builder.proofs.WriteLemmas.{after-byte}
 use Rattle.lexical_builder.proofs.format_builder.NumberFormatBuilder.with_byte.Goals as goal
 
--- a byte of a list in which one is replaced
+-- If one byte of a list is replaced, the byte at that index is the new one, and all other bytes are unchanged.
 after_set : (bytes : List ℕ) (i j value : ℕ) → i < length bytes
     → slice_index (slice_set bytes i value) j ≡ (if j == i then value else slice_index bytes j)
 after_set bytes i j value l = grind (arith, nat_tests, get_or-set_same, get_or-set_other)
