@@ -1,6 +1,4 @@
 /* The picture of the 128 bits, in four rows. */
-"use strict";
-
 const ROW_BITS = 32;
 
 /* Returns the field of each bit: its name, its part of a number, and what it is called below the bits. */

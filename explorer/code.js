@@ -1,6 +1,4 @@
 /* The code that builds a word, to be copied. */
-"use strict";
-
 /* Returns a byte as a character between two of this quote, or as a number if it is not visible or a radix. */
 function literal(byte, isNumber, quote) {
     if (isNumber || byte <= 32 || byte >= 127) return String(byte);
@@ -29,7 +27,7 @@ class Code {
     }
 
     rust(word, text) {
-        const source = this.library.source(word).replace(/\.(?=\w+\()/g, "\n    .").replace("\n    .", "\n    .");
+        const source = this.library.source(word).replace(/\.(?=\w+\()/g, "\n    .");
         const uses = source.includes("NonZeroU8") ? "use core::num::NonZeroU8;\n" : "";
         const lines = `/// ${text}${this.warning(word)}\nconst FORMAT: u128 = ${source};\n`;
         return `${uses}use peltzivar::format::NumberFormatBuilder;\n\n${lines}`;
@@ -41,7 +39,8 @@ class Code {
             return `    {PELTZIVAR_SET_${name.toUpperCase()}, ${argument}},\n`;
         });
         const head = `#include "peltzivar.h"\n\n/* ${text}${this.warning(word)} */\n`;
-        if (!rows.length) return `${head}static const peltzivar_word FORMAT = PELTZIVAR_STANDARD_INIT;\n`;
+        const standard = "static const peltzivar_word FORMAT = PELTZIVAR_STANDARD_INIT;\n";
+        if (!rows.length) return `${head}${standard}`;
         return `${head}static const peltzivar_edit EDITS[] = {\n${rows.join("")}};
 
 static bool build(peltzivar_word *format) {

@@ -1,6 +1,4 @@
 /* The controls: bytes, options and flags. Each calls `edit` with a list of edits, or `choose` with an option. */
-"use strict";
-
 /* Returns the first piece of code in a meaning. */
 function example(meaning) {
     return meaning.split("`")[1] ?? "";

@@ -213,10 +213,6 @@ class Library {
         return this.call("options_error", ...this.words(word), exponent, point);
     }
 
-    isDigit(word, byte) {
-        return Boolean(this.call("is_digit", ...this.words(word), byte));
-    }
-
     digit(value) {
         return String.fromCharCode(this.call("digit_to_char", value));
     }

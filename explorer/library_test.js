@@ -7,16 +7,7 @@
 "use strict";
 
 const fs = require("node:fs");
-const path = require("node:path");
-const vm = require("node:vm");
-
-const HERE = __dirname;
-const read = (name) => fs.readFileSync(path.join(HERE, name), "utf8");
-
-/* Returns the text of an element of the page. */
-function partOf(page, id) {
-    return page.match(new RegExp(`<script[^>]* id="${id}"[^>]*>([^<]*)</script>`))[1];
-}
+const { load, read } = require("./node.js");
 
 /* Returns the errors of the header by names such as InvalidFlags, and their numbers. */
 function errorsOf(header) {
@@ -119,11 +110,7 @@ function compareRecipes({ library, data }, text) {
 }
 
 async function main([recipes]) {
-    const page = read("index.html");
-    const context = vm.createContext({ WebAssembly, TextEncoder });
-    vm.runInContext(`${read("library.js")}; this.Library = Library;`, context);
-    const data = JSON.parse(partOf(page, "data"));
-    const library = await context.Library.load(Buffer.from(partOf(page, "library"), "base64"), data.constants);
+    const { library, data } = await load();
     const recorded = new Recorded(library, data, errorsOf(read("../c/peltzivar.h")));
     const lines = read("../crates/recorded/data/results.txt").trim().split("\n");
     const [tried, tooLarge] = compareRecorded(recorded, lines);

@@ -1,6 +1,4 @@
 /* A number that the format allows, part by part: a picture, since the library writes no numbers. */
-"use strict";
-
 /* Returns a byte as text that can be seen. */
 function visible(byte) {
     if (byte === 32) return "\u2423";

@@ -1,8 +1,19 @@
 /* The state of the page: a word, an exponent character and a decimal point, which the fragment of the URL has too. */
-"use strict";
-
 const LANGUAGES = ["rust", "c", "python", "settings"];
 const SAVING_DELAY = 200;
+
+/* Returns where each field is, and what it means, by its name. */
+function meaningsOf({ flags, groups, bytes }) {
+    const option = "not in the word";
+    return new Map([
+        ...flags.map(({ name, bit, meaning }) => [name, [`bit ${bit}`, `if set, a parser ${meaning}`]]),
+        ...groups.map(({ name, bits, meaning }) => [name, [`bits ${bits.join(", ")}`, meaning]]),
+        ...bytes.map(({ name, bit, meaning }) => [name, [`bits ${bit} to ${bit + 7}`, meaning]]),
+        ["exponent", [option, "the exponent character, an option of the parser"]],
+        ["point", [option, "the decimal point, an option of the parser"]],
+        ["reserved", ["bits of no field", "they are 0 in a lawful word"]],
+    ]);
+}
 
 class Page {
     constructor(library, data) {
@@ -17,7 +28,7 @@ class Page {
         this.report = new Report(library, data, { use, edit, go: (name) => this.go(name) });
         this.cells = makeBits(data, (name) => this.controls.boxes.get(name).click());
         this.code = new Code(library, data);
-        this.meanings = new Map([...data.flags, ...data.bytes, ...data.groups].map((it) => [it.name, it]));
+        this.meanings = meaningsOf(data);
         this.listen();
         this.makeRecipes();
         this.makeLimits();
@@ -37,9 +48,10 @@ class Page {
         for (const [id, text] of [["copy-code", () => find("code").textContent], ["copy-link", () => this.link()]]) {
             find(id).addEventListener("click", (event) => copy(event.target, text()));
         }
-        for (const name of ["pointerover", "focusin"]) {
-            document.addEventListener(name, (event) => this.mark(event.target.closest?.("[data-field]")));
-        }
+        find("to-report").addEventListener("click", () => find("report-title").focus());
+        const marked = (node) => node.closest("[data-field]");
+        document.addEventListener("focusin", ({ target }) => this.mark(marked(target)));
+        document.addEventListener("pointerover", ({ target }) => this.mark(marked(target) ?? marked(document.activeElement)));
         this.listenToTabs();
     }
 
@@ -68,7 +80,7 @@ class Page {
 
     makeRecipes() {
         const options = this.data.recipes.map(({ about }, index) => {
-            return element("option", { value: index }, about.replace(/[:.]? \(.*| with .*|\.$/, ""));
+            return element("option", { value: index }, about.replace(/[:.]? \(.*|, as .*| with .*|\.$/, ""));
         });
         find("recipe").append(...options);
     }
@@ -136,7 +148,7 @@ class Page {
     /* Reads the state from the fragment. What is missing there, or is not a word or a byte, has its default. */
     read() {
         const parts = new URLSearchParams(location.hash.slice(1));
-        const { word } = this.library.parseWord(parts.get("word") ?? "");
+        const { word } = this.library.parseWord(parts.get("word") ?? location.hash.slice(1));
         const byte = (name, other) => this.library.parseEdit(`digit_separator=${parts.get(name)}`).edit?.value ?? other;
         this.state = { word: word ?? this.library.standard, exponent: byte("exponent", 101), point: byte("point", 46) };
         this.show();
@@ -176,34 +188,24 @@ class Page {
         setText(find("code"), this.code[this.language](this.state.word, text));
     }
 
-    /* Marks what has the same field as the element under the cursor, and describes the field. */
+    /* Marks what has the same field as an element, and describes the field. */
     mark(node) {
-        if (!node) return;
-        const names = node.dataset.field.split(" ").filter(Boolean);
-        if (!names.length) return;
+        const names = (node?.dataset.field ?? "").split(" ").filter(Boolean);
         for (const other of document.querySelectorAll("[data-field]")) {
             const isMarked = other.dataset.field.split(" ").some((name) => names.includes(name));
             other.classList.toggle("marked", isMarked);
         }
-        this.describe(names[0]);
+        if (names.length) this.describe(names[0]);
     }
 
     describe(name) {
-        const field = this.meanings.get(name);
-        const bits = field?.bits ?? (field && [field.bit, field.bit + 7].slice(0, "isNumber" in field ? 2 : 1));
-        const where = bits ? `${bits.length > 1 ? "bits" : "bit"} ${"isNumber" in field ? bits.join(" to ") : bits.join(", ")}` : "";
-        const meaning = field ? withCode(field.meaning) : ["bits of no field, which are 0 in a lawful word"];
-        const shown = [element("code", {}, name), ` ${where} `, element("span", { class: "meaning" }, meaning)];
-        if (name === "exponent" || name === "point") return;
-        find("hint").replaceChildren(...shown);
+        const [where, meaning] = this.meanings.get(name);
+        find("hint").replaceChildren(element("code", {}, name), ` ${where}: `, ...withCode(meaning));
     }
 
-    /* Goes to the control of a field. */
+    /* Goes to the control of a field. Reserved bits have none. */
     go(name) {
-        const control = find(name);
-        if (!control) return;
-        control.focus();
-        control.scrollIntoView({ block: "nearest" });
+        find(name)?.focus();
     }
 }
 
@@ -234,4 +236,7 @@ async function main() {
     document.documentElement.dataset.ready = "true";
 }
 
-main().catch((error) => setText(find("verdict"), `This browser cannot run the library: ${error.message}`));
+/* The page is painted before the library is made. */
+requestAnimationFrame(() => setTimeout(() => {
+    main().catch((error) => setText(find("verdict"), `This browser cannot run the library: ${error.message}`));
+}));

@@ -1,6 +1,4 @@
 /* What the library reports of a word: reasons, notes, normal form, and what differs from the standard format. */
-"use strict";
-
 class Report {
     constructor(library, data, { use, edit, go }) {
         this.library = library;
@@ -45,7 +43,7 @@ class Report {
         }
         return element(
             "li",
-            { class: "reason" },
+            { class: "reason", "data-field": this.namesOf(mask).join(" ") },
             element("strong", {}, text),
             element("ul", { class: "rules" }, broken),
             element("p", {}, element("span", { class: "key" }, "To blame"), this.links(mask)),
@@ -54,7 +52,7 @@ class Report {
     }
 
     note({ text, mask }) {
-        return element("li", { class: "note" }, text, element("p", {}, this.links(mask)));
+        return element("li", { class: "note", "data-field": this.namesOf(mask).join(" ") }, text, element("p", {}, this.links(mask)));
     }
 
     /* Returns a button for each edit that differs from the standard format, which takes it back. */

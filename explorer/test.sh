@@ -1,6 +1,6 @@
 #!/usr/bin/env bash
-# Tests the page: that Node.js gets the recorded results from its WebAssembly, and that Chromium does what a user does.
-# Pictures of what Chromium shows are kept in out/.
+# Tests the page: that Node.js gets the recorded results from its WebAssembly, that the code which it shows builds the
+# word, and that it does in Chromium what a user wants. Pictures of what Chromium shows are kept in out/.
 #
 # The last line is `N passed, M failed, K skipped`; the exit status is 1 if a row failed, or fewer were tried than before.
 set -u
@@ -12,15 +12,27 @@ export CARGO_NET_OFFLINE=true CARGO_TARGET_DIR=$work/target CARGO_INCREMENTAL=0 
 
 has python3 || { counted 0; exit; }
 passes ./build --check
-recipes=
-if has cargo && cargo run --quiet --manifest-path ../rust/Cargo.toml --example recipes > "$work/recipes"; then
-    recipes=$work/recipes
-fi
-if has node; then
+if has node && has cargo; then
+    cargo run --quiet --manifest-path ../rust/Cargo.toml --example recipes > "$work/recipes"
     prints 0 "20115 recorded results kept; not tried, since an index has over 32 bits: 19
-7661 edits of a field change its bits only" node library_test.js ${recipes:+"$recipes"}
+7661 edits of a field change its bits only" node ./library_test.js "$work/recipes"
+
+    mkdir "$work/code"
+    passes node ./code_test.js "$work/code"
+    wanted=$(cat "$work/code/words")
+    printf '%s\n' '[package]' 'name = "code"' 'edition = "2021"' '[[bin]]' 'name = "code"' 'path = "main.rs"' \
+        '[dependencies]' "peltzivar = { path = \"$(realpath ../rust)\" }" > "$work/code/Cargo.toml"
+    prints 0 "$wanted" cargo run --quiet --manifest-path "$work/code/Cargo.toml"
+    passes cargo build --quiet --release --manifest-path ../rust/Cargo.toml --package peltzivar-capi
+    if has cc; then
+        passes cc -Wall -Wextra -Werror -I ../c -o "$work/code/c" "$work/code/main.c" "$work/target/release/libpeltzivar_c.a"
+        prints 0 "$wanted" "$work/code/c"
+    fi
+    library=$(find "$work/target/release" -maxdepth 1 -name 'libpeltzivar_c.so' -o -maxdepth 1 -name 'libpeltzivar_c.dylib')
+    prints 0 "$wanted" env PELTZIVAR_LIBRARY="$library" PYTHONPATH=../c PYTHONDONTWRITEBYTECODE=1 \
+        python3 "$work/code/main.py"
 fi
-# A python3 of the PATH that has selenium, as Debian's package python3-selenium has for /usr/bin/python3.
+# A python3 of the PATH that has selenium: Debian's package python3-selenium is one of /usr/bin/python3.
 python=
 for found in $(type -ap python3); do
     if [[ -z $python ]] && "$found" -c 'import selenium' 2> /dev/null; then python=$found; fi
@@ -28,6 +40,11 @@ done
 if ! [ "$python" ]; then
     skips python3-selenium
 elif has chromium && has chromedriver; then
+    rm -rf out
     passes "$python" ./browser_test.py out
+    case $(cat out/times.txt) in
+        busy:*) skips "the times of the page, since this machine is $(cat out/times.txt)" ;;
+        *) cat out/times.txt ;;
+    esac
 fi
-counted 3
+counted 9
