@@ -96,11 +96,12 @@ def meanings():
 
 
 def first_lines():
-    """Returns the constants and getters of plain Rust whose first line does not have the meaning of their flag."""
-    for path in ("format_flags", "format_builder/getters", "view/getters", "feature_format"):
+    """Returns the constants, getters and variants of plain Rust whose first line does not have their flag's meaning."""
+    for path in ("format_flags", "format_builder/getters", "view/getters", "feature_format", "edits"):
         text = (CRATES.parent / f"rust/src/{path}.rs").read_text()
         found = re.findall(r"((?: *///.*\n)+)(?: *#.*\n)* *(?:pub const (?:fn )?)?(?:get_)?(\w+)\b", text)
-        docs = {name.lower(): " ".join(comment.replace("///", "").split()) for comment, name in found}
+        found = ((re.sub("(?<=[a-z])(?=[A-Z])", "_", name).lower(), comment) for comment, name in found)
+        docs = {name: " ".join(comment.replace("///", "").split()) for name, comment in found}
         for _, name, meaning in FLAGS:
             if not re.search(rf"a parser {re.escape(meaning)}[ :,]", docs.get(name, "")):
                 yield f"rust/src/{path}.rs: `{name}` does not say: {meaning}"

@@ -71,90 +71,136 @@ pub use numbers::{
 };
 pub use text::{byte_from_decimal, SettingError};
 
-/// A builder setter that takes a `bool`: one for each flag, and one for each of the nine groups of flags. The comment
-/// of a variant is the name of its setter.
+/// A builder setter that takes a `bool`: one for each flag, and one for each of the nine groups of flags. Each variant
+/// links to its setter.
 #[derive(Debug, Clone, Copy, PartialEq, Eq, Hash, PartialOrd, Ord)]
 #[non_exhaustive]
 pub enum FlagSetter {
-    /// `required_integer_digits`
+    /// If set, a parser refuses `.5`: the flag requires digits before the decimal point
+    /// ([`required_integer_digits`][crate::format_builder::NumberFormatBuilder::required_integer_digits]).
     RequiredIntegerDigits,
-    /// `required_fraction_digits`
+    /// If set, a parser refuses `1.`: the flag requires digits after a decimal point
+    /// ([`required_fraction_digits`][crate::format_builder::NumberFormatBuilder::required_fraction_digits]).
     RequiredFractionDigits,
-    /// `required_exponent_digits`
+    /// If set, a parser refuses `1e`: the flag requires digits after an exponent character
+    /// ([`required_exponent_digits`][crate::format_builder::NumberFormatBuilder::required_exponent_digits]).
     RequiredExponentDigits,
-    /// `required_mantissa_digits`
+    /// If set, a parser refuses `.`: the flag requires a significant digit in a float
+    /// ([`required_mantissa_digits`][crate::format_builder::NumberFormatBuilder::required_mantissa_digits]).
     RequiredMantissaDigits,
-    /// `no_positive_mantissa_sign`
+    /// If set, a parser refuses `+1`: the flag forbids a `+` before an integer or a float
+    /// ([`no_positive_mantissa_sign`][crate::format_builder::NumberFormatBuilder::no_positive_mantissa_sign]).
     NoPositiveMantissaSign,
-    /// `required_mantissa_sign`
+    /// If set, a parser refuses `1`: the flag requires a sign before an integer or a float
+    /// ([`required_mantissa_sign`][crate::format_builder::NumberFormatBuilder::required_mantissa_sign]).
     RequiredMantissaSign,
-    /// `no_exponent_notation`
+    /// If set, a parser refuses `1e5`: the flag forbids an exponent in a float
+    /// ([`no_exponent_notation`][crate::format_builder::NumberFormatBuilder::no_exponent_notation]).
     NoExponentNotation,
-    /// `no_positive_exponent_sign`
+    /// If set, a parser refuses `1e+5`: the flag forbids a `+` in the exponent
+    /// ([`no_positive_exponent_sign`][crate::format_builder::NumberFormatBuilder::no_positive_exponent_sign]).
     NoPositiveExponentSign,
-    /// `required_exponent_sign`
+    /// If set, a parser refuses `1e5`: the flag requires a sign in the exponent
+    /// ([`required_exponent_sign`][crate::format_builder::NumberFormatBuilder::required_exponent_sign]).
     RequiredExponentSign,
-    /// `no_exponent_without_fraction`
+    /// If set, a parser refuses `1e5`, not `1.0e5`: the flag requires a decimal point before an exponent, but no
+    /// digits after that point
+    /// ([`no_exponent_without_fraction`][crate::format_builder::NumberFormatBuilder::no_exponent_without_fraction]).
     NoExponentWithoutFraction,
-    /// `no_special`
+    /// If set, a parser refuses `NaN` and `inf`, and every other special value: the flag forbids special values
+    /// ([`no_special`][crate::format_builder::NumberFormatBuilder::no_special]).
     NoSpecial,
-    /// `case_sensitive_special`
+    /// If set, a parser refuses `nan`, if `NaN` is the spelling: the flag makes special values case-sensitive
+    /// ([`case_sensitive_special`][crate::format_builder::NumberFormatBuilder::case_sensitive_special]).
     CaseSensitiveSpecial,
-    /// `no_integer_leading_zeros`
+    /// If set, a parser refuses `01` as an integer, not `0`: the flag forbids leading zeros in an integer
+    /// ([`no_integer_leading_zeros`][crate::format_builder::NumberFormatBuilder::no_integer_leading_zeros]).
     NoIntegerLeadingZeros,
-    /// `no_float_leading_zeros`
+    /// If set, a parser refuses `01.0`, not `0.1`: the flag forbids leading zeros in a float
+    /// ([`no_float_leading_zeros`][crate::format_builder::NumberFormatBuilder::no_float_leading_zeros]).
     NoFloatLeadingZeros,
-    /// `required_exponent_notation`
+    /// If set, a parser refuses `1.0`: the flag requires an exponent in a float
+    /// ([`required_exponent_notation`][crate::format_builder::NumberFormatBuilder::required_exponent_notation]).
     RequiredExponentNotation,
-    /// `case_sensitive_exponent`
+    /// If set, a parser refuses `1E5`, if the exponent character is `e`: the flag makes the exponent character
+    /// case-sensitive
+    /// ([`case_sensitive_exponent`][crate::format_builder::NumberFormatBuilder::case_sensitive_exponent]).
     CaseSensitiveExponent,
-    /// `case_sensitive_base_prefix`
+    /// If set, a parser refuses `0X1F`, if the base prefix is `x`: the flag makes the base prefix case-sensitive
+    /// ([`case_sensitive_base_prefix`][crate::format_builder::NumberFormatBuilder::case_sensitive_base_prefix]).
     CaseSensitiveBasePrefix,
-    /// `case_sensitive_base_suffix`
+    /// If set, a parser refuses `1FH`, if the base suffix is `h`: the flag makes the base suffix case-sensitive
+    /// ([`case_sensitive_base_suffix`][crate::format_builder::NumberFormatBuilder::case_sensitive_base_suffix]).
     CaseSensitiveBaseSuffix,
-    /// `integer_internal_digit_separator`
+    /// If set, a parser accepts `1_2`: the flag allows a digit separator between integer digits
+    /// ([`integer_internal_digit_separator`][crate::format_builder::NumberFormatBuilder::integer_internal_digit_separator]).
     IntegerInternalDigitSeparator,
-    /// `fraction_internal_digit_separator`
+    /// If set, a parser accepts `0.1_2`: the flag allows a digit separator between fraction digits
+    /// ([`fraction_internal_digit_separator`][crate::format_builder::NumberFormatBuilder::fraction_internal_digit_separator]).
     FractionInternalDigitSeparator,
-    /// `exponent_internal_digit_separator`
+    /// If set, a parser accepts `1e1_2`: the flag allows a digit separator between exponent digits
+    /// ([`exponent_internal_digit_separator`][crate::format_builder::NumberFormatBuilder::exponent_internal_digit_separator]).
     ExponentInternalDigitSeparator,
-    /// `integer_leading_digit_separator`
+    /// If set, a parser accepts `_12`: the flag allows a digit separator before integer digits
+    /// ([`integer_leading_digit_separator`][crate::format_builder::NumberFormatBuilder::integer_leading_digit_separator]).
     IntegerLeadingDigitSeparator,
-    /// `fraction_leading_digit_separator`
+    /// If set, a parser accepts `0._12`: the flag allows a digit separator before fraction digits
+    /// ([`fraction_leading_digit_separator`][crate::format_builder::NumberFormatBuilder::fraction_leading_digit_separator]).
     FractionLeadingDigitSeparator,
-    /// `exponent_leading_digit_separator`
+    /// If set, a parser accepts `1e_12`: the flag allows a digit separator before exponent digits
+    /// ([`exponent_leading_digit_separator`][crate::format_builder::NumberFormatBuilder::exponent_leading_digit_separator]).
     ExponentLeadingDigitSeparator,
-    /// `integer_trailing_digit_separator`
+    /// If set, a parser accepts `12_`: the flag allows a digit separator after integer digits
+    /// ([`integer_trailing_digit_separator`][crate::format_builder::NumberFormatBuilder::integer_trailing_digit_separator]).
     IntegerTrailingDigitSeparator,
-    /// `fraction_trailing_digit_separator`
+    /// If set, a parser accepts `0.12_`: the flag allows a digit separator after fraction digits
+    /// ([`fraction_trailing_digit_separator`][crate::format_builder::NumberFormatBuilder::fraction_trailing_digit_separator]).
     FractionTrailingDigitSeparator,
-    /// `exponent_trailing_digit_separator`
+    /// If set, a parser accepts `1e12_`: the flag allows a digit separator after exponent digits
+    /// ([`exponent_trailing_digit_separator`][crate::format_builder::NumberFormatBuilder::exponent_trailing_digit_separator]).
     ExponentTrailingDigitSeparator,
-    /// `integer_consecutive_digit_separator`
+    /// If set, a parser accepts `1__2` if it accepts `1_2`, `__12` if `_12`, and `12__` if `12_`: the flag allows
+    /// consecutive digit separators in each position of the integer that allows one
+    /// ([`integer_consecutive_digit_separator`][crate::format_builder::NumberFormatBuilder::integer_consecutive_digit_separator]).
     IntegerConsecutiveDigitSeparator,
-    /// `fraction_consecutive_digit_separator`
+    /// If set, a parser accepts `0.1__2` if it accepts `0.1_2`, `0.__12` if `0._12`, and `0.12__` if `0.12_`: the flag
+    /// allows consecutive digit separators in each position of the fraction that allows one
+    /// ([`fraction_consecutive_digit_separator`][crate::format_builder::NumberFormatBuilder::fraction_consecutive_digit_separator]).
     FractionConsecutiveDigitSeparator,
-    /// `exponent_consecutive_digit_separator`
+    /// If set, a parser accepts `1e1__2` if it accepts `1e1_2`, `1e__12` if `1e_12`, and `1e12__` if `1e12_`: the flag
+    /// allows consecutive digit separators in each position of the exponent that allows one
+    /// ([`exponent_consecutive_digit_separator`][crate::format_builder::NumberFormatBuilder::exponent_consecutive_digit_separator]).
     ExponentConsecutiveDigitSeparator,
-    /// `special_digit_separator`
+    /// If set, a parser accepts `N__a_N_` for `NaN`: the flag allows digit separators before, between and after the
+    /// letters of a special value, also consecutive ones
+    /// ([`special_digit_separator`][crate::format_builder::NumberFormatBuilder::special_digit_separator]).
     SpecialDigitSeparator,
-    /// `required_digits`
+    /// The flags of a group: digits that must be present
+    /// ([`required_digits`][crate::format_builder::NumberFormatBuilder::required_digits]).
     RequiredDigits,
-    /// `internal_digit_separator`
+    /// The flags of a group: a separator between digits
+    /// ([`internal_digit_separator`][crate::format_builder::NumberFormatBuilder::internal_digit_separator]).
     InternalDigitSeparator,
-    /// `leading_digit_separator`
+    /// The flags of a group: a separator before digits
+    /// ([`leading_digit_separator`][crate::format_builder::NumberFormatBuilder::leading_digit_separator]).
     LeadingDigitSeparator,
-    /// `trailing_digit_separator`
+    /// The flags of a group: a separator after digits
+    /// ([`trailing_digit_separator`][crate::format_builder::NumberFormatBuilder::trailing_digit_separator]).
     TrailingDigitSeparator,
-    /// `consecutive_digit_separator`
+    /// The flags of a group: consecutive separators, where one is allowed
+    /// ([`consecutive_digit_separator`][crate::format_builder::NumberFormatBuilder::consecutive_digit_separator]).
     ConsecutiveDigitSeparator,
-    /// `digit_separator_flags`
+    /// The flags of a group: every separator, including special values
+    /// ([`digit_separator_flags`][crate::format_builder::NumberFormatBuilder::digit_separator_flags]).
     DigitSeparatorFlags,
-    /// `integer_digit_separator_flags`
+    /// The flags of a group: separators in the integer
+    /// ([`integer_digit_separator_flags`][crate::format_builder::NumberFormatBuilder::integer_digit_separator_flags]).
     IntegerDigitSeparatorFlags,
-    /// `fraction_digit_separator_flags`
+    /// The flags of a group: separators in the fraction
+    /// ([`fraction_digit_separator_flags`][crate::format_builder::NumberFormatBuilder::fraction_digit_separator_flags]).
     FractionDigitSeparatorFlags,
-    /// `exponent_digit_separator_flags`
+    /// The flags of a group: separators in the exponent
+    /// ([`exponent_digit_separator_flags`][crate::format_builder::NumberFormatBuilder::exponent_digit_separator_flags]).
     ExponentDigitSeparatorFlags,
 }
 

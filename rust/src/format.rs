@@ -1,5 +1,5 @@
-//! All names of number formats in one module, as `lexical-util` has it: [`format_builder`][crate::format_builder],
-//! [`format_flags`][crate::format_flags] and the types that read a word.
+//! All names of number formats in one module, as in `lexical-util`: those of [`format_builder`][crate::format_builder]
+//! and [`format_flags`][crate::format_flags], and the types that read a word.
 //!
 //! For a word that is known only when the program runs, use [`FormatView`], or [`Format`] if it has to be lawful. The
 //! ready made formats of `lexical-util` are not here; `examples/recipes.rs` has some to copy.

@@ -136,6 +136,7 @@ PHRASES = [
     ("A call with any other `shift` is not proved. In plain Rust such a call returns some number, or panics if overflow"
      " is checked.",
      "Panics if `shift` is not in that range and overflow is checked. Without that check, it returns some number."),
+    ("The comment of a variant is the name of its setter.", "Each variant links to its setter."),
     ("Prints what [`SettingError::text`] returns.", "Prints what the setting takes, or why the text is not a setting."),
     ("Prints what [`Edit::text`] returns.",
      "Prints `NAME=VALUE`, such as `mantissa_radix=16`, `no_special=true` or `digit_separator=none`."),
@@ -256,6 +257,7 @@ class Comments:
                 text = text.replace(phrase, new)
         text = re.sub(r"(.*)\[(flag|group)\]\[(.*?)(\w+)\](.*)", self.pointed, text)
         text = re.sub(r"^Returns the flag of \[`Self::(\w+)`\]\.$", lambda it: self.getter(it[1], "Self::"), text)
+        text = re.sub(r"^`(\w+)`$", lambda it: self.variant(it[1]), text)
         if text == old:
             return lines
         return textwrap.wrap(" ".join(text.split()), width, break_long_words=False, break_on_hyphens=False)
@@ -283,6 +285,13 @@ class Comments:
 
     def getter(self, setter, path):
         return f"Returns whether a parser {self.sentence(setter)} ([setter][{path}{setter}])."
+
+    def variant(self, setter):
+        """Returns the documentation of a variant of `FlagSetter`."""
+        is_group = self.setters[setter].startswith("Sets all flags of the group")
+        start = "The flags of a group: " if is_group else "If set, a parser "
+        link = f"([`{setter}`][crate::format_builder::NumberFormatBuilder::{setter}])"
+        return f"{start}{self.sentence(setter)} {link}."
 
     def unused(self):
         return [phrase for phrase, _ in PHRASES if phrase not in self.used]

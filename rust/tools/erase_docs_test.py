@@ -30,7 +30,7 @@ ADDED = [
     "", "", "", "", "", "", "[`build_or_panic`][Self::build_or_panic],",
     "If is more, may panic checked, and otherwise returns some byte.", "Panics if is more.",
     "Panics if in that range and Without that check, it returns some number.",
-    "the setting takes, or why the text is not a setting.",
+    "Each links to", "the setting takes, or why the text is not a setting.",
     "`NAME=VALUE`, such as `mantissa_radix=16`, `no_special=true` or `digit_separator=none`.",
     "[`Rule`][crate::format_flags::Rule],",
     "runs. For a word that is known when compiled, [`NumberFormat`][crate::feature_format::NumberFormat] has as a",
