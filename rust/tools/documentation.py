@@ -145,7 +145,8 @@ PHRASES = [
     ("The word is a value, which may be known only when the program runs; in `lexical-util` it is a const generic"
      " argument of the type, and each field is also an associated constant.",
      "The word may be known only when the program runs. For a word that is known when it is compiled,"
-     " [`NumberFormat`][crate::feature_format::NumberFormat] has each field also as a constant."),
+     " [`NumberFormat`][crate::feature_format::NumberFormat] has each field also as a constant. Equality, order and hash"
+     " are those of the word; [`same_format`][crate::edits::same_format] compares what two words express."),
 ]
 
 # No documentation of the library may match this. The module `word` is hidden.

@@ -33,7 +33,9 @@ ADDED = [
     "Each links to", "the setting takes, or why the text is not a setting.",
     "`NAME=VALUE`, such as `mantissa_radix=16`, `no_special=true` or `digit_separator=none`.",
     "[`Rule`][crate::format_flags::Rule],",
-    "runs. For a word that is known when compiled, [`NumberFormat`][crate::feature_format::NumberFormat] has as a",
+    "runs. For a word that is known when compiled, [`NumberFormat`][crate::feature_format::NumberFormat] has each field"
+    " also as constant. Equality, order and hash are those word; [`same_format`][crate::edits::same_format] compares what"
+    " two words express.",
 ]  # fmt: skip
 STRANGE = ["a.rt", "a.antt", "In plain Rust", "in plain Rust", "the crate below", "crates above", "is not proved",
            "has no such function", "Search", "the search", "word::STANDARD"]  # fmt: skip
