@@ -2,3 +2,4 @@ pub mod OptionByteLemmas
 pub mod WriteLemmas
 mod BuilderFlags
 mod RadixLemmas
+mod UpperHalf

@@ -9,6 +9,7 @@ ghost use Rattle.lexical_flags.specs.Rules.{IsErrorOf, IsRadix, Lawful};
 ghost use Rattle.lexical_builder.specs.OptionByte.{byte_of_option};
 ghost use Rattle.lexical_builder.specs.BuilderBits.{builder_bit, byte_index, builder_record_of_parts};
 ghost use Rattle.lexical_builder.specs.Private.{flags_in, byte_at, flag_with, flags_with};
+ghost use Rattle.lexical_builder.specs.declared.format_builder.TheConstants.{WITH_SEPARATOR, WITHOUT_SEPARATOR};
 ghost use Rattle.lexical_builder.specs.Writes.{new_record, radix_record, after, write_flags, write_byte};
 
 use lexical_base::error::Error;
@@ -61,6 +62,12 @@ const MANTISSA_SHIFT: i32 = flags::MANTISSA_RADIX_SHIFT - 64;
 const BASE_SHIFT: i32 = flags::EXPONENT_BASE_SHIFT - 64;
 
 const RADIX_SHIFT: i32 = flags::EXPONENT_RADIX_SHIFT - 64;
+
+// The bits of base prefix, base suffix and mantissa radix in the upper half of a format word.
+const WITHOUT_SEPARATOR: u64 = 0x0000_FFFF_FF00_0000;
+
+// These bits and those of the digit separator.
+const WITH_SEPARATOR: u64 = 0x0000_FFFF_FF00_00FF;
 
 /// A byte that may be absent.
 pub type OptionU8 = Option<NonZeroU8>;
@@ -214,15 +221,14 @@ impl NumberFormatBuilder {
             exponent_radix,
         ] = self.bytes;
         let flags = word_flags(self.flags);
-        let separator = used_separator(flags, separator);
-        // The separator is joined last, since it depends on a test.
-        flags
-            | (prefix as u128) << flags::BASE_PREFIX_SHIFT
-            | (suffix as u128) << flags::BASE_SUFFIX_SHIFT
-            | (radix as u128) << flags::MANTISSA_RADIX_SHIFT
-            | (exponent_base as u128) << flags::EXPONENT_BASE_SHIFT
-            | (exponent_radix as u128) << flags::EXPONENT_RADIX_SHIFT
-            | (separator as u128) << flags::DIGIT_SEPARATOR_SHIFT
+        let bytes = (separator as u64)
+            | (prefix as u64) << PREFIX_SHIFT
+            | (suffix as u64) << SUFFIX_SHIFT
+            | (radix as u64) << MANTISSA_SHIFT;
+        let upper = bytes & kept_bytes(flags)
+            | (exponent_base as u64) << BASE_SHIFT
+            | (exponent_radix as u64) << RADIX_SHIFT;
+        flags | (upper as u128) << 64
     }
 
     /// Packs the fields into a format word, and returns the word if it is lawful. The builder is not changed.
@@ -298,18 +304,18 @@ impl NumberFormatBuilder {
         ensures { result ≡ fill (raw format) }
     {
         let high = (format >> 64) as u64;
-        let radix = ((high >> MANTISSA_SHIFT) % 256) as u8;
-        let exponent_base = byte_or_radix(((high >> BASE_SHIFT) % 256) as u8, radix);
-        let exponent_radix = byte_or_radix((high >> RADIX_SHIFT) as u8, radix);
+        let radix = (high >> MANTISSA_SHIFT) % 256;
+        let exponent_base = byte_or_radix((high >> BASE_SHIFT) % 256, radix);
+        let exponent_radix = byte_or_radix(high >> RADIX_SHIFT, radix);
         NumberFormatBuilder {
             flags: builder_flags(format),
             bytes: [
                 (high % 256) as u8,
                 ((high >> PREFIX_SHIFT) % 256) as u8,
                 ((high >> SUFFIX_SHIFT) % 256) as u8,
-                radix,
-                exponent_base,
-                exponent_radix,
+                radix as u8,
+                exponent_base as u8,
+                exponent_radix as u8,
             ],
         }
     }
@@ -371,9 +377,10 @@ impl NumberFormatBuilder {
     }
 }
 
-// Returns an exponent byte of a format word, or the mantissa radix if the byte is 0.
+// Returns an exponent byte of a format word, or the mantissa radix if the byte is 0. Both have 64 bits, as the upper
+// half has: a choice between narrower numbers is slower.
 #[inline(always)]
-const fn byte_or_radix(byte: u8, mantissa_radix: u8) -> u8
+const fn byte_or_radix(byte: u64, mantissa_radix: u64) -> u64
     ensures { result ≡ effective byte mantissa_radix }
 {
     if byte == 0 { mantissa_radix } else { byte }
@@ -417,15 +424,16 @@ const fn bits_if(condition: bool, bits: u32) -> u32
     if condition { bits } else { 0 }
 }
 
-// Returns the digit separator, or 0 if none of these flags of a format word allows one.
+// Returns `WITH_SEPARATOR` if one of these flags of a format word allows a digit separator, and
+// `WITHOUT_SEPARATOR` otherwise.
 #[inline(always)]
-const fn used_separator(flags: u128, separator: u8) -> u8
-    ensures { result ≡ (if separator_allowed (raw flags) then separator else 0) }
+const fn kept_bytes(flags: u128) -> u64
+    ensures { result ≡ (if separator_allowed (raw flags) then WITH_SEPARATOR else WITHOUT_SEPARATOR) }
 {
     if flags & flags::DIGIT_SEPARATOR_FLAG_MASK != 0 {
-        separator
+        WITH_SEPARATOR
     } else {
-        0
+        WITHOUT_SEPARATOR
     }
 }
 

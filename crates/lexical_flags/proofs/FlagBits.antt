@@ -1,15 +1,15 @@
--- Lemmas on the flags of a word under a mask, and on the fields of a record joined by `|`.
+-- Lemmas on the flags of a word under a mask, and on the flags of a record joined by `|`.
 use Rattle.std.proofs.Common.{ℕ, ◌≡◌, ◌≢◌, ◌+◌, ◌*◌, ◌/◌, ◌%◌, ◌^◌, ◌<◌, ◌==◌, true, false, not, ◌||◌, inl, inr}
 use Rattle.std.proofs.Common.{List, [], ◌∷◌, sum_by, bit_and, bit_or, refl, ap, sym, subst, ◌∙◌, arith}
 use Rattle.std.specs.List.{filter, fold, list_any}
 use Rattle.std.proofs.Math.Nat.{mod-lt, zero-mul}
-use Rattle.std.proofs.lemmas.List.Sums.{sum_by-cons, sum_by_from}
+use Rattle.std.proofs.lemmas.List.Sums.{sum_by-cons}
 use Rattle.std.proofs.lemmas.Nat.{pow_pos}
 use Rattle.std.proofs.lemmas.Nat.Bits.{and_pow}
 use Rattle.std.proofs.lemmas.Bool.{cases_lt, ne_eqb, eq-eqb}
 use Rattle.std.proofs.lemmas.Bool.Decides.{nat_tests}
-use Rattle.lexical_flags.specs.Layout.{part, Flag, bit, shift, flags, bytes, digit_separator_flags}
-use Rattle.lexical_flags.specs.Record.{Record, raw, word_of, flag_bits, byte_bits}
+use Rattle.lexical_flags.specs.Layout.{part, Flag, bit, flags, digit_separator_flags}
+use Rattle.lexical_flags.specs.Record.{Record, raw, word_of, flag_bits}
 use Rattle.lexical_flags.specs.Record.{separator_allowed, HasBytes}
 use Rattle.lexical_flags.specs.Additions.Masks.{mask_of}
 use Rattle.lexical_flags.specs.declared.format_flags.TheConstants.{DIGIT_SEPARATOR_FLAG_MASK}
@@ -81,21 +81,14 @@ flags_joined r =
     ∙ or_all bit (λ f. bit_value (r.flag f)) 1 (λ f. bit_value-lt (r.flag f)) flags 0 0 (omega arith) refl
     ∙ sym (λ i. fold (λ bits f. bits + flag_bits-value (r.flag f) (bit f) i) 0 flags)
 
-flags-lt : (r : Record) → sum_by (flag_bits r) flags < 2 ^ 64
+-- The flags are below bit 64, where the bytes begin.
+pub flags-lt : (r : Record) → sum_by (flag_bits r) flags < 2 ^ 64
 flags-lt r =
     let below : fold (λ bits f. bits + bit_value (r.flag f) * 2 ^ bit f) 0 flags < 2 ^ (32 + high) =
     sum-below bit (λ f. bit_value (r.flag f)) 1 (λ f. bit_value-lt (r.flag f)) flags 0 0 (omega arith) refl in
     let same : fold (λ bits f. bits + bit_value (r.flag f) * 2 ^ bit f) 0 flags ≡ sum_by (flag_bits r) flags =
     sym (λ i. fold (λ bits f. bits + flag_bits-value (r.flag f) (bit f) i) 0 flags) in
     omega arith
-
--- If the bytes are joined to the flags of a record by `|`, then the result is the word of the record.
-pub fields_joined : (r : Record) → HasBytes r → fold (λ bits b. bit_or bits (byte_bits r b))
-    (sum_by (flag_bits r) flags) bytes ≡ word_of r
-unfolding word_of
-fields_joined r h =
-    or_all shift r.byte 8 h.each bytes 64 (sum_by (flag_bits r) flags) (flags-lt r) refl
-    ∙ sum_by_from (byte_bits r) (sum_by (flag_bits r) flags) bytes
 
 -- `flags_only r` is `r` with 0 as each byte.
 abbrev flags_only : Record → Record

@@ -1,6 +1,6 @@
 use Rattle.std.proofs.Common.{refl}
 use Rattle.lexical_flags.proofs.FlagBits.{separator_flag_set, no_separator_flag_set}
-use Rattle.lexical_builder.proofs.format_builder.used_separator.Goals as goal
+use Rattle.lexical_builder.proofs.format_builder.kept_bytes.Goals as goal
 
 -- Search also proves these goals. The answers are given so that the must-fail edit
 -- build_unchecked_packs_every_separator.edit fails soon.
