@@ -20,7 +20,7 @@ SCRIPTS = ("library", "element", "number", "bits", "controls", "code", "report",
 MOST_BYTES = 200_000
 TARGET = "wasm32-unknown-unknown"
 PACKAGES = ["rustc-web=1.85*", "rust-web-src=1.85*", "lld"]
-DEBIAN_CORE = pathlib.Path("/usr/src/rustc-1.85.0/library/core/src/lib.rs")
+DEBIAN_SOURCES = pathlib.Path("/usr/src")
 
 sys.dont_write_bytecode = True
 sys.path.append(str(TOP / "docs"))
@@ -58,7 +58,7 @@ def fields():
 def limits():
     """Returns the rows of the table of what a format cannot express."""
     table = check_format.PAGE.partition("## What a format cannot express\n")[2].partition("\n## ")[0]
-    return re.findall(r"^\| (.*) \| (.*) \|$", table, re.M)[1:]
+    return re.findall(r"^\| (.*) \| (.*) \|$", table, re.M)[1:] or sys.exit("docs/FORMAT.md: no table of limits")
 
 
 def setting(call):
@@ -115,7 +115,7 @@ def sources_hash():
     """Returns a hash of the sources of the WebAssembly, without comments and blank lines."""
     files = [HERE / "shim.rs", TOP / "rust/Cargo.toml"]
     files += sorted((TOP / "rust/src").rglob("*.rs")) + sorted((TOP / "rust/capi/src").rglob("*.rs"))
-    whole = hashlib.sha256(json.dumps(flags_of_compiler()).encode())
+    whole = hashlib.sha256(json.dumps(compiler_flags()).encode())
     for path in files:
         lines = [line.strip() for line in path.read_text().splitlines()]
         code = [line for line in lines if line and not line.startswith("//")]
@@ -124,7 +124,7 @@ def sources_hash():
     return whole.hexdigest()
 
 
-def flags_of_compiler():
+def compiler_flags():
     """Returns the options of each call of the compiler."""
     return ["--edition=2021", f"--target={TARGET}", "-Copt-level=s", "-Cpanic=abort", "--cap-lints=allow"]
 
@@ -138,10 +138,12 @@ def run(command, **variables):
 
 
 def debian_compiler():
-    """Returns Debian's compiler, or None if a package is missing."""
-    version = subprocess.run(["/usr/bin/rustc", "--version"], capture_output=True, text=True) if shutil.which("/usr/bin/rustc") else None
-    has_compiler = version is not None and version.stdout.startswith("rustc 1.85.")
-    return "/usr/bin/rustc" if has_compiler and DEBIAN_CORE.exists() and shutil.which("wasm-ld") else None
+    """Returns Debian's compiler and the source of its `core`, or None if a package is missing."""
+    core = next(DEBIAN_SOURCES.glob("rustc-1.85.*/library/core/src/lib.rs"), None)
+    if not core or not shutil.which("/usr/bin/rustc") or not shutil.which("wasm-ld"):
+        return None
+    version = subprocess.run(["/usr/bin/rustc", "--version"], capture_output=True, text=True).stdout
+    return ("/usr/bin/rustc", core) if version.startswith("rustc 1.85.") else None
 
 
 def rustup_compiler():
@@ -156,30 +158,27 @@ def rustup_compiler():
 
 def compiled():
     """Returns the WebAssembly of rust/capi."""
-    rustc, linker = rustup_compiler(), []
     with tempfile.TemporaryDirectory() as folder:
+        rustc, linker = rustup_compiler(), []
         if not rustc:
-            rustc, linker = debian_compiler(), ["-Clinker=wasm-ld", "-Clinker-flavor=wasm-ld"]
-            if not rustc:
-                sys.exit(missing())
-            library(rustc, folder, "core", DEBIAN_CORE)
+            rustc, core = debian_compiler() or sys.exit(missing())
+            linker = ["-Clinker=wasm-ld", "-Clinker-flavor=wasm-ld"]
+            library(rustc, folder, "core", core)
             library(rustc, folder, "compiler_builtins", HERE / "shim.rs")
         library(rustc, folder, "peltzivar", TOP / "rust/src/lib.rs")
         version = re.search(r'^version = "(\d+)\.(\d+)\.(\d+)"$', (TOP / "rust/Cargo.toml").read_text(), re.M)
-        parts = dict(zip(("MAJOR", "MINOR", "PATCH"), version.groups()))
-        names = {f"CARGO_PKG_VERSION_{name}": number for name, number in parts.items()}
-        options = ["--crate-type=cdylib", "-Clto=fat", "-Ccodegen-units=1", "-Cstrip=symbols", *linker]
-        options += ["--extern=peltzivar"]
-        out = pathlib.Path(folder) / "peltzivar.wasm"
-        source = TOP / "rust/capi/src/lib.rs"
-        run([rustc, *flags_of_compiler(), *options, f"-L{folder}", "--crate-name=peltzivar_c", "-o", out, source], **names)
-        return out.read_bytes()
+        parts = zip(("MAJOR", "MINOR", "PATCH"), version.groups())
+        names = {f"CARGO_PKG_VERSION_{name}": number for name, number in parts}
+        options = ["--crate-type=cdylib", "-Clto=fat", "-Ccodegen-units=1", "-Cstrip=symbols", "--extern=peltzivar"]
+        options += [*linker, f"-L{folder}", "--crate-name=peltzivar_c", "-o", f"{folder}/peltzivar.wasm"]
+        run([rustc, *compiler_flags(), *options, TOP / "rust/capi/src/lib.rs"], **names)
+        return pathlib.Path(folder, "peltzivar.wasm").read_bytes()
 
 
 def library(rustc, folder, name, source):
     """Compiles a library into the folder. Debian's `core` has unstable parts."""
     options = ["--crate-type=rlib", f"-L{folder}", f"--crate-name={name}", f"--out-dir={folder}"]
-    run([rustc, *flags_of_compiler(), *options, source], RUSTC_BOOTSTRAP="1")
+    run([rustc, *compiler_flags(), *options, source], RUSTC_BOOTSTRAP="1")
 
 
 def missing():

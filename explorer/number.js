@@ -30,9 +30,9 @@ class NumberPicture {
         return this.library.flag(this.state.word, name);
     }
 
-    /* Returns digits of a radix, which show its largest one; none if the radix has none. */
+    /* Returns digits of a radix, of which one is its largest, or "?" if there is no such radix. */
     digits(radix, values) {
-        if (radix < 2 || radix > 36) return ["?"];
+        if (!this.library.call("is_valid_radix", radix)) return ["?"];
         return values.map((value) => this.library.digit((value + radix) % radix));
     }
 
@@ -64,6 +64,7 @@ class NumberPicture {
         const integer = this.digitPart("integer", "integer", radix, [1, -1, 0]);
         const fraction = this.digitPart("fraction", "fraction", radix, [0, -1]);
         for (const part of [integer, fraction]) part.fields.push("required_mantissa_digits", "mantissa_radix");
+        if (this.flag("required_mantissa_digits")) [integer.other, fraction.other] = [fraction.title, integer.title];
         integer.fields.push("no_integer_leading_zeros", "no_float_leading_zeros");
         const point = { title: "point", kind: "option", pieces: [{ text: visible(this.state.point) }], fields: ["point"] };
         return [integer, point, fraction];
@@ -101,10 +102,11 @@ class NumberPicture {
     }
 }
 
-/* Returns the word for whether a part may, must or cannot be there. */
+/* Returns whether a part may, must or cannot be there, or may be left out only if another part is there. */
 function presence(part) {
     if (part.isNever) return "never";
-    return part.isRequired ? "required" : "optional";
+    if (part.isRequired) return "required";
+    return part.other ? `or ${part.other}` : "optional";
 }
 
 /* Returns the element of a part. */
@@ -112,7 +114,7 @@ function partElement(part) {
     const pieces = part.pieces.map((it) => element("span", { class: it.isSeparator ? "separator" : part.kind }, it.text));
     return element(
         "li",
-        { class: `part ${presence(part)}`, "data-field": part.fields.join(" ") },
+        { class: `part${part.isNever ? " never" : ""}${part.isRequired ? " required" : ""}`, "data-field": part.fields.join(" ") },
         element("span", { class: "written" }, ...pieces),
         element("span", { class: "title" }, part.title),
         element("span", { class: "presence" }, presence(part)),

@@ -1,6 +1,8 @@
 /* The state of the page: a word, an exponent character and a decimal point, which the fragment of the URL has too. */
 const LANGUAGES = ["rust", "c", "python", "settings"];
 const SAVING_DELAY = 200;
+/* The exponent character e and the decimal point. */
+const OPTIONS = { exponent: 101, point: 46 };
 
 /* Returns where each field is, and what it means, by its name. */
 function meaningsOf({ flags, groups, bytes }) {
@@ -19,7 +21,7 @@ class Page {
     constructor(library, data) {
         this.library = library;
         this.data = data;
-        this.state = { word: library.standard, exponent: 101, point: 46 };
+        this.state = { word: library.standard, ...OPTIONS };
         this.language = "rust";
         const edit = (edits) => this.change({ word: library.write(this.state.word, edits) });
         const choose = (name, byte) => this.change({ [name]: byte });
@@ -39,7 +41,11 @@ class Page {
         addEventListener("hashchange", () => this.read());
         find("word").addEventListener("input", (event) => this.paste(event.target.value));
         find("word").addEventListener("blur", () => this.showWord());
-        find("standard").addEventListener("click", () => this.jump({ word: this.library.standard, exponent: 101, point: 46 }));
+        find("standard").addEventListener("click", () => {
+            this.jump({ word: this.library.standard, ...OPTIONS });
+            find("recipe").value = "";
+            find("recipe-panel").hidden = true;
+        });
         find("recipe").addEventListener("change", (event) => this.start(this.data.recipes[event.target.value]));
         find("as-numbers").addEventListener("change", (event) => {
             this.controls.asNumbers = event.target.checked;
@@ -96,7 +102,7 @@ class Page {
     start(recipe) {
         if (!recipe) return;
         const edits = recipe.settings.map(([text]) => this.library.parseEdit(text).edit);
-        this.jump({ word: this.library.build(edits), exponent: recipe.exponent.charCodeAt(0), point: 46 });
+        this.jump({ word: this.library.build(edits), ...OPTIONS, exponent: recipe.exponent.charCodeAt(0) });
         const rows = recipe.settings.map(([text, meaning]) => {
             return element("li", {}, element("code", {}, text), " ", element("span", { class: "meaning" }, withCode(meaning)));
         });
@@ -149,8 +155,9 @@ class Page {
     read() {
         const parts = new URLSearchParams(location.hash.slice(1));
         const { word } = this.library.parseWord(parts.get("word") ?? location.hash.slice(1));
-        const byte = (name, other) => this.library.parseEdit(`digit_separator=${parts.get(name)}`).edit?.value ?? other;
-        this.state = { word: word ?? this.library.standard, exponent: byte("exponent", 101), point: byte("point", 46) };
+        const parsed = (name) => this.library.parseEdit(`digit_separator=${parts.get(name)}`).edit?.value;
+        const byte = (name) => parsed(name) ?? OPTIONS[name];
+        this.state = { word: word ?? this.library.standard, exponent: byte("exponent"), point: byte("point") };
         this.show();
     }
 

@@ -29,9 +29,9 @@ class Report {
 
     reason(word, { text, mask, rules, mends }) {
         const broken = rules.map((rule) => {
+            const demand = this.data.rules[rule]?.demand ?? "";
             const error = this.library.errorText(this.library.call("rule_error", rule));
-            const title = `A lawful word: ${this.data.rules[rule]?.demand ?? ""}`;
-            return element("li", { title }, `rule ${rule + 1}: ${error}`);
+            return element("li", {}, `breaks rule ${rule + 1}, \u201c${demand}\u201d: ${error}`);
         });
         const buttons = mends.map((edits) => {
             const title = edits.map((edit) => this.library.editText(edit)).join(" ");
