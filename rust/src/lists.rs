@@ -67,6 +67,13 @@ impl FromIterator<Edit> for NumberFormatBuilder {
     }
 }
 
+/// Applies the edits to a new builder, in order.
+impl<'a> FromIterator<&'a Edit> for NumberFormatBuilder {
+    fn from_iter<I: IntoIterator<Item = &'a Edit>>(edits: I) -> Self {
+        edits.into_iter().copied().collect()
+    }
+}
+
 /// Applies the edits, in order.
 impl Extend<Edit> for NumberFormatBuilder {
     fn extend<I: IntoIterator<Item = Edit>>(&mut self, edits: I) {

@@ -181,6 +181,7 @@ fn edits_make_the_fields_of_their_word() {
         let builder: NumberFormatBuilder = view.edits().collect();
         assert_eq!(builder, apply_all(NumberFormatBuilder::new(), &edits));
         assert_eq!(builder, NumberFormatBuilder::from_word(word));
+        assert_eq!(builder, edits.iter().collect());
         let mut other = NumberFormatBuilder::new();
         other.extend(&edits[..2]);
         other.extend(edits[2..].iter().copied());
