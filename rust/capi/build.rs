@@ -12,7 +12,7 @@ fn main() {
         let minor = env!("CARGO_PKG_VERSION_MINOR");
         let name = format!("libpeltzivar_c.so.{major}.{minor}");
         println!("cargo::rustc-cdylib-link-arg=-Wl,-soname,{name}");
-        // Without `std`, rustc does not name the C library, from which the shared library has `memcpy`.
+        // The shared library needs `memcpy` of the C library, which rustc does not link without `std`.
         println!("cargo::rustc-cdylib-link-arg=-lc");
     }
 }

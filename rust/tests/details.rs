@@ -1,5 +1,5 @@
-//! Details that no other test meets: which radix a reason names, how a byte is printed, sinks that fail once, the masks
-//! and numbers of rules, and what the standard library sees of errors and panics.
+//! Details that no other test covers: which radix a reason names, how a byte is printed, sinks that fail once, masks
+//! and numbers of rules, and errors and panics as the standard library handles them.
 
 use peltzivar::edits::{Edit, FlagSetter};
 use peltzivar::error::Error;
@@ -32,7 +32,7 @@ fn a_reason_names_the_mantissa_radix_if_the_byte_is_a_digit_of_it() {
     }
 }
 
-/// The byte 32 and those from 127 on would be printed as something that nobody sees.
+/// The byte 32 and the bytes from 127 on have no visible character.
 #[test]
 fn a_byte_that_can_be_seen_is_printed_as_itself() {
     #[rustfmt::skip]
@@ -108,7 +108,7 @@ fn a_case_flag_without_its_byte_is_named() {
     assert_eq!(notes(0x00000A68_78000000_00000000_0003000C), [None; 3]);
 }
 
-/// A sink that fails at one piece, and takes those before and after.
+/// A sink that fails at one piece, and accepts the pieces before and after it.
 struct FailsAt {
     piece: usize,
     pieces: usize,
@@ -180,7 +180,7 @@ fn each_rule_has_its_number_and_the_bits_of_its_fields() {
     assert_eq!(RULES.len(), rows.len());
 }
 
-/// Each error of a setting, by `parse` as by `from_text`, and as an error of the standard library.
+/// `parse` returns each error that `from_text` returns, and it is an error of the standard library.
 #[test]
 fn a_setting_that_cannot_be_read_is_an_error() {
     let mut found = Vec::new();

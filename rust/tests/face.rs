@@ -1,5 +1,5 @@
-//! What is written by hand over the proved calls: formats, iterators, text and conversions. On many words they are
-//! compared with these calls, and on a few with known texts.
+//! Formats, iterators, text and conversions, which are written by hand over the proved calls, are compared with these
+//! calls on many words, and with known texts on a few.
 
 use peltzivar::edits::{apply_all, edit_word, edits_of, same_format};
 use peltzivar::format::{broken_rules, format_error, options_error, NumberFormatBuilder};
@@ -53,7 +53,7 @@ fn iterators_are_clone() {
     assert_eq!(count(NumberFormatBuilder::new().notes()), 0);
 }
 
-/// Words without any order, words with lawful radixes, and words near the standard format.
+/// Random words, random words with lawful radixes, and words near the standard format.
 fn words() -> impl Iterator<Item = u128> {
     let mut state: u64 = 1;
     let mut next = move || {
@@ -125,7 +125,7 @@ fn a_format_has_a_normal_form_that_is_one_too() {
     }
 }
 
-/// The first reason is one of the first broken rule, and each reason is one of a broken rule, within its bits.
+/// Each reason is for a broken rule, and within the bits of that rule. The first reason is for the first broken rule.
 #[test]
 fn reasons_are_of_broken_rules() {
     for word in words() {

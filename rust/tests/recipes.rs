@@ -7,7 +7,7 @@ mod recipes;
 use peltzivar::FormatView;
 use recipes::RECIPES;
 
-/// A text of a number that is read from its start on.
+/// A text of a number, which is read from its start.
 struct Reader<'a> {
     text: &'a [u8],
     format: FormatView,
@@ -64,7 +64,7 @@ impl Part<'_> {
             .count()
     }
 
-    /// Whether each separator is allowed where it is.
+    /// Returns whether each separator is at an allowed position.
     fn is_separated(&self, [internal, leading, trailing, consecutive]: [bool; 4]) -> bool {
         let groups: Vec<&[u8]> = self.text.split(|byte| *byte == self.separator).collect();
         let count = groups.len();
@@ -83,7 +83,7 @@ impl Part<'_> {
     }
 }
 
-/// Whether each separator is allowed where it is, in the integer, the fraction and the exponent.
+/// Returns whether each separator of the integer, the fraction and the exponent is at an allowed position.
 fn is_separated(it: FormatView, [integer, fraction, power]: [Part; 3]) -> bool {
     integer.is_separated([
         it.integer_internal_digit_separator(),
@@ -103,7 +103,8 @@ fn is_separated(it: FormatView, [integer, fraction, power]: [Part; 3]) -> bool {
     ])
 }
 
-/// Whether a text is a number of a format, as docs/FORMAT.md describes its flags. An integer has no exponent character.
+/// Returns whether a text is a number of a format, whose flags docs/FORMAT.md describes. An integer has no exponent
+/// character.
 fn is_number(word: u128, exponent: Option<u8>, text: &str) -> bool {
     let it = FormatView::new(word);
     let mut reader = Reader {

@@ -12,7 +12,7 @@ use peltzivar::format_builder::{NonZeroU8, NumberFormatBuilder};
 use peltzivar::format_flags::is_valid_options_punctuation;
 use peltzivar::word::{format_error, FormatView};
 
-/// How many lines of each kind the file has.
+/// The number of lines of each kind in the file.
 const COUNTS: [(&str, usize); 8] = [
     ("byte", 256),
     ("digit", 2048),
@@ -32,7 +32,7 @@ fn error(name: &str) -> Option<Error> {
     outcome(name, 0)
 }
 
-/// The edit that `SETTER=VALUE` stands for.
+/// Returns the edit that `SETTER=VALUE` means.
 fn edit(call: &str) -> Option<Edit> {
     let (name, value) = call.split_once('=')?;
     if let Ok(setter) = name.parse::<FlagSetter>() {
@@ -85,7 +85,7 @@ fn keeps_build(packed: u128, error: Error, edits: &[Edit]) -> bool {
     builder.build_unchecked() == packed && builder.build_strict() == wanted
 }
 
-/// Whether the library still returns what a line records, or `None` if the line cannot be read.
+/// Returns whether the library still returns what a line records, or `None` if the line cannot be read.
 fn keeps(line: &str) -> Option<bool> {
     if let Some(printed) = line.strip_prefix("printed ") {
         let (index, printed) = printed.split_once(' ')?;
@@ -126,7 +126,7 @@ fn text_of(file: &str) -> String {
     std::fs::read_to_string(path).expect("a file of the repository")
 }
 
-/// The proved table has bytes, and that of the plain Rust numbers of 32 bits.
+/// The entries of the proved table are bytes, and the entries of the plain Rust are numbers of 32 bits.
 #[test]
 fn each_byte_has_the_digit_value_of_the_proved_table() {
     let source = text_of("lexical_base/src/digit.rt");
@@ -149,7 +149,7 @@ fn recorded_results_are_kept() {
     let text = text_of("recorded/data/results.txt");
     let mut counts = COUNTS.map(|(kind, _)| (kind, 0));
     for line in text.lines() {
-        // Behind ` crate: ` stands what the Rust crate returns where this library differs on purpose.
+        // After ` crate: `, the line has what `lexical-util` returns where this library differs on purpose.
         let fact = line.split_once(" crate: ").map_or(line, |(fact, _)| fact);
         assert_eq!(keeps(fact), Some(true), "{line}");
         let kind = fact.split(' ').next();

@@ -7,7 +7,7 @@ mod settings;
 use peltzivar::edits::Edit;
 use settings::format_of;
 
-/// The sentence of the library for a refused setting.
+/// Returns the library's sentence for a refused setting.
 fn refusal(setting: &str) -> String {
     Edit::from_text(setting).unwrap_err().to_string()
 }
@@ -57,7 +57,7 @@ fn problems_have_exactly_their_lines() {
         (b"base_prefix='$'\ncase_sensitive_base_prefix=true\nno_special=true",
             &["lines 1, 2: case_sensitive_base_prefix changes nothing: the base prefix '$' is not a letter"]),
         (b"special_digit_separator=true", &["line 1: the digit separator flags allow nothing: there is no digit separator"]),
-        // Nothing is left of the second line under the mask of the reason.
+        // Later lines overwrite all bits of the second line under the mask of the reason.
         (b"digit_separator='_'\ndigit_separator_flags=true\ninteger_digit_separator_flags=false\ninteger_consecutive_digit_separator=true",
             &["lines 3, 4: integer_consecutive_digit_separator requires an internal, leading or trailing flag for the same part of the number"]),
         // The same field twice.

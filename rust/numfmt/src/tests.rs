@@ -146,8 +146,8 @@ fn takes_64_edits() {
     check_run(&args, "numfmt: too many edits", 2);
 }
 
-/// A writer that takes at most seven bytes at a time, and holds them back until it is flushed. Of its calls the one with
-/// the number `failing_call` fails.
+/// A writer that takes at most seven bytes at a time, and holds them back until it is flushed. The call with the number
+/// `failing_call` fails.
 struct HoldingWriter {
     failing_call: u32,
     calls: u32,
@@ -180,8 +180,8 @@ impl Write for HoldingWriter {
     }
 }
 
-/// Each call fails in turn, the flush last: the status is 3, and no call follows. If none fails, the whole text is
-/// passed on. What a flush does no clause of std tells.
+/// Each call fails in turn, the flush last: the status is 3, and no call follows. If no call fails, the whole text is
+/// passed on. No clause of std states what a flush does.
 #[test]
 fn ends_at_a_call_that_fails() {
     for (args, text, status) in RUNS {

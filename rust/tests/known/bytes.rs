@@ -76,7 +76,8 @@ fn is_text(byte: u8) -> bool {
     matches!(byte, 9..=13 | b' '..=b'~')
 }
 
-/// Whether both tests of slices return what they must of a slice that has `byte` at an index and else good bytes.
+/// Returns whether both slice tests return the right result for slices with `byte` at an index, and valid bytes
+/// elsewhere.
 fn are_tested(slices: (&mut [u8], &mut [u8]), index: usize, byte: u8) -> bool {
     let (text, letters) = slices;
     let kept = (text[index], letters[index]);
@@ -107,7 +108,7 @@ fn a_bad_byte_is_found() {
             is_valid_ascii_slice(text) && is_valid_letter_slice(letters),
             "{len}"
         );
-        // In long slices each lane is met, but not each index.
+        // In long slices each lane is tested, but not each index.
         for index in (0..len).step_by(1 + len / 1000 * 6) {
             let byte = BAD[(index + len) % BAD.len()];
             assert!(

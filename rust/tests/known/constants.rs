@@ -1,4 +1,4 @@
-//! Constants, and the functions that read a field of a word, by each of their paths.
+//! Constants and the functions that read a field of a word, each by all of its paths.
 
 use peltzivar::{format, format_flags, word};
 

@@ -1,4 +1,4 @@
-//! What `{:?}` prints of builders and views: the word, and the fields that differ from a new builder's.
+//! `{:?}` of builders and views prints the word, and the fields that differ from a new builder's.
 
 use peltzivar::feature_format::NumberFormat;
 use peltzivar::format_builder::{NonZeroU8, NumberFormatBuilder};
@@ -10,7 +10,7 @@ const WORD: u128 = 0x221C1068_7800005F_00000001_80000408;
 const FIELDS: &str = "required_exponent_digits: false, no_special: true, integer_internal_digit_separator: true, \
     digit_separator: '_', base_prefix: 'x', base_suffix: 'h', mantissa_radix: 16, exponent_base: 28, exponent_radix: 34";
 
-/// What a view adds if the word is not lawful.
+/// The text that a view adds if the word is not lawful.
 const WRONG: &str =
     "reserved_bits: 0x80000000, broken_rules: [BasePrefixIsPunctuation, BaseSuffixIsPunctuation, ReservedBitsAreZero]";
 
@@ -38,7 +38,7 @@ fn a_word_and_its_fields_are_printed() {
         ),
         (format!("{:?}", Format::default()), "Format { word: 0x00000A0000000000000000000000000C }".to_string()),
         (
-            // The separator is shown though no flag lets it be packed.
+            // The separator is printed although no flag allows the builder to pack it.
             format!("{separator:?}"),
             r"NumberFormatBuilder { word: 0x00000A0000000000000000000000000C, digit_separator: '\'' }".to_string(),
         ),

@@ -1,4 +1,4 @@
-//! Lists of edits, and what is asked of whole words.
+//! Lists of edits, and calls on whole words.
 
 use peltzivar::edits::{
     apply_all, edit_word, edits_of, is_built, migrate, normal_form, same_format, Edit, FlagSetter,
@@ -167,14 +167,14 @@ fn a_word_is_listed_as_edits() {
             HEXADECIMAL
         );
     }
-    // Edits of a new builder, the first ones and all, make the word without its reserved bits and an unused separator.
+    // The needed edits of a new builder, and all edits, make the word without reserved bits and an unused separator.
     for (word, wanted, count) in [
         (STANDARD, STANDARD, 0),
         (RESERVED_BIT, STANDARD, 0),
         (NORMAL, NORMAL, 2),
         (UNUSED_SEPARATOR, NORMAL, 3),
         (0, 0, 3),
-        // All fields but the two flags of a new builder.
+        // All fields except for the two flags of a new builder.
         (
             u128::MAX,
             0xFFFFFFFF_FF0000FF << 64 | FLAG_MASK,
@@ -197,7 +197,7 @@ fn a_word_is_listed_as_edits() {
     assert_eq!(edits[..count], filled);
 }
 
-/// All of these can be asked when the program is compiled.
+/// All these calls can be evaluated when the program is compiled.
 const _: () = {
     let edited = edit_word(STANDARD, &[Edit::Flag(FlagSetter::NoSpecial, true)]);
     assert!(edited == NORMAL | 0x400 && normal_form(edited) == edited);

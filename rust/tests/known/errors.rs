@@ -1,4 +1,4 @@
-//! The outcomes: tests, ranks, texts, and what the standard library asks of an error.
+//! The outcomes: tests, ranks, texts, and the traits of the standard library.
 
 use crate::outcomes::OUTCOMES;
 use peltzivar::error::{Class, Error, Piece, ShortText, EMPTY_PIECE};
@@ -43,7 +43,7 @@ fn each_outcome_prints_its_class_text_and_index() {
         let at = if rank < 19 { " at index 7" } else { "" };
         let text = format!("{class}{}{at}", outcome.description);
         assert_eq!((outcome.at)(7).to_string(), text);
-        // A text that does not fit is an error of the formatter.
+        // The formatter fails if the text does not fit.
         let mut room = vec![0; text.len()];
         for len in 0..text.len() {
             assert!(

@@ -1,5 +1,5 @@
-//! One word, or value, for each constant, getter, setter, rule and call. What is expected stands in `docs/FORMAT.md`,
-//! or is what `lexical-util` 1.0.7 returns.
+//! One word or value for each constant, getter, setter, rule and call. Expected values are from `docs/FORMAT.md`, or
+//! `lexical-util` 1.0.7 returned them.
 
 // Calls `$rows!` with `$args` and the flags: bit, setter, constant, getter of a builder.
 macro_rules! with_flags {

@@ -13,7 +13,7 @@ use std::num::NonZeroU8;
 /// All bits of fields.
 const FIELDS: u128 = FLAG_MASK | 0xFFFFFFFF_FF0000FF << 64;
 
-/// A word, the rules that it breaks, the sentences of its reasons, and those of its notes.
+/// A word, the rules that it breaks, the sentences of its reasons, and the sentences of its notes.
 type Row = (
     u128,
     &'static [Rule],
@@ -82,7 +82,7 @@ const OTHERS: &[Row] = {
         // Notes on lawful words.
         (0x00000A000000005F000000000000000C, &[], &[], &["no number can have the digit separator '_': no flag allows one"]),
         (0x00000A0000000020000000000000000C, &[], &[], &["no number can have the digit separator 32: no flag allows one"]),
-        // A quote is not quoted; a backslash and a double quote are.
+        // A single quote is printed as a number; a backslash and a double quote are printed between quotes.
         (0x00000A0000000027000000000000000C, &[], &[], &["no number can have the digit separator 39: no flag allows one"]),
         (0x00000A000000005C000000000000000C, &[], &[], &["no number can have the digit separator '\\': no flag allows one"]),
         (0x00000A0000000022000000000000000C, &[], &[], &["no number can have the digit separator '\"': no flag allows one"]),
@@ -92,7 +92,7 @@ const OTHERS: &[Row] = {
         (0x0000080023000000000000000001000C, &[], &[], &["case_sensitive_base_prefix changes nothing: the base prefix '#' is not a letter"]),
         (0x0000082400000000000000000002000C, &[], &[], &["case_sensitive_base_suffix changes nothing: the base suffix '$' is not a letter"]),
         (0x0000086824000000000000010003000C, &[], &[], &["the digit separator flags allow nothing: there is no digit separator", "case_sensitive_base_prefix changes nothing: the base prefix '$' is not a letter"]),
-        // A field that a reason blames has no note; another has.
+        // A field that a reason blames has no note; another field has one.
         (0x00000A0000000035000000000000000C, &[DigitSeparatorIsPunctuation], &["the digit separator '5' is a digit in radix 10"], &[]),
         (0x00000A0000000000000010000000040C, &[SpecialSeparatorFlagsAgree], &["no_special and special_digit_separator cannot both be set"], &[]),
         (0x00000A0000000000000002000000000C, &[IntegerConsecutiveIsAllowed], &["integer_consecutive_digit_separator requires an internal, leading or trailing flag for the same part of the number"], &[]),
@@ -202,7 +202,7 @@ fn a_note_has_the_bits_of_its_fields() {
     }
 }
 
-/// Words that break few rules, and some that break most: the smallest words and those above, then 20,000 at random.
+/// Words that break few rules, and words that break most: the smallest words, the words above, and 20,000 random words.
 fn words() -> Vec<u128> {
     let mut state: u64 = 0x9E3779B97F4A7C15;
     let mut random = || {
@@ -232,7 +232,7 @@ fn words() -> Vec<u128> {
     words
 }
 
-/// Each broken rule has a reason, the reasons differ, and their order is that of their first rules.
+/// Each broken rule has a reason, the reasons differ, and they are in the order of their first rules.
 #[test]
 fn reasons_are_the_causes_of_broken_rules() {
     for word in words() {
@@ -269,7 +269,7 @@ fn reasons_are_the_causes_of_broken_rules() {
     }
 }
 
-/// Bits outside of a reason's mask do not matter to its rule.
+/// Bits outside of a reason's mask do not matter for its rule.
 #[test]
 fn a_mask_is_large_enough() {
     for word in words() {
@@ -294,7 +294,7 @@ fn fields() -> impl Iterator<Item = u128> {
     fields.map(|field| field.mask()).into_iter()
 }
 
-/// Without one of its fields a mask would not do: a word with the same other bits of the mask keeps the rule.
+/// Each field of a mask is needed: some word with the same bits in the other fields of the mask keeps the rule.
 #[test]
 fn a_mask_is_small_enough() {
     let mut known = Vec::new();
@@ -330,7 +330,7 @@ fn a_mask_is_small_enough() {
     assert_eq!(kinds.len(), 8, "{kinds:?}");
 }
 
-/// The edits of a mend keep each rule that was kept, and each that no other reason broke.
+/// After the edits of a mend, the word keeps each rule that it kept, and each rule that no other reason broke.
 #[test]
 fn a_mend_mends() {
     for word in words() {
@@ -362,7 +362,7 @@ fn a_mend_mends() {
     }
 }
 
-/// In each smallest word, except that of the reserved bits, each reason has a mend.
+/// Each reason of a smallest word has a mend, except in the word with a reserved bit.
 #[test]
 fn a_smallest_word_has_a_mend() {
     for (word, rules, ..) in SMALLEST {

@@ -1,4 +1,4 @@
-//! A smallest word that breaks each rule, for each test of rules.
+//! The smallest word that breaks each rule, for each test of rules.
 
 use peltzivar::error::Error;
 use peltzivar::feature_format::NumberFormat;
@@ -6,7 +6,7 @@ use peltzivar::format_flags::{self, format_error_impl, is_clean, radix_error_imp
 use peltzivar::word::{format_error, format_is_valid, FormatView};
 use peltzivar::{format, word};
 
-/// A word, what is wanted of it, and what the calls return that take it as a const argument.
+/// A word, its expected error, and the results of the calls that take it as a const argument.
 struct Row {
     word: u128,
     error: Error,
@@ -63,7 +63,7 @@ fn rows() -> [Row; 62] {
         0x0A010A0000000000000000000000000C InvalidExponentBase none;
         0x0AFF0A0000000000000000000000000C InvalidExponentBase none;
         0x250A0A0000000000000000000000000C InvalidExponentRadix none;
-        // The separator `+`, and ones that are digits: of the exponent radix 16, and where no flag allows one.
+        // The separator `+`, and separators that are digits: in the exponent radix 16, and where no flag allows one.
         0x00000A000000002B000000000000000C InvalidDigitSeparator is_valid_digit_separator;
         0x10000A0000000061000000000000000C InvalidDigitSeparator is_valid_digit_separator;
         0x0A0A0A0000000035000000000000000C InvalidDigitSeparator is_valid_digit_separator;
@@ -83,7 +83,7 @@ fn rows() -> [Row; 62] {
         0x00000A0078000058000000000001000C Success none;
         0x00000A0078000078000000000000000C InvalidPunctuation is_valid_punctuation;
         0x2424242424000024000000000000000C InvalidPunctuation is_valid_punctuation;
-        // The prefix `@` and a backquote, which are no letters, but differ by the same bit as `h` and `H`.
+        // The prefix `@` and a backquote, which are not letters, but differ by the same bit as `h` and `H`.
         0x00000A6040000000000000000000000C Success none;
         0x00000A0000000000000000000000404C InvalidExponentFlags is_valid_exponent_flags;
         0x00000A0000000000000000000000003C InvalidMantissaSign none;
@@ -146,7 +146,7 @@ fn the_rules_of_radixes_are_tested_apart() {
     }
 }
 
-/// What the tests of single rules return, by the path of the module.
+/// The results of the tests of single rules, by the path of the module.
 macro_rules! tests {
     ($module:ident, $word:ident: $($test:ident)*) => {
         [$((stringify!($test), $module::$test($word))),*]
@@ -211,7 +211,7 @@ fn punctuation_is_text_that_is_no_sign_and_no_digit() {
         let digit = char::from(byte).to_digit(36).map(u128::from);
         let is_digit = digit.is_some_and(|digit| digit < radix);
         let wanted = is_text && !is_digit && byte != b'+' && byte != b'-';
-        // The larger of the radixes of mantissa and exponent counts.
+        // The larger of mantissa radix and exponent radix decides.
         for (mantissa, exponent) in [(radix, 0), (radix / 2, radix), (radix, radix / 2)] {
             let word = mantissa << 104 | exponent << 120;
             let tests = [
@@ -249,7 +249,7 @@ fn a_letter_stands_for_both_cases_unless_its_flag_is_set() {
 
 #[test]
 fn exponent_character_and_decimal_point_have_bytes_of_their_own() {
-    // Radix 10, separator `_`, prefix `x`, suffix `h`, and the same with all three flags of case.
+    // Radix 10, separator `_`, prefix `x` and suffix `h`, without and with all three case flags.
     const WORD: u128 = 0x00000A68_7800005F_00000001_0000000C;
     const CASED: u128 = WORD | 0x38000;
     for (word, exponent, point, wanted) in [
@@ -273,7 +273,7 @@ fn exponent_character_and_decimal_point_have_bytes_of_their_own() {
         (WORD | 1 << 16, b'X', b'.', false),
         (WORD | 1 << 16, b'.', b'X', true),
         (0x0D000A00 << 96, b'c', b'.', false),
-        // Of radix 16 `e` is a digit; a separator that no flag allows has its byte all the same.
+        // In radix 16, `e` is a digit. A separator that no flag allows still plays its role.
         (0x10101000_00000000_00000000_0000000C, b'e', b'.', false),
         (0x10101000_00000000_00000000_0000000C, b'^', b'.', true),
         (0x0A0A0A00_0000005F_00000000_0000000C, b'_', b'.', false),

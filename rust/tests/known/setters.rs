@@ -7,7 +7,7 @@ use peltzivar::format::{NonZeroU8, NumberFormatBuilder, STANDARD};
 const NO_FLAGS: NumberFormatBuilder = NumberFormatBuilder::rebuild(0);
 const ALL_FLAGS: NumberFormatBuilder = NumberFormatBuilder::rebuild(0x1FFF_0003_FFFF);
 
-/// A setter of flags: its name, its bits, and what it makes of no flags and of all.
+/// A flag setter or group setter: its name, its bits, and its results for a builder without flags and with all flags.
 struct Setter {
     name: &'static str,
     bits: u128,
@@ -109,7 +109,7 @@ fn a_new_builder_requires_digits_in_exponent_and_mantissa() {
     );
 }
 
-/// The getters of bytes, 0 for none.
+/// The bytes that the getters return, with 0 for `None`.
 fn bytes(builder: NumberFormatBuilder) -> [u8; 6] {
     [
         builder.get_digit_separator(),
@@ -294,7 +294,7 @@ fn the_last_setter_counts_and_only_lawful_words_pass() {
         (new.required_exponent_digits(false).required_digits(true), 0x00000A00_00000000_00000000_0000000F, Success),
         (fives, 0x00000200_00000035_00001FFF_0000000C, Success),
         (fives.exponent_base(NonZeroU8::new(10)), 0x000A0200_00000035_00001FFF_0000000C, Success),
-        // `h` and `H` are one letter, unless both count in their own case.
+        // `h` and `H` clash unless both are case-sensitive.
         (affixed(b'h'), 0x00000A68_68000000_00000000_0000000C, InvalidPunctuation),
         (affixed(b'H'), 0x00000A48_68000000_00000000_0000000C, InvalidPunctuation),
         (affixed(b'H').case_sensitive_base_prefix(true).case_sensitive_base_suffix(true),
@@ -304,7 +304,7 @@ fn the_last_setter_counts_and_only_lawful_words_pass() {
         (new.integer_consecutive_digit_separator(true).no_special(true).case_sensitive_special(true),
             0x00000A00_00000000_00000200_00000C0C, InvalidSpecial),
         (new.no_exponent_notation(true).no_special(true), 0x00000A00_00000000_00000000_0000044C, Success),
-        // A rebuilt builder keeps its exponent bytes under another radix, of which `e` is a digit.
+        // A rebuilt builder keeps its exponent bytes under the radix 16, in which `e` is a digit.
         (NumberFormatBuilder::rebuild(0x00000A00_00000065_00001FFF_0000000C).radix(16),
             0x0A0A1000_00000065_00001FFF_0000000C, InvalidDigitSeparator),
     ] {

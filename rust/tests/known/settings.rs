@@ -6,7 +6,7 @@ use peltzivar::edits::{
 };
 use std::num::NonZeroU8;
 
-/// The setters of flags and groups come first, then those of bytes.
+/// Flag setters and group setters come first, then byte setters.
 #[test]
 fn setters_have_their_names() {
     let bytes = [
@@ -38,7 +38,7 @@ fn setters_have_their_names() {
     }
 }
 
-/// Each edit is its number and byte, its name and byte, and its text.
+/// Each edit can be read from its number and byte, from its name and byte, and from its text.
 #[test]
 fn edits_are_read_back() {
     for number in 0..47u8 {

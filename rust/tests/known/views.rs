@@ -1,4 +1,4 @@
-//! The getters of both views: of the one at run time, and of the one whose word is a const argument.
+//! The getters of both views: the view at run time, and the view whose word is a const argument.
 
 use peltzivar::error::Error;
 use peltzivar::feature_format::NumberFormat;
@@ -9,7 +9,7 @@ use peltzivar::word::FormatView;
 /// A word whose six bytes differ and have their highest bits set: 143, 152, 168, 145, 220 and 226.
 const BYTES: u128 = 0xE2DC91A8_9800008F_00000000_00000000;
 
-/// What the getters of a flag read, by each of their names, in a word.
+/// The values that a flag's getters return for a word, by each of their names.
 macro_rules! flag {
     ($word:expr, $name:ident $NAME:ident $get:ident) => {
         [
@@ -77,7 +77,7 @@ fn each_group_is_any_of_its_bits() {
     }
 }
 
-/// What a getter returns of some words, in each of the views.
+/// The results of a getter for some words, in each of the views.
 macro_rules! read {
     (($($word:expr),*) $name:ident) => {
         [
@@ -87,7 +87,7 @@ macro_rules! read {
     };
 }
 
-/// Compares getters with what they must return of some words.
+/// Compares the results of getters for some words with the expected values.
 macro_rules! both_views {
     ($words:tt $($name:ident $wanted:expr;)*) => {
         $(assert_eq!(read!($words $name), [$wanted; 2], stringify!($name));)*
@@ -195,7 +195,7 @@ fn a_view_gives_builders() {
         [FormatView::builder(), NumberFormat::<BYTES>::builder()],
         [new; 2]
     );
-    // Exponent base and exponent radix of 0 become the mantissa radix, and the reserved bit 31 is lost.
+    // An exponent base and an exponent radix of 0 become the mantissa radix, and the reserved bit 31 is dropped.
     const WORD: u128 = 0x00001068_7800005F_00000001_80000400;
     let built = [
         FormatView::new(WORD).rebuild().build_unchecked(),

@@ -2,11 +2,11 @@
 
 use peltzivar::error::Error;
 
-// What is not asked in both tests is dead code in one.
+// A field that only one test reads is dead code in the other.
 #[allow(dead_code)]
 pub struct Outcome {
     pub name: &'static str,
-    /// Makes the outcome with an index, which only those of parsing hold.
+    /// Makes the outcome with an index, which only parse errors hold.
     pub at: fn(usize) -> Error,
     pub holds_index: bool,
     pub test: fn(&Error) -> bool,
