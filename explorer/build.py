@@ -1,6 +1,6 @@
 """Makes index.html from the sources here, the tables of docs/FORMAT.md and the recipes; `explorer/build` calls this.
 
-The page has a hash of the sources of its WebAssembly. If they are the same, the WebAssembly of the page is taken again.
+The page has a hash of its WebAssembly and of the sources of that. If it is the same, the WebAssembly is taken again.
 """
 import base64
 import hashlib
@@ -111,11 +111,11 @@ def data():
     }
 
 
-def sources_hash():
-    """Returns a hash of the sources of the WebAssembly, without comments and blank lines."""
+def hash_of(wasm):
+    """Returns a hash of the WebAssembly and its sources. Comments and blank lines of the sources do not count."""
     files = [HERE / "shim.rs", TOP / "rust/Cargo.toml"]
     files += sorted((TOP / "rust/src").rglob("*.rs")) + sorted((TOP / "rust/capi/src").rglob("*.rs"))
-    whole = hashlib.sha256(json.dumps(compiler_flags()).encode())
+    whole = hashlib.sha256(json.dumps([wasm, compiler_flags()]).encode())
     for path in files:
         lines = [line.strip() for line in path.read_text().splitlines()]
         code = [line for line in lines if line and not line.startswith("//")]
@@ -200,8 +200,8 @@ def digest(text):
     return f"'sha256-{base64.b64encode(hashlib.sha256(text.encode()).digest()).decode()}'"
 
 
-def page(wasm, sources):
-    """Returns the page with this WebAssembly, as base64, and the hash of its sources."""
+def page(wasm):
+    """Returns the page with this WebAssembly, as base64."""
     style = "\n" + (HERE / "page.css").read_text()
     script = "\n" + "\n".join((HERE / f"{name}.js").read_text() for name in SCRIPTS)
     embedded = json.dumps(data(), ensure_ascii=False, separators=(",", ":")).replace("<", "\\u003c")
@@ -210,7 +210,7 @@ def page(wasm, sources):
         "policy": f"{policy}; base-uri 'none'; form-action 'none'",
         "style": style,
         "data": embedded,
-        "sources": sources,
+        "hash": hash_of(wasm),
         "library": wasm,
         "script": script,
     }
@@ -219,18 +219,18 @@ def page(wasm, sources):
 
 
 def old_page():
-    """Returns the text of the page that is there, its WebAssembly as base64, and the hash of its sources."""
+    """Returns the text of the page that is there, its WebAssembly as base64, and the hash with it."""
     text = PAGE.read_text() if PAGE.exists() else ""
-    found = re.search(r'<script id="library" [^>]*data-sources="(\w+)">([^<]*)</script>', text)
+    found = re.search(r'<script id="library" [^>]*data-hash="(\w+)">([^<]*)</script>', text)
     return (text, found[2], found[1]) if found else (text, "", "")
 
 
 def check():
     """Returns what is wrong with the page that is there, or an empty text."""
-    text, wasm, sources = old_page()
-    if sources != sources_hash():
+    text, wasm, found = old_page()
+    if found != hash_of(wasm):
         return "explorer/index.html: its WebAssembly is not up to date with rust/, run explorer/build"
-    if text != page(wasm, sources):
+    if text != page(wasm):
         return "explorer/index.html: is not up to date with docs/FORMAT.md, the recipes or explorer/, run explorer/build"
     return ""
 
@@ -243,10 +243,10 @@ def main(arguments):
         install()
     elif arguments:
         sys.exit("usage: explorer/build [--check | --install]")
-    _, wasm, sources = old_page()
-    if sources != sources_hash():
-        wasm, sources = base64.b64encode(compiled()).decode(), sources_hash()
-    text = page(wasm, sources)
+    _, wasm, found = old_page()
+    if found != hash_of(wasm):
+        wasm = base64.b64encode(compiled()).decode()
+    text = page(wasm)
     if len(text.encode()) >= MOST_BYTES:
         sys.exit(f"explorer/index.html: {len(text.encode())} bytes, more than {MOST_BYTES}")
     PAGE.write_text(text)

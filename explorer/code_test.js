@@ -8,7 +8,7 @@
 
 const fs = require("node:fs");
 const path = require("node:path");
-const { load } = require("./node.js");
+const { load } = require("./load.js");
 
 /* Words that a builder makes: the standard format, bytes that need an escape or are not visible, and an unlawful word. */
 const OTHERS = [

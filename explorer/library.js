@@ -139,6 +139,12 @@ class Library {
         return this.call("same_format", ...this.words(written, edited)) && this.isBuilt(written) ? written : edited;
     }
 
+    /* Returns the version as text. Its number has eight bits for each part. */
+    version() {
+        const number = this.call("version");
+        return [number >> 16, (number >> 8) & 255, number & 255].join(".");
+    }
+
     normalForm(word) {
         return this.word("normal_form", ...this.words(word));
     }

@@ -7,7 +7,7 @@
 "use strict";
 
 const fs = require("node:fs");
-const { load, read } = require("./node.js");
+const { load, read } = require("./load.js");
 
 /* Returns the errors of the header by names such as InvalidFlags, and their numbers. */
 function errorsOf(header) {

@@ -31,6 +31,7 @@ class Page {
         this.cells = makeBits(data, (name) => this.controls.boxes.get(name).click());
         this.code = new Code(library, data);
         this.meanings = meaningsOf(data);
+        setText(find("version"), library.version());
         this.listen();
         this.makeRecipes();
         this.makeLimits();
@@ -46,7 +47,9 @@ class Page {
             find("recipe").value = "";
             find("recipe-panel").hidden = true;
         });
-        find("recipe").addEventListener("change", (event) => this.start(this.data.recipes[event.target.value]));
+        find("recipe").addEventListener("change", ({ target }) => {
+            this.start(this.data.recipes.find(({ name }) => name === target.value));
+        });
         find("as-numbers").addEventListener("change", (event) => {
             this.controls.asNumbers = event.target.checked;
             this.show();
@@ -85,8 +88,8 @@ class Page {
     }
 
     makeRecipes() {
-        const options = this.data.recipes.map(({ about }, index) => {
-            return element("option", { value: index }, about.replace(/[:.]? \(.*|, as .*| with .*|\.$/, ""));
+        const options = this.data.recipes.map(({ name, about }) => {
+            return element("option", { value: name }, about.replace(/[:.]? \(.*|, as .*| with .*|\.$/, ""));
         });
         find("recipe").append(...options);
     }
