@@ -44,7 +44,8 @@ function makeBits(data, toggle) {
             return made;
         });
         const ends = [high, high - ROW_BITS + 1].map((bit) => element("span", { class: "number" }, String(bit)));
-        find("bits").append(element("div", { class: "row" }, ends[0], element("div", { class: "cells" }, made, titles), ends[1]));
+        const grid = element("div", { class: "cells" }, made, titles);
+        find("bits").append(element("div", { class: "row" }, ends[0], grid, ends[1]));
     }
     return cells;
 }

@@ -178,7 +178,8 @@ def a_refused_value_is_replaced(page):
 
 def a_separator_without_a_flag_has_a_note(page):
     page.type("#digit_separator", "_")
-    same(page.texts("#notes .note")[0].splitlines()[0], "no number can have the digit separator '_': no flag allows one")
+    sentence = "no number can have the digit separator '_': no flag allows one"
+    same(page.texts("#notes .note")[0].splitlines()[0], sentence)
     same(page.text("#verdict"), "Lawful")
 
 
@@ -264,7 +265,7 @@ def reserved_bits_have_a_reason(page):
 def the_normal_form_is_used(page):
     page.load(f"#word={STANDARD}")
     same(page.text("#normal code"), "0x0A0A0A0000000000000000000000000C")
-    page.click("#use-normal")
+    page.click("#normal .use")
     same(page.text("#normal"), "The word is its own normal form.")
     same(page.value("#exponent_radix"), "10")
 

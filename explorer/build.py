@@ -47,6 +47,12 @@ def flags():
         yield {"bit": int(bit), "name": name, "meaning": meaning, "section": title, "part": part}
 
 
+def groups():
+    """Returns the groups of flags, each with its bits."""
+    for name, bits, meaning in check_format.GROUPS:
+        yield {"name": name, "bits": [*map(int, bits.split())], "meaning": meaning}
+
+
 def fields():
     """Returns the bytes, each with its lowest bit and whether it is shown as a number."""
     for low, _, name, meaning in check_format.BYTES:
@@ -75,8 +81,8 @@ def recipes():
     """Returns the recipes: name, comment, settings with their comments, and exponent character."""
     text = (TOP / "rust/examples/recipes.rs").read_text()
     exponents = re.findall(r'^ +\("(\w+)", \w+, b\'(.)\'\),$', text, re.M)
-    bodies = re.findall(r"((?:^///.*\n)+)pub const (\w+): u128 = NumberFormatBuilder::new\(\)\n((?: +\..*\n)+)", text, re.M)
-    found = {name: (comment, body) for comment, name, body in bodies}
+    constant = r"((?:^///.*\n)+)pub const (\w+): u128 = NumberFormatBuilder::new\(\)\n((?: +\..*\n)+)"
+    found = {name: (comment, body) for comment, name, body in re.findall(constant, text, re.M)}
     for name, exponent in exponents:
         comment, body = found[name]
         calls = re.findall(r"^ +(\.\w+\(.*?\));?(?: // (.*))?$", body, re.M)
@@ -98,14 +104,12 @@ def constants():
 
 def data():
     """Returns what the page reads of the repository."""
-    groups = [{"name": name, "bits": [*map(int, bits.split())], "meaning": it} for name, bits, it in check_format.GROUPS]
-    rules = [{"demand": demand} for _, demand, *_ in check_format.RULES]
     return {
         "constants": constants(),
         "flags": [*flags()],
-        "groups": groups,
+        "groups": [*groups()],
         "bytes": [*fields()],
-        "rules": rules,
+        "rules": [{"demand": demand} for _, demand, *_ in check_format.RULES],
         "recipes": [*recipes()],
         "limits": limits(),
     }
@@ -205,9 +209,9 @@ def page(wasm):
     style = "\n" + (HERE / "page.css").read_text()
     script = "\n" + "\n".join((HERE / f"{name}.js").read_text() for name in SCRIPTS)
     embedded = json.dumps(data(), ensure_ascii=False, separators=(",", ":")).replace("<", "\\u003c")
-    policy = f"default-src 'none'; script-src {digest(script)} 'wasm-unsafe-eval'; style-src {digest(style)}; img-src data:"
+    policy = f"default-src 'none'; script-src {digest(script)} 'wasm-unsafe-eval'; style-src {digest(style)}"
     parts = {
-        "policy": f"{policy}; base-uri 'none'; form-action 'none'",
+        "policy": f"{policy}; img-src data:; base-uri 'none'; form-action 'none'",
         "style": style,
         "data": embedded,
         "hash": hash_of(wasm),
@@ -231,7 +235,7 @@ def check():
     if found != hash_of(wasm):
         return "explorer/index.html: its WebAssembly is not up to date with rust/, run explorer/build"
     if text != page(wasm):
-        return "explorer/index.html: is not up to date with docs/FORMAT.md, the recipes or explorer/, run explorer/build"
+        return "explorer/index.html: is not up to date with FORMAT, the recipes or explorer/, run explorer/build"
     return ""
 
 

@@ -2,15 +2,15 @@
  *
  *     node explorer/code_test.js FOLDER
  *
- * The file `words` of the folder has the words. main.rs, main.py and main.c print them if the code is right; the settings
- * are tried here. */
+ * The file `words` of the folder has the words. main.rs, main.py and main.c print them if the code is right.
+ * The settings are tried here. */
 "use strict";
 
 const fs = require("node:fs");
 const path = require("node:path");
 const { load } = require("./load.js");
 
-/* Words that a builder makes: the standard format, bytes that need an escape or are not visible, and an unlawful word. */
+/* Words that a builder makes: the standard format, bytes that need an escape or are not visible, an unlawful word. */
 const OTHERS = [
     "0x00000A0000000000000000000000000C",
     "0x000002005C000027000000010000000C",
@@ -26,7 +26,9 @@ function settingsOf(text) {
 /* Returns a program that prints the words of the files with this ending. */
 const PROGRAMS = {
     rs: (files) => {
-        const modules = files.map((file, index) => `mod m${index} { include!("${file}"); pub const WORD: u128 = FORMAT; }\n`);
+        const modules = files.map((file, index) => {
+            return `mod m${index} { include!("${file}"); pub const WORD: u128 = FORMAT; }\n`;
+        });
         const lines = files.map((_, index) => `    println!("{:#034X}", m${index}::WORD);\n`);
         return `${modules.join("")}\nfn main() {\n${lines.join("")}}\n`;
     },
@@ -44,8 +46,8 @@ const PROGRAMS = {
             const get = isStandard ? `word = FORMAT_${index};` : `if (!build_${index}(&word)) return 1;`;
             return `    ${get}\n    peltzivar_text_of_word(word, text, sizeof text);\n    puts(text);\n`;
         });
-        const main = `int main(void) {\n    char text[PELTZIVAR_TEXT_SIZE];\n    peltzivar_word word;\n${calls.join("")}}\n`;
-        return `#include <stdio.h>\n${parts.join("")}\n${main}`;
+        const main = `    char text[PELTZIVAR_TEXT_SIZE];\n    peltzivar_word word;\n${calls.join("")}`;
+        return `#include <stdio.h>\n${parts.join("")}\nint main(void) {\n${main}}\n`;
     },
 };
 

@@ -26,7 +26,8 @@ class Controls {
     box(name, meaning) {
         const setter = this.library.setterOf(name);
         const change = (event) => this.edit([{ setter, value: Number(event.target.checked) }]);
-        const box = element("input", { type: "checkbox", id: name, change, "aria-label": `${name}: ${plain(meaning)}` });
+        const label = `${name}: ${plain(meaning)}`;
+        const box = element("input", { type: "checkbox", id: name, change, "aria-label": label });
         this.boxes.set(name, box);
         return box;
     }
@@ -38,7 +39,8 @@ class Controls {
             const flags = this.data.flags.filter((flag) => flag.section === title);
             const isOfGroup = group && flags.some(({ bit }) => group.bits.includes(bit));
             const rows = flags.map((flag) => this.flagRow(flag, flag.meaning));
-            if (isOfGroup) rows.unshift(this.flagRow({ ...group, part: "group" }, `all flags of the group: ${group.meaning}`));
+            const meaning = `all flags of the group: ${group.meaning}`;
+            if (isOfGroup) rows.unshift(this.flagRow({ ...group, part: "group" }, meaning));
             find("flags").append(element("fieldset", {}, element("legend", {}, title), rows));
         }
     }
@@ -73,7 +75,8 @@ class Controls {
     separatorRow(row, columns) {
         const cells = columns.map((column) => {
             const flag = this.data.flags.find(({ bit }) => row.bits.includes(bit) && column.bits.includes(bit));
-            const label = element("label", {}, this.box(flag.name, flag.meaning), element("code", {}, example(flag.meaning)));
+            const text = element("code", {}, example(flag.meaning));
+            const label = element("label", {}, this.box(flag.name, flag.meaning), text);
             return element("td", { class: "field", "data-field": flag.name }, label);
         });
         return element("tr", {}, this.groupHead(row, row.name.replace("_digit_separator_flags", ""), "row"), cells);
@@ -107,7 +110,7 @@ class Controls {
             use(edit ?? parsed(before).edit);
         };
         const blur = () => this.show(this.shown);
-        const box = element("input", { id: name, input, focus, blur, autocomplete: "off", spellcheck: "false", size: 4 });
+        const box = element("input", { id: name, input, focus, blur, autocomplete: "off", spellcheck: "false" });
         box.setAttribute("aria-describedby", `${name}-problem ${name}-meaning`);
         const other = element("span", { class: "other" });
         this.inputs.set(name, { box, other, problem });

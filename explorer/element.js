@@ -1,11 +1,11 @@
 /* Elements of the page. Texts become text nodes, never HTML. */
 
-/* Returns an element. An attribute that is a function listens to the event of its name; undefined and false are left out. */
+/* Returns an element. A function among the attributes listens to the event of its name. */
 function element(tag, attributes = {}, ...children) {
     const made = document.createElement(tag);
     for (const [name, value] of Object.entries(attributes)) {
         if (typeof value === "function") made.addEventListener(name, value);
-        else if (value !== undefined && value !== false) made.setAttribute(name, value === true ? "" : value);
+        else made.setAttribute(name, value);
     }
     made.append(...children.flat());
     return made;

@@ -153,7 +153,7 @@ class Library {
         return Boolean(this.call("is_built", ...this.words(word)));
     }
 
-    /* Returns the edits of all fields. The first `count` are those in which the word differs from the standard format. */
+    /* Returns the edits of all fields. In the first `count` the word differs from the standard format. */
     editsOf(word) {
         const count = this.call("edits_of", ...this.words(word), this.at("edits"));
         const edits = Array.from({ length: this.fieldCount() }, (_, index) => this.readEdit("edits", index));
@@ -261,7 +261,7 @@ class Library {
         return Object.fromEntries(this.editsOf(word).edits.map(({ setter, value }) => [this.setters[setter], value]));
     }
 
-    /* Returns the bytes of the fields of the word by their names. An absent byte is 0, an absent exponent byte is filled. */
+    /* Returns the bytes of the word by their names. An absent byte is 0, but an absent exponent byte is filled. */
     bytesOf(word, names) {
         this.call("fields_of", this.at("fields"), ...this.words(word));
         const bytes = names.map((name, index) => [name, this.view().getUint8(AT.fields + 4 + index)]);

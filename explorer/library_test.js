@@ -2,8 +2,8 @@
  *
  *     node explorer/library_test.js [RECIPES]
  *
- * RECIPES is a file of what the example `recipes` of the plain Rust prints. A size_t has 32 bits here, so recorded texts
- * with an index above that are not tried. */
+ * RECIPES is a file of what the example `recipes` of the plain Rust prints. A size_t has 32 bits here, so recorded
+ * texts with an index above that are not tried. */
 "use strict";
 
 const fs = require("node:fs");
@@ -41,8 +41,10 @@ class Recorded {
         const call = (name, ...numbers) => this.library.call(name, ...numbers);
         const word = () => BigInt(`0x${parts[0]}`);
         switch (kind) {
-            case "byte":
-                return [["is_valid_ascii", "is_valid_letter"].map((it) => String(call(it, parts[0]) === 1)), parts.slice(1)];
+            case "byte": {
+                const got = ["is_valid_ascii", "is_valid_letter"].map((it) => String(call(it, parts[0]) === 1));
+                return [got, parts.slice(1)];
+            }
             case "digit":
                 return [call("char_to_digit", parts[0], parts[1]), parts[2] === "none" ? -1 : Number(parts[2])];
             case "printed":
@@ -86,8 +88,9 @@ function compareRecorded(recorded, lines) {
 
 /* A control changes its own field and nothing else, also of a word that is not built. Returns how many were tried. */
 function compareWritten({ library }, lines) {
-    const edits = lines.filter((line) => line.startsWith("edit ")).flatMap((line) => line.split(" crate: ")[0].split(" ").slice(3));
-    const words = lines.filter((line) => line.startsWith("fields ")).map((line) => BigInt(`0x${line.split(" ")[1]}`));
+    const partsOf = (kind) => lines.map((line) => line.split(" crate: ")[0].split(" ")).filter((it) => it[0] === kind);
+    const edits = partsOf("edit").flatMap((parts) => parts.slice(3));
+    const words = partsOf("fields").map((parts) => BigInt(`0x${parts[1]}`));
     edits.forEach((text, index) => {
         const { edit } = library.parseEdit(text);
         const word = words[index % words.length];

@@ -66,7 +66,8 @@ class NumberPicture {
         for (const part of [integer, fraction]) part.fields.push("required_mantissa_digits", "mantissa_radix");
         if (this.flag("required_mantissa_digits")) [integer.other, fraction.other] = [fraction.title, integer.title];
         integer.fields.push("no_integer_leading_zeros", "no_float_leading_zeros");
-        const point = { title: "point", kind: "option", pieces: [{ text: visible(this.state.point) }], fields: ["point"] };
+        const pieces = [{ text: visible(this.state.point) }];
+        const point = { title: "point", kind: "option", pieces, fields: ["point"] };
         return [integer, point, fraction];
     }
 
@@ -74,8 +75,9 @@ class NumberPicture {
         const isNever = this.flag("no_exponent_notation");
         const fields = ["exponent", "no_exponent_notation", "required_exponent_notation"];
         fields.push("no_exponent_without_fraction", "case_sensitive_exponent", "exponent_base");
-        const character = { title: "exponent", kind: "exponent", pieces: [{ text: visible(this.state.exponent) }], fields };
-        character.isRequired = this.flag("required_exponent_notation");
+        const pieces = [{ text: visible(this.state.exponent) }];
+        const isRequired = this.flag("required_exponent_notation");
+        const character = { title: "exponent", kind: "exponent", pieces, isRequired, fields };
         const digits = this.digitPart("its digits", "exponent", this.bytes.exponent_radix, [1, 0]);
         digits.fields.push("exponent_radix");
         const parts = [character, this.sign("its sign", "exponent", "sign"), { ...digits, kind: "exponent" }];
@@ -84,8 +86,8 @@ class NumberPicture {
 
     /* Returns the spelling NaN, with separators where they are allowed. */
     special() {
-        const allowed = this.flag("special_digit_separator") && this.bytes.digit_separator;
-        const pieces = separated([..."NaN"], this.bytes.digit_separator, (position) => allowed && position === "internal");
+        const allowed = (position) => position === "internal" && this.flag("special_digit_separator");
+        const pieces = separated([..."NaN"], this.bytes.digit_separator, allowed);
         const fields = ["no_special", "case_sensitive_special", "special_digit_separator"];
         return { title: "special", kind: "special", pieces, isNever: this.flag("no_special"), fields };
     }
@@ -111,10 +113,13 @@ function presence(part) {
 
 /* Returns the element of a part. */
 function partElement(part) {
-    const pieces = part.pieces.map((it) => element("span", { class: it.isSeparator ? "separator" : part.kind }, it.text));
+    const pieces = part.pieces.map(({ text, isSeparator }) => {
+        return element("span", { class: isSeparator ? "separator" : part.kind }, text);
+    });
+    const classes = ["part", ...(part.isNever ? ["never"] : []), ...(part.isRequired ? ["required"] : [])];
     return element(
         "li",
-        { class: `part${part.isNever ? " never" : ""}${part.isRequired ? " required" : ""}`, "data-field": part.fields.join(" ") },
+        { class: classes.join(" "), "data-field": part.fields.join(" ") },
         element("span", { class: "written" }, ...pieces),
         element("span", { class: "title" }, part.title),
         element("span", { class: "presence" }, presence(part)),

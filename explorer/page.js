@@ -60,7 +60,9 @@ class Page {
         find("to-report").addEventListener("click", () => find("report-title").focus());
         const marked = (node) => node.closest("[data-field]");
         document.addEventListener("focusin", ({ target }) => this.mark(marked(target)));
-        document.addEventListener("pointerover", ({ target }) => this.mark(marked(target) ?? marked(document.activeElement)));
+        document.addEventListener("pointerover", ({ target }) => {
+            this.mark(marked(target) ?? marked(document.activeElement));
+        });
         this.listenToTabs();
     }
 
@@ -75,6 +77,7 @@ class Page {
             find("code").setAttribute("aria-labelledby", tabs[index].id);
             this.showCode();
         };
+        choose(0);
         tabs.forEach((tab, index) => {
             tab.addEventListener("click", () => choose(index));
             tab.addEventListener("keydown", ({ key }) => {
@@ -107,7 +110,8 @@ class Page {
         const edits = recipe.settings.map(([text]) => this.library.parseEdit(text).edit);
         this.jump({ word: this.library.build(edits), ...OPTIONS, exponent: recipe.exponent.charCodeAt(0) });
         const rows = recipe.settings.map(([text, meaning]) => {
-            return element("li", {}, element("code", {}, text), " ", element("span", { class: "meaning" }, withCode(meaning)));
+            const comment = element("span", { class: "meaning" }, withCode(meaning));
+            return element("li", {}, element("code", {}, text), " ", comment);
         });
         find("about").replaceChildren(...withCode(recipe.about));
         find("recipe-settings").replaceChildren(...rows);
@@ -219,7 +223,7 @@ class Page {
     }
 }
 
-/* Copies a text, and says so on the button. Without the clipboard, as in a page from the disk, a selection is copied. */
+/* Copies a text, and shows that on the button. Without a clipboard, which not every page has, a selection is copied. */
 async function copy(button, text) {
     const label = button.dataset.label ?? button.textContent;
     button.dataset.label = label;

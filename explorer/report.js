@@ -1,4 +1,9 @@
 /* What the library reports of a word: reasons, notes, normal form, and what differs from the standard format. */
+/* Returns a button of a class with a text. */
+function button(kind, text, click, attributes = {}) {
+    return element("button", { type: "button", class: kind, click, ...attributes }, text);
+}
+
 class Report {
     constructor(library, data, { use, edit, go }) {
         this.library = library;
@@ -22,9 +27,7 @@ class Report {
 
     /* Returns buttons that lead to the fields of a mask. */
     links(mask) {
-        return this.namesOf(mask).map((name) => {
-            return element("button", { type: "button", class: "link", "data-field": name, click: () => this.go(name) }, name);
-        });
+        return this.namesOf(mask).map((name) => button("link", name, () => this.go(name), { "data-field": name }));
     }
 
     reason(word, { text, mask, rules, mends }) {
@@ -35,11 +38,11 @@ class Report {
         });
         const buttons = mends.map((edits) => {
             const title = edits.map((edit) => this.library.editText(edit)).join(" ");
-            return element("button", { type: "button", class: "mend", click: () => this.use(this.library.mended(word, edits)) }, title);
+            return button("mend", title, () => this.use(this.library.mended(word, edits)));
         });
         if (this.namesOf(mask).includes("reserved")) {
-            const click = () => this.use(this.library.editWord(word, []));
-            buttons.push(element("button", { type: "button", class: "mend", click }, "clear the reserved bits"));
+            const cleared = () => this.use(this.library.editWord(word, []));
+            buttons.push(button("mend", "clear the reserved bits", cleared));
         }
         return element(
             "li",
@@ -52,24 +55,24 @@ class Report {
     }
 
     note({ text, mask }) {
-        return element("li", { class: "note", "data-field": this.namesOf(mask).join(" ") }, text, element("p", {}, this.links(mask)));
+        const fields = this.namesOf(mask).join(" ");
+        return element("li", { class: "note", "data-field": fields }, text, element("p", {}, this.links(mask)));
     }
 
     /* Returns a button for each edit that differs from the standard format, which takes it back. */
     change(edit) {
         const standard = this.defaults.get(edit.setter);
         const title = `back to ${this.library.editText(standard)}`;
-        const click = () => this.edit([standard]);
-        const undo = element("button", { type: "button", class: "undo", title, "aria-label": title, click }, "\u00d7");
-        return element("li", { class: "chip", "data-field": edit.name }, element("code", {}, this.code.setting(edit)), undo);
+        const undo = button("undo", "\u00d7", () => this.edit([standard]), { title, "aria-label": title });
+        const setting = element("code", {}, this.code.setting(edit));
+        return element("li", { class: "chip", "data-field": edit.name }, setting, undo);
     }
 
     showNormal(word) {
         const normal = this.library.normalForm(word);
         const text = element("code", {}, this.library.wordText(normal));
-        const click = () => this.use(normal);
-        const button = element("button", { type: "button", click, id: "use-normal" }, "use it");
-        find("normal").replaceChildren(...(normal === word ? ["The word is its own normal form."] : [text, " ", button]));
+        const use = button("use", "use it", () => this.use(normal));
+        find("normal").replaceChildren(...(normal === word ? ["The word is its own normal form."] : [text, " ", use]));
     }
 
     /* Shows all of this for a state, and returns the names of the fields to blame. */
@@ -89,7 +92,8 @@ class Report {
     }
 
     showOptions(error) {
-        setText(find("options"), error ? this.library.errorText(error) : "Exponent character and decimal point fit the format.");
+        const text = error ? this.library.errorText(error) : "Exponent character and decimal point fit the format.";
+        setText(find("options"), text);
         find("options").className = error ? "bad" : "good";
     }
 }

@@ -2,7 +2,8 @@
 # Tests the page: that Node.js gets the recorded results from its WebAssembly, that the code which it shows builds the
 # word, and that it does in Chromium what a user wants. Pictures of what Chromium shows are kept in out/.
 #
-# The last line is `N passed, M failed, K skipped`; the exit status is 1 if a row failed, or fewer were tried than before.
+# The last line is `N passed, M failed, K skipped`. The exit status is 1 if a row failed, or fewer were tried than
+# before.
 set -u
 cd "$(dirname "$0")" || exit
 . ../.ci/rows.sh
@@ -23,12 +24,14 @@ if has node && has cargo; then
     printf '%s\n' '[package]' 'name = "code"' 'edition = "2021"' '[[bin]]' 'name = "code"' 'path = "main.rs"' \
         '[dependencies]' "peltzivar = { path = \"$(realpath ../rust)\" }" > "$work/code/Cargo.toml"
     prints 0 "$wanted" cargo run --quiet --manifest-path "$work/code/Cargo.toml"
+    release=$work/target/release
     passes cargo build --quiet --release --manifest-path ../rust/Cargo.toml --package peltzivar-capi
     if has cc; then
-        passes cc -Wall -Wextra -Werror -I ../c -o "$work/code/c" "$work/code/main.c" "$work/target/release/libpeltzivar_c.a"
+        passes cc -Wall -Wextra -Werror -I ../c -o "$work/code/c" "$work/code/main.c" "$release/libpeltzivar_c.a"
         prints 0 "$wanted" "$work/code/c"
     fi
-    library=$(find "$work/target/release" -maxdepth 1 -name 'libpeltzivar_c.so' -o -maxdepth 1 -name 'libpeltzivar_c.dylib')
+    library=$release/libpeltzivar_c.so
+    [ -e "$library" ] || library=$release/libpeltzivar_c.dylib
     prints 0 "$wanted" env PELTZIVAR_LIBRARY="$library" PYTHONPATH=../c PYTHONDONTWRITEBYTECODE=1 \
         python3 "$work/code/main.py"
 fi
