@@ -10,8 +10,8 @@ returns-else-base-eq0-clause-lawful c lawful =
     subst (λ own. own ≢ 0 → IsRadix own) (sym (exponent_base_part c.args.format))
     (Lawful-exponent_base c.args.format lawful) c.if-base-eq0.false
 
--- Search also proves these goals. The answers are given so that the must-fail edit exponent_base_is_raw.edit fails
--- soon.
+-- Search also proves these goals. The answers are given so that the must-fail edit
+-- exponent_base_returns_the_raw_byte.edit fails soon.
 pub returns-then-base-eq0-clause-value : goal.returns-then-base-eq0-clause-value
 returns-then-base-eq0-clause-value c =
     let none : part c.args.format 112 8 ≡ 0 = sym (exponent_base_part c.args.format) ∙ c.if-base-eq0.true in

@@ -1,4 +1,4 @@
--- Search also proves this goal. With this answer, run_always_has_status_0.edit fails sooner.
+-- Search also proves this goal. With this answer, run_always_returns_status_0.edit fails sooner.
 use Rattle.std.proofs.Common.{inr, arith}
 use Rattle.numfmt.proofs.program.run.Goals as goal
 
