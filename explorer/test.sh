@@ -13,6 +13,32 @@ export CARGO_NET_OFFLINE=true CARGO_TARGET_DIR=$work/target CARGO_INCREMENTAL=0 
 
 has python3 || { counted 0; exit; }
 passes ./build --check
+
+# stale TEXT FILE FROM TO: in a copy of the repository, where FROM becomes TO in the file, `build --check` prints the text.
+mkdir "$work/copy"
+tar --exclude=out --exclude=target -C .. -c c crates docs explorer rust | tar -x -C "$work/copy"
+stale() {
+    cp "$work/copy/$2" "$work/before"
+    python3 - "$work/copy/$2" "$3" "$4" << 'END'
+import pathlib, sys
+path, old, new = pathlib.Path(sys.argv[1]), *sys.argv[2:]
+text = path.read_text()
+path.write_text(text.replace(old, new, 1) if old in text else sys.exit(f"{path}: has no {old}"))
+END
+    prints 1 "$1" "$work/copy/explorer/build" --check
+    mv "$work/before" "$work/copy/$2"
+}
+wasm="explorer/index.html: its WebAssembly is not up to date with rust/, run explorer/build"
+rest="explorer/index.html: is not up to date with FORMAT, the recipes or explorer/, run explorer/build"
+printf '\n// A comment.\n' >> "$work/copy/rust/src/lib.rs"
+passes "$work/copy/explorer/build" --check
+stale "$wasm" rust/src/lib.rs 'mod chunks;' 'mod chunks; const ONE: u8 = 1;'
+stale "$wasm" rust/capi/src/lib.rs 'mod bytes;' 'mod bytes; const ONE: u8 = 1;'
+stale "$wasm" explorer/index.html 'AGFzbQ' 'AGFzbR'
+stale "$rest" docs/FORMAT.md '| false | refuses ' '| false | accepts '
+stale "$rest" rust/examples/recipes.rs '// refuses ' '// accepts '
+stale "$rest" explorer/page.css '#ffffff' '#fffffe'
+stale "$rest" explorer/index.html '<title>' '<title> '
 if has node && has cargo; then
     cargo run --quiet --manifest-path ../rust/Cargo.toml --example recipes > "$work/recipes"
     prints 0 "20115 recorded results kept; not tried, since an index has over 32 bits: 19
@@ -50,4 +76,4 @@ elif has chromium && has chromedriver; then
         *) cat out/times.txt ;;
     esac
 fi
-counted 9
+counted 17
