@@ -48,7 +48,7 @@ PLANTS = [
      "docs/FORMAT.md: rule 9 demands another thing: not both flags 4 and 6"),
     (FORMAT, "its flag 16, 17", "its flag 17, 17", "docs/FORMAT.md: does not have: If a base prefix, a base suffix"),
     (FORMAT, "Exit status: 0;", "Exit status: 4;", "docs/FORMAT.md: does not have: Exit status: 0;"),
-    ("rust/src/feature_format.rs", "/// Whether a parser refuses `.`:", "/// Whether a parser refuses `,`:",
+    ("rust/src/feature_format.rs", "/// True if a parser refuses `.`:", "/// True if a parser refuses `,`:",
      "docs/FORMAT.md: rust/src/feature_format.rs: `required_mantissa_digits` does not say: refuses `.`"),
     (FLAGS, "::required_fraction_digits]", "::required_integer_digits]",
      "format_flags.rt: `REQUIRED_FRACTION_DIGITS` points to the setter `required_integer_digits`"),

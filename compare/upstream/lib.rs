@@ -1,5 +1,4 @@
-//! A frame for seven modules of the Rust crate, which are copied beside this file and are no part
-//! of this repository.
+//! A frame for seven modules of `lexical-util`, which are copied next to this file and are not part of this repository.
 #![allow(deprecated, dead_code, unused_imports)]
 
 pub mod ascii;

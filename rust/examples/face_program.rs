@@ -40,7 +40,7 @@ fn value(text: &str, format: impl Into<Format>) -> Option<u64> {
     Some(value)
 }
 
-/// How many bytes of a text are digits, for any view: lawful or not, known when the program is compiled or when it runs.
+/// Returns the number of digits in a text, for any view: lawful or not, known at compile time or at run time.
 fn digits(text: &str, view: impl Into<FormatView>) -> usize {
     let view = view.into();
     text.bytes().filter(|byte| view.is_digit(*byte)).count()
@@ -119,7 +119,7 @@ fn main() -> Result<(), Box<dyn std::error::Error>> {
             "{4}: no number can have the digit separator '_': no flag allows one",
         ]
     );
-    // One cause, one sentence: the empty exponent bytes follow the mantissa radix, and say nothing.
+    // One cause has one sentence: the absent exponent bytes follow the mantissa radix and have no reason of their own.
     assert_eq!(
         read("mantissa_radix=37").unwrap_err(),
         ["{1}: the mantissa radix 37 is not between 2 and 36"]

@@ -59,8 +59,8 @@ pub const C_HEX_FLOAT: u128 = NumberFormatBuilder::new()
     .internal_digit_separator(true) // accepts `0x1'000p3`
     .build_or_panic();
 
-/// Python's floats and decimal integers (Language Reference 3.12, 2.4.5 and 2.4.6). A format cannot accept `00`
-/// but refuse `01`.
+/// Python's floats and decimal integers (Language Reference 3.12, 2.4.5 and 2.4.6). A format cannot accept `00` and
+/// refuse `01`.
 pub const PYTHON: u128 = NumberFormatBuilder::new()
     .no_positive_mantissa_sign(true) // refuses `+1`, in which `+` is an operator
     .no_integer_leading_zeros(true) // refuses `01`, not `01.0`

@@ -7,9 +7,8 @@ use crate::lanes::Simd;
 
 /// Returns whether the byte `c` is ASCII that a number format may use.
 ///
-/// Allowed are the bytes 9 to 13 (tab, line feed, vertical tab, form feed, carriage return), the space,
-/// and the printable characters `!` to `~`. Every other byte is rejected, including 127 and all bytes
-/// from 128 up.
+/// Allowed are the bytes 9 to 13 (tab, line feed, vertical tab, form feed, carriage return), the space, and
+/// the printable characters `!` to `~`. Every other byte is rejected, including 127 and all bytes from 128 up.
 #[must_use]
 #[inline(always)]
 pub const fn is_valid_ascii(c: u8) -> bool {
@@ -38,7 +37,7 @@ pub fn is_valid_letter_slice(slc: &[u8]) -> bool {
 // Returns whether every byte of `bytes` is in one of two ranges after the bits that `mask` lacks are
 // cleared. Each range is given by its lowest and its highest byte.
 //
-// The function tests chunks of 32 bytes, then the remaining bytes, of which there are fewer than 32.
+// The function tests chunks of 32 bytes, then the remaining bytes, at most 31.
 #[inline(always)]
 fn all_in_ranges(bytes: &[u8], mask: u8, first: (u8, u8), second: (u8, u8)) -> bool {
     let (chunks, rest) = bytes.split_chunks::<32>();

@@ -819,7 +819,7 @@
 //! seven_roles r exponent_byte point_byte = exponent r exponent_byte ∷ point point_byte ∷ five_roles r
 //! ```
 //!
-//! # The rules of a format word, and the error of the first rule that it breaks
+//! # The rules, and the error of the first rule that a word breaks
 //!
 //! ## `IsRadix`
 //!
@@ -982,7 +982,7 @@
 //!
 //! ## `ErrorUnless`
 //!
-//! `ErrorUnless demand own next error` holds if `demand` fails and `error` is `own`, or if `demand` holds and `next error` does.
+//! `ErrorUnless demand own next error` holds if `demand` fails and `error` is `own`, or if `demand` and `next error` hold.
 //!
 //! ```text
 //! ErrorUnless : Type 0 → Error → (Error → Type 0) → Error → Type 0
@@ -991,7 +991,7 @@
 //!
 //! ## `IsFirstError`
 //!
-//! `IsFirstError rules word error` holds if `error` is the error of the first of `rules` that `word` breaks, or `Success`.
+//! `IsFirstError rules word error` holds if `error` is the one of the first of `rules` that `word` breaks, or `Success`.
 //!
 //! ```text
 //! IsFirstError : List Rule → ℕ → Error → Type 0

@@ -92,7 +92,7 @@ pub const fn digit_to_char_const(digit: u32, radix: u32) -> u8 {
 
 /// Returns the value of the byte `c` as a digit of `radix`, or `None` if its value is not below `radix`.
 ///
-/// The result is that of [`char_to_digit_const`]. This function is for a radix known only at run time.
+/// [`char_to_digit_const`] returns the same result. This function is for a radix known only at run time.
 #[must_use]
 #[inline(always)]
 pub const fn char_to_digit(c: u8, radix: u32) -> Option<u32> {

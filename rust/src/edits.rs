@@ -411,8 +411,8 @@ pub const fn edit_word(format: u128, edits: &[Edit]) -> u128 {
 /// ensures groups { (fs : List Flag) → any_flag format fs ≡ any_flag result fs }
 /// ensures flags { (fs : List Flag) → bits_of format fs ≡ bits_of result fs }
 ///
-/// // The normal form of a lawful word is lawful. If neither a reserved bit nor a separator is dropped, both words have
-/// // the same error.
+/// // The normal form of a lawful word is lawful. Both words have the same error if neither a reserved bit nor a
+/// // separator is dropped.
 /// ensures lawful { Lawful format → Lawful result }
 /// ensures error { IsClean format → SeparatorAllowedOrAbsent (raw format)
 ///     → (error : Error) → IsErrorOf format error ↔ IsErrorOf result error }

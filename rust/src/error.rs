@@ -18,7 +18,7 @@ pub use sink::Sink;
 /// A parse error holds the index of the offending byte, counted from 0. The other variants hold nothing.
 ///
 /// The variants are listed in the order of their ranks, from 0 to 48. Values are ordered by rank,
-/// then by index. This is a total order, in which two values are equal if and only if they are the same.
+/// then by index. This order is total: two values are equal in it if and only if they are the same.
 /// Each test `is_..` returns whether the value is of its variant, so exactly one of the 49 tests returns
 /// `true`.
 #[derive(Clone, Copy, Debug, PartialEq, Eq, PartialOrd, Ord, Hash)]

@@ -45,7 +45,7 @@ impl<const FORMAT: u128> NumberFormat<FORMAT> {
         Self::VIEW.is_digit(byte)
     }
 
-    /// Returns a new builder, the same for every word.
+    /// Returns a new builder, whatever the word is.
     #[must_use]
     #[inline(always)]
     pub const fn builder() -> NumberFormatBuilder {
@@ -127,115 +127,115 @@ macro_rules! methods {
 }
 
 fields! {
-    /// Whether a parser refuses `.5`: the flag requires digits before the decimal point
+    /// True if a parser refuses `.5`: the flag requires digits before the decimal point
     /// ([setter][NumberFormatBuilder::required_integer_digits]).
     REQUIRED_INTEGER_DIGITS required_integer_digits bool;
-    /// Whether a parser refuses `1.`: the flag requires digits after a decimal point
+    /// True if a parser refuses `1.`: the flag requires digits after a decimal point
     /// ([setter][NumberFormatBuilder::required_fraction_digits]).
     REQUIRED_FRACTION_DIGITS required_fraction_digits bool;
-    /// Whether a parser refuses `1e`: the flag requires digits after an exponent character
+    /// True if a parser refuses `1e`: the flag requires digits after an exponent character
     /// ([setter][NumberFormatBuilder::required_exponent_digits]).
     REQUIRED_EXPONENT_DIGITS required_exponent_digits bool;
-    /// Whether a parser refuses `.`: the flag requires a significant digit in a float
+    /// True if a parser refuses `.`: the flag requires a significant digit in a float
     /// ([setter][NumberFormatBuilder::required_mantissa_digits]).
     REQUIRED_MANTISSA_DIGITS required_mantissa_digits bool;
-    /// Whether any flag of a group is set: digits that must be present
+    /// True if any flag of a group is set: digits that must be present
     /// ([setter][NumberFormatBuilder::required_digits]).
     REQUIRED_DIGITS required_digits bool;
-    /// Whether a parser refuses `+1`: the flag forbids a `+` before an integer or a float
+    /// True if a parser refuses `+1`: the flag forbids a `+` before an integer or a float
     /// ([setter][NumberFormatBuilder::no_positive_mantissa_sign]).
     NO_POSITIVE_MANTISSA_SIGN no_positive_mantissa_sign bool;
-    /// Whether a parser refuses `1`: the flag requires a sign before an integer or a float
+    /// True if a parser refuses `1`: the flag requires a sign before an integer or a float
     /// ([setter][NumberFormatBuilder::required_mantissa_sign]).
     REQUIRED_MANTISSA_SIGN required_mantissa_sign bool;
-    /// Whether a parser refuses `1e5`: the flag forbids an exponent in a float
+    /// True if a parser refuses `1e5`: the flag forbids an exponent in a float
     /// ([setter][NumberFormatBuilder::no_exponent_notation]).
     NO_EXPONENT_NOTATION no_exponent_notation bool;
-    /// Whether a parser refuses `1e+5`: the flag forbids a `+` in the exponent
+    /// True if a parser refuses `1e+5`: the flag forbids a `+` in the exponent
     /// ([setter][NumberFormatBuilder::no_positive_exponent_sign]).
     NO_POSITIVE_EXPONENT_SIGN no_positive_exponent_sign bool;
-    /// Whether a parser refuses `1e5`: the flag requires a sign in the exponent
+    /// True if a parser refuses `1e5`: the flag requires a sign in the exponent
     /// ([setter][NumberFormatBuilder::required_exponent_sign]).
     REQUIRED_EXPONENT_SIGN required_exponent_sign bool;
-    /// Whether a parser refuses `1e5`, not `1.0e5`: the flag requires a decimal point before an exponent, but no digits
+    /// True if a parser refuses `1e5`, not `1.0e5`: the flag requires a decimal point before an exponent, but no digits
     /// after that point ([setter][NumberFormatBuilder::no_exponent_without_fraction]).
     NO_EXPONENT_WITHOUT_FRACTION no_exponent_without_fraction bool;
-    /// Whether a parser refuses `NaN` and `inf`, and every other special value: the flag forbids special values
+    /// True if a parser refuses `NaN` and `inf`, and every other special value: the flag forbids special values
     /// ([setter][NumberFormatBuilder::no_special]).
     NO_SPECIAL no_special bool;
-    /// Whether a parser refuses `nan`, if `NaN` is the spelling: the flag makes special values case-sensitive
+    /// True if a parser refuses `nan`, if `NaN` is the spelling: the flag makes special values case-sensitive
     /// ([setter][NumberFormatBuilder::case_sensitive_special]).
     CASE_SENSITIVE_SPECIAL case_sensitive_special bool;
-    /// Whether a parser refuses `01` as an integer, not `0`: the flag forbids leading zeros in an integer
+    /// True if a parser refuses `01` as an integer, not `0`: the flag forbids leading zeros in an integer
     /// ([setter][NumberFormatBuilder::no_integer_leading_zeros]).
     NO_INTEGER_LEADING_ZEROS no_integer_leading_zeros bool;
-    /// Whether a parser refuses `01.0`, not `0.1`: the flag forbids leading zeros in a float
+    /// True if a parser refuses `01.0`, not `0.1`: the flag forbids leading zeros in a float
     /// ([setter][NumberFormatBuilder::no_float_leading_zeros]).
     NO_FLOAT_LEADING_ZEROS no_float_leading_zeros bool;
-    /// Whether a parser refuses `1.0`: the flag requires an exponent in a float
+    /// True if a parser refuses `1.0`: the flag requires an exponent in a float
     /// ([setter][NumberFormatBuilder::required_exponent_notation]).
     REQUIRED_EXPONENT_NOTATION required_exponent_notation bool;
-    /// Whether a parser refuses `1E5`, if the exponent character is `e`: the flag makes the exponent character
+    /// True if a parser refuses `1E5`, if the exponent character is `e`: the flag makes the exponent character
     /// case-sensitive ([setter][NumberFormatBuilder::case_sensitive_exponent]).
     CASE_SENSITIVE_EXPONENT case_sensitive_exponent bool;
-    /// Whether a parser refuses `0X1F`, if the base prefix is `x`: the flag makes the base prefix case-sensitive
+    /// True if a parser refuses `0X1F`, if the base prefix is `x`: the flag makes the base prefix case-sensitive
     /// ([setter][NumberFormatBuilder::case_sensitive_base_prefix]).
     CASE_SENSITIVE_BASE_PREFIX case_sensitive_base_prefix bool;
-    /// Whether a parser refuses `1FH`, if the base suffix is `h`: the flag makes the base suffix case-sensitive
+    /// True if a parser refuses `1FH`, if the base suffix is `h`: the flag makes the base suffix case-sensitive
     /// ([setter][NumberFormatBuilder::case_sensitive_base_suffix]).
     CASE_SENSITIVE_BASE_SUFFIX case_sensitive_base_suffix bool;
-    /// Whether a parser accepts `1_2`: the flag allows a digit separator between integer digits
+    /// True if a parser accepts `1_2`: the flag allows a digit separator between integer digits
     /// ([setter][NumberFormatBuilder::integer_internal_digit_separator]).
     INTEGER_INTERNAL_DIGIT_SEPARATOR integer_internal_digit_separator bool;
-    /// Whether a parser accepts `0.1_2`: the flag allows a digit separator between fraction digits
+    /// True if a parser accepts `0.1_2`: the flag allows a digit separator between fraction digits
     /// ([setter][NumberFormatBuilder::fraction_internal_digit_separator]).
     FRACTION_INTERNAL_DIGIT_SEPARATOR fraction_internal_digit_separator bool;
-    /// Whether a parser accepts `1e1_2`: the flag allows a digit separator between exponent digits
+    /// True if a parser accepts `1e1_2`: the flag allows a digit separator between exponent digits
     /// ([setter][NumberFormatBuilder::exponent_internal_digit_separator]).
     EXPONENT_INTERNAL_DIGIT_SEPARATOR exponent_internal_digit_separator bool;
-    /// Whether any flag of a group is set: a separator between digits
+    /// True if any flag of a group is set: a separator between digits
     /// ([setter][NumberFormatBuilder::internal_digit_separator]).
     INTERNAL_DIGIT_SEPARATOR internal_digit_separator bool;
-    /// Whether a parser accepts `_12`: the flag allows a digit separator before integer digits
+    /// True if a parser accepts `_12`: the flag allows a digit separator before integer digits
     /// ([setter][NumberFormatBuilder::integer_leading_digit_separator]).
     INTEGER_LEADING_DIGIT_SEPARATOR integer_leading_digit_separator bool;
-    /// Whether a parser accepts `0._12`: the flag allows a digit separator before fraction digits
+    /// True if a parser accepts `0._12`: the flag allows a digit separator before fraction digits
     /// ([setter][NumberFormatBuilder::fraction_leading_digit_separator]).
     FRACTION_LEADING_DIGIT_SEPARATOR fraction_leading_digit_separator bool;
-    /// Whether a parser accepts `1e_12`: the flag allows a digit separator before exponent digits
+    /// True if a parser accepts `1e_12`: the flag allows a digit separator before exponent digits
     /// ([setter][NumberFormatBuilder::exponent_leading_digit_separator]).
     EXPONENT_LEADING_DIGIT_SEPARATOR exponent_leading_digit_separator bool;
-    /// Whether any flag of a group is set: a separator before digits
+    /// True if any flag of a group is set: a separator before digits
     /// ([setter][NumberFormatBuilder::leading_digit_separator]).
     LEADING_DIGIT_SEPARATOR leading_digit_separator bool;
-    /// Whether a parser accepts `12_`: the flag allows a digit separator after integer digits
+    /// True if a parser accepts `12_`: the flag allows a digit separator after integer digits
     /// ([setter][NumberFormatBuilder::integer_trailing_digit_separator]).
     INTEGER_TRAILING_DIGIT_SEPARATOR integer_trailing_digit_separator bool;
-    /// Whether a parser accepts `0.12_`: the flag allows a digit separator after fraction digits
+    /// True if a parser accepts `0.12_`: the flag allows a digit separator after fraction digits
     /// ([setter][NumberFormatBuilder::fraction_trailing_digit_separator]).
     FRACTION_TRAILING_DIGIT_SEPARATOR fraction_trailing_digit_separator bool;
-    /// Whether a parser accepts `1e12_`: the flag allows a digit separator after exponent digits
+    /// True if a parser accepts `1e12_`: the flag allows a digit separator after exponent digits
     /// ([setter][NumberFormatBuilder::exponent_trailing_digit_separator]).
     EXPONENT_TRAILING_DIGIT_SEPARATOR exponent_trailing_digit_separator bool;
-    /// Whether any flag of a group is set: a separator after digits
+    /// True if any flag of a group is set: a separator after digits
     /// ([setter][NumberFormatBuilder::trailing_digit_separator]).
     TRAILING_DIGIT_SEPARATOR trailing_digit_separator bool;
-    /// Whether a parser accepts `1__2` if it accepts `1_2`, `__12` if `_12`, and `12__` if `12_`: the flag allows
+    /// True if a parser accepts `1__2` if it accepts `1_2`, `__12` if `_12`, and `12__` if `12_`: the flag allows
     /// consecutive digit separators in each position of the integer that allows one
     /// ([setter][NumberFormatBuilder::integer_consecutive_digit_separator]).
     INTEGER_CONSECUTIVE_DIGIT_SEPARATOR integer_consecutive_digit_separator bool;
-    /// Whether a parser accepts `0.1__2` if it accepts `0.1_2`, `0.__12` if `0._12`, and `0.12__` if `0.12_`: the flag
+    /// True if a parser accepts `0.1__2` if it accepts `0.1_2`, `0.__12` if `0._12`, and `0.12__` if `0.12_`: the flag
     /// allows consecutive digit separators in each position of the fraction that allows one
     /// ([setter][NumberFormatBuilder::fraction_consecutive_digit_separator]).
     FRACTION_CONSECUTIVE_DIGIT_SEPARATOR fraction_consecutive_digit_separator bool;
-    /// Whether a parser accepts `1e1__2` if it accepts `1e1_2`, `1e__12` if `1e_12`, and `1e12__` if `1e12_`: the flag
+    /// True if a parser accepts `1e1__2` if it accepts `1e1_2`, `1e__12` if `1e_12`, and `1e12__` if `1e12_`: the flag
     /// allows consecutive digit separators in each position of the exponent that allows one
     /// ([setter][NumberFormatBuilder::exponent_consecutive_digit_separator]).
     EXPONENT_CONSECUTIVE_DIGIT_SEPARATOR exponent_consecutive_digit_separator bool;
-    /// Whether any flag of a group is set: consecutive separators, where one is allowed
+    /// True if any flag of a group is set: consecutive separators, where one is allowed
     /// ([setter][NumberFormatBuilder::consecutive_digit_separator]).
     CONSECUTIVE_DIGIT_SEPARATOR consecutive_digit_separator bool;
-    /// Whether a parser accepts `N__a_N_` for `NaN`: the flag allows digit separators before, between and after the
+    /// True if a parser accepts `N__a_N_` for `NaN`: the flag allows digit separators before, between and after the
     /// letters of a special value, also consecutive ones ([setter][NumberFormatBuilder::special_digit_separator]).
     SPECIAL_DIGIT_SEPARATOR special_digit_separator bool;
     /// The [digit separator][NumberFormatBuilder::digit_separator], even if no flag allows it, or 0 if it is absent.

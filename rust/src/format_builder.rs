@@ -65,8 +65,8 @@ pub type OptionU8 = Option<NonZeroU8>;
 /// A builder has the flags, the mantissa radix, and five bytes that may be absent: digit
 /// separator, base prefix, base suffix, exponent base and exponent radix. A setter takes the
 /// builder and returns it with one field, or the flags of one group, changed. Every other field
-/// keeps its value. So setters of different fields can be called in any order. If several calls set
-/// the same field, the last one wins.
+/// keeps its value. So setters of different fields can be called in any order. If several calls set one
+/// field, the last one wins.
 ///
 /// ```
 /// use peltzivar::format_builder::{NonZeroU8, NumberFormatBuilder};

@@ -14,8 +14,8 @@ use crate::word::STANDARD;
 /// A lawful format: a format word that breaks no rule. Take it as an argument where a number is parsed, written or
 /// checked.
 ///
-/// It dereferences to its [`FormatView`]; in a `const fn`, call [`view`][Self::view] first. Equality, order and hash
-/// are those of the word. Two words can express the same format, so compare [normal forms][Self::normal_form].
+/// It dereferences to its [`FormatView`]; in a `const fn`, call [`view`][Self::view] first. It is compared, ordered and
+/// hashed by its word. Two words can express the same format, so compare [normal forms][Self::normal_form].
 ///
 /// ```
 /// use peltzivar::{Error, Format, FormatView};

@@ -72,7 +72,7 @@ hexadecimal! {
     UpperHex Format;
 }
 
-/// Parses `NAME=VALUE`, split at the first `=`; name and value are those of [`Edit::from_setting`]. `Display` prints a
+/// Parses `NAME=VALUE`, split at the first `=`, as [`Edit::from_setting`] parses name and value. `Display` prints a
 /// text that parses to the same edit.
 impl FromStr for Edit {
     type Err = SettingError;

@@ -1,14 +1,14 @@
-//! What the loops go over, from one seed.
+//! The data of the loops, generated from one seed.
 //!
-//! Words have no reserved bit, and no two of their bytes are one letter in two cases, since there the
-//! library differs from the Rust crate on purpose.
+//! No word has a reserved bit, or the two cases of one letter as two of its bytes, since for such words the
+//! library differs from `lexical-util` on purpose.
 
 use crate::random::Random;
 use upstream::format_flags::FLAG_MASK;
 
 const DIGITS: &[u8; 62] = b"0123456789ABCDEFGHIJKLMNOPQRSTUVWXYZabcdefghijklmnopqrstuvwxyz";
 
-/// Digits of a radix, in both cases; one byte in 32 is none.
+/// Returns digits of a radix, in both cases. One byte in 32 is not a digit.
 pub fn digits(random: &mut Random, len: usize, radix: u32) -> Vec<u8> {
     let is_digit = |c: &u8| (*c as char).is_digit(radix);
     let digits: Vec<u8> = DIGITS.iter().copied().filter(is_digit).collect();
@@ -46,7 +46,7 @@ pub fn numbers(random: &mut Random, len: usize) -> Vec<u64> {
     (0..len).map(|_| random.next()).collect()
 }
 
-/// What the words of cases are like.
+/// The kind of the words in cases.
 #[derive(Clone, Copy, PartialEq)]
 pub enum Words {
     /// They break no rule.

@@ -1,5 +1,5 @@
-//! Lists of edits over the Rust crate's builder, which has none: the same type as the library's, so
-//! that both sides do the same work.
+//! Lists of edits over the builder of `lexical-util`, which has no edits. The type is the library's, so that both sides
+//! do the same work.
 
 use crate::rows::with_setters;
 use upstream::format_builder::{NumberFormatBuilder, OptionU8};
@@ -9,7 +9,7 @@ macro_rules! setters {
         { $($Flag:ident $flag:ident $get:ident $CONST:ident;)* }
         { $($Group:ident $group:ident;)* }
     ) => {
-        /// A setter of a flag or of a group.
+        /// A flag setter or a group setter.
         #[derive(Clone, Copy)]
         #[allow(dead_code)]
         pub enum FlagSetter {

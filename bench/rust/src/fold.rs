@@ -1,4 +1,4 @@
-//! What the loops of both sides fold into and write to.
+//! The number into which the loops of both sides fold results, and the buffer to which they write.
 
 use std::fmt;
 

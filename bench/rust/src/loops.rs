@@ -1,4 +1,4 @@
-// The loops that are written alike over the Rust crate and over the library as plain Rust: `theirs.rs` and `plain.rs`
+// The loops that have one source, over `lexical-util` and over the library as plain Rust. `theirs.rs` and `plain.rs`
 // include them, each under its own imports.
 
 // BYTES AND DIGITS
@@ -82,12 +82,12 @@ macro_rules! outcome {
     };
 }
 
-/// The outcome that a number stands for: any of the 49, a parse error with an index.
+/// Returns the outcome that a number represents: any of the 49, a parse error with an index.
 fn outcome_of(bits: u64) -> Error {
     with_outcomes!(outcome(bits % 49, (bits >> 8) as usize))
 }
 
-/// The outcomes of 64 numbers. It is not inlined, so that no loop is compiled for some outcomes alone.
+/// Returns the outcomes of 64 numbers. It is not inlined, so that no loop is compiled for only some outcomes.
 #[inline(never)]
 fn outcomes_of(numbers: &[u64; 64]) -> [Error; 64] {
     numbers.map(outcome_of)

@@ -1,5 +1,5 @@
-//! Times loops over the library, in Rattle and as plain Rust, beside the same loops over the Rust crate. Both fold what
-//! the calls return into one number; a row whose numbers differ is not timed.
+//! Times loops over the library, in Rattle and as plain Rust, and the same loops over `lexical-util`. Both fold the
+//! results of the calls into one number. A row is not timed if the numbers differ.
 //!
 //!     driver [--rounds N] [--only TEXT]
 
@@ -55,7 +55,7 @@ impl Data {
     }
 }
 
-/// A row over bytes, in which so many calls are made.
+/// Returns a row over bytes that makes the given number of calls.
 fn over_bytes<'a>(
     name: impl Into<String>,
     bytes: &'a [u8],
@@ -70,7 +70,7 @@ fn over_bytes<'a>(
 
 type OverNumbers = fn(&[u64]) -> u64;
 
-/// A row over numbers, of which each call takes so many.
+/// Returns a row over numbers, with the given number of them for each call.
 fn over_numbers<'a>(
     name: &str,
     (numbers, each): (&'a [u64], usize),
@@ -101,7 +101,7 @@ fn size_name(size: usize) -> String {
     }
 }
 
-/// A row over bytes, of the loop in a module and that of the same name over the Rust crate.
+/// A row over bytes: the loop in a module, and the loop of the same name over `lexical-util`.
 macro_rules! bytes {
     ($side:ident, $prefix:literal, $name:expr, $bytes:expr, $calls:expr, $pass:ident($($argument:expr)?)) => {
         over_bytes(

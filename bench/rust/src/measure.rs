@@ -5,7 +5,7 @@ use std::time::{Duration, Instant};
 
 pub type Loop<'a> = Box<dyn Fn() -> u64 + 'a>;
 
-/// The same loop over the library and over the Rust crate.
+/// One loop over the library and over `lexical-util`.
 pub struct Row<'a> {
     pub name: String,
     /// Calls in one pass.
@@ -31,7 +31,7 @@ fn time(pass: &Loop, times: u32) -> Duration {
     start.elapsed()
 }
 
-/// How many passes take some milliseconds.
+/// Returns a number of passes that takes some milliseconds.
 fn passes(pass: &Loop) -> u32 {
     let mut times = 1;
     while time(pass, times) < Duration::from_millis(4) {

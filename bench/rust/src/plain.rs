@@ -1,4 +1,4 @@
-//! The same loops over the library as plain Rust, the crate in `rust/`, compiled like the Rust crate.
+//! The loops over the library as plain Rust, the crate in `rust/`, compiled like `lexical-util`.
 
 use crate::fold::{over, Fold, Page, TIMES};
 use crate::rows::{with_outcomes, with_setters};

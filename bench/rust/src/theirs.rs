@@ -1,5 +1,5 @@
-//! The loops over the Rust crate. What it lacks, as a list of edits or the view of a word that is known only at run
-//! time, is written as a Rust programmer would write it over the crate's calls.
+//! The loops over `lexical-util`. It has neither lists of edits nor a view of a word that is known only at run time.
+//! They are written here as a Rust programmer would write them over the calls of `lexical-util`.
 
 use crate::edits::{edit_word, Edit, FlagSetter};
 use crate::fold::{over, Fold, Page, TIMES};
@@ -20,7 +20,7 @@ pub fn build_strict(cases: &[u64]) -> u64 {
     over(cases, |fold, word, _| fold.with_word(NumberFormatBuilder::rebuild(word).build_strict()))
 }
 
-/// What `migrate` does, in the crate's words.
+/// Does the work of `migrate` with the calls of `lexical-util`.
 pub fn migrate(cases: &[u64]) -> u64 {
     build_strict(cases)
 }

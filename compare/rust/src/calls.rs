@@ -1,5 +1,5 @@
-// What is written alike over the calls of both sides, which have the same names: `ours.rs` and `theirs.rs` include
-// it, each under its own imports.
+// The functions that have the same source over the calls of both sides, which have the same names. `ours.rs` and
+// `theirs.rs` include them, each under its own imports.
 
 use crate::inputs::{SetterCall, OF_FLAGS};
 use crate::panics;
@@ -194,7 +194,7 @@ macro_rules! view_of {
 #[path = "../../../rust/examples/integers/read.rs"]
 mod read;
 
-/// What the example returns of a text, as `i64` and as `u64`: a number, or the position of an error and its index.
+/// Returns the results of the example for a text, as `i64` and as `u64`: a number, or the rank and index of an error.
 pub fn integers<const FORMAT: u128>(text: &[u8]) -> [Result<i128, (u32, Option<usize>)>; 2] {
     let found = |error: Error| (position(error), error.index().copied());
     [
@@ -279,7 +279,7 @@ macro_rules! builders {
             EXPONENT_BASE_SHIFT EXPONENT_RADIX_SHIFT
         }
 
-        /// The setters of flags and of groups, each at its position.
+        /// The flag setters and the group setters, each at its setter number.
         const SETTERS: &[fn(NumberFormatBuilder, bool) -> NumberFormatBuilder] =
             &[$(NumberFormatBuilder::$flag,)* $(NumberFormatBuilder::$group,)*];
 

@@ -22,7 +22,7 @@ struct Section<'a> {
     inputs: u64,
 }
 
-/// What each byte of a buffer is before a call.
+/// The value of each byte of a buffer before a call.
 const UNTOUCHED: u8 = 0xA5;
 
 impl Section<'_> {
@@ -94,7 +94,7 @@ impl Section<'_> {
         input: impl Fn(&mut Random) -> I,
         call: impl Fn(&Exports, &I, *mut u8, usize) -> usize,
     ) {
-        // Often a room that has a byte or none beside the final 0.
+        // Often the length is 0, or 1 for the final 0, or 2.
         let with_room = |random: &mut Random| {
             let most = if random.one_in(4) { 4 } else { 200 };
             (input(random), random.below(most) as usize)
@@ -126,7 +126,7 @@ fn word(random: &mut Random) -> Word {
     random.word().into()
 }
 
-/// Two words, which often mean the same.
+/// Returns two words, which are often equivalent.
 fn two_words(random: &mut Random) -> (Word, Word) {
     let word = random.word();
     let other = match random.below(4) {
@@ -142,7 +142,7 @@ fn two_words(random: &mut Random) -> (Word, Word) {
     (word.into(), other.into())
 }
 
-/// A word and two bytes, which are often those of the word, or their other case.
+/// Returns a word and two bytes, which are often bytes of the word or their other case.
 fn options(random: &mut Random) -> (Word, u8, u8) {
     let word = random.word();
     let mut byte = || match random.below(4) {
@@ -154,7 +154,7 @@ fn options(random: &mut Random) -> (Word, u8, u8) {
     (word.into(), byte(), byte())
 }
 
-/// A word, a mask and a shift, often those of one of its bytes.
+/// Returns a word, a mask and a shift, often the mask and the shift of one of its bytes.
 fn masks(random: &mut Random) -> (Word, Word, u32) {
     let shift = if random.one_in(4) {
         random.below(140) as u32
@@ -209,7 +209,7 @@ fn note(random: &mut Random) -> (CFields, u8) {
     (fields(random), random.below(5) as u8)
 }
 
-/// Random inputs beside lists of edits.
+/// Returns random inputs with lists of edits.
 fn with_edits<I>(of: impl Fn(&mut Random) -> I) -> impl Fn(&mut Random) -> (I, Vec<CEdit>) {
     move |random| (of(random), edits(random))
 }
@@ -243,7 +243,7 @@ fn setting(random: &mut Random) -> Vec<u8> {
     text
 }
 
-/// What a call returns that may write a word, and that word.
+/// Returns the result of a call that may write a word, and that word.
 fn written<T>(call: impl FnOnce(&mut Word) -> T) -> (T, Word) {
     let mut word = Word::from(u128::from_ne_bytes([UNTOUCHED; 16]));
     (call(&mut word), word)
@@ -258,7 +258,7 @@ macro_rules! compared {
     };
 }
 
-// SAFETY, of all rows: each pointer is to a whole value, or to as many as the length beside it says.
+// SAFETY, for all rows: each pointer points to a whole value, or to as many values as its length.
 const COMPARED: &[(&str, Compare)] = compared! {
     fields_of: on_words(|it, word| unsafe { (it.fields_of)(word) });
     edit_fields: on_random(with_edits(fields), |it, (fields, edits)| {
@@ -369,7 +369,7 @@ fn declared(header: &str) -> Vec<&str> {
         .collect()
 }
 
-/// The sections, each with as many random inputs, and one that compares the names with those of the header.
+/// Returns the sections, each with the given number of random inputs, and one that compares the names with the header.
 pub fn tasks(libraries: [&str; 2], header: String, seed: u64, inputs: u64) -> Vec<Task> {
     let [proved, plain] = libraries.map(Exports::open);
     let both = Arc::new(Both { proved, plain });

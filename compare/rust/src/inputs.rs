@@ -1,4 +1,4 @@
-//! What the calls are compared on. All of it follows from one seed.
+//! The inputs on which the calls are compared. All of them follow from one seed.
 
 use crate::random::Random;
 use crate::rows::with_setters;
@@ -38,7 +38,7 @@ pub const SETTER_NAMES: &[&str] = &with_setters!(setter_names);
 
 const SETTERS: u32 = SETTER_NAMES.len() as u32;
 
-/// How many of them take a `bool`. The seven of bytes come after these.
+/// The number of setters that take a `bool`. The seven byte setters follow them.
 pub const OF_FLAGS: u32 = SETTERS - 7;
 
 /// The position of the setter with a name.
@@ -56,7 +56,7 @@ impl Debug for SetterCall {
     }
 }
 
-/// Each setter alone, with the first so many values.
+/// Returns calls of one setter each, with the first `values` values.
 pub fn single_calls(values: u16) -> impl Iterator<Item = SetterCall> {
     (0..SETTERS).flat_map(move |setter| {
         (0..values).map(move |value| SetterCall { setter, value: value as u8 })
@@ -104,7 +104,7 @@ impl Random {
             | (exponent_radix as u128) << 120
     }
 
-    /// A word: any bits, few bits, nearly lawful, or that with one bit turned.
+    /// Returns a word: any bits, few bits, nearly lawful, or nearly lawful with one bit flipped.
     pub fn word(&mut self) -> u128 {
         match self.below(8) {
             0 => self.bits(),

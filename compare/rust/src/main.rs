@@ -1,4 +1,4 @@
-//! Compares the library's public calls with those of the Rust crate.
+//! Compares the public calls of the library and of `lexical-util`.
 //!
 //!     driver [--seed N] [--scale N] [--threads N] [--only WORD] [--record FILE]
 

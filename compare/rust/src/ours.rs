@@ -12,7 +12,7 @@ use peltzivar::format_builder::{NumberFormatBuilder, OptionU8};
 use peltzivar::format_flags as flags;
 use peltzivar::word::{format_error, format_is_valid, FormatView};
 
-// What the example is compiled over.
+// The library over which the example is compiled.
 use peltzivar as library;
 
 include!("calls.rs");
@@ -55,7 +55,7 @@ fn panicking(builder: &NumberFormatBuilder) -> (u128, u32) {
     word_or_panic(|| builder.build_or_panic())
 }
 
-/// Whether a byte is a digit of a word, by each of two calls.
+/// Returns whether a byte is a digit of a word, by each of two calls.
 pub fn is_digit(word: u128, byte: u8) -> [bool; 2] {
     [flags::is_digit(word, byte), FormatView::new(word).is_digit(byte)]
 }

@@ -17,7 +17,7 @@ pub fn hush() {
     }));
 }
 
-/// What the call returns, or the text with which it panics.
+/// Returns the result of a call, or the text with which it panics.
 pub fn caught<T>(call: impl FnOnce() -> T) -> Result<T, String> {
     IS_COMPARED.set(true);
     let result = catch_unwind(AssertUnwindSafe(call));

@@ -1,8 +1,8 @@
-//! Writes what the Rust crate returns, one result a line, for the program `recorded`; its module
-//! `reading` says what a line is.
+//! Writes the results of `lexical-util`, one a line, for the program `recorded`. The module `reading` of that program
+//! describes the lines.
 //!
-//! Where the library differs on purpose a line has what the library must return, by the rules, and
-//! then ` crate: ` and what the crate returns.
+//! Where the library differs on purpose, a line has the result that the rules demand, then ` crate: ` and the result of
+//! `lexical-util`.
 
 use crate::inputs::{single_calls, SetterCall, BASES};
 use crate::random::Random;
@@ -26,7 +26,7 @@ fn text_of(calls: &[SetterCall]) -> String {
     calls.iter().map(|call| format!(" {call:?}")).collect()
 }
 
-/// What the crate returns, if that is another result than the library's.
+/// Returns the text of the result of `lexical-util` if it differs from the result of the library.
 fn original<T: PartialEq>(ours: T, theirs: T, text: impl FnOnce(T) -> String) -> String {
     if ours == theirs {
         String::new()
@@ -78,7 +78,7 @@ fn outcomes() -> impl Iterator<Item = String> {
     })
 }
 
-/// Words: bases, those with one bit turned, and random ones.
+/// Returns words: bases, bases with one bit flipped, and random words.
 fn words(random: &mut Random, count: usize) -> Vec<u128> {
     let turned = BASES[2..].iter().flat_map(|base| (0..128).map(move |bit| base ^ 1 << bit));
     let bases = BASES.into_iter().chain(turned);
@@ -112,7 +112,7 @@ fn check(word: u128) -> String {
     format!("check {word:032X} {}{original}", name(ours))
 }
 
-/// A word and two bytes, which are often those of the word, or their other case.
+/// Returns a word and two bytes, which are often bytes of the word or their other case.
 fn options(random: &mut Random) -> String {
     let word = random.word();
     let mut byte = || match random.below(4) {

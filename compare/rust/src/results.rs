@@ -1,11 +1,11 @@
-//! What the exported calls return, in the layout of C, and how two of them differ.
+//! The results of the exported calls, in the layout of C, and the difference of two results.
 
 use crate::rows::with_setters;
 use std::fmt::Debug;
 
-/// What some calls return of one input.
+/// The results of some calls for one input.
 pub trait Results: Copy + PartialEq {
-    /// How many calls.
+    /// The number of calls.
     const CALLS: u64;
 
     /// Adds the name, and both sides, of each call whose results differ.

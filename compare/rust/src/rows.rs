@@ -58,8 +58,8 @@ macro_rules! with_setters {
     };
 }
 
-/// The same with two blocks of rows, in the order of their ranks: the outcomes that hold an index, and those
-/// that do not. A row has rank, variant, test.
+/// Calls a macro with two blocks of rows, in the order of their ranks: the outcomes that hold an index, and the others.
+/// A row has rank, variant, test.
 macro_rules! with_outcomes {
     ($then:ident $($args:tt)?) => {
         $then! {

@@ -1,8 +1,7 @@
-//! The rules in which the library differs from the Rust crate on purpose, stated over the crate's
-//! results.
+//! The rules in which the library differs from `lexical-util` on purpose, stated over the results of `lexical-util`.
 //!
-//! - A prefix or a suffix that is a letter has the role of both its cases, unless its flag says that
-//!   case counts; an exponent character likewise. Digit separator and decimal point are one byte.
+//! - If a prefix or a suffix is a letter, both its cases play its role, unless its flag makes it case-sensitive; an
+//!   exponent character likewise. Digit separator and decimal point are one byte.
 //! - A word with a reserved bit breaks a last rule.
 
 use crate::results::{Built, Own, Word};
@@ -18,7 +17,7 @@ pub const SUCCESS: u32 = 48;
 pub const RESERVED: u128 =
     !(FLAG_MASK | DIGIT_SEPARATOR | BASE_PREFIX | BASE_SUFFIX | RADIX_MASK | EXPONENT_BASE);
 
-/// The bytes that a byte stands for in its role; 0 stands for none.
+/// The bytes that play the role of a byte. No byte plays the role of 0.
 #[derive(Clone, Copy)]
 struct Role {
     byte: u8,

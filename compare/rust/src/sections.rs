@@ -1,4 +1,4 @@
-//! The comparisons, by what they are over. Each is cut into tasks that can run side by side.
+//! The comparisons, by their inputs. Each is cut into tasks that can run in parallel.
 
 use crate::inputs::{bits_turned, known_word, single_calls, SetterCall, BASES};
 use crate::random::Random;
@@ -163,7 +163,7 @@ macro_rules! known {
     };
 }
 
-/// What one side returns of a word that is known when this is compiled.
+/// The results of one side for a word that is known at compile time.
 struct Known {
     word: Word,
     view: View,
@@ -171,7 +171,7 @@ struct Known {
     associated: Associated,
 }
 
-/// What only the library has.
+/// The results of calls that only the library has.
 struct OursAlone {
     digits: Vec<u8>,
     converted: [u128; 6],
@@ -209,7 +209,7 @@ fn known_words(tally: &mut Tally) {
     });
 }
 
-/// The rules of a word alone.
+/// Compares the rules that depend only on a word.
 fn rules_of(tally: &mut Tally, word: u128) {
     let theirs = theirs::word(word);
     tally.expect(("word", Wide::from(word)), ours::word(word), rules::word(word, theirs), theirs);
@@ -241,7 +241,7 @@ fn reserved_bits(tally: &mut Tally, random: &mut Random) {
     }
 }
 
-/// All values of the three bytes in one radix; which cases count changes from one to the next.
+/// Compares all values of the three bytes in one radix. The flags for case change from one value to the next.
 fn punctuation(tally: &mut Tally, radix: u8) {
     let rest = 0xC | (radix as u128) << 104;
     for bytes in 0..1u128 << 24 {
@@ -280,7 +280,7 @@ fn masked(tally: &mut Tally, random: &mut Random) {
     }
 }
 
-/// All pairs of bytes beside some words: bases, and random ones with letters and cases.
+/// Compares all pairs of bytes as options of some words: bases, and random words with letters in both cases.
 fn options(tally: &mut Tally, random: &mut Random) {
     let bases = BASES.iter().map(|base| base ^ (random.below(8) as u128) << 15);
     let bases: Vec<u128> = bases.collect();

@@ -1,5 +1,5 @@
-//! The expressions that `numfmt source` prints: their calls are read back from the text, and done on
-//! the Rust crate's own builder.
+//! The expressions that `numfmt source` prints. Their calls are parsed from the text, and done on the builder of
+//! `lexical-util`.
 
 use crate::inputs::{setter_named, SetterCall, BASES, OF_FLAGS};
 use crate::random::Random;
@@ -23,8 +23,8 @@ fn expressions(tally: &mut Tally, seed: u64) {
     }
 }
 
-/// The calls of the expression, on a new builder, give it the fields of the word, and none is too many.
-/// The status is 0, and no comment is printed first, exactly if that builder packs the word itself.
+/// Compares the expression for a word with that word. Its calls, on a new builder, set the fields of the word, and each
+/// call is needed. The status is 0, and no comment is printed first, if and only if that builder packs the word itself.
 fn compare(tally: &mut Tally, program: &str, word: u128) {
     let argument = format!("{word:#X}").replace("0X", "0x");
     let run = Command::new(program).args(["source", &argument]).output().expect("numfmt runs");

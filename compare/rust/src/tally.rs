@@ -4,23 +4,23 @@ use crate::results::Results;
 use std::fmt::Debug;
 use std::ops::AddAssign;
 
-/// How many inputs with unexplained differences are shown of a section.
+/// The number of inputs with unexplained differences that are shown for a section.
 const SHOWN: usize = 3;
 
 #[derive(Default)]
 pub struct Tally {
     /// Calls compared, each on one input.
     pub compared: u64,
-    /// Those in which the library has to differ, and does.
+    /// The number of results that have to differ, and do.
     pub on_purpose: u64,
-    /// Those that differ from what is expected.
+    /// The number of results that differ from what is expected.
     pub unexplained: u64,
     /// The first inputs of these, with both sides.
     pub shown: Vec<String>,
 }
 
 impl Tally {
-    /// Compares what the library returns with what the Rust crate returns.
+    /// Compares the results of the library and of `lexical-util`.
     pub fn same<A: Results>(&mut self, input: impl Debug, ours: A, theirs: A) {
         self.expect(input, ours, theirs, theirs);
     }

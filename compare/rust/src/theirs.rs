@@ -1,5 +1,5 @@
-//! The same calls of the Rust crate. What it has only for a word that is known when it is compiled, or
-//! not at all, is written over the calls that it has.
+//! The calls of `lexical-util`. A call that it has only for a word that is known at compile time, or not at all, is
+//! written over the calls that it has.
 
 use upstream::ascii::*;
 use upstream::checks;
@@ -10,7 +10,7 @@ use upstream::format::{self as known, STANDARD};
 use upstream::format_builder::{NumberFormatBuilder, OptionU8};
 use upstream::format_flags as flags;
 
-// What the example is compiled over.
+// The library over which the example is compiled.
 use upstream as library;
 
 include!("calls.rs");
@@ -78,7 +78,7 @@ pub fn rebuild(word: u128) -> Fields {
 }
 
 fn builders_of_views() -> [NumberFormatBuilder; 2] {
-    // The library's default view of a word is that of the standard format.
+    // The library's default view of a word is the view of the standard format.
     [NumberFormat::<0>::builder(), NumberFormat::<STANDARD>::rebuild()]
 }
 
@@ -91,13 +91,13 @@ fn panicking(builder: &NumberFormatBuilder) -> (u128, u32) {
     strict(builder)
 }
 
-/// Whether a byte is a digit of one of the radixes of a word.
+/// Returns whether a byte is a digit of one of the radixes of a word.
 pub fn is_digit(word: u128, byte: u8) -> bool {
     char_is_digit(byte, flags::mantissa_radix(word))
         || char_is_digit(byte, flags::exponent_radix(word))
 }
 
-/// The word that the setter calls make of a word.
+/// Returns the word after the setter calls.
 pub fn edits(word: u128, calls: &[SetterCall]) -> Edited {
     let word = calls.iter().fold(started(Some(word)), set).build_unchecked().into();
     Edited { edit_word: word, apply: word, apply_all: word }
@@ -107,7 +107,7 @@ pub fn normal_form(word: u128) -> u128 {
     started(Some(word)).build_unchecked()
 }
 
-/// How many of the fields differ.
+/// Returns the number of fields that differ.
 fn distance(one: &Fields, other: &Fields) -> usize {
     let mut found = vec![];
     one.differences(other, "", &mut found);

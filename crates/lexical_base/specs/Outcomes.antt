@@ -165,7 +165,7 @@ start_of_class classes.Format = codes "lexical number format error: "
 start_of_class classes.Options = codes "lexical options error: "
 start_of_class classes.Success = []
 
--- `end_of_text index` is the end of the text of an outcome that holds `index`. It is empty if there is no index.
+-- `end_of_text index` is the end of the text of an outcome that holds `index`. It is empty if `index` is `None`.
 abbrev pub end_of_text : Option ℕ → List ℕ
 end_of_text (Some index) = codes " at index " ++ decimal index
 end_of_text None = []

@@ -9,9 +9,8 @@ use std::simd::prelude::*;
 
 /// Returns whether the byte `c` is ASCII that a number format may use.
 ///
-/// Allowed are the bytes 9 to 13 (tab, line feed, vertical tab, form feed, carriage return), the space,
-/// and the printable characters `!` to `~`. Every other byte is rejected, including 127 and all bytes
-/// from 128 up.
+/// Allowed are the bytes 9 to 13 (tab, line feed, vertical tab, form feed, carriage return), the space, and
+/// the printable characters `!` to `~`. Every other byte is rejected, including 127 and all bytes from 128 up.
 #[inline(always)]
 pub const fn is_valid_ascii(c: u8) -> bool
     ensures { IsTrue result ↔ IsTrue (allowed_ascii c) }
@@ -44,7 +43,7 @@ pub fn is_valid_letter_slice(slc: &[u8]) -> bool
 // Returns whether every byte of `bytes` is in one of two ranges after the bits that `mask` lacks are
 // cleared. Each range is given by its lowest and its highest byte.
 //
-// The function tests chunks of 32 bytes, then the remaining bytes, of which there are fewer than 32.
+// The function tests chunks of 32 bytes, then the remaining bytes, at most 31.
 #[inline(always)]
 fn all_in_ranges(bytes: &[u8], mask: u8, first: (u8, u8), second: (u8, u8)) -> bool
     requires { AreTwoRanges first second }

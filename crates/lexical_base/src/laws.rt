@@ -1,4 +1,4 @@
-//! Facts about digits, stated as the clauses of functions with empty bodies.
+//! Laws on digits, stated as the clauses of functions with empty bodies.
 
 ghost use Rattle.std.specs.Prelude.{◌≡◌, ◌↔◌, ◌⊎◌, ℕ, ◌<◌, max, IsSome, IsTrue, ◌||◌};
 ghost use Rattle.lexical_base.specs.Digits.{byte_value, digit_of, digits_of};

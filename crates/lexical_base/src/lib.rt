@@ -1,4 +1,4 @@
-//! Tests of bytes, conversions of digits, and the error type, on which the other crates depend. Nothing
+//! Tests of bytes, conversions of digits, and the error type. The other crates depend on them. Nothing
 //! here allocates.
 #![tactic(auto)]
 

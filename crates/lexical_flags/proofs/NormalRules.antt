@@ -1,5 +1,5 @@
--- Lemmas on the rules after filling and trimming. Filled fields keep the same rules. Trimmed fields keep all the rules
--- that they kept before, and so does a clean word with such fields.
+-- Lemmas on the rules after filling and trimming. Filled fields keep the same rules. Trimmed fields keep all rules that
+-- they kept before, and so does a clean word with such fields.
 use Rattle.std.proofs.Common.{◌≡◌, ℕ, ◌⊎◌, ◌↔◌, inl, inr, ◌||◌, true, IsTrue, refl, sym, ap, subst, arith}
 use Rattle.std.proofs.lemmas.Bool.{cases_Bool, cond-false, false≢true}
 use Rattle.std.proofs.lemmas.Bool.Decides.{nat_tests}

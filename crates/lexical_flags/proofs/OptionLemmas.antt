@@ -75,7 +75,7 @@ roles_from_accepted word e p lawful h =
 pub accepted_roles : (word e p : ℕ) → Lawful word → OptionsFit word e p ↔ OptionsHaveOneRole word e p
 accepted_roles word e p lawful = (roles_from_accepted word e p lawful, accepted_from_roles word e p)
 
--- `is_other n a b c` is true if `n` is none of `a`, `b` and `c`.
+-- `is_other n a b c` is true if `n` differs from `a`, `b` and `c`.
 is_other : ℕ → ℕ → ℕ → ℕ → Bool
 is_other n a b c = not ((n == a) || (n == b) || (n == c))
 
@@ -84,7 +84,7 @@ is_other-told : (n a b c : ℕ) → ((is_other n a b c ≡ true) × (n ≢ a) ×
 unfolding is_other
 is_other-told n a b c = grind (arith, nat_tests)
 
--- `free_from low a b c` is the first of the four numbers from `low` up that is none of `a`, `b` and `c`.
+-- `free_from low a b c` is the first of the four numbers from `low` up that differs from `a`, `b` and `c`.
 free_from : ℕ → ℕ → ℕ → ℕ → ℕ
 free_from low a b c =
     if is_other low a b c then low

@@ -14,7 +14,7 @@ use Rattle.lexical_flags.specs.Roles.{signs}
 use Rattle.lexical_flags.specs.Rules.{IsAbsentOrPunctuation, IsPunctuation}
 use Rattle.lexical_flags.specs.declared.format_flags.rules.TheConstants.{LIMITS}
 
--- `limit byte` is the number of radixes, from 0 up, in which `byte` is absent or punctuation.
+-- `limit byte` is the number of radixes in which `byte` is absent or punctuation. These are the radixes below it.
 limit : ℕ → ℕ
 limit byte =
     if byte == 0 then 256

@@ -10,8 +10,8 @@ use Rattle.lexical_flags.specs.Roles.{Disjoint, cased, other_case, digits, signs
 use Rattle.lexical_flags.proofs.DisjointLemmas.{Disjoint-at, Disjoint-from}
 use Rattle.lexical_flags.proofs.CaseLemmas.{cased-cases, digits-other_case, signs-other_case}
 
--- If a set contains a byte whenever it contains the other case of that byte, and does not contain `own`, then the set
--- and the role of `own` are disjoint.
+-- If a set contains a byte whenever it contains the other case of that byte, and does not contain `own`, then the role
+-- of `own` is disjoint from the set.
 Disjoint-cased : (A : ByteSet) → ((b : ℕ) → IsTrue (A (other_case b)) → IsTrue (A b)) →
     (counts : Bool) (own : ℕ) → (own ≢ 0 → IsTrue (A own) → ⊥) → Disjoint A (cased counts own)
 Disjoint-cased A both_cases counts own out = Disjoint-from _ _ (λ byte below inside is_own.

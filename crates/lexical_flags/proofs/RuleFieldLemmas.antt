@@ -44,7 +44,7 @@ IsAbsentOrPunctuation-same v w b c is m e i =
     (is i ≡ 0) ⊎ (IsTrue (allowed_ascii (is i))
     × (IsTrue (digits_of (m i) (is i) || digits_of (effective (e i) (m i)) (is i)) → ⊥) × (IsTrue (signs (is i)) → ⊥))
 
--- If two words agree in the bits that a rule reads, then the rule demands the same of both.
+-- If two words agree in the bits that a rule reads, then the demands of the rule on both are equal.
 Demands-same : (rule : Rule) (v w : ℕ) → bit_and v (mask_read rule) ≡ bit_and w (mask_read rule)
     → Demands rule (raw v) ≡ Demands rule (raw w)
 Demands-same rules.MantissaRadixInRange v w same = λ i. IsRadix (byte v w _ same layout.mantissa_radix refl i)

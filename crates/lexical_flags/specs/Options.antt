@@ -16,7 +16,7 @@ pub record OptionsFit (word exponent_byte point_byte : ℕ) : Type 0 where
   pub exponent_is_new : AllByRecursion (Disjoint (exponent (raw word) exponent_byte)) (format_roles (raw word))
   pub point_is_new : AllByRecursion (Disjoint (point point_byte)) (format_roles (raw word))
 
--- `IsOptionsError word e p error` holds if `error` is that of the first demand that `e` and `p` fail, or `Success`.
+-- `IsOptionsError word e p error` holds if `error` is the one of the first demand that `e` and `p` fail, or `Success`.
 abbrev pub IsOptionsError : ℕ → ℕ → ℕ → Error → Type 0
 IsOptionsError word exponent_byte point_byte =
     ErrorUnless (IsPunctuation (raw word) exponent_byte) errors.InvalidExponentSymbol

@@ -1,4 +1,4 @@
--- The rules of a format word, and the error of the first rule that it breaks.
+-- The rules, and the error of the first rule that a word breaks.
 use Rattle.std.specs.Prelude.{ℕ, Bool, false, not, ◌≡◌, ◌≤◌, ◌⊎◌, ◌&&◌, ◌||◌, IsTrue, IsFalse, List, [], ◌∷◌, ◌++◌}
 use Rattle.std.specs.List.{AllByRecursion}
 use Rattle.lexical_base.specs.Ascii.{allowed_ascii}
@@ -115,11 +115,11 @@ flag_rules =
 abbrev pub rules_in_order : List Rule
 rules_in_order = radix_rules ++ punctuation_rules ++ flag_rules ++ rules.ReservedBitsAreZero ∷ []
 
--- `ErrorUnless demand own next error` holds if `demand` fails and `error` is `own`, or if `demand` holds and `next error` does.
+-- `ErrorUnless demand own next error` holds if `demand` fails and `error` is `own`, or if `demand` and `next error` hold.
 abbrev pub ErrorUnless : Type 0 → Error → (Error → Type 0) → Error → Type 0
 ErrorUnless demand own next error = ((demand → ⊥) × (error ≡ own)) ⊎ (demand × next error)
 
--- `IsFirstError rules word error` holds if `error` is the error of the first of `rules` that `word` breaks, or `Success`.
+-- `IsFirstError rules word error` holds if `error` is the one of the first of `rules` that `word` breaks, or `Success`.
 abbrev pub IsFirstError : List Rule → ℕ → Error → Type 0
 IsFirstError [] word error = error ≡ errors.Success
 IsFirstError (rule ∷ rules) word error = ErrorUnless (Holds rule word) (error_of rule) (IsFirstError rules word) error

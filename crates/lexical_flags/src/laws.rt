@@ -69,8 +69,8 @@ pub fn layout_facts()
 /// at most one error.
 #[inline(always)]
 pub const fn rule_facts()
-    // If `word` is lawful, then so is `normal`, the clean word with its filled and trimmed fields. If `word` is clean
-    // and trimming drops no separator, then both words have the same error.
+    // If `word` is lawful, then so is `normal`, the clean word with its filled and trimmed fields. Both words have the
+    // same error if `word` is clean and trimming drops no separator.
     ensures kept_lawful { (word normal : ℕ) → IsClean normal → raw normal ≡ trim (fill (raw word))
         → Lawful word → Lawful normal }
     ensures same_error { (word normal : ℕ) → IsClean normal → raw normal ≡ trim (fill (raw word))

@@ -249,7 +249,7 @@ same_blame ac bc dc ec a b k l below k_is l_is test clash =
       clash_same dc k ec l below (λ none. facts.0 (sym k_is ∙ none)) (l_is ∙ facts.1 ∙ sym k_is),
     )
 
--- If the two cases of a letter clash in a word and a case flag is not set, then the same is true of the other word.
+-- If the two cases of a letter clash in a word and a case flag is not set, then this is also true of the other word.
 cases_blame : (ac bc dc ec unset : Bool) (a b k l : ℕ) → k ≡ a → l ≡ b → (b == a) ≡ false
     → (Disjoint (cased ac a) (cased bc b) → ⊥) → unset ≡ false → (IsTrue (dc && ec) → ⊥)
     → (((k ≡ a) × ⊤) × ((l ≡ b) × ⊤) × ((unset ≡ false) × ⊤) × (b ≢ a) × (b ≡ other_case a))

@@ -41,7 +41,7 @@ record AreAlike (r s : Record) : Type 1 where
   exponents : exponent r ≡ exponent s
   own : format_roles r ≡ format_roles s
 
--- If the records of two words are alike, then options that fit one word fit the other.
+-- If the records of two words are alike, then options that fit the first word fit the second.
 OptionsFit-alike : (v w e p : ℕ) → IsPunctuation (raw v) ≡ IsPunctuation (raw w) → exponent (raw v) ≡ exponent (raw w)
     → format_roles (raw v) ≡ format_roles (raw w) → OptionsFit v e p → OptionsFit w e p
 OptionsFit-alike v w e p punctuation exponents own h = record {
@@ -62,7 +62,8 @@ same_options s v w alike fields e p =
       OptionsFit-alike w v e p (sym punctuation) (sym exponents) (sym own),
     )
 
--- If a rule demands the same of two records, then the words with these records both keep the rule, or both break it.
+-- If the demands of a rule on two records are equal, then the words with these records both keep the rule, or both
+-- break it.
 Holds-alike : (s : Record) (v w : ℕ) → ReplacesFields s v w → (rule : Rule) → Demands rule (raw v) ≡ Demands rule s
     → Holds rule v ↔ Holds rule w
 unfolding Holds

@@ -25,7 +25,8 @@ abbrev pub error_line : Option Rule → List ℕ
 error_line None = []
 error_line (Some rule) = line (codes "    error: " ++ printed_text (error_of rule))
 
--- `if_blamed reason field text` is `text` if the edit `field` writes a bit that `reason` blames, and empty if it does not.
+-- `if_blamed reason field text` is `text` if the edit `field` writes a bit that `reason` blames, and empty if it does
+-- not.
 abbrev pub if_blamed : Reason → Edit → List ℕ → List ℕ
 if_blamed reason field text = if bit_and (mask_of_edit field) (mask_of_reason reason) == 0 then [] else text
 
@@ -44,7 +45,7 @@ abbrev pub mend_line : ℕ → Reason → Edit → List ℕ
 mend_line word reason field = if_blamed reason field (edits_line (mend_of word reason field))
 
 -- `reason_lines word reason` is the sentence of `reason`, the errors of its rules, the fields of `word` that it blames,
--- and the edits that mend these fields.
+-- and the edits that mend them.
 abbrev pub reason_lines : ℕ → Reason → List ℕ
 reason_lines word reason =
     line (reason_text reason)

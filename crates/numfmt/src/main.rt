@@ -14,8 +14,8 @@
 //! | `source WORD` | the builder expression with the fewest single-field setter calls that give the word's fields |
 //! | `explain WORD` | each reason why the word breaks rules: errors, fields to blame, edits that mend them; the notes |
 //!
-//! The exit status is 0 on success, 1 if the answer is no, 2 if the arguments are refused (one line states the reason),
-//! and 3 if a write fails or the arguments cannot be read (nothing more is printed).
+//! The exit status is 0 on success, 1 if the answer is no, and 2 if the arguments are refused (one line states the
+//! reason). It is 3 if a write fails or the arguments cannot be read (nothing more is printed).
 #![tactic(auto)]
 
 ghost use Rattle.std.specs.Prelude.{◌≡◌, ◌≤◌, IsErr, IsOk};

@@ -2,8 +2,8 @@
 //! file is written by hand, and `rust/tools/erase.py` generates the others from `crates/numfmt`, whose `src/main.rt`
 //! has the commands.
 //!
-//! Two statuses differ from those of the proved program, since std decides them: if memory runs out, this program
-//! aborts, and a closed output counts as `/dev/null`.
+//! Two statuses differ from the proved program, since std decides them: if memory runs out, this program aborts, and a
+//! closed output counts as `/dev/null`.
 
 #[allow(clippy::ptr_arg, reason = "as it is proved")]
 mod command;

@@ -1,6 +1,6 @@
 // Made by rust/tools/erase.py from crates/lexical_flags/src/format_flags/all_rules.rt: change that file.
 
-//! The rules of a format word, as values.
+//! The rules, as values.
 
 use crate::error::Error;
 use crate::format_flags::rules::*;
@@ -161,8 +161,8 @@ impl Rule {
     }
 }
 
-/// Returns the rules that the word `format` breaks. At the index of each rule in [`RULES`], the result has
-/// that rule if the word breaks it, and `None` otherwise.
+/// Returns the rules that the word `format` breaks. At the index of each rule in [`RULES`], the result has the
+/// rule if the word breaks it, and `None` otherwise.
 ///
 /// `broken_rules(format).into_iter().flatten()` iterates over the broken rules. The error of the first one is the
 /// result of [`format_error_impl`].

@@ -1,6 +1,6 @@
 // Made by rust/tools/erase.py from crates/lexical_flags/src/format_flags/rules.rt: change that file.
 
-//! The rules of a format word: a test for each rule, and the error of the first rule that a word breaks.
+//! The tests of the rules, and the error of the first rule that a word breaks.
 //!
 //! A word that breaks no rule is *lawful*. The view of a word, as `lexical-util`, calls it valid.
 
@@ -167,8 +167,8 @@ pub const fn is_valid_base_suffix(format: u128) -> bool {
 /// A byte of 0 is absent, and is not compared. If the base prefix is a letter, it means both cases of that
 /// letter unless [`CASE_SENSITIVE_BASE_PREFIX`] is set. The base suffix does likewise unless
 /// [`CASE_SENSITIVE_BASE_SUFFIX`] is set. So the prefix `h` and the suffix `H` clash unless both flags are
-/// set. The digit separator is always case-sensitive. `lexical-util` compares the raw bytes, so it accepts
-/// such a prefix and suffix with any flags.
+/// set. The digit separator is always case-sensitive. `lexical-util` compares the raw bytes, so it accepts the
+/// prefix `h` and the suffix `H` with any flags.
 #[must_use]
 #[inline(always)]
 pub const fn is_valid_punctuation(format: u128) -> bool {

@@ -97,7 +97,7 @@ const fn radix_rule(edit: Edit) -> Rule {
     }
 }
 
-// Returns the punctuation rule of the byte that an edit writes.
+// Returns the punctuation rule for the byte that an edit writes.
 const fn punctuation_rule(edit: Edit) -> Rule {
     match edit {
         Edit::DigitSeparator(_) => Rule::DigitSeparatorIsPunctuation,

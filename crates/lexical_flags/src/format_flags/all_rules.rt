@@ -1,4 +1,4 @@
-//! The rules of a format word, as values.
+//! The rules, as values.
 
 ghost use Rattle.std.specs.Prelude.{◌≡◌, ◌↔◌, IsTrue};
 ghost use Rattle.std.specs.List.{AllZip};
@@ -166,8 +166,8 @@ impl Rule {
     }
 }
 
-/// Returns the rules that the word `format` breaks. At the index of each rule in [`RULES`], the result has
-/// that rule if the word breaks it, and `None` otherwise.
+/// Returns the rules that the word `format` breaks. At the index of each rule in [`RULES`], the result has the
+/// rule if the word breaks it, and `None` otherwise.
 ///
 /// In plain Rust, `broken_rules(format).into_iter().flatten()` iterates over the broken rules. The error of
 /// the first one is the result of [`format_error_impl`].

@@ -26,7 +26,8 @@ pub fn write_examples()
         (write_byte layout.mantissa_radix 16 ∷ write_byte layout.mantissa_radix 8 ∷ []) → ⊥ }
 {}
 
-/// Edits: one that makes a write alone and one that makes more writes; one of a program, and one whose byte is too large.
+/// Examples of edits: one that makes a single write, and one that makes several; one of a program, and one whose byte
+/// is too large.
 pub fn edit_examples()
     ensures flag { IsEditOf (write_flag layout.required_integer_digits true)
         (edits.Flag setters.RequiredIntegerDigits true) }

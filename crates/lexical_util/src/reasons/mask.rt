@@ -108,7 +108,7 @@ const fn radix_rule(edit: Edit) -> Rule
     }
 }
 
-// Returns the punctuation rule of the byte that an edit writes.
+// Returns the punctuation rule for the byte that an edit writes.
 const fn punctuation_rule(edit: Edit) -> Rule
     ensures { result ≡ punctuation_rule edit }
 {
