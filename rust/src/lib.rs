@@ -61,14 +61,16 @@
 //! The library is written in Rattle, which is Rust with contracts, and a prover accepted every function. From these
 //! sources, a program of the repository generated the files that begin with `Made by`. The parts `Proved` state
 //! contracts, and [`definitions`] has their terms. [`Format`], [`Mend`], [`NumberFormat`], the iterators and
-//! conversions, `Display`, `FromStr` and `Debug` of words, `build_or_panic`, and lanes and chunks of bytes are written
-//! by hand. A build of this crate proves nothing: you trust that program, what is written by hand, and `rustc`.
+//! conversions, `Display`, `FromStr` and `Debug` of words, `build_or_panic`, decimal digits, and lanes and chunks of
+//! bytes are written by hand. A build of this crate proves nothing: you trust that program, what is written by hand,
+//! and `rustc`.
 #![no_std]
 #![forbid(unsafe_code)]
 
 pub mod ascii;
 mod chunks;
 mod debug;
+mod decimal;
 #[cfg(doc)]
 pub mod definitions;
 #[allow(clippy::redundant_pattern_matching, reason = "as it is proved")]

@@ -51,8 +51,13 @@ LEFT_OUT = re.compile(rf"(lib|main|laws|examples)\.rt|{IN_CORE}|laws/.*")
 MODULES = {"format": "word", "feature_format": "view"}
 VIEW = ("NumberFormat", "FormatView")
 
-# What is another text in plain Rust: file, text, text in its place. Each is one line.
+# What is another text in plain Rust: file, text, text in its place. Both have as many lines.
 COMPARED = "#[derive(Clone, Copy, PartialEq, Eq, Hash)]"
+PUT_DECIMAL = """let has_front = n >= 10;
+    if has_front {
+        put_decimal(out, n / 10)?;
+    }
+    out.put(digit_text(n % 10))"""
 SUBSTITUTIONS = [
     # Rust has `as_chunks` of slices from 1.88 on.
     ("ascii.rt", "use std::simd::prelude::*;", "use crate::chunks::{Chunks, SplitChunks}; use crate::lanes::Simd;"),
@@ -64,6 +69,8 @@ SUBSTITUTIONS = [
     ("error.rt", "use std::cmp::Ordering;", ""),
     ("error.rt", "#[derive(Clone, Copy, Debug)]", "#[derive(Clone, Copy, Debug, PartialEq, Eq, PartialOrd, Ord, Hash)]"),
     ("short_text.rt", "#[derive(Drop)]", "#[derive(Clone, Copy)]"),
+    # The digits of a number are put by one call.
+    ("short_text.rt", PUT_DECIMAL, "out.put(crate::decimal::Decimal::new(n).text())" + "\n" * PUT_DECIMAL.count("\n")),
     ("sink.rt", "impl<W: fmt::Write> Sink for fmt::Formatter<W> {", "impl Sink for fmt::Formatter<'_> {"),
     ("format_builder.rt", "#[derive(Drop)]", COMPARED),
     ("format_builder.rt", "mod non_zero;", ""),
@@ -367,7 +374,7 @@ class Source:
 
 
 def source_of(path, name):
-    """The source with the substitutions made. Each is of one line, so that lines keep their numbers."""
+    """The source with the substitutions made. Each has as many lines as before, so that lines keep their numbers."""
     text = path.read_text()
     for file, old, new in [*SUBSTITUTIONS, *((file, item, item) for file, item in ITEMS)]:
         if file == path.name:

@@ -26,6 +26,8 @@ ROWS = [
     ("error.rt", "use std :: cmp :: Ordering ;", ""),
     ("error.rt", "", ", PartialEq , Eq , PartialOrd , Ord , Hash"),
     ("short_text.rt", "Drop", "Clone , Copy"),
+    ("short_text.rt", "let has_front = n > = 10 ; if has_front { put_decimal ( out , n / 10 ) ? ; } digit_text % 10",
+     "crate :: decimal :: Decimal :: new ) . text ("),
     ("sink.rt", "< W : fmt :: Write > W", "' _"),
     ("format_builder.rt", "Drop", "Clone , Copy , PartialEq , Eq , Hash"),
     ("format_builder.rt", "mod non_zero ;", ""),

@@ -89,11 +89,7 @@ fn put_numbered<S: Sink>(out: &mut S, name: &str, byte: u8) -> fmt::Result {
 
 // Puts `n`, in decimal, into a sink.
 pub(crate) fn put_decimal<S: Sink>(out: &mut S, n: usize) -> fmt::Result {
-    let has_front = n >= 10;
-    if has_front {
-        put_decimal(out, n / 10)?;
-    }
-    out.put(digit_text(n % 10))
+    out.put(crate::decimal::Decimal::new(n).text())
 }
 
 // Puts `n`, in hexadecimal with uppercase letters, into a sink.
