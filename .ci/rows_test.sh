@@ -1,6 +1,7 @@
 #!/usr/bin/env bash
-# Tests rows.sh: what rows print that pass, that fail and that are skipped, and the status of what counts them. And tests
-# run, over programs that do nothing: it calls each test, and fails if one fails. The last line is `N passed, M failed`.
+# Tests rows.sh: what rows print that pass, that fail and that are skipped, and the status of what counts them. And each
+# script that uses it, where no compiler is installed: it skips as many rows as it counts. And tests run, over programs
+# that do nothing: it calls each test, and fails if one fails. The last line is `N passed, M failed`.
 set -u
 cd "$(dirname "$0")" || exit
 work=$(mktemp -d)
@@ -22,13 +23,27 @@ printf '%s\n' 'A page.' '' '    $ echo a  b' '    a b' '' '    $ false' > "$work
 row 0 '2 passed, 0 failed, 0 skipped' 'compares "a b" "a b"; compares "" ""; counted 2'
 row 1 $'x y\n  wanted: a\n  got:    b\n0 passed, 1 failed, 0 skipped' 'compares a b x y; counted 1'
 row 1 $'x\n  wanted: \\*\n  got:    b\n0 passed, 1 failed, 0 skipped' 'compares "*" b x; counted 0'
-row 1 $'1 passed, 0 failed, 0 skipped\nfewer were tried than before: 2' 'compares a a; counted 2'
-row 0 $'skipped: nothing\n0 passed, 0 failed, 1 skipped' 'skips nothing; counted 2'
-row 0 $'skipped: cc\n0 passed, 0 failed, 1 skipped' 'skips cc; counted 2'
-row 1 $'skipped: cc\n0 passed, 1 failed, 1 skipped' 'CI=1; skips cc; counted 2'
-row 1 $'skipped: cargo\nskipped: python3\n0 passed, 2 failed, 2 skipped' 'CI=1; skips cargo; skips python3; counted 2'
-row 0 $'skipped: nothing\n0 passed, 0 failed, 1 skipped' 'CI=1; skips nothing; counted 2'
-row 0 $'skipped: no-such\nno\n0 passed, 0 failed, 1 skipped' 'has no-such || echo no; has bash && counted 0'
+row 1 $'1 passed, 0 failed, 0 skipped\nfewer rows than before: 2' 'compares a a; counted 2'
+row 0 $'skipped: no-such\n1 passed, 0 failed, 1 skipped' 'needing no-such compares a b; compares a a; counted 2'
+row 1 $'skipped: no-such\n0 passed, 0 failed, 1 skipped\nfewer rows than before: 2' \
+    'needing no-such compares a b; counted 2'
+row 0 $'skipped: no-such\n0 passed, 0 failed, 3 skipped' \
+    'both() { passes false && prints 1 b echo a; }; needing no-such both; needing no-such passes false; counted 3'
+row 0 $'skipped: no-such\n0 passed, 0 failed, 2 skipped' 'needing bash needing no-such needing bash passes false
+    needing no-such needing bash passes false; counted 2'
+row 0 $'skipped: no-such\nskipped: none\n0 passed, 0 failed, 1 skipped' \
+    'needing no-such needing none passes false; counted 1'
+row 0 $'skipped: no-such\n0 passed, 0 failed, 1 skipped' 'has no-such || lacking=it; prints 0 b echo c; counted 1'
+row 0 '1 passed, 0 failed, 0 skipped' 'here[no such]=yes; needing "no such" passes true; counted 1'
+row 0 $'skipped: no such\n0 passed, 0 failed, 1 skipped' 'lacks "no such"; needing "no such" passes false; counted 1'
+row 0 $'skipped: broken\n0 passed, 0 failed, 1 skipped' \
+    'broken() { [ "$*" != --version ]; }; needing broken compares a b; counted 1'
+row 0 "skipped: no-such"$'\n0 passed, 0 failed, 2 skipped' "needing no-such shows $work/page echo false; counted 2"
+row 0 $'skipped: cc\n0 passed, 0 failed, 0 skipped' 'lacks cc; counted 0'
+row 1 $'skipped: cc\n0 passed, 1 failed, 0 skipped' 'CI=1; lacks cc; counted 0'
+row 1 $'skipped: cargo\nskipped: python3\n0 passed, 2 failed, 0 skipped' 'CI=1; lacks cargo; lacks python3; counted 2'
+row 0 $'skipped: no-such\n0 passed, 0 failed, 0 skipped' 'CI=1; has no-such; has no-such; counted 0'
+row 0 '1 passed, 0 failed, 0 skipped' 'has bash && needing bash compares a a; counted 1'
 row 0 '2 passed, 0 failed, 0 skipped' 'prints 0 a echo a; prints 3 b bash -c "echo b >&2; exit 3"; counted 2'
 row 1 $'echo a\n  wanted: $\'a\\nstatus 1\'\n  got:    $\'a\\nstatus 0\'\n0 passed, 1 failed, 0 skipped' \
     'prints 1 a echo a; counted 1'
@@ -46,11 +61,33 @@ printf '%s\n' '    $ echo 1' '    1' '    $ echo 2' '    3' > "$work/two"
 row 1 "echo 2 in $work/two"$'\n  wanted: $\'3\\n\'\n  got:    $\'2\\n\'\n2 passed, 1 failed, 0 skipped' \
     "shows $work/two echo echo; counted 2"
 
-# stub FILE NAME [LINES]: a program that writes its name to LOG, prints the lines, and fails if FAILS is its name.
+# skips LEAST SCRIPT [ARGUMENT]: without compilers, the script skips this number of rows, and all is well.
+skips() {
+    local got
+    got=$(env -u CI PATH="$work/few" "../$2" "${@:3}" 2>&1; echo "status $?")
+    tried=$((tried + 1))
+    [ "$(tail -n 2 <<< "$got")" = "0 passed, 0 failed, $1 skipped"$'\nstatus 0' ] && return
+    failed=$((failed + 1))
+    printf '%s, without compilers: not %s rows\n%s\n' "${*:2}" "$1" "$got"
+}
+
+mkdir "$work/few"
+for tool in awk bash cat cp dirname env find grep head mkdir mktemp realpath rm sed sort tail tr wc xargs; do
+    ln -s "$(command -v $tool)" "$work/few"
+done
+for script in {rust/tools,c}/test.sh; do skips "$(sed -n 's/^counted //p' "../$script")" "$script"; done
+skips "$(sed -n 's/^    counted //p' ../c/test.sh)" c/test.sh archive
+script=crates/numfmt/built-program-test.sh
+skips "$(sed -n 's/.* least=\([0-9]*\)$/\1/p;T;q' ../$script)" $script program
+skips "$(sed -n 's/.* || least=//p' ../$script)" $script
+
+# stub FILE NAME [LINES]: a program that writes its name to LOG, prints the lines, and fails if FAILS is its name. It has a
+# version.
 stub() {
     mkdir -p "${1%/*}"
     cat > "$1" << END
 #!/bin/sh
+[ "\$*" != --version ] || exit 0
 echo $2 >> "\$LOG"
 printf '%s' '${3:-}'
 [ "\$FAILS" != $2 ]

@@ -5,7 +5,7 @@
 #     c/test.sh            the plain library, built twice: with rustc's checks of numbers and pointers, and without
 #     c/test.sh ARCHIVE    another library, such as the proved one: `rt lib` in crates/lexical_c makes out/liblexical_c.a
 #
-# The last line is `N passed, M failed, K skipped`; the exit status is 1 if a row failed, or fewer were tried than before.
+# The last line is `N passed, M failed, K skipped`; the exit status is 1 if a row failed, or there are fewer than before.
 # Options are split at blanks.
 # shellcheck disable=SC2086
 set -u
@@ -16,26 +16,24 @@ page=$(realpath ../docs/C-AND-PYTHON.md)
 work=$(mktemp -d)
 trap 'rm -rf "$work"' EXIT
 
-has cc || { counted 0; exit; }
-declare -A here=()
-for tool in nm readelf gcc g++ clang clang++ python3 mypy valgrind make pkg-config cmake; do
-    if has $tool; then here[$tool]=yes; fi
-done
+has cc || lacking=cc
 
-# probe NAME OPTION: whether programs of cc with this option run; if not, it is skipped.
+# probe OPTION: whether programs of cc with this option run.
 probe() {
-    if cc $2 -x c -o "$work/empty" - <<< 'int main(void) { return 0; }' 2> /dev/null && "$work/empty"; then
-        here[$1]=yes
+    if cc $1 -x c -o "$work/empty" - <<< 'int main(void) { return 0; }' 2> /dev/null && "$work/empty"; then
+        here[cc $1]=yes
     else
-        skips "cc $2"
+        lacks "cc $1"
     fi
 }
-probe address -fsanitize=address
-probe undefined -fsanitize=undefined
-probe static -static
+probe -fsanitize=address
+probe -fsanitize=undefined
+probe -static
 strict="-Wall -Wextra -Wpedantic -Wconversion -Wshadow -Werror"
-sanitizer=${here[address]:+ -fsanitize=address}${here[undefined]:+ -fsanitize=undefined -fno-sanitize-recover=all}
-sanitizer=${sanitizer:+-O1 -g$sanitizer}
+sanitizer=
+if has 'cc -fsanitize=address'; then sanitizer+=' -fsanitize=address'; fi
+if has 'cc -fsanitize=undefined'; then sanitizer+=' -fsanitize=undefined -fno-sanitize-recover=all'; fi
+if [ "$sanitizer" ]; then here[a sanitizer]=yes; else here[a sanitizer]=no; fi
 memcheck="valgrind -q --error-exitcode=9 --leak-check=full"
 
 separated="0x000010000000005F000000070000000C
@@ -176,29 +174,34 @@ warns() {
         void ignore(peltzivar_word *out) { peltzivar_build_strict(&PELTZIVAR_NEW_FIELDS, out); }' | grep -q Wunused-result
 }
 
+# sources: the header has what the sources have, and its comments name it.
+sources() {
+    passes names
+    passes faulty 's/_t base_suffix;/_t base_prefix2;/' 's/uint8_t base_prefix;/uint16_t base_prefix;/' \
+        's/setter, value;/value, setter;/' 's/low, high;/high, low;/' 's/_OVERFLOW = 1,/_OVERFLOW = 2,/' \
+        's/^typedef uint32_t peltzivar_error/typedef int peltzivar_error/' 's/MAX_NOTES 3/MAX_NOTES 4/' \
+        's/_COUNT (\(.*\) + 6)/_COUNT \1 + 6/'
+    passes ./header_test.py --comments
+}
+
+# plusplus COMPILER: the header in C++.
+plusplus() {
+    headers "$1" '-include ./peltzivar.h -x c++ /dev/null' c++98
+    headers "$1" header.cpp c++11 c++14 c++17 c++20
+    passes warns "$1" -std=c++17 -x c++
+}
+
 # compilers: the header in each language that it is said to be.
 compilers() {
-    local compiler
-    if [ "${here[python3]:-}" ]; then
-        passes names
-        passes faulty 's/_t base_suffix;/_t base_prefix2;/' 's/uint8_t base_prefix;/uint16_t base_prefix;/' \
-            's/setter, value;/value, setter;/' 's/low, high;/high, low;/' 's/_OVERFLOW = 1,/_OVERFLOW = 2,/' \
-            's/^typedef uint32_t peltzivar_error/typedef int peltzivar_error/' 's/MAX_NOTES 3/MAX_NOTES 4/' \
-            's/_COUNT (\(.*\) + 6)/_COUNT \1 + 6/'
-        passes ./header_test.py --comments
-    fi
+    needing python3 sources
     passes imports
     headers cc 'header.c' c99 c11 c17
-    if [ "${here[clang]:-}" ]; then headers clang 'header.c' c99 c11 c17; fi
-    if [ "${here[gcc]:-}" ]; then headers gcc '-include ./peltzivar.h -x c /dev/null' c89; fi
-    for compiler in g++ clang++; do
-        [ "${here[$compiler]:-}" ] || continue
-        headers $compiler '-include ./peltzivar.h -x c++ /dev/null' c++98
-        headers $compiler header.cpp c++11 c++14 c++17 c++20
-        passes warns $compiler -std=c++17 -x c++
-    done
+    needing clang headers clang 'header.c' c99 c11 c17
+    needing gcc headers gcc '-include ./peltzivar.h -x c /dev/null' c89
+    needing g++ plusplus g++
+    needing clang++ plusplus clang++
     passes warns cc -x c
-    if [ "${here[clang]:-}" ]; then passes warns clang -x c; fi
+    needing clang passes warns clang -x c
 }
 
 # calls: the names that the header declares.
@@ -236,38 +239,47 @@ pythons() {
             echo "not tried: python3.$minor"
         fi
     done
-    if [ "${here[mypy]:-}" ]; then
-        passes mypy --strict --python-version 3.9 --cache-dir "$work/mypy" peltzivar.py example.py
-    fi
+    needing mypy passes mypy --strict --python-version 3.9 --cache-dir "$work/mypy" peltzivar.py example.py
+}
+
+# built ARCHIVE OPTION..: the programs in C, built with these options.
+built() {
+    passes cc -std=c11 $strict "${@:2}" example.c "$1" -o "$work/example" && example "$work/example"
+    passes cc -std=c11 $strict "${@:2}" settings.c "$1" -o "$work/settings" && settings "$work/settings"
+    passes cc -std=c11 $strict "${@:2}" settings_test.c "$1" -o "$work/random" &&
+        passes "$work/random" "$work/random.txt" 2500
+    passes cc -std=c11 $strict "${@:2}" $defined header.c "$1" -o "$work/header" && passes "$work/header"
+}
+
+# memory ARCHIVE: the programs in C under valgrind.
+memory() {
+    passes cc -g header.c $defined "$1" -o "$work/header" && passes $memcheck "$work/header"
+    passes cc -g settings.c "$1" -o "$work/settings" &&
+        prints 1 "$unlawful" $memcheck "$work/settings" "$work/unlawful.txt"
+    passes cc -g settings_test.c "$1" -o "$work/random" && passes $memcheck "$work/random" "$work/random.txt" 50
+}
+
+# header COMMAND..: header.c or header.cpp, as this command compiles it.
+header() {
+    passes "$@" -o "$work/header" && passes "$work/header"
+}
+
+# symbols ARCHIVE SHARED: both forms of the library have the calls of the header.
+symbols() {
+    passes declares nm -g --defined-only "$1"
+    passes declares nm -gD --defined-only "$2"
 }
 
 # library ARCHIVE SHARED: the rows over a library in its two forms.
 library() {
-    local options defined=${without:+-DWITHOUT_VERSION}
-    for options in -O2 ${sanitizer:+"$sanitizer"}; do
-        passes cc -std=c11 $strict $options example.c "$1" -o "$work/example" && example "$work/example"
-        passes cc -std=c11 $strict $options settings.c "$1" -o "$work/settings" && settings "$work/settings"
-        passes cc -std=c11 $strict $options settings_test.c "$1" -o "$work/random" &&
-            passes "$work/random" "$work/random.txt" 2500
-        passes cc -std=c11 $strict $options $defined header.c "$1" -o "$work/header" && passes "$work/header"
-    done
-    if [ "${here[valgrind]:-}" ]; then
-        passes cc -g header.c $defined "$1" -o "$work/header" && passes $memcheck "$work/header"
-        passes cc -g settings.c "$1" -o "$work/settings" &&
-            prints 1 "$unlawful" $memcheck "$work/settings" "$work/unlawful.txt"
-        passes cc -g settings_test.c "$1" -o "$work/random" && passes $memcheck "$work/random" "$work/random.txt" 50
-    fi
-    if [ "${here[clang]:-}" ]; then
-        passes clang -std=c99 $strict $defined header.c "$1" -o "$work/header" && passes "$work/header"
-    fi
-    if [ "${here[g++]:-}" ]; then
-        passes g++ -std=c++17 $strict header.cpp "$1" -o "$work/header" && passes "$work/header"
-    fi
-    if [ "${here[python3]:-}" ] && [ -z "${without:-}" ]; then python "$2"; fi
-    if [ "${here[nm]:-}" ]; then
-        passes declares nm -g --defined-only "$1"
-        passes declares nm -gD --defined-only "$2"
-    fi
+    local defined=${without:+-DWITHOUT_VERSION}
+    built "$1" -O2
+    needing 'a sanitizer' built "$1" -O1 -g $sanitizer
+    needing valgrind memory "$1"
+    needing clang header clang -std=c99 $strict $defined header.c "$1"
+    needing g++ header g++ -std=c++17 $strict header.cpp "$1"
+    [ "${without:-}" ] || needing python3 python "$2"
+    needing nm symbols "$1" "$2"
 }
 
 # block LANGUAGE: the lines of the page's blocks of code in a language.
@@ -280,9 +292,9 @@ hides() {
     ! grep -laF -- "$@"
 }
 
-# dynamic ENTRY FILE: the name in the dynamic section.
+# dynamic NAME ENTRY FILE: the entry of the dynamic section has this name, or there is none.
 dynamic() {
-    readelf -d "$2" | sed -n "s/.*($1).*\[\(.*peltzivar.*\)\]/\1/p"
+    compares "$1" "$(readelf -d "$3" | sed -n "s/.*($2).*\[\(.*peltzivar.*\)\]/\1/p")" "$2 of $3"
 }
 
 # program COMMAND NEEDED: the command makes ./example, which works, and needs this shared library or none.
@@ -290,7 +302,7 @@ program() {
     passes bash -c "$1" || return
     LD_LIBRARY_PATH=$prefix/lib example ./example
     passes hides "$top" ./example
-    if [ "${here[readelf]:-}" ]; then compares "$2" "$(dynamic NEEDED ./example)" "$1"; fi
+    needing readelf dynamic "$2" NEEDED ./example
 }
 
 # programs: in another folder, by the lines of the page.
@@ -298,7 +310,7 @@ programs() {
     local line
     while IFS= read -r line; do
         case $line in
-            'cc -static '*) if [ "${here[static]:-}" ]; then program "$line" ''; fi ;;
+            'cc -static '*) needing 'cc -static' program "$line" '' ;;
             'cc '*) program "$line" "$soname" ;;
         esac
     done < <(block sh)
@@ -311,11 +323,9 @@ programs() {
 int main(void) { return (int)peltzivar_format_error(PELTZIVAR_STANDARD); }
 END
         passes env LD_LIBRARY_PATH="$prefix/lib" ./hidden
-    if [ "${here[cmake]:-}" ]; then
-        printf '%s\n' 'cmake_minimum_required(VERSION 3.10)' 'project(example C)' 'add_executable(example example.c)' \
-            "$(block cmake)" > CMakeLists.txt
-        program 'cmake . && cmake --build . && cp -f example built && mv built example' "$soname"
-    fi
+    printf '%s\n' 'cmake_minimum_required(VERSION 3.10)' 'project(example C)' 'add_executable(example example.c)' \
+        "$(block cmake)" > CMakeLists.txt
+    needing cmake program 'cmake . && cmake --build . && cp -f example built && mv built example' "$soname"
 }
 
 # versions: a library of another version, whose three numbers differ, returns its number.
@@ -347,39 +357,34 @@ installed() {
     passes make uninstall PREFIX=/usr LIBDIR=/usr/lib/here INCLUDEDIR=/srv/include DESTDIR="$work/root"
     compares "" "$(find "$work/root" ! -type d)" make uninstall
     passes bash -c '! make install PREFIX=relative'
-    rm -r "$work/make"
+    rm -rf "$work/make"
     passes hides "$top" "$prefix"/lib/* "$prefix"/lib/pkgconfig/*
-    if [ "${here[nm]:-}" ]; then passes exports "$prefix/lib/libpeltzivar_c.so"; fi
-    if [ "${here[readelf]:-}" ]; then
-        compares "$soname" "$(dynamic SONAME "$prefix/lib/libpeltzivar_c.so")" SONAME
-        passes grep -c 'NEEDED.*libc\.' <(readelf -d "$prefix/lib/libpeltzivar_c.so")
-    fi
-    if [ "${here[pkg-config]:-}" ]; then
-        mkdir "$work/elsewhere"
-        cp example.c "$work/elsewhere"
-        pushd "$work/elsewhere" > /dev/null || exit
-        programs
-        popd > /dev/null || exit
-    fi
+    needing nm passes exports "$prefix/lib/libpeltzivar_c.so"
+    needing readelf dynamic "$soname" SONAME "$prefix/lib/libpeltzivar_c.so"
+    needing readelf passes bash -c "readelf -d '$prefix/lib/libpeltzivar_c.so' | grep 'NEEDED.*libc\.'"
+    mkdir "$work/elsewhere"
+    cp example.c "$work/elsewhere"
+    pushd "$work/elsewhere" > /dev/null || exit
+    needing pkg-config programs
+    popd > /dev/null || exit
 }
 
 if [ "$given" ]; then
     without=peltzivar_version
     passes cc -shared -o "$work/library.so" -Wl,--whole-archive "$given" -Wl,--no-whole-archive &&
         library "$given" "$work/library.so"
-    counted 77
+    counted 79
     exit
 fi
 compilers
-if has cargo; then
-    for checks in true false; do
-        export CARGO_TARGET_DIR=$work/$checks
-        export CARGO_PROFILE_RELEASE_DEBUG_ASSERTIONS=$checks CARGO_PROFILE_RELEASE_OVERFLOW_CHECKS=$checks
-        passes cargo build --offline --quiet --release --manifest-path ../rust/Cargo.toml --package peltzivar-capi &&
-            library "$work/$checks"/release/libpeltzivar_c.{a,so}
-    done
-    passes versions
-    if [ "${here[python3]:-}" ]; then pythons "$work/false/release/libpeltzivar_c.so"; fi
-    if [ "${here[make]:-}" ]; then installed; fi
-fi
-counted 258
+has cargo || lacking=cargo
+for checks in true false; do
+    export CARGO_TARGET_DIR=$work/$checks
+    export CARGO_PROFILE_RELEASE_DEBUG_ASSERTIONS=$checks CARGO_PROFILE_RELEASE_OVERFLOW_CHECKS=$checks
+    passes cargo build --offline --quiet --release --manifest-path ../rust/Cargo.toml --package peltzivar-capi &&
+        library "$work/$checks"/release/libpeltzivar_c.{a,so}
+done
+passes versions
+needing python3 pythons "$work/false/release/libpeltzivar_c.so"
+needing make installed
+counted 266

@@ -3,7 +3,7 @@
 # that every bit, byte and rule is printed as FORMAT.md says; that an edit of each name there sets the bits of its row;
 # that the words in the tables of FORMAT.md and MIGRATING.md come out as these say; and that each line `$ numfmt ..` of the
 # pages prints what the page shows below it. The last line is `N passed, M failed, K skipped`; the exit status is 1 if a
-# run failed, or fewer were tried than before.
+# run failed, or there are fewer than before. Without cc or python3, all are skipped.
 #
 #     built-program-test.sh            tests out/numfmt, which `rt run` and `rt ci` leave; if that is absent, or older than
 #                                      a source file, `rt run` builds it
@@ -15,8 +15,14 @@ program=${1:+$(realpath -m "$1")} least=4108
 cd "$(dirname "$0")" || exit
 # shellcheck source=../../.ci/rows.sh
 . ../../.ci/rows.sh
+[ "$program" ] || least=4259
+if ! { has cc && has python3; }; then
+    skipped=$least
+    counted $least
+    exit
+fi
 if [ -z "$program" ]; then
-    program=out/numfmt least=4259
+    program=out/numfmt
     if ! [ -x "$program" ] || [ -n "$(find ../*/src -name '*.rt' -newer "$program")" ]; then
         rt run > /dev/null 2>&1 || { echo "rt run failed"; exit 1; }
     fi

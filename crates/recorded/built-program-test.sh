@@ -2,7 +2,7 @@
 # Tests the replay as it was built: a line of each kind is kept, and differs once its last part is changed; no line that
 # cannot be read is passed over; the exit status is 1 if a line differs or cannot be read, and if there is no file. It uses
 # out/recorded, which `rt run` and `rt ci` leave; if that is absent, or older than a source file, `rt run` builds it. The
-# last line is `N passed, M failed, K skipped`; the exit status is 1 if a run failed, or fewer were tried than before.
+# last line is `N passed, M failed, K skipped`; the exit status is 1 if a run failed, or there are fewer than before.
 set -u
 cd "$(dirname "$0")" || exit
 # shellcheck source=../../.ci/rows.sh

@@ -3,7 +3,7 @@
 # examples and lints, also with the least version of Rust; the names that differ from the Rust crate, and its own; its
 # documentation, layout and package; that it stands in for lexical-util; the examples of README and RUST, and numfmt.
 #
-# The last line is `N passed, M failed, K skipped`; the exit status is 1 if a row failed, or fewer were tried than before.
+# The last line is `N passed, M failed, K skipped`; the exit status is 1 if a row failed, or there are fewer than before.
 set -u
 cd "$(dirname "$0")/.." || exit
 # shellcheck source=../../.ci/rows.sh
@@ -12,36 +12,35 @@ work=$(mktemp -d)
 trap 'rm -rf "$work"' EXIT
 export CARGO_NET_OFFLINE=true CARGO_TARGET_DIR=$work/target CARGO_INCREMENTAL=0 CARGO_PROFILE_DEV_DEBUG=0
 
-has cargo || { counted 0; exit; }
-if has rustfmt && has python3; then
+has cargo || lacking=cargo
+# eraser: that the plain Rust is what erase.py makes.
+eraser() {
     passes tools/erase.py --check
     passes tools/erase_test.py
     passes tools/erase_docs_test.py
     passes tools/erase_tables_test.py
-fi
-if has python3; then
-    passes ../compare/names.py --check ../docs/RUST.md
-    passes tools/public_test.py
-fi
-if has cargo-fmt; then passes cargo fmt --all --check; fi
-if has cargo-clippy; then passes cargo clippy --quiet --workspace --all-targets -- -D warnings; fi
+}
+needing python3 needing rustfmt eraser
+needing python3 passes ../compare/names.py --check ../docs/RUST.md
+needing python3 passes tools/public_test.py
+needing cargo-fmt passes cargo fmt --all --check
+needing cargo-clippy passes cargo clippy --quiet --workspace --all-targets -- -D warnings
 passes cargo test
 # The program of docs/RUST.md: its assertions hold when it runs.
 passes cargo run --quiet --example face_program
-# The least version of Rust, where the PATH has it, as Debian's package `rustc-web` of this version puts it there.
+# The least version of Rust, if a folder of the PATH has it, as one has with Debian's `rustc-web` and `cargo-web`.
 least=$(sed -n 's/^rust-version = "\(.*\)"$/\1/p' Cargo.toml)
 found=
 for compiler in $(type -ap rustc); do
-    if [[ -z $found && $("$compiler" --version) == "rustc $least."* ]]; then found=$(dirname "$compiler"); fi
-done
-if [ "$found" ]; then
-    passes env CARGO_TARGET_DIR="$work/least" RUSTC="$found/rustc" RUSTDOC="$found/rustdoc" \
-        "$found/cargo" test --quiet --workspace --lib --bins --tests
-else
-    skips "rustc $least"
-fi
+    folder=$(dirname "$compiler")
+    [ -z "$found" ] && [[ $("$compiler" --version) == "rustc $least."* ]] && "$folder/rustdoc" --version &&
+        "$folder/cargo" --version && found=$folder
+done > /dev/null 2>&1
+if [ "$found" ]; then here[rustc $least]=yes; else lacks "rustc $least"; fi
+needing "rustc $least" passes env CARGO_TARGET_DIR="$work/least" RUSTC="$found/rustc" RUSTDOC="$found/rustdoc" \
+    "$found/cargo" test --quiet --workspace --lib --bins --tests
 passes env RUSTDOCFLAGS=-Dwarnings cargo doc --quiet --no-deps --workspace
-if has python3; then passes tools/check_doc.py "$CARGO_TARGET_DIR/doc"; fi
+needing python3 passes tools/check_doc.py "$CARGO_TARGET_DIR/doc"
 passes tools/dropping_in_test.sh
 passes cargo package --quiet --package peltzivar --allow-dirty
 shows ../README.md "cd rust && cargo run" cargo run --quiet
@@ -49,9 +48,7 @@ shows ../docs/RUST.md "cargo run --example" cargo run --quiet --example
 prints 0 "$(cat ../crates/numfmt/stdout)" cargo run --quiet
 # A file that may grow by 4 bytes only: the first write is short, and the second fails.
 head -c 1020 /dev/zero > "$work/short"
-short="trap '' XFSZ; ulimit -f 1; '$CARGO_TARGET_DIR/debug/numfmt' show 0xC >> '$work/short'"
-compares 3 "$(bash -c "$short"; echo $?)" "$short"
-if has cc && has python3; then
-    passes ../crates/numfmt/built-program-test.sh "$CARGO_TARGET_DIR/debug/numfmt"
-fi
+short="trap '' XFSZ; ulimit -f 1; '$CARGO_TARGET_DIR/debug/numfmt' show 0xC >> '$work/short'; echo \$?"
+prints 0 3 bash -c "$short"
+needing cc needing python3 passes ../crates/numfmt/built-program-test.sh "$CARGO_TARGET_DIR/debug/numfmt"
 counted 22
