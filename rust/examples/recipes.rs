@@ -32,7 +32,7 @@ pub const TOML: u128 = NumberFormatBuilder::new()
     .required_digits(true) // refuses `.5`, `1.`, `1e` and `.`
     .no_integer_leading_zeros(true) // refuses `01`
     .no_float_leading_zeros(true) // refuses `01.0`
-    .case_sensitive_special(true) // refuses `NaN` and `Inf`, since `nan` and `inf` are the spellings
+    .case_sensitive_special(true) // refuses `NaN` and `Inf`, not `nan` and `inf`
     .digit_separator(NonZeroU8::new(b'_')) // the byte, which the flags below allow
     .internal_digit_separator(true) // accepts `1_0.0_1e1_0`, not `1__0`, `_1` or `1_`
     .build_or_panic();
