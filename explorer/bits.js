@@ -1,4 +1,5 @@
 /* The picture of the 128 bits, in four rows. */
+
 const ROW_BITS = 32;
 
 /* Returns the field of each bit: its name, its part of a number, and what it is called below the bits. */

@@ -4,9 +4,12 @@
 
 The page comes from the disk. Expected values are those of docs/FORMAT.md and known words and sentences.
 """
+import functools
+import http.server
 import os
 import pathlib
 import sys
+import threading
 
 from selenium import webdriver
 from selenium.webdriver.chrome.options import Options
@@ -15,7 +18,7 @@ from selenium.webdriver.common.by import By
 from selenium.webdriver.common.keys import Keys
 from selenium.webdriver.support.ui import Select, WebDriverWait
 
-PAGE = (pathlib.Path(__file__).resolve().parent / "index.html").as_uri()
+PAGE = pathlib.Path(__file__).resolve().parent / "index.html"
 STANDARD = "0x00000A0000000000000000000000000C"
 # How long the first paint after a load and an edit may take, in milliseconds: the least of some tries.
 MOST_PAINT, MOST_EDIT, TRIES = 100, 10, 30
@@ -44,10 +47,10 @@ class Browser:
         features = [{"name": "prefers-color-scheme", "value": scheme}]
         self.driver.execute_cdp_cmd("Emulation.setEmulatedMedia", {"features": features})
 
-    def load(self, fragment=""):
+    def load(self, fragment="", address=PAGE.as_uri()):
         """Loads the page with a fragment, as from a link."""
         self.driver.get("about:blank")
-        self.driver.get(PAGE + fragment)
+        self.driver.get(address + fragment)
         self.wait(lambda: self.run("return document.documentElement.dataset.ready"))
 
     def wait(self, condition):
@@ -155,6 +158,7 @@ def a_radix_is_typed(page):
     page.type("#mantissa_radix", "16")
     same(page.word(), "0x0000100078000000000000000000000C")
     same("'invalid exponent symbol: must be ASCII and not a digit or a" in page.text("#options"), True)
+    same([it.get_attribute("data-field") for it in page.all(".field.blamed")], ["exponent"])
 
 
 def an_exponent_character_is_typed(page):
@@ -209,6 +213,11 @@ def a_clash_has_a_reason(page):
 def a_link_leads_to_its_control(page):
     page.click(".reason .link", "base_prefix")
     same(page.run("return document.activeElement.id"), "base_prefix")
+
+
+def a_button_leads_to_the_reasons(page):
+    page.find("#to-report").send_keys(Keys.ENTER)
+    same(page.run("return document.activeElement.id"), "report-title")
 
 
 def a_button_mends_it(page):
@@ -316,7 +325,7 @@ def a_link_is_copied(page):
     page.click("#copy-link")
     page.wait(lambda: page.text("#copy-link") == "copied")
     page.type("#word", Keys.CONTROL + "v")
-    same(page.value("#word"), f"{PAGE}#word=0x0000100078000000000000000000040C&exponent=101&point=46")
+    same(page.value("#word"), f"{PAGE.as_uri()}#word=0x0000100078000000000000000000040C&exponent=101&point=46")
     page.find("#word").send_keys(Keys.TAB)
 
 
@@ -354,8 +363,29 @@ def it_fits_a_phone_and_a_dark_screen(page):
     same(page.run("return document.documentElement.scrollWidth"), PHONE[0])
 
 
-def nothing_is_requested_and_nothing_fails(page):
+def a_server_gets_one_request(page):
+    requests = []
+
+    class Handler(http.server.SimpleHTTPRequestHandler):
+        def log_message(self, *_):
+            requests.append(self.path)
+
     page.show()
+    server = http.server.ThreadingHTTPServer(("127.0.0.1", 0), functools.partial(Handler, directory=str(PAGE.parent)))
+    threading.Thread(target=server.serve_forever).start()
+    try:
+        page.load("#word=0xC", f"http://127.0.0.1:{server.server_port}/{PAGE.name}")
+        same(page.text(".reason strong"), "the mantissa radix 0 is not between 2 and 36")
+        page.click("#copy-link")
+        page.wait(lambda: page.text("#copy-link") == "copied")
+    finally:
+        server.shutdown()
+        server.server_close()
+    same(requests, [f"/{PAGE.name}"])
+
+
+def nothing_is_requested_and_nothing_fails(page):
+    page.load()
     requests = "return performance.getEntriesByType('resource').map((it) => it.name)"
     same(page.run(requests), [])
     same(page.log(), [])
@@ -418,6 +448,7 @@ STEPS = [
     a_group_is_partly_set,
     a_clash_has_a_reason,
     a_link_leads_to_its_control,
+    a_button_leads_to_the_reasons,
     a_button_mends_it,
     the_way_back_has_the_old_word,
     a_word_is_pasted,
@@ -436,6 +467,7 @@ STEPS = [
     a_link_has_the_whole_state,
     all_controls_have_names,
     it_fits_a_phone_and_a_dark_screen,
+    a_server_gets_one_request,
     nothing_is_requested_and_nothing_fails,
     loading_and_editing_are_fast,
     the_picture_of_readme_is_taken,

@@ -67,6 +67,12 @@ def limits():
     return re.findall(r"^\| (.*) \| (.*) \|$", table, re.M)[1:] or sys.exit("docs/FORMAT.md: no table of limits")
 
 
+def texts():
+    """Returns the sentence on the bytes in the texts of the tables."""
+    found = re.search(r"In these texts [^`]*(`.`[^`.]*)+\.", check_format.PAGE)
+    return " ".join(found[0].split()) if found else sys.exit("docs/FORMAT.md: no sentence on the texts of the tables")
+
+
 def setting(call):
     """Returns a setter call of the recipes as a setting."""
     name, argument = re.fullmatch(r"\.(\w+)\((.*)\)", call).groups()
@@ -97,6 +103,8 @@ def constants():
     """Returns the numbers of c/peltzivar.h, and its fields to start from."""
     header = (TOP / "c/peltzivar.h").read_text()
     found = {name: int(number, 0) for name, number in re.findall(r"^#define PELTZIVAR_(\w+) (\d\w*)$", header, re.M)}
+    errors = re.findall(r"PELTZIVAR_(INVALID_EXPONENT_SYMBOL|INVALID_DECIMAL_POINT) = (\d+)", header)
+    found.update((name, int(number)) for name, number in errors)
     fields_init = re.search(r"NEW_FIELDS_INIT \{UINT32_C\((\w+)\), (.*)\}", header)
     found["NEW_FIELDS"] = [int(it, 0) for it in (fields_init[1], *fields_init[2].split(", "))]
     return found
@@ -112,6 +120,7 @@ def data():
         "rules": [{"demand": demand} for _, demand, *_ in check_format.RULES],
         "recipes": [*recipes()],
         "limits": limits(),
+        "texts": texts(),
     }
 
 

@@ -1,4 +1,5 @@
 /* The code that builds a word, to be copied. */
+
 /* Returns a byte as a character between two of this quote, or as a number if it is not visible or a radix. */
 function literal(byte, isNumber, quote) {
     if (isNumber || byte <= 32 || byte >= 127) return String(byte);

@@ -1,4 +1,5 @@
 /* The controls: bytes, options and flags. Each calls `edit` with a list of edits, or `choose` with an option. */
+
 /* Returns the first piece of code in a meaning. */
 function example(meaning) {
     return meaning.split("`")[1] ?? "";
@@ -37,7 +38,7 @@ class Controls {
         const group = this.data.groups.find(({ name }) => name === "required_digits");
         for (const title of titles) {
             const flags = this.data.flags.filter((flag) => flag.section === title);
-            const isOfGroup = group && flags.some(({ bit }) => group.bits.includes(bit));
+            const isOfGroup = flags.some(({ bit }) => group.bits.includes(bit));
             const rows = flags.map((flag) => this.flagRow(flag, flag.meaning));
             const meaning = `all flags of the group: ${group.meaning}`;
             if (isOfGroup) rows.unshift(this.flagRow({ ...group, part: "group" }, meaning));

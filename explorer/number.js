@@ -1,4 +1,5 @@
 /* A number that the format allows, part by part: a picture, since the library writes no numbers. */
+
 /* Returns a byte as text that can be seen. */
 function visible(byte) {
     if (byte === 32) return "\u2423";

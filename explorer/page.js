@@ -1,4 +1,5 @@
 /* The state of the page: a word, an exponent character and a decimal point, which the fragment of the URL has too. */
+
 const LANGUAGES = ["rust", "c", "python", "settings"];
 const SAVING_DELAY = 200;
 /* The exponent character e and the decimal point. */
@@ -25,7 +26,10 @@ class Page {
         this.language = "rust";
         const edit = (edits) => this.change({ word: library.write(this.state.word, edits) });
         const choose = (name, byte) => this.change({ [name]: byte });
-        const use = (word) => this.jump({ word });
+        const use = (word) => {
+            this.jump({ word });
+            find("verdict").focus();
+        };
         this.controls = new Controls(library, data, { edit, choose });
         this.report = new Report(library, data, { use, edit, go: (name) => this.go(name) });
         this.cells = makeBits(data, (name) => this.controls.boxes.get(name).click());
@@ -34,7 +38,7 @@ class Page {
         setText(find("version"), library.version());
         this.listen();
         this.makeRecipes();
-        this.makeLimits();
+        this.makeTexts();
         this.read();
     }
 
@@ -97,11 +101,12 @@ class Page {
         find("recipe").append(...options);
     }
 
-    makeLimits() {
+    makeTexts() {
         const rows = this.data.limits.map(([limit, instead]) => {
             return element("tr", {}, element("td", {}, withCode(limit)), element("td", {}, withCode(instead)));
         });
         find("limits").append(...rows);
+        find("texts").append(...withCode(this.data.texts));
     }
 
     /* Shows a recipe with its comments. */
@@ -145,7 +150,6 @@ class Page {
         this.state = { ...this.state, ...part };
         history.pushState(null, "", this.fragment());
         this.show();
-        find("verdict").focus();
     }
 
     link() {
@@ -213,7 +217,7 @@ class Page {
     }
 
     describe(name) {
-        const [where, meaning] = this.meanings.get(name);
+        const [where, meaning] = this.meanings.get(name) ?? ["", ""];
         find("hint").replaceChildren(element("code", {}, name), ` ${where}: `, ...withCode(meaning));
     }
 

@@ -1,4 +1,5 @@
 /* What the library reports of a word: reasons, notes, normal form, and what differs from the standard format. */
+
 /* Returns a button of a class with a text. */
 function button(kind, text, click, attributes = {}) {
     return element("button", { type: "button", class: kind, click, ...attributes }, text);
@@ -87,13 +88,17 @@ class Report {
         find("notes").replaceChildren(...this.library.notes(word).map((note) => this.note(note)));
         find("changes").replaceChildren(...this.code.edits(word).map((edit) => this.change(edit)));
         this.showNormal(word);
-        this.showOptions(this.library.optionsError(word, exponent, point));
-        return reasons.flatMap(({ mask }) => this.namesOf(mask));
+        const options = this.showOptions(this.library.optionsError(word, exponent, point));
+        return [...options, ...reasons.flatMap(({ mask }) => this.namesOf(mask))];
     }
 
+    /* Shows whether the options fit, and returns the names of those that do not. */
     showOptions(error) {
         const text = error ? this.library.errorText(error) : "Exponent character and decimal point fit the format.";
         setText(find("options"), text);
         find("options").className = error ? "bad" : "good";
+        const { INVALID_EXPONENT_SYMBOL, INVALID_DECIMAL_POINT } = this.data.constants;
+        const names = { 0: [], [INVALID_EXPONENT_SYMBOL]: ["exponent"], [INVALID_DECIMAL_POINT]: ["point"] };
+        return names[error] ?? ["exponent", "point"];
     }
 }

@@ -14,7 +14,7 @@ export CARGO_NET_OFFLINE=true CARGO_TARGET_DIR=$work/target CARGO_INCREMENTAL=0 
 has python3 || { counted 0; exit; }
 passes ./build --check
 
-# stale TEXT FILE FROM TO: in a copy of the repository, where FROM becomes TO in the file, `build --check` prints the text.
+# stale TEXT FILE FROM TO: in a copy of the repository, where FROM becomes TO in the file, `build --check` prints TEXT.
 mkdir "$work/copy"
 tar --exclude=out --exclude=target -C .. -c c crates docs explorer rust | tar -x -C "$work/copy"
 stale() {
