@@ -75,7 +75,7 @@ mkdir "$work/few"
 for tool in awk bash cat cp dirname env find grep head mkdir mktemp realpath rm sed sort tail tr wc xargs; do
     ln -s "$(command -v $tool)" "$work/few"
 done
-for script in {rust/tools,c}/test.sh; do skips "$(sed -n 's/^counted //p' "../$script")" "$script"; done
+for script in {rust/tools,c,explorer}/test.sh; do skips "$(sed -n 's/^counted //p' "../$script")" "$script"; done
 skips "$(sed -n 's/^    counted //p' ../c/test.sh)" c/test.sh archive
 script=crates/numfmt/built-program-test.sh
 skips "$(sed -n 's/.* least=\([0-9]*\)$/\1/p;T;q' ../$script)" $script program

@@ -2,8 +2,7 @@
 # Tests the page: that Node.js gets the recorded results from its WebAssembly, that the code which it shows builds the
 # word, and that it does in Chromium what a user wants. Pictures of what Chromium shows are kept in out/.
 #
-# The last line is `N passed, M failed, K skipped`. The exit status is 1 if a row failed, or fewer were tried than
-# before.
+# The last line is `N passed, M failed, K skipped`; the exit status is 1 if a row failed, or there are fewer than before.
 set -u
 cd "$(dirname "$0")" || exit
 . ../.ci/rows.sh
@@ -11,13 +10,12 @@ work=$(mktemp -d)
 trap 'rm -rf "$work"' EXIT
 export CARGO_NET_OFFLINE=true CARGO_TARGET_DIR=$work/target CARGO_INCREMENTAL=0 CARGO_PROFILE_DEV_DEBUG=0
 
-has python3 || { counted 0; exit; }
+has python3 || lacking=python3
 passes ./build --check
 
 # stale TEXT FILE FROM TO: in a copy of the repository, where FROM becomes TO in the file, `build --check` prints TEXT.
-mkdir "$work/copy"
-tar --exclude=out --exclude=target -C .. -c c crates docs explorer rust | tar -x -C "$work/copy"
 stale() {
+    tried || return 0
     cp "$work/copy/$2" "$work/before"
     python3 - "$work/copy/$2" "$3" "$4" << 'END'
 import pathlib, sys
@@ -28,19 +26,30 @@ END
     prints 1 "$1" "$work/copy/explorer/build" --check
     mv "$work/before" "$work/copy/$2"
 }
-wasm="explorer/index.html: its WebAssembly is not up to date with rust/, run explorer/build"
-rest="explorer/index.html: is not up to date with FORMAT, the recipes or explorer/, run explorer/build"
-printf '\n// A comment.\n' >> "$work/copy/rust/src/lib.rs"
-passes "$work/copy/explorer/build" --check
-stale "$wasm" rust/src/lib.rs 'mod chunks;' 'mod chunks; const ONE: u8 = 1;'
-stale "$wasm" rust/capi/src/lib.rs 'mod bytes;' 'mod bytes; const ONE: u8 = 1;'
-stale "$wasm" explorer/index.html 'AGFzbQ' 'AGFzbR'
-stale "$rest" docs/FORMAT.md '| false | refuses ' '| false | accepts '
-stale "$rest" rust/examples/recipes.rs '// refuses ' '// accepts '
-stale "$rest" explorer/page.css '#ffffff' '#fffffe'
-stale "$rest" explorer/index.html '<title>' '<title> '
-if has node && has cargo; then
-    cargo run --quiet --manifest-path ../rust/Cargo.toml --example recipes > "$work/recipes"
+
+# checked: `build --check` names a page that is not up to date.
+checked() {
+    local rest wasm
+    mkdir "$work/copy"
+    tar --exclude=out --exclude=target -C .. -c c crates docs explorer rust | tar -x -C "$work/copy"
+    wasm="explorer/index.html: its WebAssembly is not up to date with rust/, run explorer/build"
+    rest="explorer/index.html: is not up to date with FORMAT, the recipes or explorer/, run explorer/build"
+    printf '\n// A comment.\n' >> "$work/copy/rust/src/lib.rs"
+    passes "$work/copy/explorer/build" --check
+    stale "$wasm" rust/src/lib.rs 'mod chunks;' 'mod chunks; const ONE: u8 = 1;'
+    stale "$wasm" rust/capi/src/lib.rs 'mod bytes;' 'mod bytes; const ONE: u8 = 1;'
+    stale "$wasm" explorer/index.html 'AGFzbQ' 'AGFzbR'
+    stale "$rest" docs/FORMAT.md '| false | refuses ' '| false | accepts '
+    stale "$rest" rust/examples/recipes.rs '// refuses ' '// accepts '
+    stale "$rest" explorer/page.css '#ffffff' '#fffffe'
+    stale "$rest" explorer/index.html '<title>' '<title> '
+}
+needing python3 checked
+
+# shown: the library of the page returns the recorded results, and the code that the page shows builds the word.
+shown() {
+    local library release wanted
+    [ "$lacking" ] || cargo run --quiet --manifest-path ../rust/Cargo.toml --example recipes > "$work/recipes"
     prints 0 "20115 recorded results kept; not tried, since an index has over 32 bits: 19
 7661 edits of a field change its bits only" node ./library_test.js "$work/recipes"
 
@@ -52,28 +61,30 @@ if has node && has cargo; then
     prints 0 "$wanted" cargo run --quiet --manifest-path "$work/code/Cargo.toml"
     release=$work/target/release
     passes cargo build --quiet --release --manifest-path ../rust/Cargo.toml --package peltzivar-capi
-    if has cc; then
-        passes cc -Wall -Wextra -Werror -I ../c -o "$work/code/c" "$work/code/main.c" "$release/libpeltzivar_c.a"
-        prints 0 "$wanted" "$work/code/c"
-    fi
+    needing cc passes cc -Wall -Wextra -Werror -I ../c -o "$work/code/c" "$work/code/main.c" "$release/libpeltzivar_c.a"
+    needing cc prints 0 "$wanted" "$work/code/c"
     library=$release/libpeltzivar_c.so
     [ -e "$library" ] || library=$release/libpeltzivar_c.dylib
     prints 0 "$wanted" env PELTZIVAR_LIBRARY="$library" PYTHONPATH=../c PYTHONDONTWRITEBYTECODE=1 \
         python3 "$work/code/main.py"
-fi
+}
+needing node needing cargo shown
+
+# browser: what a user wants of the page.
+browser() {
+    [ "$lacking" ] || rm -rf out
+    passes "$python" ./browser_test.py out
+    [ -z "$lacking" ] || return
+    case $(cat out/times.txt) in
+        busy:*) echo "not tried: the times of the page, since this machine is $(cat out/times.txt)" ;;
+        *) cat out/times.txt ;;
+    esac
+}
 # A python3 of the PATH that has selenium: Debian's package python3-selenium is one of /usr/bin/python3.
 python=
 for found in $(type -ap python3); do
     if [[ -z $python ]] && "$found" -c 'import selenium' 2> /dev/null; then python=$found; fi
 done
-if ! [ "$python" ]; then
-    skips python3-selenium
-elif has chromium && has chromedriver; then
-    rm -rf out
-    passes "$python" ./browser_test.py out
-    case $(cat out/times.txt) in
-        busy:*) skips "the times of the page, since this machine is $(cat out/times.txt)" ;;
-        *) cat out/times.txt ;;
-    esac
-fi
+if [ "$python" ]; then here[python3-selenium]=yes; else lacks python3-selenium; fi
+needing python3-selenium needing chromium needing chromedriver browser
 counted 17
