@@ -189,11 +189,15 @@ class Words(unittest.TestCase):
         source = "NumberFormatBuilder::new().no_special(true).mantissa_radix(16).build_unchecked()"
         self.assertEqual(FormatView(0x0000100000000000000000000000040C).source(), source)
         self.assertEqual([it for it in map(chr, range(256)) if edited.is_digit(it)], list("0123456789ABCDEFabcdef"))
+        self.assertFalse(edited.is_digit(chr(0x130)))
         self.assertEqual([str(it) for it in Format(0x0000100000000000000000000000040C).edits()], ["no_special=true", "mantissa_radix=16"])
         self.assertEqual([it.value for it in edited.edits()][-4:], ["_", 16, 10, 10])
         self.assertEqual(Edit.of("base_prefix", "x"), Edit("base_prefix=0x78"))
         self.assertEqual(len({Edit("no_special=true"), Edit.of("no_special", True), Edit("no_special=false")}), 2)
         self.assertNotEqual(Edit("no_special=true"), "no_special=true")
+        self.assertNotEqual(Edit("radix=8"), Edit("radix=16"))
+        values = [Edit(f"base_prefix={byte}").value for byte in range(256)]
+        self.assertEqual(values, [None, *map(chr, range(1, 128)), *range(128, 256)])
 
     def test_getters_read_their_bits(self):
         for bit in range(128):

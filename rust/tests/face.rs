@@ -4,10 +4,11 @@
 use peltzivar::edits::{apply_all, edit_word, edits_of, same_format};
 use peltzivar::format::{broken_rules, format_error, options_error, NumberFormatBuilder};
 use peltzivar::format::{BASE_PREFIX_SHIFT, BASE_SUFFIX_SHIFT, STANDARD};
-use peltzivar::reasons::notes;
+use peltzivar::reasons::{notes, reasons};
 use peltzivar::{Edit, Error, FlagSetter, Format, FormatView, NumberFormat, Rule};
 use std::fmt::{Debug, Display, LowerHex, UpperHex};
 use std::hash::Hash;
+use std::num::NonZeroU8;
 use std::panic;
 use std::str::FromStr;
 
@@ -50,7 +51,9 @@ fn iterators_are_clone() {
         count(view.mends(reason)),
     ];
     assert_eq!(counts, [1, 0, 3, 3, 1]);
-    assert_eq!(count(NumberFormatBuilder::new().notes()), 0);
+    let builder = NumberFormatBuilder::new();
+    let separated = builder.digit_separator(NonZeroU8::new(b'_'));
+    assert_eq!([count(builder.notes()), count(separated.notes())], [0, 1]);
 }
 
 /// Random words, random words with lawful radixes, and words near the standard format.
@@ -92,6 +95,11 @@ fn a_format_is_a_word_without_error() {
         Format::default()
     );
     assert_eq!(Format::default().word(), STANDARD);
+    const HEXADECIMAL: u128 = 0x00001000_00000000_00000000_0000000C;
+    let format = Format::from(NumberFormat::<HEXADECIMAL>::new());
+    assert_eq!(format.word(), HEXADECIMAL);
+    let built = NumberFormatBuilder::from_word(HEXADECIMAL).build_format();
+    assert_eq!(built, Ok(format));
 }
 
 #[test]
@@ -115,6 +123,7 @@ fn a_format_has_a_normal_form_that_is_one_too() {
             (b'x', b'.'),
             (b'5', b'.'),
             (b'^', b'-'),
+            (b'^', b'^'),
         ] {
             let wanted = match options_error(format.word(), exponent, point) {
                 Error::Success => Ok(()),
@@ -134,6 +143,7 @@ fn reasons_are_of_broken_rules() {
         let all: Vec<Rule> = broken_rules(word).into_iter().flatten().collect();
         assert_eq!(rules, all);
         assert!(view.notes().eq(notes(word).into_iter().flatten()));
+        assert!(view.reasons().eq(reasons(word).into_iter().flatten()));
         assert!(rules.windows(2).all(|pair| pair[0] < pair[1]) && Rule::ALL.len() == 16);
         for reason in view.reasons() {
             assert!(rules.contains(&reason.rule()), "{word:#034X} {reason:?}");
@@ -226,15 +236,23 @@ fn words_are_parsed() {
         ("0", Err(Error::Empty(1))),
         ("0X1", Err(Error::InvalidDigit(1))),
         ("C", Err(Error::InvalidDigit(0))),
+        (" 0xC", Err(Error::InvalidDigit(0))),
+        ("0xC\n", Err(Error::InvalidDigit(3))),
         ("0x1g", Err(Error::InvalidDigit(3))),
     ];
     for (text, word) in rows {
         assert_eq!(text.parse::<FormatView>().map(u128::from), word, "{text}");
+        assert_eq!(text.parse(), word.and_then(Format::new), "{text}");
     }
     let view = FormatView::new(0xAB);
     assert_eq!(
         format!("{view:>36} {view:x} {view:#X}"),
         format!("  0x{:032X} ab 0xAB", 0xAB)
+    );
+    let format = Format::default();
+    assert_eq!(
+        format!("{format:>36} {format:x} {format:#X}"),
+        format!("  0x{STANDARD:032X} {STANDARD:x} {STANDARD:#X}")
     );
 }
 
@@ -263,6 +281,8 @@ fn settings_are_parsed() {
         ("mantissa_radix=none", Some("mantissa_radix"), "mantissa_radix takes a number, 2 to 36 in a lawful format"),
         ("no-special=true", None, "unknown setting name"),
         ("no_special", None, "expected NAME=VALUE"),
+        (" radix=8", None, "unknown setting name"),
+        ("radix=8 ", Some("radix"), "radix takes a number, 2 to 36 in a lawful format"),
     ];
     for (text, name, printed) in refused {
         let error = text
@@ -273,6 +293,13 @@ fn settings_are_parsed() {
     assert_eq!((Edit::NAMES.len(), FlagSetter::ALL.len()), (47, 40));
     for setter in FlagSetter::ALL {
         assert_eq!(setter.to_string().parse(), Ok(*setter));
+    }
+    // Byte setters have no flag.
+    for name in ["digit_separator", "radix", "no_special ", "NO_SPECIAL", ""] {
+        let error = name
+            .parse::<FlagSetter>()
+            .map_err(|error| error.to_string());
+        assert_eq!(error, Err("unknown setting name".to_string()), "{name}");
     }
     assert_eq!(format!("{:>12}", FlagSetter::NoSpecial), "  no_special");
 }

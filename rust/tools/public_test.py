@@ -2,7 +2,8 @@
 """Tests what a caller relies on besides results. The lists below state it by name; the names are those of the sources.
 
 - The public modules are those of MODULES, and the names at the root those of ROOT. No code is `unsafe`, none needs
-  `std`, a panic of a function in TRACK_CALLER names its caller, and the enums in GROWING may grow.
+  `std`, the compiler refuses what LINTS name, a panic of a function in TRACK_CALLER names its caller, and the enums in
+  GROWING may grow.
 - The documentation shows all names of `lexical-util`, and of the others those in SHOWN.
 - Every public function is `const`, but those in NOT_CONST: a function that is `const` calls it.
 - The compiler warns if a caller drops the result of a public function.
@@ -28,14 +29,17 @@ ROOT = "Edit Error FlagSetter Format FormatView Mend Note NumberFormat NumberFor
 
 TRACK_CALLER = ["build_or_panic"]
 
+LINTS = {"Cargo.toml": "missing_docs", "capi/Cargo.toml": "undocumented_unsafe_blocks"}
+
 GROWING = ["Class", "Error", "FlagSetter", "Note", "Reason", "Rule"]
 
 REFUSED = {
     "Format = Format::of::<0>()": "'invalid radix for mantissa digits': the mantissa radix 0 is not between 2 and 36",
     "Format = Format::of::<0x00000A0000000000000000008000000C>()":
     "'invalid flags enabled without the format feature': reserved bits are set: 0x80000000",
-    "u128 = NumberFormatBuilder::new().base_suffix(NonZeroU8::new(b'+')).build_or_panic()":
-    "'invalid base suffix character': the base suffix '+' is a sign (+ or -)",
+    "u128 = NumberFormatBuilder::new().digit_separator(NonZeroU8::new(b'5')).internal_digit_separator(true)"
+    ".build_or_panic()": "'invalid digit separator: must be ASCII and not a digit or a `+/-` sign': the digit separator"
+    " '5' is a digit in radix 10",
 }
 
 SHOWN = {
@@ -107,7 +111,11 @@ def crate():
     found = re.findall(r"\b[A-Z]\w+", " ".join(re.findall(r"^pub use (.*);", text, re.M)))
     yield "names at the root", ROOT.split(), sorted(found)
     for attribute in ("#![no_std]", "#![forbid(unsafe_code)]"):
-        yield attribute, 1, len(re.findall(rf"^{re.escape(attribute)}$", text, re.M))
+        for root in ("src/lib.rs", "lexical-util/src/lib.rs"):
+            found = re.findall(rf"^{re.escape(attribute)}$", (erase.RUST / root).read_text(), re.M)
+            yield f"{attribute} of {root}", 1, len(found)
+    for file, lint in LINTS.items():
+        yield f"{lint} of {file}", 1, (erase.RUST / file).read_text().splitlines().count(f'{lint} = "deny"')
     sources = "".join(path.read_text() for path in public.files())
     found = re.findall(r"#\[track_caller\]\n(?: *#.*\n)* *pub (?:const )?fn (\w+)", sources)
     yield "#[track_caller]", TRACK_CALLER, found
@@ -125,7 +133,10 @@ def crate():
 
 
 def refused():
-    """Whether a constant that is not lawful stops the compiler with the error of its word and the first reason."""
+    """Whether a constant that is not lawful stops the compiler with the error of its word and the first reason. The
+    documentation has the text of one."""
+    documented = " ".join(re.sub(r"^ *///", "", (public.SRC / "format.rs").read_text(), flags=re.M).split())
+    yield "documentation of build_or_panic", True, any(f"`{it}`" in documented for it in REFUSED.values())
     for code, wanted in REFUSED.items():
         _, output, messages = public.run("check", f"pub const REFUSED: {code};\nfn main() {{}}\n")
         yield f"const _: {code}", f"evaluation panicked: {wanted}", "".join(it for _, _, it in messages[:1]) or output
@@ -256,8 +267,9 @@ def sentences():
         texts = (re.sub("^True if ", "Whether ", re.split(r"(?<=\.) ", it)[0]) for it in texts)
         texts = (re.sub(r"^Returns |(?<=\]\[)[\w:]*::(?=\w)", "", it) for it in texts)
         wanted, got = (it.casefold() for it in texts)
-        if name != "radix":
-            yield f"sentence of {name}", wanted, got
+        if name == "radix":
+            wanted, got = (re.split("[,:]", it)[0] for it in (wanted, got))
+        yield f"sentence of {name}", wanted, got
 
 
 def main():

@@ -5,14 +5,14 @@ use peltzivar::format_builder::{NonZeroU8, NumberFormatBuilder};
 use peltzivar::word::{FormatView, STANDARD};
 use peltzivar::Format;
 
-const WORD: u128 = 0x221C1068_7800005F_00000001_80000408;
+const WORD: u128 = 0x22231068_7800005F_00000001_8A000408;
 
 const FIELDS: &str = "required_exponent_digits: false, no_special: true, integer_internal_digit_separator: true, \
-    digit_separator: '_', base_prefix: 'x', base_suffix: 'h', mantissa_radix: 16, exponent_base: 28, exponent_radix: 34";
+    digit_separator: '_', base_prefix: 'x', base_suffix: 'h', mantissa_radix: 16, exponent_base: 35, exponent_radix: 34";
 
 /// The text that a view adds if the word is not lawful.
 const WRONG: &str =
-    "reserved_bits: 0x80000000, broken_rules: [BasePrefixIsPunctuation, BaseSuffixIsPunctuation, ReservedBitsAreZero]";
+    "reserved_bits: 0x8A000000, broken_rules: [BasePrefixIsPunctuation, BaseSuffixIsPunctuation, ReservedBitsAreZero]";
 
 #[test]
 fn a_word_and_its_fields_are_printed() {
@@ -29,7 +29,7 @@ fn a_word_and_its_fields_are_printed() {
             format!(
                 "NumberFormatBuilder {{ word: {:#034X}, {FIELDS}, broken_rules: [BasePrefixIsPunctuation, \
                 BaseSuffixIsPunctuation] }}",
-                WORD & !(1 << 31)
+                WORD & !0x8A000000
             ),
         ),
         (
@@ -37,6 +37,10 @@ fn a_word_and_its_fields_are_printed() {
             "NumberFormatBuilder { word: 0x00000A0000000000000000000000000C }".to_string(),
         ),
         (format!("{:?}", Format::default()), "Format { word: 0x00000A0000000000000000000000000C }".to_string()),
+        (
+            format!("{:?}", FormatView::new(1 << 108 | 0xC).check()),
+            "Ok(Format { word: 0x0000100000000000000000000000000C, mantissa_radix: 16 })".to_string(),
+        ),
         (
             // The separator is printed although no flag allows the builder to pack it.
             format!("{separator:?}"),
