@@ -1,5 +1,5 @@
 #!/usr/bin/env python3
-"""Checks the documentation that `cargo doc` made of the library: FOLDER/peltzivar.
+"""Checks the documentation that `cargo doc` generated for the library: FOLDER/peltzivar.
 
     rust/tools/check_doc.py FOLDER
 
@@ -37,7 +37,7 @@ class Page(html.parser.HTMLParser):
 
 
 def dead_ends(path, pages):
-    """Returns the links of a page that lead nowhere. Links to the sources have lines, and no parts."""
+    """Yields the links of a page that lead nowhere. A link to a source has a line, and no part."""
     for link in pages[path].links:
         target = urllib.parse.urlsplit(link)
         if target.scheme:

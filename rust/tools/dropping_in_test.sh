@@ -1,12 +1,12 @@
 #!/usr/bin/env bash
-# Tests that the package `lexical-util` stands in for the one of this name: by a renamed dependency, and by `[patch]`, each
-# with its features. A small program over `lexical_util` is built and run for both, offline.
+# Tests that the package `lexical-util` can replace the original: as a path dependency, and by `[patch]`, each with
+# features. For both, a small program over `lexical_util` is built and run, offline.
 set -eu
 rust=$(realpath "$(dirname "$0")/..")
 work=$(mktemp -d)
 trap 'rm -rf "$work"' EXIT
 export CARGO_NET_OFFLINE=true CARGO_TARGET_DIR=$work/target
-# All features but the default one.
+# All features except the default one.
 features='"format", "power-of-two", "radix", "parse-integers", "parse-floats", "write-integers", "write-floats"'
 
 # package NAME DEPENDENCY [LINE]: the manifest of a program over a dependency.

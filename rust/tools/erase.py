@@ -1,21 +1,21 @@
 #!/usr/bin/env python3
-"""Makes the plain Rust of rust/ from the proved sources, crates/*/src/*.rt.
+"""Generates the plain Rust of rust/ from the proved sources, crates/*/src/*.rt.
 
     rust/tools/erase.py            writes the files
     rust/tools/erase.py --check    names the files that are not up to date, and ends with status 1 if there are any
 
-What only the prover reads is left out, whole: ghost items, clauses, tactics, `impl Model`, laws and their calls. All
-other words stay, in their order, but for
+Items that only the prover reads are left out as a whole: ghost items, clauses, tactics, `impl Model`, laws and their
+calls. All other words stay in their order, except for
 
 - the table SUBSTITUTIONS, each row of which has to apply exactly once, EVERYWHERE, and ITEMS, which plain Rust derives;
-- paths: those of the crates, and the two modules in MODULES with the type of the view;
+- the paths of the crates, and of the two modules in MODULES with the type of the view;
 - exports to C, where a slice becomes a pointer and a length.
 
-Added is `#[must_use]`, and in the library the attributes in HIDDEN, GROWING and DERIVED; documentation.py changes its
-documentation. The layout is rustfmt's. Refused with file and line are a word of GHOST that is left over, a clause
-without braces, an item of a file without counterpart that plain Rust would lose, and a public call with a premise and
-without a part `# Panics`; then no file is changed. `erase_test.py` compares the words of each file with those of its
-source.
+`#[must_use]` is added, and in the library the attributes in HIDDEN, GROWING and DERIVED; documentation.py changes the
+documentation of the library. rustfmt does the layout. These are refused with their file and line, and then no file is
+changed: a word of GHOST that is left, a clause without braces, an item of a file without counterpart that plain Rust
+would lose, and a public call with a precondition and without a part `# Panics`. `erase_test.py` compares the words of
+each file with the words of its source.
 """
 import pathlib
 import re
@@ -28,10 +28,10 @@ import documentation
 RUST = pathlib.Path(__file__).resolve().parent.parent
 CRATES = RUST.parent / "crates"
 
-# How each made file begins.
+# The beginning of each generated file.
 MADE = "// Made by rust/tools/erase.py"
 
-# A crate, the folder of its files in plain Rust, the root of their paths, and the standard library that they use.
+# For each crate the folder of its files in plain Rust, the root of their paths, and the standard library that they use.
 LIBRARY = ("src", "crate", "core")
 PLACES = {
     "lexical_base": LIBRARY,
@@ -42,16 +42,16 @@ PLACES = {
     "numfmt": ("numfmt/src", "peltzivar", "std"),
 }
 
-# The files that have no counterpart: roots, which are written by hand, laws, examples, and what core has.
+# The files without counterpart: roots, which are written by hand, laws, examples, and a type that core has.
 IN_CORE = "format_builder/non_zero.rt"
 LEFT_OUT = re.compile(rf"(lib|main|laws|examples)\.rt|{IN_CORE}|laws/.*")
 
-# In plain Rust `format` and `feature_format` have the word as a const argument, as in the Rust crate, and are written
-# by hand. What takes it as an argument has names of its own.
+# In plain Rust `format` and `feature_format` are written by hand and take the word as a const argument, as in
+# `lexical-util`. The modules and the view that take it as a value have other names.
 MODULES = {"format": "word", "feature_format": "view"}
 VIEW = ("NumberFormat", "FormatView")
 
-# What is another text in plain Rust: file, text, text in its place. Both have as many lines.
+# Texts that plain Rust replaces: the file, the text, and the replacement. Both have as many lines.
 COMPARED = "#[derive(Clone, Copy, PartialEq, Eq, Hash)]"
 PUT_DECIMAL = """let has_front = n >= 10;
     if has_front {
@@ -79,12 +79,12 @@ SUBSTITUTIONS = [
     ("output.rt", "use std::fmt::Display;", "use std::fmt::Arguments;"),
     ("output.rt", "write_fmt<D: Display + Drop>(&mut self, text: D) -> io::Result<()> {", "write_fmt(&mut self, text: Arguments<'_>) -> io::Result<()> {"),
     ("output.rt", "write_fmt<D: Display + Drop>(&mut self, text: D)", "write_fmt(&mut self, text: Arguments<'_>)"),
-    # C may leave unset what a call writes, so there is no reference to it: rust/capi/src/outputs.rs.
+    # C may leave the output of a call unset, so no reference points to it: rust/capi/src/outputs.rs.
     ("texts.rt", "out[..count].copy_from_slice(&text[..count]);", "crate::outputs::write_bytes(&mut out[..count], &text[..count]);"),
     ("texts.rt", "out[count] = 0;", "out[count].write(0);"),
 ]
 
-# The same, in every file and as often as it stands there.
+# Texts that plain Rust replaces in every file, as often as they occur.
 EVERYWHERE = [
     (".as_chunks::<", ".split_chunks::<"),
     ("fn fmt<W: fmt::Write>(&self, f: &mut fmt::Formatter<W>)", "fn fmt(&self, f: &mut fmt::Formatter<'_>)"),
@@ -100,11 +100,11 @@ EVERYWHERE = [
     ("out: &mut [u8]", "out: &mut crate::outputs::Buffer"),
 ]
 
-# Items in place of which plain Rust has a derive.
+# Items that plain Rust replaces by a derive.
 ITEMS = [("error.rt", f"impl {trait} for Error") for trait in ("PartialEq", "Eq", "Ord", "PartialOrd")]
 
-# Plumbing of C, of numfmt and of constants: it stays public, and the documentation does not show it. For each file its
-# names; `Enum::*` is all variants of an enum that is shown without them.
+# Names that stay public for C, numfmt and constants, and that the documentation does not show, for each file. `Enum::*`
+# means all variants of an enum that is shown without them.
 HIDDEN = {
     "error.rt": "rank from_rank put_into",
     "error/short_text.rt": "Piece EMPTY_PIECE ShortText put_into",
@@ -128,7 +128,7 @@ HIDDEN = {
 # Enums that may grow.
 GROWING = {"Error", "Class", "Rule", "Reason", "Note", "FlagSetter"}
 
-# What a type derives in plain Rust besides.
+# Traits that a type also derives in plain Rust.
 DERIVED = {
     "Class": "PartialOrd, Ord, Hash",
     "Rule": "PartialOrd, Ord",
@@ -143,13 +143,13 @@ DERIVED = {
 # Words that begin an item that plain Rust would lose if a file without counterpart had it.
 ITEM_WORDS = {"impl", "struct", "enum", "union", "trait", "static", "type", "macro_rules", "extern"}
 
-# Words that stand in no code of plain Rust here: a ghost form that was not left out.
+# Words that the plain Rust does not have: if one is left, a ghost form was not left out.
 GHOST = {
     "ghost", "requires", "ensures", "tactic", "prove", "invariant", "measure", "Model", "Drop", "laws", "rt", "alloc",
     "decreases", "assume",
 }  # fmt: skip
 
-# The reasons of each `unsafe` in an export to C, where the caller keeps to c/peltzivar.h.
+# The reason for each `unsafe` in an export to C, whose caller does what c/peltzivar.h asks.
 NO_MANGLE = "// SAFETY: no other library has names that begin with `peltzivar_`."
 ARRAY = "// SAFETY: the length is 0, or the caller passes a pointer to as many values."
 BUFFER = "// SAFETY: the length is 0, or the caller passes a pointer to as many bytes, and nothing else uses them."
@@ -164,10 +164,10 @@ class Refused(Exception):
 
 
 class Source:
-    """The tokens of a file, comments included, and the changes that make plain Rust of it."""
+    """The tokens of a file, including comments, and the changes that turn it into plain Rust."""
 
     def __init__(self, path, text, name=""):
-        # The name is the file's in a library, from `src/` on, and empty for other crates.
+        # In a library, the name is the path of the file below `src/`. In other crates it is empty.
         self.path, self.text, self.name = path, text, name
         self.tokens = list(TOKEN.finditer(text))
         self.words = [token[0] for token in self.tokens] + [""] * 8
@@ -182,7 +182,7 @@ class Source:
         return self.words[index : index + len(words)] == list(words)
 
     def behind(self, index):
-        """The index behind the bracket that closes the one at an index."""
+        """Returns the index after the bracket that closes the bracket at an index."""
         open_at = []
         for at in range(index, len(self.tokens)):
             word = self.words[at]
@@ -196,7 +196,7 @@ class Source:
         self.refuse(index, "a bracket is not closed")
 
     def ghost_item(self, index):
-        """The index behind the ghost item that begins at an index, or the index itself if there is none."""
+        """Returns the index after the ghost item that begins at an index, or the index itself if no ghost item does."""
         start = index + 1 if self.stands(index, "pub", "ghost") else index
         if self.stands(start, "ghost", "use") or self.stands(start, "use", "std", ":", ":", "marker", ":", ":", "Model"):
             return self.words.index(";", start) + 1
@@ -215,7 +215,7 @@ class Source:
         return any(self.path.name == file and self.stands(index, *item.split()) for file, item in ITEMS)
 
     def law(self, index):
-        """The same for an import of laws and for the call of one."""
+        """Returns the index after the import or call of laws that begins at an index, or the index itself."""
         if self.words[index] == "use" and "laws" in (self.words[index + 4], self.words[index + 7]):
             end = self.words.index(";", index)
             self.laws |= {word for word in self.words[index + 4 : end] if word.isidentifier()}
@@ -268,7 +268,7 @@ class Source:
         return body
 
     def public(self, index, body, clauses):
-        """Adds what a public function has besides: documentation, `#[must_use]`, and pointers for slices."""
+        """Adds documentation, `#[must_use]`, and pointers for slices to a public function."""
         start = index
         while self.words[start - 1] in ("const", "extern", '"C"', "pub"):
             start -= 1
@@ -289,25 +289,25 @@ class Source:
             self.changes.append((self.tokens[above].start(),) * 2 + ("#[must_use]\n",))
 
     def comment(self, above):
-        """The words of the documentation above an index."""
+        """Returns the words of the documentation above an index."""
         start = above
         while self.words[start - 1].startswith("///"):
             start -= 1
         return " ".join(self.words[start:above])
 
     def premises(self, above, clauses):
-        """Refuses a call with a premise if its module is public, and its documentation does not state when it panics."""
+        """Refuses a call with a precondition in a public module if its documentation does not state when it panics."""
         if re.search(r"^ *requires\b", clauses, re.M) and not self.is_private() and "# Panics" not in self.comment(above):
             self.refuse(above, "a public call has a premise, and its documentation has no part `# Panics`")
 
     def is_private(self):
-        """Whether the file is a private module of plain Rust, none of whose names is at its root."""
+        """Returns whether the file is a private module of plain Rust, and the root re-exports none of its names."""
         root = (RUST / "src/lib.rs").read_text()
         is_named = f"\npub use {self.path.stem}::" in root
         return f"\nmod {self.path.stem};\n" in root and not is_named
 
     def document(self, above, name, clauses):
-        """Adds what is proved of a call to the documentation above an index."""
+        """Adds the part `Proved` of a call to the documentation above an index."""
         if not self.comment(above):
             self.refuse(above, "a function whose clauses are shown has no documentation")
         lines = documentation.proved(self.name, name, clauses).split("\n")
@@ -315,7 +315,7 @@ class Source:
         self.changes.append((at, at, "".join(f"\n/// {line}".rstrip(" ") for line in lines)))
 
     def export(self, above, start, body):
-        """An export to C has a pointer and a length for each slice, and makes the slice of them. Each `unsafe` has its reason."""
+        """Replaces each slice of an export to C by a pointer and a length, and adds a statement that builds the slice."""
         at, end = self.tokens[start].start(), self.tokens[body].start()
         self.changes.append((self.tokens[above].start(),) * 2 + (f"{NO_MANGLE}\n",))
         head = self.text[at : next((s for s, e, _ in self.changes if s >= at and e == end), end)]
@@ -328,8 +328,8 @@ class Source:
             self.changes.append((end + 1, end + 1, "\n" + "\n".join(made)))
 
     def check_left_out(self, modules):
-        """Refuses what a file without counterpart must not have, since plain Rust would lose it. `modules` names the
-        modules that plain Rust has."""
+        """Refuses an item in a file without counterpart if plain Rust would lose it. `modules` has the names of the
+        modules of plain Rust."""
         index, root = 0, {"lib": ITEM_WORDS | {"fn"}, "main": ITEM_WORDS | {"pub"}}.get(self.path.stem)
         while index < len(self.tokens):
             word, next_word = self.words[index : index + 2]
@@ -374,7 +374,7 @@ class Source:
 
 
 def source_of(path, name):
-    """The source with the substitutions made. Each has as many lines as before, so that lines keep their numbers."""
+    """Returns the source after the substitutions. Each keeps the number of lines, so lines keep their numbers."""
     text = path.read_text()
     for file, old, new in [*SUBSTITUTIONS, *((file, item, item) for file, item in ITEMS)]:
         if file == path.name:
@@ -387,7 +387,7 @@ def source_of(path, name):
 
 
 def renamed(text, root, std):
-    """The text with the paths and names of plain Rust."""
+    """Returns the text with the paths and names of plain Rust."""
     text = re.sub(r"\blexical_(base|flags|builder|util)\b(?=::)", root, text)
     text = re.sub(r"\bstd::", f"{std}::", text)
     text = re.sub(rf"\b{root}::({'|'.join(MODULES)})\b", lambda m: f"{root}::{MODULES[m[1]]}", text)
@@ -395,14 +395,14 @@ def renamed(text, root, std):
 
 
 class Attributes:
-    """What HIDDEN, GROWING and DERIVED add to the library, and which of their rows were used."""
+    """Adds the attributes of HIDDEN, GROWING and DERIVED to the library, and keeps the rows that were used."""
 
     def __init__(self):
         self.used = set()
 
     def of_file(self, text, name):
         hidden = HIDDEN.get(name, "").split()
-        # Each name has one page, which its module has.
+        # Each name has one page, in its module.
         text = text.replace("#[doc(inline)]\n", "")
         text = re.sub(r"^( *)(?=pub (?:const fn|fn|const|enum|struct|trait|type) (\w+))",
                       lambda it: self.mark(it, it[2] in hidden, (name, it[2]), "#[doc(hidden)]"), text, flags=re.M)
@@ -439,14 +439,14 @@ def laid_out(text):
 
 
 def modules_of(folder):
-    """The names of the modules of the sources that a root of plain Rust has, and of those that have no counterpart."""
+    """Returns the modules of the sources that a root of plain Rust has, and the modules without counterpart."""
     text = "".join(path.read_text() for path in RUST.joinpath(folder).glob("*.rs") if path.stem in ("lib", "main"))
     sources = {made: name for name, made in MODULES.items()} if folder == LIBRARY[0] else {}
     return {sources.get(name, name) for name in re.findall(r"^(?:pub )?mod (\w+);", text, re.M)} | {"laws", "examples"}
 
 
 def made_files():
-    """Each file that is made, with its text."""
+    """Returns each generated file with its text."""
     files, sources, comments, attributes = {}, "", documentation.Comments(), Attributes()
     for crate, (folder, root, std) in PLACES.items():
         top = CRATES / crate / "src"

@@ -1,10 +1,10 @@
 #!/usr/bin/env python3
-"""Tests what has to be believed of erase.py: the words of each made file are those of its source, in their order, with
-whole ghost items left out, but for the tables of erase.py. Comments are no words, and the order of imports and what
-rustfmt adds (commas, braces round an arm) do not count.
+"""Tests that each generated file has the words of its source, in their order, without whole ghost items, and except for
+the tables of erase.py. Comments are not words. The order of imports, and commas and braces that rustfmt adds, do not
+matter.
 
-It reads the sources by itself and takes only the tables from erase.py. Then it sees that faults planted in the made files,
-and in sources that the eraser has to refuse, are found. The last line is `N passed, M failed`.
+This test reads the sources by itself and takes only the tables from erase.py. It also tests that faults are found which
+are planted in generated files, or in sources that the eraser has to refuse. The last line is `N passed, M failed`.
 """
 import pathlib
 import random
@@ -264,7 +264,7 @@ def faults(made, chance):
         yield f"without the statement at {start}", made[:start] + made[at + 1 :]
 
 
-# Sources that the eraser refuses, each with what it says.
+# Sources that the eraser refuses, each with the refusal.
 REFUSED = {
     "pub fn f() {\n    prove!(true);\n}\n": "2: this is not plain Rust",
     "pub fn f() {\n    let ghost x = 1;\n}\n": "2: this is not plain Rust",

@@ -14,9 +14,9 @@ from erase_test import close, until, words_of
 SRC = erase.RUST / "src"
 # The module that re-exports the view whose word is known when the program runs, and the view's name.
 RUNTIME, VIEW = erase.MODULES["format"], erase.VIEW[1]
-# The private files with public items, each with the module that has them, or their types.
+# The private files with public items, and for each the module that has the items or their types.
 PLACES = {"view": RUNTIME, "lawful": "format", "lists": "format", "mend": "format"}
-# What each program begins with: it has all public types in scope.
+# The beginning of each program, which has all public types in scope.
 FRAME = """#![allow(unused_imports, dead_code, clippy::all)]
 use core::{{cmp::Ordering, fmt, num::NonZeroU8}};
 use peltzivar::{{{modules}}};
@@ -80,7 +80,7 @@ def function(words, at, module, owner):
 
 
 def functions():
-    """The public functions, but for those that macros make."""
+    """Yields the public functions, except for those that macros make."""
     for path in files():
         words = words_of(re.sub(r"^macro_rules! .*?^}", "", path.read_text(), flags=re.M | re.S))
         owner, end = "", 0
@@ -105,7 +105,7 @@ def types():
 
 
 def names():
-    """The public names, but for those that macros make: module, name, and whether the documentation shows it."""
+    """Yields the public names, except for those that macros make: module, name, whether the documentation shows it."""
     item = re.compile(r"((?: *#\[.*\]\n)*) *pub (?:const fn|fn|const|struct|enum|type|trait|mod) (\w+)")
     for path in [SRC / "lib.rs", *files()]:
         for attributes, name in item.findall(path.read_text()):

@@ -1,5 +1,5 @@
 #!/usr/bin/env python3
-"""Tests what a caller relies on besides results. The lists below state it by name; the names are those of the sources.
+"""Tests what a caller relies on in addition to results. The lists below have the names of the sources.
 
 - The public modules are those of MODULES, and the names at the root those of ROOT. No code is `unsafe`, none needs
   `std`, the compiler refuses what LINTS name, a panic of a function in TRACK_CALLER names its caller, and the enums in
@@ -58,7 +58,7 @@ SHOWN = {
     "word_text": "parse_word word_text",
 }
 
-# Slices of any length, text, iterators, and a sink of the caller's.
+# Functions over slices of any length, text, iterators, and sinks of the caller.
 NOT_CONST = """
     ascii::is_valid_ascii_slice ascii::is_valid_letter_slice
     edits::Edit::from_name edits::Edit::from_setting edits::Edit::from_text
@@ -78,7 +78,7 @@ TESTED = {
     "From<u128>": "From<u128>", "Into<u128>": "Into<u128>",
 }  # fmt: skip
 
-# The traits of every public type, and those that a type has besides, or lacks (`-`). A module stands for its types.
+# The traits of every public type, and the traits that a type has in addition, or lacks (`-`). A module means its types.
 EVERY = "Clone Copy Debug Eq Hash PartialEq Send Sync Unpin"
 TRAITS = {
     "edits::Edit": "Display FromStr Ord PartialOrd",
@@ -255,7 +255,7 @@ def twins():
 
 
 def sentences():
-    """Whether both views have one first sentence for each field, but for the paths of links."""
+    """Yields whether both views have the same first sentence for each field, except for the paths of links."""
     function = r"((?: *///.*\n)+)(?: *#.*\n)* *pub const fn (\w+)"
     row = r"((?: *///.*\n)+) +(?:[A-Z]\w+ )?(\w+) \w+;"
     patterns = {"view/getters": function, "view": function, "feature_format": row}

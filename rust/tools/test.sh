@@ -1,7 +1,7 @@
 #!/usr/bin/env bash
-# Tests the plain Rust with cargo and python3, without the kit: that erase.py makes it of the proved sources; its tests,
-# examples and lints, also with the least version of Rust; the names that differ from the Rust crate, and its own; its
-# documentation, layout and package; that it stands in for lexical-util; the examples of README and RUST, and numfmt.
+# Tests the plain Rust with cargo and python3, without the kit: that erase.py generates it from the proved sources; its
+# tests, also with the least version of Rust; lints; the names that differ from lexical-util, and its own names; its
+# documentation, layout and package; that it can replace lexical-util; the examples of README and RUST, and numfmt.
 #
 # The last line is `N passed, M failed, K skipped`; the exit status is 1 if a row failed, or there are fewer than before.
 set -u
@@ -46,7 +46,7 @@ passes cargo package --quiet --package peltzivar --allow-dirty
 shows ../README.md "cd rust && cargo run" cargo run --quiet
 shows ../docs/RUST.md "cargo run --example" cargo run --quiet --example
 prints 0 "$(cat ../crates/numfmt/stdout)" cargo run --quiet
-# A file that may grow by 4 bytes only: the first write is short, and the second fails.
+# A file that may grow only by 4 bytes: the first write is short, and the second fails.
 head -c 1020 /dev/zero > "$work/short"
 short="trap '' XFSZ; ulimit -f 1; '$CARGO_TARGET_DIR/debug/numfmt' show 0xC >> '$work/short'; echo \$?"
 prints 0 3 bash -c "$short"
