@@ -100,9 +100,10 @@ tests+=(crates/{numfmt,recorded}/built-program-test.sh)
 for test in "${tests[@]}" ../*/test.sh; do stub "$work/repository/${test#../}" "${test#../}"; done
 stub "$work/bin/python3" docs/check.py
 stub "$work/bin/shellcheck" shellcheck
+stub "$work/bin/codespell" codespell
 stub "$work/bin/rt" rt $'rt: numfmt proved\nrt: recorded proved\n'
 cp run rows.sh "$work/repository/.ci"
-calls=(docs/check.py shellcheck rt "${tests[@]}")
+calls=(docs/check.py shellcheck codespell rt "${tests[@]}")
 for fails in none "${calls[@]}"; do
     : > "$work/log"
     LOG=$work/log FAILS=$fails PATH=$work/bin:$PATH "$work/repository/.ci/run" > "$work/printed" 2>&1

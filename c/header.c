@@ -1,5 +1,5 @@
 /* Tests that peltzivar.h fits the library: the order of fields, and each call once. Its expected values come from the
- * layout that the header describes, and from the Rust crate lexical-util 1.0.7.
+ * layout that the header describes, and from lexical-util 1.0.7.
  *
  * With -DWITHOUT_VERSION it does not call peltzivar_version, which the proved library does not have. */
 #include "peltzivar.h"
@@ -21,7 +21,7 @@ static bool is_word(peltzivar_word word, uint64_t high, uint64_t low) {
     return word.high == high && word.low == low;
 }
 
-/* Whether this whole text was written with its final 0, and nothing after it. */
+/* Returns whether this whole text was written with its final 0, and nothing after it. */
 static bool is_text(const char *wanted, size_t len, const char *text) {
     return len == strlen(wanted) && strcmp(wanted, text) == 0 && text[len + 1] == '#';
 }
@@ -153,7 +153,7 @@ static void test_rules(void) {
     CHECK(peltzivar_radix_from_flags(hexadecimal, mask, 128) == UINT32_MAX);
 }
 
-/* The smallest word that breaks each of the rules 4 to 8 (docs/FORMAT.md) is refused by the test of that rule alone. */
+/* The smallest word that breaks each of the rules 4 to 8 (docs/FORMAT.md) is refused only by the test of that rule. */
 static void test_one_rule_each(void) {
     bool (*const tests[])(peltzivar_word) = {
         peltzivar_is_valid_digit_separator, peltzivar_is_valid_base_prefix,     peltzivar_is_valid_base_suffix,
@@ -237,7 +237,7 @@ static void test_reasons(void) {
     CHECK(is_word(peltzivar_rule_mask(PELTZIVAR_RULE_COUNT), 0, 0) && is_word(peltzivar_rule_mask(UINT8_MAX), 0, 0));
 }
 
-/* The slot of the reason with this text; PELTZIVAR_CANDIDATE_COUNT if there is none. */
+/* The slot of the reason with this text; PELTZIVAR_CANDIDATE_COUNT if no slot has it. */
 static uint8_t slot_of(peltzivar_word word, const char *reason) {
     char text[PELTZIVAR_TEXT_SIZE];
     uint8_t index = 0;
@@ -516,7 +516,7 @@ static void test_word_texts(void) {
     CHECK(peltzivar_source(longest, text, sizeof text) == strlen(text) && strlen(text) == 1294);
 }
 
-/* A flag is that of its setter, a group has one if any of its flags is set, and other setters have none. */
+/* A flag setter has its flag, a group setter is set if any of its flags is, and other setters have no flag. */
 static void test_flag(void) {
     for (uint8_t flag = 0; flag < PELTZIVAR_SET_REQUIRED_DIGITS; flag++) {
         const peltzivar_edit set = {flag, 1};
@@ -534,7 +534,7 @@ static void test_flag(void) {
     }
 }
 
-/* A null pointer beside a length of 0 is an empty array. */
+/* A null pointer with a length of 0 is an empty array. */
 static void test_null(void) {
     peltzivar_fields fields = PELTZIVAR_NEW_FIELDS;
     peltzivar_word word = {1, 2};

@@ -27,7 +27,7 @@
 #define PELTZIVAR_VERSION_PATCH 0
 #define PELTZIVAR_VERSION_NUMBER 0x000400
 
-/* How a program imports a call. To link with a DLL, define PELTZIVAR_SHARED. */
+/* The way in which a program imports a call. To link with a DLL, define PELTZIVAR_SHARED. */
 #ifndef PELTZIVAR_API
 #if defined(_WIN32) && defined(PELTZIVAR_SHARED)
 #define PELTZIVAR_API __declspec(dllimport)
@@ -90,7 +90,7 @@ static const peltzivar_fields PELTZIVAR_NEW_FIELDS = PELTZIVAR_NEW_FIELDS_INIT;
 #define PELTZIVAR_NO_DIGIT UINT32_MAX
 #define PELTZIVAR_NO_CHAR 0
 
-/* The setters: flag setters, setters of a group of flags, byte setters. The number of a flag setter is the bit of
+/* The setters: flag setters, group setters, byte setters. The number of a flag setter is the bit of
  * its flag in `flags`. PELTZIVAR_SET_RADIX does the same as PELTZIVAR_SET_MANTISSA_RADIX. */
 enum {
     PELTZIVAR_SET_REQUIRED_INTEGER_DIGITS = 0,
@@ -253,7 +253,7 @@ enum {
 };
 
 /* Returns the version of the library, in the form of PELTZIVAR_VERSION_NUMBER. If its major or minor part differs
- * from that of the header, the numbers of setters may differ too. The proved library does not have this call. */
+ * from the header, the numbers of setters may differ too. The proved library does not have this call. */
 PELTZIVAR_API uint32_t peltzivar_version(void);
 
 /* FIELDS */
@@ -289,7 +289,7 @@ PELTZIVAR_MUST_USE PELTZIVAR_API peltzivar_error peltzivar_build_strict(
 PELTZIVAR_MUST_USE PELTZIVAR_API bool peltzivar_edit_word(
     peltzivar_word format, const peltzivar_edit *edits, size_t len, peltzivar_word *out);
 
-/* Returns the normal form of a word: the canonical one of the words that mean the same format. */
+/* Returns the normal form of a word: the canonical word of all words that express the same format. */
 PELTZIVAR_API peltzivar_word peltzivar_normal_form(peltzivar_word format);
 
 /* If the normal form is lawful, writes it to *out and returns PELTZIVAR_SUCCESS. If not, returns the error of the
@@ -303,8 +303,8 @@ PELTZIVAR_API bool peltzivar_same_format(peltzivar_word a, peltzivar_word b);
 PELTZIVAR_API bool peltzivar_is_built(peltzivar_word format);
 
 /* Writes one edit for each field of the word. An absent exponent byte stays absent. The edits in which the word
- * differs from PELTZIVAR_NEW_FIELDS come first; returns their number. Applied to PELTZIVAR_NEW_FIELDS, these alone
- * give the fields of the word. If peltzivar_is_built returns true, no shorter list of single-field edits builds
+ * differs from PELTZIVAR_NEW_FIELDS come first; returns their number. Applied to PELTZIVAR_NEW_FIELDS, only these
+ * edits give the fields of the word. If peltzivar_is_built returns true, no shorter list of single-field edits builds
  * the word. */
 PELTZIVAR_API size_t peltzivar_edits_of(peltzivar_word format, peltzivar_edit edits[PELTZIVAR_FIELD_COUNT]);
 
@@ -470,7 +470,7 @@ PELTZIVAR_API size_t peltzivar_word_reason(peltzivar_word format, uint8_t index,
  * may be empty. There are notes on a digit separator that no flag allows, on digit separator flags without a digit
  * separator, and on a case-sensitivity flag whose base prefix or base suffix is absent or not a letter, and no
  * others. A field that a reason blames has no note. Packing drops a digit separator that no flag allows, so pass
- * the fields themselves and not those of the packed word. For a word, pass what peltzivar_fields_of returns. */
+ * the fields themselves, and not the fields of the packed word. For a word, pass what peltzivar_fields_of returns. */
 PELTZIVAR_API size_t peltzivar_note(const peltzivar_fields *fields, uint8_t index, char *text, size_t len);
 
 /* Writes the name of a setter: its constant in lower case without PELTZIVAR_SET_, such as "digit_separator". */

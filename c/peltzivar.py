@@ -612,7 +612,7 @@ class FormatView:
 
     @property
     def required_digits(self) -> bool:
-        """Whether any flag of the group is set: digits that must be there."""
+        """Whether any flag of the group is set: digits that must be present."""
         return self._flag(Setter.REQUIRED_DIGITS)
 
     @property
@@ -632,7 +632,7 @@ class FormatView:
 
     @property
     def consecutive_digit_separator(self) -> bool:
-        """Whether any flag of the group is set: several separators in a row."""
+        """Whether any flag of the group is set: consecutive separators."""
         return self._flag(Setter.CONSECUTIVE_DIGIT_SEPARATOR)
 
     @property

@@ -32,7 +32,7 @@ static void print_bytes(FILE *to, const char *text, size_t len) {
     }
 }
 
-/* Prints what errno says of a file, and returns the status. */
+/* Prints the message of errno for a file, and returns the status. */
 static int failure(const char *file) {
     const char *const why = strerror(errno);
     print_bytes(stderr, file, strlen(file));

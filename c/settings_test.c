@@ -1,4 +1,4 @@
-/* Tests settings.c on random files. Each line is made of pieces whose meaning is known, so that it is known which lines
+/* Tests settings.c on random files. Each line consists of pieces with a known meaning, so that it is known which lines
  * cannot be read, what is printed of them, and which fields the others write.
  *
  *     ./settings_test FILE NUMBER     writes the file so often */

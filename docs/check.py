@@ -6,7 +6,8 @@
 - Each name with a `_` or `::` is in some code, but for those of the changelog, and each word of FORMAT.md.
 - check_format.py compares FORMAT.md, check_header.py the header of C, and check_clauses.py the clauses in PROVED.md.
 - c/peltzivar.py is what c/make_python.py writes.
-- check_prose.py compares sentences: the fields of FORMAT's example, exit statuses, and the least version of Rust.
+- check_prose.py compares sentences: the fields of FORMAT's example, exit statuses, and the least version of Rust. It
+  also finds constructions that neither a page nor a comment may have, except for those that it lists with a reason.
 - check_definitions.py follows the definitions that headline calls cite, and compares the reading lists in PROVED.md.
 - DIFFERENCES.md names each public name that the Rust crate does not have.
 - A format word outside of a block of code can be pasted: it has no `_`.
@@ -19,8 +20,9 @@
 - README has a command of cargo that runs something, one that runs all tests, and `rt ci`; `.ci/run` calls its tests.
 - `.ci/run`, or a script that it calls, calls each script that is a test by its name.
 
-The last line counts the lines of the pages, the words of README, and transcripts (which the tests of numfmt, of rust/ and
-of c/ run, but for lines `$ cc ..`) and blocks of code (which are compared here).
+The last line counts the lines of the pages, the words of README, the transcripts (which the tests of numfmt, of rust/
+and of c/ run, except for lines `$ cc ..`), the blocks of code (which are compared here), and the lines of prose that
+keep a construction for a reason.
 """
 import pathlib
 import re
@@ -261,11 +263,12 @@ def main():
         for it in found:
             print(f"{page.relative_to(TOP)}: {it}")
         wrong += len(found)
-    others = (*check_definitions.definitions(), *not_exported(), *not_run(), *not_called(), *layout())
+    constructions, kept = check_prose.constructions(PAGES)
+    others = (*constructions, *check_definitions.definitions(), *not_exported(), *not_run(), *not_called(), *layout())
     for it in (*(f"c/peltzivar.h: {it}" for it in check_header.header(wanted)), *others):
         print(it)
         wrong += 1
-    print(counted())
+    print(f"{counted()}, {kept} lines that keep a construction")
     return 1 if wrong else 0
 
 

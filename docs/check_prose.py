@@ -1,9 +1,65 @@
-"""Sentences of the pages that differ from the sources: flags and fields in FORMAT, exit statuses, the least Rust."""
+"""Sentences of the pages that differ from the sources: flags and fields in FORMAT, exit statuses, the least Rust.
+
+And constructions that neither a page nor a comment has (PATTERNS), except for the lines that KEPT lists with a reason.
+"""
 import re
 
 import check_format
 
 TOP = check_format.CRATES.parent
+# Constructions that stumble a reader, each with an expression that finds it in a line.
+PATTERNS = [
+    ("exactly if", r"\bexactly (if|then|where)\b"),
+    ("is no X", r"\b(?<!there )(is|are|was|be) no [a-z]"),
+    ("is none", r"\b(is|are) none\b|(if|where) there (is|are) none\b"),
+    ("a comment from its middle", r"^ *(//[/!]?|--|/?\*)? *(and|those|that|the same|such|before|after|but) "),
+    ("that of", r"\b([Tt]hat|[Tt]hose) (of|in) "),
+    ("the same of", r"\b[Tt]he same (of|for|by|with|after|is|on|holds)\b"),
+    ("says or about", r"\b([Ss]ays?|[Ss]aid|[Tt]ells?|[Tt]old|about)\b"),
+    ("what or who first", r"(^|[.:;|(] |//[/!]? |-- )(What|Who|That which|Of) "),
+    (", of which", r", (of|by|in|for|from|with|on|over) (which|whom|whose|what)\b"),
+    ("made of", r"\b([Mm]ade|[Mm]akes?|built|builds) (out )?of\b"),
+    ("otherwise", r"\b(is|are) otherwise\b|\bturned\b|\bchange places\b"),
+    ("house, room or free", r"\b([Tt]he house|[Rr]ooms?|ROOM|free)\b"),
+    ("stands for", r"\bstands? (for|in|at|on|from|before|after|between|beside|there|together|above)\b|\bmay stand\b"),
+    ("beside", r"\bbeside\b"),
+    ("alone", r"[a-z`] alone\b"),
+    ("else", r"\b(and|or|;|,) else\b"),
+    ("but for", r"\bbut for\b|\b[Aa]ll else\b|\ball (bits|words|others?) but\b"),
+    ("case counts", r"\bcases? (does not |do not |that )?counts?\b|\bcounts? in both cases\b|\bcase_counts\b"),
+    ("reads back", r"\b(gives?|reads?) (it |them )?back\b|\bmeans? the same\b"),
+    ("is 2 to 36", r"\b(is|are|be|not) [0-9]+ to [0-9]+\b"),
+    ("two semicolons", r";[^;]*;"),
+    ("how many or whether", r"^ *(//[/!]?|--|/?\*) ([Hh]ow (many|a|the)|[Ww]hether) "),
+    ("words for names", r"\b([Ii]ts|own|with the|has the|in the library.s) words\b|\bone word\b"),
+    ("setters of flags", r"\b([Ee]rrors?|[Rr]ules?|[Ss]etters?|[Gg]etters?|[Rr]easons?) of (a |an |the )?(parsing|formats?|options|flags?|bytes?|punctuation|radixes|reserved bits|groups?)\b"),
+    ("the Rust crate", r"\bthe Rust crate\b|\bempty (exponent )?(base|radix|bytes?)\b"),
+]
+# The constructions with which a comment or a paragraph begins. A line in its middle may have these words in front.
+AT_START = ["a comment from its middle", "what or who first", "how many or whether"]
+# The files with prose, by the folder in which they are; pages are those of check.py.
+PROSE = [("crates", "*.rt"), ("crates", "*.antt"), ("rust", "*.rs"), ("c", "*.[ch]"), ("bench", "*.rs"), ("bench", "*.in"),
+         ("compare", "*.rs"), ("explorer", "*.js"), ("explorer", "*.rs")]  # fmt: skip
+# Where a construction stays: the file, the construction, the number of lines, and the reason.
+KEPT = [
+    ("CHANGELOG.md", "two semicolons", 5, "lists"),
+    ("README.md", "the Rust crate", 1, "states what lexical-util is"),
+    ("README.md", "alone", 1, "cargo alone"),
+    ("README.md", "two semicolons", 5, "lists"),
+    ("bench/README.md", "the Rust crate", 1, "states what lexical-util is"),
+    ("c/peltzivar.h", "is no X", 1, "there is no such reason"),
+    ("c/peltzivar.h", "words for names", 1, "format words"),
+    ("c/peltzivar.h", "is 2 to 36", 1, "a range in parentheses"),
+    ("c/settings.c", "house, room or free", 1, "code"),
+    ("docs/ARCHITECTURE.md", "what or who first", 4, "headings of columns"),
+    ("docs/C-AND-PYTHON.md", "two semicolons", 1, "a list"),
+    ("docs/DECISIONS.md", "alone", 1, "cargo alone"),
+    ("docs/DIFFERENCES.md", "two semicolons", 1, "a list"),
+    ("docs/FORMAT.md", "two semicolons", 1, "a list"),
+    ("docs/PROVED.md", "two semicolons", 1, "a list"),
+]
+# The most lines that all rows of KEPT together have.
+MOST_KEPT = 60
 LEAST = re.search(r'^rust-version = "(.*)"$', (TOP / "rust/Cargo.toml").read_text(), re.M)[1]
 
 
@@ -18,7 +74,7 @@ def case_flags():
     bits = {name: bit for bit, name, _ in check_format.FLAGS}
     flags = [bits[f"case_sensitive_{it}"] for it in ("base_prefix", "base_suffix", "exponent")]
     return (
-        "If a base prefix, a base suffix or an exponent character is a letter, it stands for both cases, "
+        "If a base prefix, a base suffix or an exponent character is a letter, it means both cases, "
         f"unless its flag {listed(flags, 'or')} is set."
     )
 
@@ -61,3 +117,48 @@ def prose(name, text):
         for version in re.findall(r"Rust(?: from)? (1\.\d+)", flat):
             if version != LEAST:
                 yield f"Rust {version} is not the least version, {LEAST}"
+
+
+def prose_of(path):
+    """Returns the lines of a page, or of the comments of a source: the number, the text, and whether the text begins."""
+    text = path.read_text()
+    if "Made by" in "".join(text.splitlines(True)[:3]):
+        return
+    before, is_code = "", False
+    for number, line in enumerate(text.splitlines(), 1):
+        is_code ^= line.startswith("```")
+        is_page = path.suffix == ".md" and not is_code and not line.startswith(("    ", "```"))
+        if is_page or path.suffix != ".md" and re.match(r" *(//|-- |/?\*)", line):
+            yield number, line, not re.search(r"\w", before) or before.startswith("|")
+            before = line.strip()
+        else:
+            before = ""
+
+
+def found_in(path):
+    """Returns the constructions of a file: the number of the line, the name of the construction, and the line."""
+    for number, line, begins in prose_of(path):
+        for name, expression in PATTERNS:
+            is_list = name == "two semicolons" and line.startswith("|")
+            if re.search(expression, line) and not is_list and (begins or name not in AT_START):
+                yield number, name, line.strip()
+
+
+def constructions(pages):
+    """Returns the constructions that KEPT does not list, and the number of lines that it lists."""
+    paths = [*pages, *(path for folder, pattern in PROSE for path in (TOP / folder).rglob(pattern))]
+    found = {}
+    for path in sorted(path for path in paths if not {"out", "target"} & set(path.parts)):
+        for number, name, line in found_in(path):
+            found.setdefault((str(path.relative_to(TOP)), name), []).append((number, line))
+    kept = {(file, name): count for file, name, count, _ in KEPT}
+    wrong = [
+        f"{file}:{number}: {name}: {line}"
+        for (file, name), lines in found.items()
+        for number, line in lines
+        if len(lines) > kept.get((file, name), 0)
+    ]
+    total = sum(kept.values())
+    if total > MOST_KEPT:
+        wrong.append(f"docs/check_prose.py: KEPT lists {total} lines, more than {MOST_KEPT}")
+    return wrong, total

@@ -107,6 +107,12 @@ PLANTS = [
     ("docs/check_definitions.py", "APART = {", "APART = {'planted': '',", "planted is no file for the table"),
     ("docs/check_definitions.py", '"edit_word": 300', '"edit_word": 3', " lines of definitions, more than 3\n"),
     ("docs/PROVED.md", "<!-- calls -->\n", "<!-- calls -->\n\n", "docs/PROVED.md: its tables of definitions are old"),
+    ("docs/RUST.md", None, "This is no page.\n", ": is no X: This is no page."),
+    ("docs/RUST.md", None, "\nWhat is planted.\n", ": what or who first: What is planted."),
+    (DIGITS, None, "-- The error of parsing, planted.\n", ": setters of flags: -- The error of parsing, planted."),
+    (EDITS, None, "// It says planted.\n", ": says or about: // It says planted."),
+    (HEADER, None, "/* Planted; planted; planted. */\n", ": two semicolons: /* Planted; planted; planted. */"),
+    ("docs/check_prose.py", "KEPT = [", "KEPT = [('planted', '', 99, ''),", "docs/check_prose.py: KEPT lists "),
     ("docs/planted_test.sh", None, "", "docs/planted_test.sh: neither .ci/run nor what it runs calls this test"),
 ]  # fmt: skip
 

@@ -2,7 +2,7 @@
  *
  *     node explorer/code_test.js FOLDER
  *
- * The file `words` of the folder has the words. main.rs, main.py and main.c print them if the code is right.
+ * The file `words` of the folder lists the words. main.rs, main.py and main.c print them if the code is right.
  * The settings are tried here. */
 "use strict";
 

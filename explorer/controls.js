@@ -23,7 +23,7 @@ class Controls {
         this.makeSeparators();
     }
 
-    /* Returns a check box that a setter of a flag or of a group belongs to. */
+    /* Returns the check box of a flag setter or a group setter. */
     box(name, meaning) {
         const setter = this.library.setterOf(name);
         const change = (event) => this.edit([{ setter, value: Number(event.target.checked) }]);

@@ -125,7 +125,7 @@ class Library {
         return this.readWord("word");
     }
 
-    /* Returns the word in which only the bits of the edits change. The bits are those of edit_word, which fills absent
+    /* Returns the word in which only the bits of the edits change. edit_word writes these bits. It also fills absent
      * bytes and drops a digit separator that no flag allows, so a flag that allows it comes first. */
     write(word, edits) {
         const allow = { setter: this.setterOf("digit_separator_flags"), value: 1 };
@@ -133,7 +133,7 @@ class Library {
         return (word & ~mask) | (this.editWord(word, [allow, ...edits]) & mask);
     }
 
-    /* Returns what the edits make of the word, without filled bytes where the format is the same. */
+    /* Returns the word after the edits, without filled bytes where the format is the same. */
     mended(word, edits) {
         const [written, edited] = [this.write(word, edits), this.editWord(word, edits)];
         return this.call("same_format", ...this.words(written, edited)) && this.isBuilt(written) ? written : edited;

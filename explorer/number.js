@@ -6,7 +6,7 @@ function visible(byte) {
     return byte > 32 && byte < 127 ? String.fromCharCode(byte) : `\\x${byte.toString(16).padStart(2, "0")}`;
 }
 
-/* Returns pieces of text, of which digit separators are marked: the digits, with separators where flags allow them. */
+/* Returns pieces of text in which digit separators are marked: the digits, with separators where flags allow them. */
 function separated(digits, separator, allowed) {
     if (!separator) return [{ text: digits.join("") }];
     const between = { text: visible(separator).repeat(allowed("consecutive") ? 2 : 1), isSeparator: true };
@@ -31,7 +31,7 @@ class NumberPicture {
         return this.library.flag(this.state.word, name);
     }
 
-    /* Returns digits of a radix, of which one is its largest, or "?" if there is no such radix. */
+    /* Returns digits of a radix, including its largest one, or "?" if there is no such radix. */
     digits(radix, values) {
         if (!this.library.call("is_valid_radix", radix)) return ["?"];
         return values.map((value) => this.library.digit((value + radix) % radix));

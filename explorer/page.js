@@ -162,7 +162,7 @@ class Page {
         return `#word=${this.library.wordText(word)}&exponent=${exponent}&point=${point}`;
     }
 
-    /* Reads the state from the fragment. What is missing there, or is not a word or a byte, has its default. */
+    /* Reads the state from the fragment. A part that is missing, or is not a word or a byte, has its default. */
     read() {
         const parts = new URLSearchParams(location.hash.slice(1));
         const { word } = this.library.parseWord(parts.get("word") ?? location.hash.slice(1));

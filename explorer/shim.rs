@@ -1,5 +1,5 @@
 //! The functions that compiled code calls since no instruction of WebAssembly does this. Debian has the source of
-//! `core` but not that of `compiler_builtins`, and rustc links a crate of this name. rustup's target has that crate.
+//! `core`, not of `compiler_builtins`, and rustc links a crate of this name. rustup's target has that crate.
 #![feature(compiler_builtins)]
 #![allow(internal_features)]
 #![compiler_builtins]

@@ -1,4 +1,4 @@
-//! All names of number formats in one module, as in `lexical-util`: those of [`format_builder`][crate::format_builder]
+//! All names of number formats in one module, as in `lexical-util`: names of [`format_builder`][crate::format_builder]
 //! and [`format_flags`][crate::format_flags], and the types that read a word.
 //!
 //! For a word that is known only when the program runs, use [`FormatView`], or [`Format`] if it has to be lawful. The

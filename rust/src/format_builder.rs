@@ -54,7 +54,7 @@ const RADIX_SHIFT: i32 = flags::EXPONENT_RADIX_SHIFT - 64;
 // The bits of base prefix, base suffix and mantissa radix in the upper half of a format word.
 const WITHOUT_SEPARATOR: u64 = 0x0000_FFFF_FF00_0000;
 
-// These bits and those of the digit separator.
+// These bits and the bits of the digit separator.
 const WITH_SEPARATOR: u64 = 0x0000_FFFF_FF00_00FF;
 
 /// A byte that may be absent.

@@ -12,7 +12,7 @@ impl FormatView {
         broken_rules(self.word()).into_iter().flatten()
     }
 
-    /// Returns the reasons why the word is not lawful, in the order of the rules. There are none if and only if the word
+    /// Returns the reasons why the word is not lawful, in the order of the rules. It is empty if and only if the word
     /// is lawful.
     ///
     /// Each cause is one reason. An absent exponent base or exponent radix follows the mantissa radix, and is never a

@@ -206,7 +206,7 @@ fn recipes_accept_and_refuse_what_their_grammars_do() {
     assert_eq!(lines.next(), None);
 }
 
-/// The digits of a hexadecimal float are multiplied by a power of 2, those of any other one by a power of 10.
+/// The digits of a hexadecimal float are multiplied by a power of 2, and the digits of other floats by a power of 10.
 #[test]
 fn exponents_have_the_bases_of_their_grammars() {
     for (name, word, _) in RECIPES {

@@ -304,7 +304,7 @@ fn the_last_setter_counts_and_only_lawful_words_pass() {
         (new.integer_consecutive_digit_separator(true).no_special(true).case_sensitive_special(true),
             0x00000A00_00000000_00000200_00000C0C, InvalidSpecial),
         (new.no_exponent_notation(true).no_special(true), 0x00000A00_00000000_00000000_0000044C, Success),
-        // A rebuilt builder keeps its exponent bytes under the radix 16, in which `e` is a digit.
+        // A rebuilt builder keeps its exponent bytes under the radix 16, which has the digit `e`.
         (NumberFormatBuilder::rebuild(0x00000A00_00000065_00001FFF_0000000C).radix(16),
             0x0A0A1000_00000065_00001FFF_0000000C, InvalidDigitSeparator),
     ] {
