@@ -38,7 +38,7 @@ for compiler in $(type -ap rustc); do
 done > /dev/null 2>&1
 if [ "$found" ]; then here[rustc $least]=yes; else lacks "rustc $least"; fi
 needing "rustc $least" passes env CARGO_TARGET_DIR="$work/least" RUSTC="$found/rustc" RUSTDOC="$found/rustdoc" \
-    "$found/cargo" test --quiet --workspace --lib --bins --tests
+    "$found/cargo" test --quiet --workspace --lib --bins --tests --examples
 passes env RUSTDOCFLAGS=-Dwarnings cargo doc --quiet --no-deps --workspace
 needing python3 passes tools/check_doc.py "$CARGO_TARGET_DIR/doc"
 passes tools/dropping_in_test.sh
