@@ -1,6 +1,6 @@
 #!/usr/bin/env bash
-# Tests the page: that Node.js gets the recorded results from its WebAssembly, that the code which it shows builds the
-# word, and that it does in Chromium what a user wants. Pictures of what Chromium shows are kept in out/.
+# Tests the page: that its check finds changes, that Node.js gets the recorded results from its WebAssembly, that the code
+# which it shows builds the word, and that it does in Chromium what a user wants. Pictures of Chromium are kept in out/.
 #
 # The last line is `N passed, M failed, K skipped`; the exit status is 1 if a row failed, or there are fewer than before.
 set -u
@@ -9,11 +9,12 @@ cd "$(dirname "$0")" || exit
 work=$(mktemp -d)
 trap 'rm -rf "$work"' EXIT
 export CARGO_NET_OFFLINE=true CARGO_TARGET_DIR=$work/target CARGO_INCREMENTAL=0 CARGO_PROFILE_DEV_DEBUG=0
+mkdir "$work/copy" "$work/code"
+release=$work/target/release
+wasm="explorer/index.html: its WebAssembly is not up to date with rust/, run explorer/build"
+rest="explorer/index.html: is not up to date with FORMAT, the recipes or explorer/, run explorer/build"
 
-has python3 || lacking=python3
-passes ./build --check
-
-# stale TEXT FILE FROM TO: in a copy of the repository, where FROM becomes TO in the file, `build --check` prints TEXT.
+# stale TEXT FILE FROM TO: in the copy of the repository, where FROM becomes TO in the file, `build --check` prints TEXT.
 stale() {
     tried || return 0
     cp "$work/copy/$2" "$work/before"
@@ -27,13 +28,10 @@ END
     mv "$work/before" "$work/copy/$2"
 }
 
-# checked: `build --check` names a page that is not up to date.
-checked() {
-    local rest wasm
-    mkdir "$work/copy"
+# checks: what `build --check` prints, and that a comment does not matter to it.
+checks() {
+    passes ./build --check
     tar --exclude=out --exclude=target -C .. -c c crates docs explorer rust | tar -x -C "$work/copy"
-    wasm="explorer/index.html: its WebAssembly is not up to date with rust/, run explorer/build"
-    rest="explorer/index.html: is not up to date with FORMAT, the recipes or explorer/, run explorer/build"
     printf '\n// A comment.\n' >> "$work/copy/rust/src/lib.rs"
     passes "$work/copy/explorer/build" --check
     stale "$wasm" rust/src/lib.rs 'mod chunks;' 'mod chunks; const ONE: u8 = 1;'
@@ -44,47 +42,56 @@ checked() {
     stale "$rest" explorer/page.css '#ffffff' '#fffffe'
     stale "$rest" explorer/index.html '<title>' '<title> '
 }
-needing python3 checked
 
-# shown: the library of the page returns the recorded results, and the code that the page shows builds the word.
-shown() {
-    local library release wanted
-    [ "$lacking" ] || cargo run --quiet --manifest-path ../rust/Cargo.toml --example recipes > "$work/recipes"
+# results: the WebAssembly returns the recorded results, and builds the recipes.
+results() {
+    passes bash -c "cargo run --quiet --manifest-path ../rust/Cargo.toml --example recipes > '$work/recipes'"
     prints 0 "20115 recorded results kept; not tried, since an index has over 32 bits: 19
 7661 edits of a field change its bits only" node ./library_test.js "$work/recipes"
+}
 
-    mkdir "$work/code"
+# codes: the code that is shown builds the word that is shown. Settings are tried by Node.js.
+codes() {
     passes node ./code_test.js "$work/code"
-    wanted=$(cat "$work/code/words")
     printf '%s\n' '[package]' 'name = "code"' 'edition = "2021"' '[[bin]]' 'name = "code"' 'path = "main.rs"' \
         '[dependencies]' "peltzivar = { path = \"$(realpath ../rust)\" }" > "$work/code/Cargo.toml"
+    wanted=$(cat "$work/code/words")
     prints 0 "$wanted" cargo run --quiet --manifest-path "$work/code/Cargo.toml"
-    release=$work/target/release
     passes cargo build --quiet --release --manifest-path ../rust/Cargo.toml --package peltzivar-capi
-    needing cc passes cc -Wall -Wextra -Werror -I ../c -o "$work/code/c" "$work/code/main.c" "$release/libpeltzivar_c.a"
-    needing cc prints 0 "$wanted" "$work/code/c"
-    library=$release/libpeltzivar_c.so
+    needing cc c_code
+    needing python3 python_code
+}
+
+c_code() {
+    passes cc -Wall -Wextra -Werror -I ../c -o "$work/code/c" "$work/code/main.c" "$release/libpeltzivar_c.a"
+    prints 0 "$wanted" "$work/code/c"
+}
+
+python_code() {
+    local library=$release/libpeltzivar_c.so
     [ -e "$library" ] || library=$release/libpeltzivar_c.dylib
     prints 0 "$wanted" env PELTZIVAR_LIBRARY="$library" PYTHONPATH=../c PYTHONDONTWRITEBYTECODE=1 \
         python3 "$work/code/main.py"
 }
-needing node needing cargo shown
 
-# browser: what a user wants of the page.
+# browser: the steps in Chromium. The times are of no use on a machine that runs more programs than it has cores.
 browser() {
     [ "$lacking" ] || rm -rf out
     passes "$python" ./browser_test.py out
-    [ -z "$lacking" ] || return
-    case $(cat out/times.txt) in
-        busy:*) echo "not tried: the times of the page, since this machine is $(cat out/times.txt)" ;;
-        *) cat out/times.txt ;;
-    esac
+    if [ -e out/times.txt ]; then cat out/times.txt; fi
+    if grep -q busy out/times.txt; then lacks 'a machine that is not busy'; else here[a machine that is not busy]=yes; fi
+    needing 'a machine that is not busy' passes grep 'first paint' out/times.txt
 }
-# A python3 of the PATH that has selenium: Debian's package python3-selenium is one of /usr/bin/python3.
+
+# A python3 of the PATH that has selenium. Debian's package python3-selenium is one of /usr/bin/python3.
 python=
 for found in $(type -ap python3); do
     if [[ -z $python ]] && "$found" -c 'import selenium' 2> /dev/null; then python=$found; fi
 done
 if [ "$python" ]; then here[python3-selenium]=yes; else lacks python3-selenium; fi
+
+needing python3 checks
+needing node needing cargo results
+needing node needing cargo codes
 needing python3-selenium needing chromium needing chromedriver browser
-counted 17
+counted 19
