@@ -75,7 +75,7 @@ def calls():
     lines += ["", "", "_CALLS: Dict[str, Tuple[Any, List[Any]]] = {"]
     for result, call, arguments in re.findall(r"(\w+) (peltzivar_\w+)\( ?([^()]*)\);", CODE):
         kinds = [argument(it) for it in arguments.split(", ") if it != "void"]
-        lines.append(f'    "{call}": ({TYPES[result]}, [{", ".join(kinds)}]),')
+        lines.append(f'    "{call}": ({TYPES.get(result, result)}, [{", ".join(kinds)}]),')
     return [*lines, "}"]
 
 

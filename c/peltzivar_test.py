@@ -177,6 +177,8 @@ class Words(unittest.TestCase):
         self.assertEqual([str(it) for it in notes_of(digit_separator="_")], [allowed])
         self.assertEqual([it.mask for it in notes_of("digit_separator=95")], [0x1FFF << 32 | 0xFF << 64])
         self.assertEqual(Format.of(digit_separator="_").notes(), ())
+        cases = [f"case_sensitive_base_{it} changes nothing: there is no base {it}" for it in ("prefix", "suffix")]
+        self.assertEqual([str(it) for it in Format(0x00000A0000000000000000000003000C).notes()], cases)
         self.assertEqual([str(it) for it in Format(0x00000A0000000000000000010000000C).notes()], [flags])
         self.assertEqual(Edit("required_digits=true").mask, 0xF)
         self.assertEqual(Edit("exponent_radix=none").mask, 0xFF << 120)
@@ -190,6 +192,9 @@ class Words(unittest.TestCase):
         self.assertEqual(FormatView(0x0000100000000000000000000000040C).source(), source)
         self.assertEqual([it for it in map(chr, range(256)) if edited.is_digit(it)], list("0123456789ABCDEFabcdef"))
         self.assertFalse(edited.is_digit(chr(0x130)))
+        self.assertIs(type(Format().normal_form()), Format)
+        self.assertEqual(hex(Format()), "0xa0000000000000000000000000c")
+        self.assertRegex(FormatView((1 << 128) - 1).source(), r"^NumberFormatBuilder::new\(\).{900,}\.build_unchecked\(\)$")
         self.assertEqual([str(it) for it in Format(0x0000100000000000000000000000040C).edits()], ["no_special=true", "mantissa_radix=16"])
         self.assertEqual([it.value for it in edited.edits()][-4:], ["_", 16, 10, 10])
         self.assertEqual(Edit.of("base_prefix", "x"), Edit("base_prefix=0x78"))

@@ -264,7 +264,8 @@ def main():
             print(f"{page.relative_to(TOP)}: {it}")
         wrong += len(found)
     constructions, kept = check_prose.constructions(PAGES)
-    others = (*constructions, *check_definitions.definitions(), *not_exported(), *not_run(), *not_called(), *layout())
+    others = (*constructions, *make_python.stale(), *check_definitions.definitions(), *not_exported(), *not_run())
+    others += (*not_called(), *layout())
     for it in (*(f"c/peltzivar.h: {it}" for it in check_header.header(wanted)), *others):
         print(it)
         wrong += 1

@@ -92,6 +92,7 @@ PLANTS = [
     (HEADER, None, "/* 7 */\n", "nothing compares the number 7: 7"),
     (HEADER, None, "/* peltzivar_planted, such as \"planted\" */\n", "no such name: peltzivar_planted"),
     (HEADER, None, "", "in no test: planted"),
+    ("c/peltzivar.py", "_FIELD_COUNT = 37", "_FIELD_COUNT = 36", "c/peltzivar.py: is not up to date, run"),
     (DIGITS, None, "pub planted : ℕ\nplanted = planted_name\n", "lexical_base.Digits.planted: what is planted_name?"),
     (f"{SPECS}/Additions/Planted.antt", None, "-- Planted.\n\npub planted : ℕ\nplanted = 1\n",
      "lexical_util.Additions.Planted: its first comment names no public function that it serves"),

@@ -49,6 +49,11 @@ fn a_word_and_its_fields_are_printed() {
     ] {
         assert_eq!(text, wanted);
     }
+    let all = format!("{:?}", FormatView::new(u128::MAX));
+    assert!(
+        all.contains(", reserved_bits: 0xFFFF00FFFFE000FFFC0000, broken_rules: ["),
+        "{all}"
+    );
     assert_eq!(
         format!("{:#?}", FormatView::new(1 << 108)),
         "FormatView {\n    word: 0x00001000000000000000000000000000,\n    required_exponent_digits: false,\n    \
