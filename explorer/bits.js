@@ -2,7 +2,7 @@
 
 const ROW_BITS = 32;
 
-/* Returns the field of each bit: its name, its part of a number, and what it is called below the bits. */
+/* Returns the field of each bit: its name, its part of a number, and its title below the bits. */
 function fieldsOfBits(data) {
     const bits = Array.from({ length: 128 }, () => ({ name: "reserved", part: "reserved", title: "reserved" }));
     for (const { bit, name, part } of data.flags) {

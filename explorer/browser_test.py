@@ -1,4 +1,4 @@
-"""Does in headless Chromium what a user of index.html does, and keeps a picture of each step:
+"""Takes the steps of a user of index.html in headless Chromium, and keeps a picture of each step:
 
     python3 explorer/browser_test.py FOLDER
 
@@ -75,7 +75,7 @@ class Browser:
         return self.find(selector).get_property("value")
 
     def type(self, selector, text):
-        """Writes a text in the place of what is there."""
+        """Replaces the text of an input."""
         self.find(selector).send_keys(Keys.CONTROL, "a")
         self.find(selector).send_keys(text or Keys.DELETE)
 
@@ -97,7 +97,7 @@ class Browser:
         return self.find(selector).get_attribute("class").split()
 
     def log(self):
-        """Returns what the browser complains of."""
+        """Returns the messages in the log of the browser."""
         return [it["message"] for it in self.driver.get_log("browser")]
 
 

@@ -62,7 +62,7 @@ def fields():
 
 
 def limits():
-    """Returns the rows of the table of what a format cannot express."""
+    """Returns the rows of the table of limits in FORMAT."""
     table = check_format.PAGE.partition("## What a format cannot express\n")[2].partition("\n## ")[0]
     return re.findall(r"^\| (.*) \| (.*) \|$", table, re.M)[1:] or sys.exit("docs/FORMAT.md: no table of limits")
 
@@ -111,7 +111,7 @@ def constants():
 
 
 def data():
-    """Returns what the page reads of the repository."""
+    """Returns the data that the page shows."""
     return {
         "constants": constants(),
         "flags": [*flags()],
@@ -195,7 +195,7 @@ def library(rustc, folder, name, source):
 
 
 def missing():
-    """Returns what to do if there is no compiler."""
+    """Returns the message for a machine without a compiler."""
     return (
         f"no compiler has the target {TARGET}: run `rustup target add {TARGET}`, or install these packages of Debian"
         f" (explorer/build --install does it): {' '.join(PACKAGES)}"
@@ -239,7 +239,7 @@ def old_page():
 
 
 def check():
-    """Returns what is wrong with the page that is there, or an empty text."""
+    """Returns the fault of the page that is there, or an empty text."""
     text, wasm, found = old_page()
     if found != hash_of(wasm):
         return "explorer/index.html: its WebAssembly is not up to date with rust/, run explorer/build"

@@ -22,7 +22,7 @@ class Code {
         });
     }
 
-    /* Returns what is lost if the word cannot be built. */
+    /* Returns a warning if no builder makes the word. */
     warning(word) {
         return this.library.isBuilt(word) ? "" : " (the code builds another word, since no builder makes this one)";
     }

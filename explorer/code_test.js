@@ -1,4 +1,4 @@
-/* Writes the code that the page shows for some words, and programs that print what the code builds:
+/* Writes the code that the page shows for some words, and programs that print the words of that code:
  *
  *     node explorer/code_test.js FOLDER
  *

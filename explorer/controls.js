@@ -86,7 +86,7 @@ class Controls {
     makeBytes() {
         const rows = this.data.bytes.map(({ name, meaning, part }) => {
             const parsed = (text) => this.parsed(name, text);
-            const text = meaning.replace(/^0 is none; else /, "");
+            const text = meaning.replace(/^absent if 0; /, "");
             return this.byteRow(name, name, part, text, parsed, (edit) => this.edit([edit]));
         });
         for (const [name, label, meaning] of [
@@ -120,7 +120,7 @@ class Controls {
         return element("div", { class: "byte-row field", "data-field": name }, label, box, other, text, problem);
     }
 
-    /* Returns the edit of what was typed: a value of a setting, a character without quotes, or nothing. */
+    /* Returns the edit of a typed text: the value of a setting, a character without quotes, or an empty text. */
     parsed(name, text) {
         const first = this.library.parseEdit(`${name}=${text || "none"}`);
         return first.edit || [...text].length !== 1 ? first : this.library.parseEdit(`${name}='${text}'`);

@@ -1,7 +1,7 @@
 /* The calls of peltzivar.h, which run as WebAssembly. A word is a BigInt, and an edit {setter, value}. */
 "use strict";
 
-/* Offsets in the memory of its own that a library gets: what calls write, and texts that they read. */
+/* Offsets in the memory that is added for the results and the arguments of calls. */
 const AT = { result: 0, word: 64, fields: 128, edits: 256, arguments: 512, text: 1024, input: 4096 };
 const HALF = (1n << 64n) - 1n;
 const PAGE_BYTES = 65536;

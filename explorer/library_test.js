@@ -36,7 +36,7 @@ class Recorded {
         return [bits, ...Object.values(bytes)];
     }
 
-    /* Returns what the library returns for the parts of a line, and what was recorded. */
+    /* Returns the result of the library for the parts of a line, and the recorded result. */
     returned(kind, parts) {
         const call = (name, ...numbers) => this.library.call(name, ...numbers);
         const word = () => BigInt(`0x${parts[0]}`);

@@ -1,4 +1,4 @@
-/* The library of index.html and what else of the page needs no browser, for the tests in Node.js. */
+/* Loads the library of index.html, and the parts of the page that need no browser, for the tests in Node.js. */
 "use strict";
 
 const fs = require("node:fs");

@@ -5,7 +5,7 @@ const SAVING_DELAY = 200;
 /* The exponent character e and the decimal point. */
 const OPTIONS = { exponent: 101, point: 46 };
 
-/* Returns where each field is, and what it means, by its name. */
+/* Returns the place and the meaning of each field by its name. */
 function meaningsOf({ flags, groups, bytes }) {
     const option = "not in the word";
     return new Map([
@@ -172,7 +172,7 @@ class Page {
         this.show();
     }
 
-    /* Shows the word as text, and forgets what was pasted. */
+    /* Shows the word as text, in place of a pasted text. */
     showWord() {
         find("word").value = this.library.wordText(this.state.word);
         find("word").removeAttribute("aria-invalid");
@@ -206,7 +206,7 @@ class Page {
         setText(find("code"), this.code[this.language](this.state.word, text));
     }
 
-    /* Marks what has the same field as an element, and describes the field. */
+    /* Marks each element with the same field as this one, and describes the field. */
     mark(node) {
         const names = (node?.dataset.field ?? "").split(" ").filter(Boolean);
         for (const other of document.querySelectorAll("[data-field]")) {

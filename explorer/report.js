@@ -1,4 +1,4 @@
-/* What the library reports of a word: reasons, notes, normal form, and what differs from the standard format. */
+/* The report on a word: its reasons, notes, normal form, and differences from the standard format. */
 
 /* Returns a button of a class with a text. */
 function button(kind, text, click, attributes = {}) {

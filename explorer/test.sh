@@ -1,8 +1,8 @@
 #!/usr/bin/env bash
-# Tests the page: that its check finds changes, that Node.js gets the recorded results from its WebAssembly, that the code
-# which it shows builds the word, and that it does in Chromium what a user wants. Pictures of Chromium are kept in out/.
+# Tests the page: its check finds changes; its WebAssembly returns the recorded results in Node.js; the code that it
+# shows builds the word; Chromium takes the steps of a user, and a picture of each is kept in out/.
 #
-# The last line is `N passed, M failed, K skipped`; the exit status is 1 if a row failed, or there are fewer than before.
+# The last line is `N passed, M failed, K skipped`. The exit status is 1 if a row failed, or there are fewer now.
 set -u
 cd "$(dirname "$0")" || exit
 . ../.ci/rows.sh
@@ -14,7 +14,7 @@ release=$work/target/release
 wasm="explorer/index.html: its WebAssembly is not up to date with rust/, run explorer/build"
 rest="explorer/index.html: is not up to date with FORMAT, the recipes or explorer/, run explorer/build"
 
-# stale TEXT FILE FROM TO: in the copy of the repository, where FROM becomes TO in the file, `build --check` prints TEXT.
+# stale TEXT FILE FROM TO: if FROM becomes TO in the file of the copied repository, `build --check` prints TEXT.
 stale() {
     tried || return 0
     cp "$work/copy/$2" "$work/before"
@@ -28,7 +28,7 @@ END
     mv "$work/before" "$work/copy/$2"
 }
 
-# checks: what `build --check` prints, and that a comment does not matter to it.
+# checks: `build --check` finds each change but that of a comment.
 checks() {
     passes ./build --check
     tar --exclude=out --exclude=target -C .. -c c crates docs explorer rust | tar -x -C "$work/copy"
@@ -79,8 +79,8 @@ browser() {
     [ "$lacking" ] || rm -rf out
     passes "$python" ./browser_test.py out
     if [ -e out/times.txt ]; then cat out/times.txt; fi
-    if grep -q busy out/times.txt; then lacks 'a machine that is not busy'; else here[a machine that is not busy]=yes; fi
-    needing 'a machine that is not busy' passes grep 'first paint' out/times.txt
+    if grep -q busy out/times.txt; then lacks 'an idle core'; else here[an idle core]=yes; fi
+    needing 'an idle core' passes grep 'first paint' out/times.txt
 }
 
 # A python3 of the PATH that has selenium. Debian's package python3-selenium is one of /usr/bin/python3.
