@@ -2,7 +2,7 @@
 # Tests the page: its check finds changes; its WebAssembly returns the recorded results in Node.js; the code that it
 # shows builds the word; Chromium takes the steps of a user, and a picture of each is kept in out/.
 #
-# The last line is `N passed, M failed, K skipped`. The exit status is 1 if a row failed, or there are fewer now.
+# The last line is `N passed, M failed, K skipped`. The exit status is 1 if a row failed, or if rows are missing.
 set -u
 cd "$(dirname "$0")" || exit
 . ../.ci/rows.sh
