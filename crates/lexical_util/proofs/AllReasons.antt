@@ -1,7 +1,7 @@
 -- Lemmas on all reasons of a word: each broken rule has a reason, all reasons are distinct, and a word is lawful if and
 -- only if it has no reason.
 use Rattle.std.proofs.Common.{ℕ, ◌≡◌, ◌≢◌, ◌<◌, ◌↔◌, ◌&&◌, ◌∙◌, Bool, true, false, IsTrue, List, [], ◌∷◌}
-use Rattle.std.proofs.Common.{suc, ◌++◌, length, drop, flat_map, refl, ap, sym, subst, slice_index_or, arith, nat_lt}
+use Rattle.std.proofs.Common.{suc, ◌++◌, drop, flat_map, refl, ap, sym, subst, slice_index_or, arith, nat_lt}
 use Rattle.std.specs.List.{AllByRecursion, IsAmong, filter_map, list_all}
 use Rattle.std.specs.Bool.{IsFalse}
 use Rattle.std.proofs.lemmas.Bool.{true≢false, and_from, and_parts, and_right}
@@ -15,7 +15,6 @@ use Rattle.lexical_flags.specs.declared.format_flags.all_rules.Rule.{Rule}
 use Rattle.lexical_flags.specs.declared.format_flags.all_rules.Rule.TheVariants as rules
 use Rattle.lexical_util.specs.declared.edits.Edit.{Edit}
 use Rattle.lexical_util.specs.declared.edits.Edit.TheVariants as edits
-use Rattle.lexical_util.specs.declared.edits.FlagSetter.TheVariants as setters
 use Rattle.lexical_util.specs.declared.reasons.Reason.{Reason}
 use Rattle.lexical_util.specs.declared.reasons.Reason.TheVariants as reasons
 use Rattle.lexical_util.specs.Additions.Reasons.{Candidate, if_applicable, candidates, candidates_of, reasons_of}

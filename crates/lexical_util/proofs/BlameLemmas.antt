@@ -1,10 +1,10 @@
 -- Lemmas that a reason of a word is true of each word with the same bits under its mask, which also breaks its rule.
 use Rattle.std.proofs.Common.{ℕ, ◌≡◌, ◌≢◌, ◌==◌, ◌&&◌, ◌||◌, ◌⊎◌, inl, inr, ◌<◌, ◌*◌, ◌-◌, ◌^◌, bit_and, mod-lt, Some}
-use Rattle.std.proofs.Common.{None, Option, Bool, true, false}
+use Rattle.std.proofs.Common.{None, Bool, true, false}
 use Rattle.std.proofs.Common.{IsTrue, not, if◌then◌else◌, refl, ap, sym, subst, ◌∙◌, arith}
 use Rattle.std.specs.Bool.{⊤, IsFalse}
 use Rattle.std.specs.List.{AllByRecursion}
-use Rattle.std.proofs.lemmas.Bool.{true≢false, false≢true, cases_eq, eqb-true, eq-eqb, or_left, or_right, and_from}
+use Rattle.std.proofs.lemmas.Bool.{true≢false, cases_eq, eqb-true, eq-eqb, or_left, or_right, and_from}
 use Rattle.std.proofs.lemmas.Bool.{and_parts, not_from_true}
 use Rattle.std.proofs.lemmas.Bool.Decides.{nat_tests}
 use Rattle.std.proofs.lemmas.Nat.{and_assoc, and_comm, pow_pos}
@@ -14,11 +14,11 @@ use Rattle.lexical_base.specs.Digits.{digits_of}
 use Rattle.lexical_flags.specs.Layout as layout
 use Rattle.lexical_flags.specs.Layout.{Byte, Flag, bit, shift}
 use Rattle.lexical_flags.specs.Record.{Record, raw, effective, effective_exponent_radix}
-use Rattle.lexical_flags.specs.Roles.{cased, digits, signs, are_disjoint, Disjoint, AreDisjoint, other_case}
+use Rattle.lexical_flags.specs.Roles.{cased, digits, signs, are_disjoint, Disjoint, other_case}
 use Rattle.lexical_flags.specs.Roles.{separator, prefix, suffix}
-use Rattle.lexical_flags.specs.Rules.{IsRadix, IsTextOrNone, IsAbsentOrPunctuation, IsPunctuation, Holds, contradict}
+use Rattle.lexical_flags.specs.Rules.{IsRadix, IsTextOrNone, IsAbsentOrPunctuation, IsPunctuation, Holds}
 use Rattle.lexical_flags.specs.Rules.{lacks_position}
-use Rattle.lexical_flags.specs.Additions.Masks.{byte_mask, reserved_mask}
+use Rattle.lexical_flags.specs.Additions.Masks.{reserved_mask}
 use Rattle.lexical_flags.specs.declared.format_flags.all_rules.Rule.{Rule}
 use Rattle.lexical_flags.specs.declared.format_flags.all_rules.Rule.TheVariants as rules
 use Rattle.lexical_flags.proofs.RuleFieldLemmas.{byte, flag}
@@ -29,7 +29,6 @@ use Rattle.lexical_builder.specs.OptionByte.{byte_of_option, option_of_byte}
 use Rattle.lexical_builder.proofs.OptionByteLemmas.{byte_of_option_back}
 use Rattle.lexical_util.specs.declared.edits.Edit.{Edit}
 use Rattle.lexical_util.specs.declared.edits.Edit.TheVariants as edits
-use Rattle.lexical_util.specs.declared.edits.FlagSetter.{FlagSetter}
 use Rattle.lexical_util.specs.declared.edits.FlagSetter.TheVariants as setters
 use Rattle.lexical_util.specs.declared.reasons.Reason.TheVariants as reasons
 use Rattle.lexical_util.specs.Additions.Reasons.{Blames, all_reasons, candidates, candidates_of, mantissa_candidate}

@@ -2,14 +2,15 @@
 use Rattle.std.proofs.Common.{ℕ, ◌≡◌, ◌↔◌, ◌==◌, ◌||◌, ◌⊎◌, inl, inr, not, Bool, true, false}
 use Rattle.std.proofs.Common.{IsTrue, List, [], ◌∷◌, length, map, slice_index_or, refl, sym, subst, ap, ◌∙◌}
 use Rattle.std.specs.List.{AllByRecursion, filter_map, list_all, list_any}
-use Rattle.std.proofs.lemmas.Bool.{and_parts, false≢true, eq-eqb, eqb-true}
+use Rattle.std.proofs.lemmas.Bool.{and_parts, eq-eqb, eqb-true}
 use Rattle.lexical_flags.specs.Rules.{Holds, rules_in_order}
 use Rattle.lexical_flags.specs.declared.format_flags.all_rules.Rule.{Rule}
 use Rattle.lexical_flags.specs.declared.format_flags.all_rules.Rule.TheVariants as rules
 use Rattle.lexical_util.specs.Edits.{all_writes, edited}
 use Rattle.lexical_util.specs.Additions.Reasons.{Candidate, if_applicable, in_three_slots, candidates_of}
-use Rattle.lexical_util.specs.Additions.Reasons.{mask_of_reason, reasons_of}
-use Rattle.lexical_util.specs.Additions.Mends.{has_other_reason, are_mending, Mends}
+use Rattle.lexical_util.specs.Additions.Reasons.{mask_of_reason, reasons_of, rule_of_reason}
+use Rattle.lexical_util.specs.Additions.Mends.{has_other_reason, is_kept, are_mending, keep_rules, remove_reason, Mends}
+use Rattle.lexical_util.specs.Additions.Mends.{edited_with_separator}
 use Rattle.lexical_util.specs.declared.edits.Edit.{Edit}
 use Rattle.lexical_util.specs.declared.reasons.Reason.{Reason}
 use Rattle.lexical_util.specs.declared.reasons.Reason.TheVariants as reasons
@@ -43,19 +44,30 @@ no_other reason list (inr only) =
 second : (a b : Bool) → (a || b) ≡ true → a ≡ false → b ≡ true
 second a b either none = subst (λ t. (t || b) ≡ true) none either
 
--- If edits pass the test, then they mend the reason.
-pub mending : (word : ℕ) (reason : Reason) (list : List Edit) → are_mending word reason list ≡ true
-    → Mends word reason list
-mending word reason list test rule before =
+-- If a word keeps a rule or breaks it only for one reason, and a new word passes the test of this rule, then the new
+-- word keeps the rule.
+kept_after : (word new : ℕ) (reason : Reason) (rule : Rule)
+    → (has_other_reason word reason rule || is_kept new rule) ≡ true
+    → Holds rule word ⊎ (reasons_of rule word ≡ reason ∷ []) → Holds rule new
+kept_after word new reason rule test before =
     let reasons : (reasons_of rule word ≡ []) ⊎ (reasons_of rule word ≡ reason ∷ []) = elim before [
       | inl kept ↦ inl ((kept_without_reason rule word).0 kept)
       | inr only ↦ inr only
     ] in
-    let new = edited word (all_writes list) in
-    let passes : (has_other_reason word reason rule || (length (reasons_of rule new) == 0)) ≡ true =
-    each_rule (λ r. has_other_reason word reason r || (length (reasons_of r new) == 0)) test rule in
     (kept_without_reason rule new).1 (no_length (reasons_of rule new)
-    (eqb-true _ 0 (second _ _ passes (no_other reason (reasons_of rule word) reasons))))
+    (eqb-true _ 0 (second _ _ test (no_other reason (reasons_of rule word) reasons))))
+
+-- If edits pass the tests, then they mend the reason.
+pub mending : (word : ℕ) (reason : Reason) (list : List Edit) → are_mending word reason list ≡ true
+    → Mends word reason list
+mending word reason list test =
+    let tests = and_parts (keep_rules word reason list) (remove_reason word reason list) test in
+    record {
+      rules = λ rule. kept_after word (edited word (all_writes list)) reason rule (each_rule (λ r.
+          has_other_reason word reason r || is_kept (edited word (all_writes list)) r) tests.0 rule);
+      separator = λ only. kept_after word (edited_with_separator word list) reason (rule_of_reason reason) tests.1
+          (inr only);
+    }
 
 -- A list with an element is not empty.
 cons_is_not_nil : (first : Reason) (others : List Reason) → first ∷ others ≡ [] → ⊥
@@ -74,18 +86,6 @@ kept_test rule word kept same = by_list (reasons_of rule word) kept (
   by_list (first ∷ others) true empty = absurd (cons_is_not_nil first others (empty.0 refl))
   by_list (first ∷ others) false empty = sym (not_true (length (first ∷ others) == 0)
       (λ zero. cons_is_not_nil first others (no_length (first ∷ others) (eqb-true _ 0 zero))))
-
--- The test in the code has the value of the test in the definition.
-pub test_is : (word : ℕ) (reason : Reason) (list taken : List Edit) (mended mask : ℕ) (result : Bool) → taken ≡ list
-    → mended ≡ edited word (all_writes taken) → mask ≡ mask_of_reason reason
-    → result ≡ list_all (λ rule. list_any (λ other. not (mask_of_reason other == mask)) (reasons_of rule word)
-    || (length (reasons_of rule mended) == 0)) rules_in_order
-    → result ≡ are_mending word reason list
-test_is word reason list taken mended mask result same mended_is mask_is test =
-    test ∙ (λ i. list_all (λ rule. list_any (λ other. not (mask_of_reason other == mask_is i)) (reasons_of rule word)
-    || (length (reasons_of rule (new i)) == 0)) rules_in_order) where
-      new : mended ≡ edited word (all_writes list)
-      new = mended_is ∙ ap (λ l. edited word (all_writes l)) same
 
 -- The reasons in the slots of candidates are the reasons that apply.
 pub in_slots : (list : List (Candidate Reason))

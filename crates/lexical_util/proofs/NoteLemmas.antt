@@ -1,7 +1,6 @@
 -- Lemmas on the fields that notes describe: clearing them leaves the normal form, or rules and options, the same.
-use Rattle.std.proofs.Common.{ℕ, ◌≡◌, ◌≢◌, ◌↔◌, ◌==◌, if◌then◌else◌, ◌&&◌, ◌||◌, not, Bool, true, false, IsTrue, []}
+use Rattle.std.proofs.Common.{ℕ, ◌≡◌, ◌≢◌, ◌↔◌, ◌==◌, if◌then◌else◌, ◌&&◌, Bool, true, false, []}
 use Rattle.std.proofs.Common.{◌∷◌, refl, sym, subst, ap, ◌∙◌, arith}
-use Rattle.lexical_base.specs.Ascii.{ByteSet}
 use Rattle.lexical_flags.specs.Layout as layout
 use Rattle.lexical_flags.specs.Layout.{digit_separator_flags}
 use Rattle.std.specs.List.{AllByRecursion}

@@ -2,7 +2,8 @@
 
 //! Edits that mend the fields that a reason blames.
 
-use crate::edits::{edit_word, raw_exponent_base, raw_exponent_radix, Edit};
+use crate::edits::{apply_all, edit_word, raw_exponent_base, raw_exponent_radix, Edit};
+use crate::format_builder::NumberFormatBuilder;
 use crate::format_flags::{Rule, RULES};
 use crate::reasons::{reasons_of, Reason};
 
@@ -15,17 +16,36 @@ pub const MAX_MENDING_EDITS: usize = 3;
 ///
 /// `field` is the edit that writes the field with its value in the word. The edits clear a flag or an optional byte, or
 /// set the mantissa radix to 10 unless it is 10 already. If they set it, an absent exponent byte stays absent. After
-/// [`edit_word`] with these edits, the word keeps each rule that only this reason broke, and each rule that it kept.
+/// [`edit_word`] with these edits, the word keeps each rule that only this reason broke, and each rule that it kept. They
+/// do not mend a digit separator only because [`edit_word`] drops it if no flag allows one.
 #[must_use]
 #[doc(hidden)]
 pub fn mend(format: u128, reason: &Reason, field: &Edit) -> ([Edit; MAX_MENDING_EDITS], usize) {
     let (edits, count) = edits_for(format, field);
-    let mended = edit_word(format, &edits[..count]);
-    if all_kept(&RULES, format, mended, reason.mask()) {
+    if are_mending(format, reason, &edits[..count]) {
         (edits, count)
     } else {
         (edits, 0)
     }
+}
+
+// Returns whether edits mend a reason.
+fn are_mending(format: u128, reason: &Reason, edits: &[Edit]) -> bool {
+    let mended = edit_word(format, edits);
+    all_kept(&RULES, format, mended, reason.mask()) & remove_reason(format, reason, edits)
+}
+
+// Returns whether the word keeps the first rule of the reason after the edits, also if a flag allows the digit separator,
+// or has a reason for this rule that blames other bits.
+fn remove_reason(format: u128, reason: &Reason, edits: &[Edit]) -> bool {
+    let builder = apply_all(NumberFormatBuilder::rebuild(format), edits);
+    let with_separator = builder.integer_internal_digit_separator(true);
+    is_kept_or_other(
+        reason.rule(),
+        format,
+        with_separator.build_unchecked(),
+        reason.mask(),
+    )
 }
 
 // Returns an array that begins with the edits that may mend a field, and their number.

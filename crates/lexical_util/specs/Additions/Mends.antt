@@ -1,13 +1,14 @@
 -- For `mend`: edits that mend a field that a reason blames.
-use Rattle.std.specs.Prelude.{ℕ, ◌≡◌, ◌==◌, ◌||◌, ◌⊎◌, true, false, not, if◌then◌else◌, Bool, Some, None, List, []}
-use Rattle.std.specs.Prelude.{◌∷◌, length}
+use Rattle.std.specs.Prelude.{ℕ, ◌≡◌, ◌==◌, ◌&&◌, ◌||◌, ◌⊎◌, true, false, not, if◌then◌else◌, Bool, Some, None, List}
+use Rattle.std.specs.Prelude.{[], ◌∷◌, length}
 use Rattle.std.specs.List.{list_all, list_any}
 use Rattle.lexical_flags.specs.Layout as layout
-use Rattle.lexical_flags.specs.Record.{Record, raw}
+use Rattle.lexical_flags.specs.Record.{Record, fill, pack, raw}
 use Rattle.lexical_flags.specs.Rules.{Holds, rules_in_order}
 use Rattle.lexical_flags.specs.declared.format_flags.all_rules.Rule.{Rule}
+use Rattle.lexical_builder.specs.Writes.{after, write_flag}
 use Rattle.lexical_util.specs.Edits.{all_writes, edited}
-use Rattle.lexical_util.specs.Additions.Reasons.{mask_of_reason, reasons_of}
+use Rattle.lexical_util.specs.Additions.Reasons.{mask_of_reason, reasons_of, rule_of_reason}
 use Rattle.lexical_util.specs.declared.edits.Edit.{Edit}
 use Rattle.lexical_util.specs.declared.edits.Edit.TheVariants as edits
 use Rattle.lexical_util.specs.declared.reasons.Reason.{Reason}
@@ -43,11 +44,29 @@ has_other_reason word reason rule =
 abbrev pub is_kept : ℕ → Rule → Bool
 is_kept word rule = length (reasons_of rule word) == 0
 
--- `are_mending word reason list` is true if, after the edits in `list`, `word` keeps every rule that has no reason
--- other than `reason`.
-abbrev pub are_mending : ℕ → Reason → List Edit → Bool
-are_mending word reason list =
+-- `edited_with_separator word list` is `word` after the edits in `list`, with a flag that allows the digit separator,
+-- so that packing keeps it.
+abbrev pub edited_with_separator : ℕ → List Edit → ℕ
+edited_with_separator word list = pack (after
+    (after (fill (raw word)) (all_writes list)) (write_flag layout.integer_internal_digit_separator true ∷ []))
+
+-- `keep_rules word reason list` is true if, after the edits in `list`, `word` keeps every rule that has no reason other
+-- than `reason`.
+abbrev pub keep_rules : ℕ → Reason → List Edit → Bool
+keep_rules word reason list =
     list_all (λ rule. has_other_reason word reason rule || is_kept (edited word (all_writes list)) rule) rules_in_order
+
+-- `remove_reason word reason list` is true if, after the edits in `list`, `word` keeps the first rule of `reason` even
+-- with the digit separator, or broke this rule for another reason too.
+abbrev pub remove_reason : ℕ → Reason → List Edit → Bool
+remove_reason word reason list =
+    has_other_reason word reason (rule_of_reason reason)
+    || is_kept (edited_with_separator word list) (rule_of_reason reason)
+
+-- `are_mending word reason list` is true if the edits in `list` pass both tests. By the second, they do not mend a
+-- digit separator only because packing drops it.
+abbrev pub are_mending : ℕ → Reason → List Edit → Bool
+are_mending word reason list = keep_rules word reason list && remove_reason word reason list
 
 -- `mend_of word reason field` lists the edits that mend `field` of `word` for `reason`. It is empty if no edits do.
 abbrev pub mend_of : ℕ → Reason → Edit → List Edit
@@ -55,7 +74,9 @@ mend_of word reason field =
     let list = edits_for (raw word) field in if are_mending word reason list then list else []
 
 -- `Mends word reason list` holds if, after the edits in `list`, `word` keeps each rule that it kept before, and each
--- rule that only `reason` broke.
-abbrev pub Mends : ℕ → Reason → List Edit → Type 0
-Mends word reason list = (rule : Rule) → Holds rule word ⊎ (reasons_of rule word ≡ reason ∷ [])
-    → Holds rule (edited word (all_writes list))
+-- rule that only `reason` broke: its first rule also with the digit separator.
+pub record Mends (word : ℕ) (reason : Reason) (list : List Edit) : Type 0 where
+  pub rules : (rule : Rule) → Holds rule word ⊎ (reasons_of rule word ≡ reason ∷ [])
+      → Holds rule (edited word (all_writes list))
+  pub separator : (reasons_of (rule_of_reason reason) word ≡ reason ∷ [])
+      → Holds (rule_of_reason reason) (edited_with_separator word list)

@@ -1,8 +1,7 @@
 -- For `notes` and `notes_of_fields`: the fields that are set and change no number that can be written.
-use Rattle.std.specs.Prelude.{ℕ, ◌≡◌, ◌↔◌, false, ◌==◌, ◌&&◌, not, if◌then◌else◌, Bool, List, [], ◌∷◌, ◌++◌, map}
+use Rattle.std.specs.Prelude.{ℕ, ◌≡◌, ◌↔◌, ◌==◌, ◌&&◌, not, if◌then◌else◌, Bool, List, [], ◌∷◌, ◌++◌, map}
 use Rattle.std.specs.Prelude.{bit_and, bit_or}
 use Rattle.std.specs.List.{AllByRecursion, list_any}
-use Rattle.lexical_base.specs.Ascii.{ByteSet}
 use Rattle.lexical_flags.specs.Layout as layout
 use Rattle.lexical_flags.specs.Layout.{IsClean, digit_separator_flags}
 use Rattle.lexical_flags.specs.Record.{Record, set_byte, raw, separator_allowed}

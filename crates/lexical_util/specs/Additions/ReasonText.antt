@@ -1,5 +1,5 @@
 -- For `text` of reasons and notes: one sentence for each.
-use Rattle.std.specs.Prelude.{ℕ, ◌==◌, if◌then◌else◌, Option, Some, None, List, ◌++◌, codes, decimal}
+use Rattle.std.specs.Prelude.{ℕ, Option, Some, None, List, ◌++◌, codes, decimal}
 use Rattle.lexical_base.specs.Additions.ShortTexts.{hexadecimal, numbered_byte, quoted_byte}
 use Rattle.lexical_util.specs.Additions.SettingNumbers.{name_of_flags, argument_byte}
 use Rattle.lexical_util.specs.declared.edits.Edit.{Edit}

@@ -4,11 +4,12 @@ ghost use Rattle.std.specs.Prelude.{◌≡◌, ◌≢◌, ◌≤◌, ◌==◌, �
 ghost use Rattle.std.specs.List.{filter_map, list_all, list_any};
 ghost use Rattle.lexical_flags.specs.Record.{raw};
 ghost use Rattle.lexical_util.specs.Additions.Reasons.{mask_of_reason, reasons_of};
-ghost use Rattle.lexical_util.specs.Additions.Mends.{edits_for, mend_of, Mends};
+ghost use Rattle.lexical_util.specs.Additions.Mends.{are_mending, edits_for, mend_of, Mends, remove_reason};
 ghost use Rattle.lexical_util.specs.declared.edits.Edit.TheVariants as edits;
 
-use crate::edits::{Edit, edit_word, raw_exponent_base, raw_exponent_radix};
+use crate::edits::{Edit, apply_all, edit_word, raw_exponent_base, raw_exponent_radix};
 use crate::reasons::{Reason, reasons_of};
+use lexical_builder::format_builder::NumberFormatBuilder;
 use lexical_flags::format_flags::{RULES, Rule};
 
 /// The maximum number of edits that [`mend`] returns.
@@ -20,18 +21,41 @@ pub const MAX_MENDING_EDITS: usize = 3;
 /// `field` is the edit that writes the field with its value in the word. The edits clear a flag or an optional byte, or
 /// set the mantissa radix to 10 unless it is 10 already. If they set it, an absent exponent byte stays absent. After
 /// [`edit_word`] with these edits, the word keeps each rule that only this reason broke, and each rule that it kept.
+/// That [`edit_word`] drops a digit separator that no flag allows is not enough to mend the separator.
 pub fn mend(format: u128, reason: &Reason, field: &Edit) -> ([Edit; MAX_MENDING_EDITS], usize)
     ensures edits { take result.1 result.0 ≡ mend_of format reason.now field.now }
     ensures mends { result.1 ≢ 0 → Mends format reason.now (take result.1 result.0) }
     ensures count { result.1 ≤ 3 }
 {
     let (edits, count) = edits_for(format, field);
-    let mended = edit_word(format, &edits[..count]);
-    if all_kept(&RULES, format, mended, reason.mask()) {
+    if are_mending(format, reason, &edits[..count]) {
         (edits, count)
     } else {
         (edits, 0)
     }
+}
+
+// Returns whether edits mend a reason.
+fn are_mending(format: u128, reason: &Reason, edits: &[Edit]) -> bool
+    ensures { result ≡ are_mending format reason.now edits.now }
+{
+    let mended = edit_word(format, edits);
+    all_kept(&RULES, format, mended, reason.mask()) & remove_reason(format, reason, edits)
+}
+
+// Returns whether the word keeps the first rule of the reason after the edits and with a flag that allows the digit
+// separator, or has a reason for this rule that blames other bits.
+fn remove_reason(format: u128, reason: &Reason, edits: &[Edit]) -> bool
+    ensures { result ≡ remove_reason format reason.now edits.now }
+{
+    let builder = apply_all(NumberFormatBuilder::rebuild(format), edits);
+    let with_separator = builder.integer_internal_digit_separator(true);
+    is_kept_or_other(
+        reason.rule(),
+        format,
+        with_separator.build_unchecked(),
+        reason.mask(),
+    )
 }
 
 // Returns an array that begins with the edits that may mend a field, and their number.

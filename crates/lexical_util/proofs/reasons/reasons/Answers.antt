@@ -1,4 +1,4 @@
-use Rattle.lexical_util.proofs.AllReasons.{broken, by_rule, distinct, lawful_without_reason}
+use Rattle.lexical_util.proofs.AllReasons.{broken, by_rule, lawful_without_reason}
 use Rattle.lexical_util.proofs.BlameLemmas.{blame}
 use Rattle.lexical_util.proofs.reasons.reasons.Goals as goal
 

@@ -25,4 +25,4 @@ returns-clause-mends c = mending 0x0A0A0A00_00000000_00000000_0000003C
 
 pub returns-clause-no_edits : goal.returns-clause-no_edits
 unfolding on_literals
-returns-clause-no_edits c mends = true≢false (mends rules.MantissaSignFlagsAgree (inr refl))
+returns-clause-no_edits c mends = true≢false (mends.rules rules.MantissaSignFlagsAgree (inr refl))

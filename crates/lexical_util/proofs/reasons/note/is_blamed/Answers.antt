@@ -1,4 +1,4 @@
-use Rattle.std.proofs.Common.{◌≡◌, ◌∙◌, ◌==◌, ap, not, bit_and, refl, Bool, List, [], ◌∷◌, map, true, false}
+use Rattle.std.proofs.Common.{◌≡◌, ◌∙◌, ◌==◌, ap, not, bit_and, refl, List, [], ◌∷◌, map, true, false}
 use Rattle.std.specs.List.{filter_map, list_any}
 use Rattle.lexical_util.specs.Additions.Reasons.{Candidate, if_applicable, candidates, mask_of_reason}
 use Rattle.lexical_util.specs.declared.reasons.Reason.{Reason}
