@@ -3,6 +3,7 @@
  *
  *     ./settings_test FILE NUMBER     writes the file so often */
 #define _POSIX_C_SOURCE 200809L
+#include <inttypes.h>
 #include <stdio.h>
 
 /* What settings.c prints to standard output. */
@@ -17,14 +18,14 @@ static FILE *printed;
 
 enum { MOST_LINES = 3000, MOST_BYTES = 20000 };
 
-/* A random file: its path and bytes, what has to be printed of it, the fields that its settings write, the edit of each
- * line, the last line that writes each bit of a word, and whether each line is a setting of which something is left. */
+/* A random file, what has to be printed of it, the fields that its settings write, the edit of each line, the last line
+ * that writes each bit of a word, of how many bits each line is the last, whether a setting of that line is left, and
+ * whether there is no problem. */
 static struct {
-    const char *path;
     FILE *file, *wanted;
     peltzivar_fields fields;
     peltzivar_edit edits[MOST_LINES + 1];
-    size_t writers[128];
+    size_t writers[128], left[MOST_LINES + 1];
     bool is_left[MOST_LINES + 1], is_read;
 } made;
 
@@ -64,7 +65,7 @@ static void write_setting(
     made.is_read &= !why;
     while (start < len && strchr(" \t\r", text[start]) && text[start]) start++;
     while (len > start && strchr(" \t\r", text[len - 1]) && text[len - 1]) len--;
-    if (why) fprintf(made.wanted, "%s: line %zu: ", made.path, line);
+    if (why) fprintf(made.wanted, "line %zu: ", line);
     for (; why && start < len; start++) {
         const int byte = (unsigned char)text[start];
         fprintf(made.wanted, byte < 32 || byte > 126 ? "\\x%02x" : "%c", byte);
@@ -78,16 +79,18 @@ static void want_setting(size_t line) {
     char name[PELTZIVAR_TEXT_SIZE];
     const peltzivar_word mask = peltzivar_edit_mask(made.edits[line]);
     for (int bit = 0; bit < 128; bit++) {
-        if ((bit < 64 ? mask.low : mask.high) >> (bit % 64) & 1) made.writers[bit] = line;
-    }
-    for (size_t first = 1; first < line; first++) {
-        const peltzivar_word old = peltzivar_edit_mask(made.edits[first]);
-        if (!made.is_left[first] || (old.low & mask.low) != old.low || (old.high & mask.high) != old.high) continue;
-        peltzivar_setter_name(made.edits[first].setter, name, sizeof name);
-        fprintf(made.wanted, "%s: lines %zu, %zu: %s is set twice\n", made.path, first, line, name);
-        made.is_left[first] = made.is_read = false;
+        if (!((bit < 64 ? mask.low : mask.high) >> (bit % 64) & 1)) continue;
+        made.left[made.writers[bit]]--;
+        made.writers[bit] = line;
+        made.left[line]++;
     }
     made.is_left[line] = true;
+    for (size_t first = 1; first < line; first++) {
+        if (!made.is_left[first] || made.left[first] > 0) continue;
+        peltzivar_setter_name(made.edits[first].setter, name, sizeof name);
+        fprintf(made.wanted, "lines %zu, %zu: %s is set twice\n", first, line, name);
+        made.is_left[first] = made.is_read = false;
+    }
 }
 
 /* Writes a line whose setting can be read. */
@@ -178,38 +181,75 @@ static void want_located(peltzivar_word mask, const char *sentence) {
         lines++;
         last = line > last ? line : last;
     }
-    fprintf(made.wanted, "%s: line%s", made.path, lines == 1 ? "" : "s");
+    fprintf(made.wanted, "line%s", lines == 1 ? "" : "s");
     for (size_t line = 1, before = 0; line <= last; line++) {
         if (named[line]) fprintf(made.wanted, before++ ? ", %zu" : " %zu", line);
         named[line] = false;
     }
-    fprintf(made.wanted, ": %s\n", sentence);
+    fprintf(made.wanted, ": %s", sentence);
+}
+
+/* Returns whether a word keeps each rule that another keeps, and each that only the reason in a slot breaks. */
+static bool is_mended(peltzivar_word mended, peltzivar_word word, uint8_t index) {
+    for (uint8_t rule = 0; rule < PELTZIVAR_RULE_COUNT; rule++) {
+        bool has_other = false;
+        for (uint8_t other = 0; other < PELTZIVAR_CANDIDATE_COUNT; other++) {
+            has_other |= other != index && peltzivar_word_reason_breaks(word, other, rule);
+        }
+        if (!has_other && !peltzivar_keeps_rule(mended, rule)) return false;
+    }
+    return true;
+}
+
+/* Adds the settings of single fields that mend a reason: those that clear a flag or a byte, or set a radix to 10. */
+static void want_mends(peltzivar_word word, uint8_t index) {
+    const peltzivar_word mask = peltzivar_word_reason_mask(word, index);
+    const bool has_exponent = made.fields.exponent_base && made.fields.exponent_radix;
+    char text[PELTZIVAR_TEXT_SIZE];
+    for (uint8_t setter = 0; setter <= PELTZIVAR_SET_EXPONENT_RADIX; setter++) {
+        const bool is_radix = setter == PELTZIVAR_SET_MANTISSA_RADIX;
+        peltzivar_edit edit = {setter, is_radix ? 10 : 0};
+        const peltzivar_word bits = peltzivar_edit_mask(edit);
+        peltzivar_fields edited = made.fields;
+        if (setter == PELTZIVAR_SET_RADIX || (setter > PELTZIVAR_SET_SPECIAL_DIGIT_SEPARATOR &&
+            setter < PELTZIVAR_SET_DIGIT_SEPARATOR) || !((bits.low & mask.low) | (bits.high & mask.high))) continue;
+        made.is_read &= peltzivar_edit_fields(&edited, &edit, 1);
+        const peltzivar_word mended = peltzivar_pack(&edited);
+        if ((mended.low == word.low && mended.high == word.high) || !is_mended(mended, word, index)) continue;
+        if (is_radix && !has_exponent) edit.setter = PELTZIVAR_SET_RADIX;
+        peltzivar_text_of_edit(edit, text, sizeof text);
+        fprintf(made.wanted, "; mend: %s", text);
+    }
 }
 
 /* Adds what has to be printed of the fields, and returns the status. */
 static int want_format(void) {
     char text[PELTZIVAR_TEXT_SIZE];
     const peltzivar_word word = peltzivar_pack(&made.fields);
-    const bool is_lawful = !peltzivar_format_error(word);
-    if (made.is_read && is_lawful) fprintf(made.wanted, "0x%016" PRIX64 "%016" PRIX64 "\n", word.high, word.low);
+    const bool is_good = made.is_read && !peltzivar_format_error(word);
+    if (is_good) fprintf(made.wanted, "0x%016" PRIX64 "%016" PRIX64 "\n", word.high, word.low);
     for (uint8_t index = 0; index < PELTZIVAR_CANDIDATE_COUNT; index++) {
         if (!peltzivar_word_reason(word, index, text, sizeof text)) continue;
         want_located(peltzivar_word_reason_mask(word, index), text);
+        want_mends(word, index);
+        fprintf(made.wanted, "\n");
     }
     for (uint8_t index = 0; index < PELTZIVAR_MAX_NOTES; index++) {
         if (!peltzivar_note(&made.fields, index, text, sizeof text)) continue;
         want_located(peltzivar_note_mask(&made.fields, index), text);
+        fprintf(made.wanted, "\n");
     }
-    return !made.is_read ? 2 : is_lawful ? 0 : 1;
+    return !is_good;
 }
 
 /* Writes a random file. */
-static void write_file(void) {
-    made.file = fopen(made.path, "wb");
-    if (!made.file) exit(failure(made.path));
+static void write_file(const char *path) {
+    made.file = fopen(path, "wb");
+    if (!made.file) exit((perror(path), 2));
     made.fields = PELTZIVAR_NEW_FIELDS;
     made.is_read = true;
     memset(made.writers, 0, sizeof made.writers);
+    memset(made.left, 0, sizeof made.left);
     memset(made.is_left, 0, sizeof made.is_left);
     const size_t lines = below(50) ? below(20) : below(MOST_LINES);
     const bool has_bad = below(2);
@@ -226,14 +266,15 @@ static bool is_right(char *file) {
     size_t text_len, wanted_len;
     made.wanted = open_memstream(&wanted, &wanted_len);
     printed = open_memstream(&text, &text_len);
-    made.path = file;
-    write_file();
+    write_file(file);
     count = 0;
-    const int status = settings_main(2, arguments);
+    status = 0;
+    fields = PELTZIVAR_NEW_FIELDS;
+    const int got = settings_main(2, arguments);
     const int wanted_status = want_format();
     fclose(printed);
     fclose(made.wanted);
-    const bool right = status == wanted_status && strcmp(text, wanted) == 0;
+    const bool right = got == wanted_status && strcmp(text, wanted) == 0;
     free(text);
     free(wanted);
     if (right) remove(file);

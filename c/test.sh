@@ -67,38 +67,39 @@ digit_separator= 95
 case_sensitive_base_prefix=true
 END
 printf 'radix = 300\nno_special = 1\ncolour = 7\nradix\nradix = 2\nmantissa_radix 16' > "$work/unreadable.txt"
-unreadable="$work/unreadable.txt: line 1: radix = 300: radix takes a number, 2 to 36 in a lawful format
-$work/unreadable.txt: line 2: no_special = 1: no_special takes \`true\` or \`false\`
-$work/unreadable.txt: line 3: colour = 7: unknown setting name
-$work/unreadable.txt: line 4: radix: expected NAME=VALUE
-$work/unreadable.txt: line 6: mantissa_radix 16: expected NAME=VALUE"
+unreadable="line 1: radix = 300: radix takes a number, 2 to 36 in a lawful format
+line 2: no_special = 1: no_special takes \`true\` or \`false\`
+line 3: colour = 7: unknown setting name
+line 4: radix: expected NAME=VALUE
+line 6: mantissa_radix 16: expected NAME=VALUE"
 printf '# 0\0\r\nradix=2\0\r\n\r\n\x1b[2J\xff = 1\r\n\xef\xbb\xbfradix=2\r\nbase_prefix\r=\t256\r\n\vradix\v=\v1 6\v' > "$work/bytes.txt"
-bytes="$work/bytes.txt: line 2: radix=2\\x00: radix takes a number, 2 to 36 in a lawful format
-$work/bytes.txt: line 4: \\x1b[2J\\xff = 1: the line is not ASCII
-$work/bytes.txt: line 5: \\xef\\xbb\\xbfradix=2: the line is not ASCII
-$work/bytes.txt: line 6: base_prefix\\x0d=\\x09256: base_prefix takes a character such as '_', a number from 0 to 255, or \`none\`
-$work/bytes.txt: line 7: \\x0bradix\\x0b=\\x0b1 6\\x0b: radix takes a number, 2 to 36 in a lawful format"
+bytes="line 2: radix=2\\x00: radix takes a number, 2 to 36 in a lawful format
+line 4: \\x1b[2J\\xff = 1: the line is not ASCII
+line 5: \\xef\\xbb\\xbfradix=2: the line is not ASCII
+line 6: base_prefix\\x0d=\\x09256: base_prefix takes a character such as '_', a number from 0 to 255, or \`none\`
+line 7: \\x0bradix\\x0b=\\x0b1 6\\x0b: unknown setting name; did you mean radix?"
 printf 'radix = 2\r\nno_special=true\r\n\r\nspecial_digit_separator=true\r' > "$work/crlf.txt"
-crlf="$work/crlf.txt: lines 2, 4: no_special and special_digit_separator cannot both be set"
+either="mend: no_special=false; mend: special_digit_separator=false"
+crlf="lines 2, 4: no_special and special_digit_separator cannot both be set; $either"
 {
     printf '#%0100000d\n' 0
     for ((line = 2; line <= 20000; line++)); do echo '# radix = 16'; done
     printf '%100000snonsense%100000s\n' ' ' ' '
     printf 'base_suffix%0300d=h' 0
 } > "$work/long.txt"
-long="$work/long.txt: line 20001: nonsense: expected NAME=VALUE
-$work/long.txt: line 20002: base_suffix$(printf %0300d 0)=h: unknown setting name"
+long="line 20001: nonsense: expected NAME=VALUE
+line 20002: base_suffix$(printf %0300d 0)=h: unknown setting name"
 : > "$work/empty.txt"
 good="0x000010000000005F000000070001000C
-$work/good.txt: line 7: case_sensitive_base_prefix changes nothing: there is no base prefix"
+line 7: case_sensitive_base_prefix changes nothing: there is no base prefix"
 cat > "$work/unlawful.txt" << 'END'
 base_prefix = 98
 mantissa_radix = 16
 no_special = true
 special_digit_separator = true
 END
-unlawful="$work/unlawful.txt: lines 1, 2: the base prefix 'b' is a digit in radix 16
-$work/unlawful.txt: lines 3, 4: no_special and special_digit_separator cannot both be set"
+unlawful="lines 1, 2: the base prefix 'b' is a digit in radix 16; mend: base_prefix=none; mend: radix=10
+lines 3, 4: no_special and special_digit_separator cannot both be set; $either"
 cat > "$work/twice.txt" << 'END'
 radix = 16
 internal_digit_separator = true
@@ -111,23 +112,33 @@ digits = true
 trailing = true
 required_sign = true
 END
-twice="$work/twice.txt: lines 1, 5: radix is set twice
-$work/twice.txt: line 6: base-prefix = 'x': unknown setting name; did you mean base_prefix?
-$work/twice.txt: line 7: prefix = 'x': unknown setting name; did you mean base_prefix?
-$work/twice.txt: line 8: digits = true: unknown setting name
-$work/twice.txt: line 9: trailing = true: unknown setting name; did you mean trailing_digit_separator?
-$work/twice.txt: line 10: required_sign = true: unknown setting name; did you mean required_exponent_sign?"
+twice="lines 1, 5: radix is set twice
+line 6: base-prefix = 'x': unknown setting name; did you mean base_prefix?
+line 7: prefix = 'x': unknown setting name; did you mean base_prefix?
+line 8: digits = true: unknown setting name
+line 9: trailing = true: unknown setting name; did you mean trailing_digit_separator?
+line 10: required_sign = true: unknown setting name; did you mean required_exponent_sign?"
+mistakes="line 4: base_sufix = 'h': unknown setting name; did you mean base_suffix?
+line 5: no_special = yes: no_special takes \`true\` or \`false\`
+line 8: no_float_leading_zeros =\\xc2\\xa0true: the line is not ASCII
+lines 2, 11: mantissa_radix is set twice
+line 6: the exponent base 1 is not between 2 and 36; mend: exponent_base=none
+lines 3, 11: the base prefix 'b' is a digit in radix 12; mend: base_prefix=none; mend: radix=10
+lines 7, 9: no_positive_mantissa_sign and required_mantissa_sign cannot both be set; mend:\
+ no_positive_mantissa_sign=false; mend: required_mantissa_sign=false
+line 10: no number can have the digit separator '_': no flag allows one"
 # settings PROGRAM: what the reader of a file of settings prints.
 settings() {
     prints 0 "$good" "$1" "$work/good.txt"
     prints 1 "$unlawful" "$1" "$work/unlawful.txt"
-    prints 2 "$unreadable" "$1" "$work/unreadable.txt"
-    prints 2 "$bytes" "$1" "$work/bytes.txt"
+    prints 1 "$unreadable" "$1" "$work/unreadable.txt"
+    prints 1 "$bytes" "$1" "$work/bytes.txt"
     prints 1 "$crlf" "$1" "$work/crlf.txt"
-    prints 2 "$twice" "$1" "$work/twice.txt"
-    prints 2 "$long" "$1" "$work/long.txt"
+    prints 1 "$twice" "$1" "$work/twice.txt"
+    prints 1 "$mistakes" "$1" ../rust/examples/mistakes.txt
+    prints 1 "$long" "$1" "$work/long.txt"
     prints 0 0x00000A0000000000000000000000000C "$1" "$work/empty.txt"
-    prints 2 "nothing\\x1b[2J: No such file or directory" "$1" $'nothing\e[2J'
+    prints 2 "nothing: No such file or directory" "$1" nothing
     prints 2 ".: Is a directory" "$1" .
     prints 2 "settings: name one file" "$1"
     if [ -e /dev/full ]; then
@@ -247,8 +258,14 @@ built() {
     passes cc -std=c11 $strict "${@:2}" example.c "$1" -o "$work/example" && example "$work/example"
     passes cc -std=c11 $strict "${@:2}" settings.c "$1" -o "$work/settings" && settings "$work/settings"
     passes cc -std=c11 $strict "${@:2}" settings_test.c "$1" -o "$work/random" &&
-        passes "$work/random" "$work/random.txt" 2500
+        passes "$work/random" "$work/random.txt" 10000
     passes cc -std=c11 $strict "${@:2}" $defined header.c "$1" -o "$work/header" && passes "$work/header"
+}
+
+# alike PROGRAM: settings.c and the Rust example of this name find the same in random files.
+alike() {
+    passes cargo build --offline --quiet --manifest-path ../rust/Cargo.toml --example settings &&
+        passes ./settings_compare.py "$1" "$CARGO_TARGET_DIR/debug/examples/settings" 500 ../rust/examples/*.txt
 }
 
 # memory ARCHIVE: the programs in C under valgrind.
@@ -385,6 +402,7 @@ for checks in true false; do
         library "$work/$checks"/release/libpeltzivar_c.{a,so}
 done
 passes versions
+needing python3 alike "$work/settings"
 needing python3 pythons "$work/false/release/libpeltzivar_c.so"
 needing make installed
-counted 266
+counted 272

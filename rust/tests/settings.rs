@@ -12,72 +12,96 @@ fn refusal(setting: &str) -> String {
     Edit::from_text(setting).unwrap_err().to_string()
 }
 
+/// The problems and notes of a file.
+fn found(file: &[u8]) -> Vec<String> {
+    format_of(file).1
+}
+
 #[test]
-fn eight_mistakes_are_found_in_one_round() {
-    let file = b"# eight mistakes
-mantissa_radix = 16
-base-prefix = '$'
-no_special = yes
-base_prefix = 'b'
-exponent_base = 1
-required_mantissa_sign = true
-base_suffix = '\xE9'
-no_positive_mantissa_sign = true
-digit_separator = '_'
-radix = 12
-exponent_radix = 010
-";
+fn eight_mistakes_are_found_and_mended_in_one_round() {
+    let file = include_str!("../examples/mistakes.txt");
+    let unknown = refusal("a=1");
+    let flag = refusal("no_special=yes");
     let wanted = [
-        format!(
-            "line 3: base-prefix = '$': {}; did you mean base_prefix?",
-            refusal("a=1")
-        ),
-        format!("line 4: no_special = yes: {}", refusal("no_special=yes")),
-        r"line 8: base_suffix = '\xe9': the line is not ASCII".to_string(),
-        "lines 2, 11: mantissa_radix is set twice".to_string(),
-        "line 6: the exponent base 1 is not between 2 and 36".to_string(),
-        "lines 5, 11: the base prefix 'b' is a digit in radix 12".to_string(),
-        "lines 7, 9: no_positive_mantissa_sign and required_mantissa_sign cannot both be set"
-            .to_string(),
-        "line 10: no number can have the digit separator '_': no flag allows one".to_string(),
+        &format!("line 4: base_sufix = 'h': {unknown}; did you mean base_suffix?"),
+        &format!("line 5: no_special = yes: {flag}"),
+        r"line 8: no_float_leading_zeros =\xc2\xa0true: the line is not ASCII",
+        "lines 2, 11: mantissa_radix is set twice",
+        "line 6: the exponent base 1 is not between 2 and 36; mend: exponent_base=none",
+        "lines 3, 11: the base prefix 'b' is a digit in radix 12; mend: base_prefix=none; mend: radix=10",
+        "lines 7, 9: no_positive_mantissa_sign and required_mantissa_sign cannot both be set; \
+         mend: no_positive_mantissa_sign=false; mend: required_mantissa_sign=false",
+        "line 10: no number can have the digit separator '_': no flag allows one",
     ];
-    assert_eq!(format_of(file), Err(wanted.to_vec()));
+    assert_eq!(
+        format_of(file.as_bytes()),
+        (None, wanted.map(String::from).to_vec())
+    );
+
+    // The old and the new text of each mend in the output, and no others.
+    let mended = [
+        ("mantissa_radix = 16\n", ""),
+        ("base_sufix", "base_suffix"),
+        ("yes", "true"),
+        ("\u{A0}", " "),
+        ("exponent_base = 1", "exponent_base = none"),
+        ("base_prefix = 'b'", "base_prefix = none"),
+        (
+            "required_mantissa_sign = true",
+            "required_mantissa_sign = false",
+        ),
+        ("radix = 12", "radix = 12\ninternal_digit_separator = true"),
+    ];
+    let mended = mended
+        .iter()
+        .fold(file.to_string(), |text, (old, new)| text.replace(old, new));
+    let (format, found) = format_of(mended.as_bytes());
+    assert_eq!(found, [""; 0]);
+    assert_eq!(
+        format.map(u128::from),
+        Some(0x00000C68_0000005F_00000007_0000241C)
+    );
 }
 
 #[test]
 fn problems_have_exactly_their_lines() {
     #[rustfmt::skip]
-    let rows: [(&[u8], &[&str]); 12] = [
+    let rows: [(&[u8], &[&str]); 15] = [
         // Absent exponent bytes follow the mantissa radix.
-        (b"mantissa_radix=37", &["line 1: the mantissa radix 37 is not between 2 and 36"]),
-        (b"radix=16\nexponent_radix=10\nbase_prefix='b'", &["lines 1, 3: the base prefix 'b' is a digit in radix 16"]),
-        (b"radix=10\nexponent_radix=16\nbase_prefix='b'", &["lines 2, 3: the base prefix 'b' is a digit in radix 16"]),
+        (b"mantissa_radix=37", &["line 1: the mantissa radix 37 is not between 2 and 36; mend: radix=10"]),
+        (b"radix=16\nexponent_radix=10\nbase_prefix='b'", &["lines 1, 3: the base prefix 'b' is a digit in radix 16; mend: base_prefix=none; mend: radix=10"]),
+        (b"radix=10\nexponent_radix=16\nbase_prefix='b'", &["lines 2, 3: the base prefix 'b' is a digit in radix 16; mend: base_prefix=none; mend: exponent_radix=none"]),
         (b"base_prefix='b'\r\n\r\nbase_suffix='B'\r\ncase_sensitive_base_suffix=true\r\n",
-            &["lines 1, 3: the base prefix 'b' and the base suffix 'B' differ only in case, and they are not both case-sensitive"]),
+            &["lines 1, 3: the base prefix 'b' and the base suffix 'B' differ only in case, and they are not both case-sensitive; mend: base_prefix=none; mend: base_suffix=none"]),
         (b"base_prefix='$'\ncase_sensitive_base_prefix=true\nno_special=true",
             &["lines 1, 2: case_sensitive_base_prefix changes nothing: the base prefix '$' is not a letter"]),
         (b"special_digit_separator=true", &["line 1: the digit separator flags allow nothing: there is no digit separator"]),
         // Later lines overwrite all bits of the second line under the mask of the reason.
         (b"digit_separator='_'\ndigit_separator_flags=true\ninteger_digit_separator_flags=false\ninteger_consecutive_digit_separator=true",
-            &["lines 3, 4: integer_consecutive_digit_separator requires an internal, leading or trailing flag for the same part of the number"]),
+            &["lines 3, 4: integer_consecutive_digit_separator requires an internal, leading or trailing flag for the same part of the number; mend: integer_consecutive_digit_separator=false"]),
         // The same field twice.
         (b"no_special=true\nno_special=true", &["lines 1, 2: no_special is set twice"]),
         (b"radix=16\nmantissa_radix=16\nradix=16", &["lines 1, 2: radix is set twice", "lines 2, 3: mantissa_radix is set twice"]),
         (b"digit_separator='_'\ninteger_internal_digit_separator=true\ninternal_digit_separator=true",
             &["lines 2, 3: integer_internal_digit_separator is set twice"]),
+        // Later lines leave nothing of a group together.
+        (b"digit_separator='_'\ntrailing_digit_separator=true\ninteger_digit_separator_flags=true\nfraction_digit_separator_flags=true\nexponent_digit_separator_flags=true",
+            &["lines 2, 5: trailing_digit_separator is set twice"]),
+        // Radix 10 would make the prefix a digit, so nothing mends the radix.
+        (b"radix=1\nbase_prefix='5'", &["line 1: the mantissa radix 1 is not between 2 and 36"]),
+        (b"\tradix\t16", &[r"line 1: radix\x0916: expected NAME=VALUE"]),
         // Bytes that are not ASCII, also not UTF-8, and control characters.
         (b"\xEF\xBB\xBFradix=16", &[r"line 1: \xef\xbb\xbfradix=16: the line is not ASCII"]),
         (b"\xFF\0\x1B", &[r"line 1: \xff\x00\x1b: the line is not ASCII"]),
     ];
     for (file, problems) in rows {
-        let problems = problems.iter().map(ToString::to_string).collect();
-        assert_eq!(format_of(file), Err(problems), "{}", file.escape_ascii());
+        assert_eq!(found(file), problems, "{}", file.escape_ascii());
     }
 }
 
 #[test]
 fn a_format_is_read() {
-    let rows: [(&[u8], u128); 4] = [
+    let rows: [(&[u8], u128); 5] = [
         (b"", 0x00000A00_00000000_00000000_0000000C),
         (b"# \xC3\xA9\n\n  radix\t=  16  ", 0x00001000_00000000_00000000_0000000C),
         // Flags refine a group before them.
@@ -89,11 +113,14 @@ fn a_format_is_read() {
             b"leading_digit_separator=true\ninteger_digit_separator_flags=true\ndigit_separator=39",
             0x00000A00_00000027_00000279_0000000C,
         ),
+        // A note is not a problem.
+        (b"digit_separator='_'", 0x00000A00_00000000_00000000_0000000C),
     ];
-    for (file, format) in rows {
+    for (file, word) in rows {
+        let format = format_of(file).0;
         assert_eq!(
-            format_of(file).map(u128::from),
-            Ok(format),
+            format.map(u128::from),
+            Some(word),
             "{}",
             file.escape_ascii()
         );
@@ -104,7 +131,9 @@ fn a_format_is_read() {
 fn a_file_without_mistakes_is_a_format() {
     let file = include_bytes!("../examples/settings.txt");
     let word = 0x000A1000_7800005F_00000001_0000000C;
-    assert_eq!(format_of(file).map(u128::from), Ok(word));
+    let (format, found) = format_of(file);
+    assert_eq!(format.map(u128::from), Some(word));
+    assert_eq!(found, [""; 0]);
 }
 
 #[test]
@@ -128,9 +157,6 @@ fn the_nearest_name_is_suggested() {
     ];
     for (name, question) in rows {
         let problem = format!("line 1: {name}=1: {}{question}", refusal("a=1"));
-        assert_eq!(
-            format_of(format!("{name}=1").as_bytes()),
-            Err(vec![problem])
-        );
+        assert_eq!(found(format!("{name}=1").as_bytes()), [problem]);
     }
 }
