@@ -390,7 +390,7 @@ if [ "$given" ]; then
     without=peltzivar_version
     passes cc -shared -o "$work/library.so" -Wl,--whole-archive "$given" -Wl,--no-whole-archive &&
         library "$given" "$work/library.so"
-    counted 79
+    counted 81
     exit
 fi
 compilers

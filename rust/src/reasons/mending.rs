@@ -16,8 +16,8 @@ pub const MAX_MENDING_EDITS: usize = 3;
 ///
 /// `field` is the edit that writes the field with its value in the word. The edits clear a flag or an optional byte, or
 /// set the mantissa radix to 10 unless it is 10 already. If they set it, an absent exponent byte stays absent. After
-/// [`edit_word`] with these edits, the word keeps each rule that only this reason broke, and each rule that it kept. They
-/// do not mend a digit separator only because [`edit_word`] drops it if no flag allows one.
+/// [`edit_word`] with these edits, the word keeps each rule that only this reason broke, and each rule that it kept.
+/// That [`edit_word`] drops a digit separator that no flag allows is not enough to mend the separator.
 #[must_use]
 #[doc(hidden)]
 pub fn mend(format: u128, reason: &Reason, field: &Edit) -> ([Edit; MAX_MENDING_EDITS], usize) {
@@ -35,8 +35,8 @@ fn are_mending(format: u128, reason: &Reason, edits: &[Edit]) -> bool {
     all_kept(&RULES, format, mended, reason.mask()) & remove_reason(format, reason, edits)
 }
 
-// Returns whether the word keeps the first rule of the reason after the edits, also if a flag allows the digit separator,
-// or has a reason for this rule that blames other bits.
+// Returns whether the word keeps the first rule of the reason after the edits and with a flag that allows the digit
+// separator, or has a reason for this rule that blames other bits.
 fn remove_reason(format: u128, reason: &Reason, edits: &[Edit]) -> bool {
     let builder = apply_all(NumberFormatBuilder::rebuild(format), edits);
     let with_separator = builder.integer_internal_digit_separator(true);

@@ -385,7 +385,7 @@ fn a_smallest_word_has_a_mend() {
 #[test]
 fn mends_are_edits() {
     #[rustfmt::skip]
-    let rows: [(u128, &[&str]); 12] = [
+    let rows: [(u128, &[&str]); 14] = [
         (0x0000250000000000000000000000000C, &["radix=10 exponent_base=none exponent_radix=none"]),
         (0x000A250000000000000000000000000C, &["radix=10 exponent_radix=none"]),
         (0x0A00250000000000000000000000000C, &["radix=10 exponent_base=none"]),
@@ -394,8 +394,11 @@ fn mends_are_edits() {
         (0x0A0A100062000000000000000000000C, &["base_prefix=none", "mantissa_radix=10"]),
         // In radix 10 the prefix is still a digit.
         (0x0A0A100035000000000000000000000C, &["base_prefix=none"]),
-        // The radix is 10 already, and `edit_word` drops the separator that no flag allows.
+        // The radix is 10 already.
         (0x00000A0000000035000000000000404C, &["digit_separator=none"]),
+        // In radix 10 the separator is still a digit, though no flag allows it, so that `edit_word` drops it.
+        (0x0A0A100000000035000000000000000C, &["digit_separator=none"]),
+        (0x0A0A100000000062000000000000000C, &["digit_separator=none", "mantissa_radix=10"]),
         (0x0A0A0A4868000000000000000000000C, &["base_prefix=none", "base_suffix=none"]),
         (0x00000A0000000000000000000000003C, &["no_positive_mantissa_sign=false", "required_mantissa_sign=false"]),
         (0x00000A0000000000000002000000000C, &["integer_consecutive_digit_separator=false"]),
