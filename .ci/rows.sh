@@ -2,11 +2,11 @@
 # The rows of a test and their counts, for a script that begins with `. .ci/rows.sh`. Its last command is `counted LEAST`.
 #
 # A row that needs what the machine lacks is skipped: counted, and not tried. So the script has as many rows on each
-# machine. What is lacking is printed. Where CI is set, a machine without cc, cargo or python3 fails the test.
+# machine. The tools that it lacks are printed. If CI is set, a machine without cc, cargo or python3 fails the test.
 passed=0
 failed=0
 skipped=0
-# What the next rows need and the machine lacks, if anything.
+# The tool that the next rows need and the machine lacks, if any.
 lacking=''
 # For each name that `has` or `lacks` was called with: yes or no.
 declare -A here=()
@@ -54,7 +54,7 @@ shows() {
     compares "$2" "$found" "a line in $1"
 }
 
-# passes COMMAND..: the command ends with 0; else what it printed is shown, and the status is 1.
+# passes COMMAND..: the command ends with 0. If not, its output is printed, and the status is 1.
 passes() {
     local got
     tried || return 0
@@ -74,7 +74,7 @@ lacks() {
     case ${CI:+$1} in cc | cargo | python3) failed=$((failed + 1)) ;; esac
 }
 
-# has NAME: whether this machine has the command, and it runs: a name may stand for a command that is not installed.
+# has NAME: whether this machine has the command, and it runs. A name can exist without the command that it calls.
 has() {
     if [ -z "${here[$1]:-}" ]; then
         if "$1" --version > /dev/null 2>&1 < /dev/null; then here[$1]=yes; else lacks "$1"; fi

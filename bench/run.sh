@@ -1,20 +1,21 @@
 #!/usr/bin/env bash
-# Times the library beside the Rust crate lexical-util 1.0.7; or the plain Rust of this folder beside that of a commit.
+# Times the library and lexical-util 1.0.7, or the plain Rust of this folder and of a commit.
 #
 #     UPSTREAM=folder bench/run [--rounds N] [--only TEXT]
 #     UPSTREAM=folder bench/run --against COMMIT [--rounds N] [--only TEXT]
 #
-# With --against, old and new run five times in turns, and the least time of each row counts. The exit status is 1 if
-# a row takes more than 1.05 of the commit's time. --only then takes the rows whose name begins with the text.
+# With --against, the old and the new program run five times in turns, and the least time of each row is compared. The
+# exit status is 1 if a row takes more than 1.05 of the commit's time. Then --only selects the rows whose names begin with
+# the text.
 #
-# PROCESSORS  what to build for, as RATTLE:RUST; default "x86-64-v2:x86-64-v2 x86-64-v3:x86-64-v3"
+# PROCESSORS  the processors to build for, as RATTLE:RUST; default "x86-64-v2:x86-64-v2 x86-64-v3:x86-64-v3"
 set -euo pipefail
 here=$(cd "$(dirname "${BASH_SOURCE[0]}")" && pwd)
 . "$here/../compare/prepare.sh"
 processors=${PROCESSORS:-x86-64-v2:x86-64-v2 x86-64-v3:x86-64-v3}
 
-# plain_driver TREE FILE PROCESSOR: builds the driver of a tree, with its own loops. Those in Rattle are empty here. All
-# trees are built in one folder, since its name decides the order of functions.
+# plain_driver TREE FILE PROCESSOR: builds the driver of a tree, with its own loops. The loops in Rattle are empty here.
+# All trees are built in one folder, since its name decides the order of functions.
 plain_driver() {
     local repository=$1 work=$work/plain
     rm -rf "$work"

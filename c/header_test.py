@@ -27,7 +27,7 @@ BYTES = [name for *_, name, _ in check_format.BYTES]
 
 
 def rules():
-    """The rules in the order of their variants, which has to be that of RULES."""
+    """Returns the rules in the order of their variants, which must be the order of RULES."""
     variants = re.findall(r"^    (\w+),", re.search(r"pub enum Rule \{(.*?)^\}", RULES, re.M | re.S)[1], re.M)
     listed = re.findall(r"Rule::(\w+)", re.search(r"pub const RULES: .*?\];", RULES, re.S)[0])
     if variants != listed:
@@ -50,7 +50,7 @@ def enumerators():
 
 
 def constants():
-    """Each numeric constant of the sources with its number; the name in Rust, if it has one, is that in C."""
+    """Returns each numeric constant of the sources with its number. If it has a name in Rust, C has the same name."""
     texts = "".join(path.read_text() for path in sorted(CRATES.glob("lexical_*/src/**/*.rt")))
     rust = dict(re.findall(r"^pub const ([A-Z_]+): usize = (\d+);", texts, re.M))
     found = {f"PELTZIVAR_{name}": int(rust[name]) for name in rust if re.search(rf"#define PELTZIVAR_{name} ", HEADER)}
@@ -91,7 +91,7 @@ def program():
         sys.exit(f"peltzivar.h has what the sources do not have: {', '.join(others)}")
     yield '#include "peltzivar.h"\n#include "peltzivar.h"\n#define IS(type, it) _Generic(it, type: 1, default: 0)'
     for name, number in {**wanted, **numeric}.items():
-        # As a factor too: what has a sign in it stands in parentheses.
+        # The replacement may also be a factor, so a term with a sign is in parentheses.
         yield f'_Static_assert({name} == {number}u && {name} % 2u == {number % 2}u, "{name} is {number}");'
     yield '_Static_assert(IS(uint32_t, (peltzivar_error)0), "peltzivar_error is uint32_t");'
     for name, found in members():
@@ -123,7 +123,7 @@ def ranges(bits):
 
 
 def phrases():
-    """The texts in which a number may stand in a comment."""
+    """Returns the texts in which a comment may have a number."""
     flags = [int(bit) for bit, _, _ in check_format.FLAGS]
     (low, high, separator, _), *others = check_format.BYTES
     ends = [f"{name.replace('_', ' ')} ({first})" for first, _, name, _ in others]
@@ -175,7 +175,7 @@ def phrases():
 
 
 def punctuation():
-    """Whether the comment of PunctuationDiffers names the fields that its test reads."""
+    """Returns whether the comment of PunctuationDiffers names the fields that its test reads."""
     found = re.search(r"/\*([^/]*)\*/\n +PELTZIVAR_RULE_PUNCTUATION_DIFFERS,", HEADER)
     names = set(re.findall(r"\b[a-z]+(?:_[a-z]+)+\b", found[1] if found else ""))
     wanted = set(re.search(r"Rule::PunctuationDiffers => \{(.*?)\}", RULES, re.S)[1].lower().replace("|", "").split())
@@ -183,7 +183,7 @@ def punctuation():
 
 
 def rule_comment(rule):
-    """What the comment of a rule has to be, but for PunctuationDiffers."""
+    """Returns the comment that a rule must have, except for PunctuationDiffers."""
     name = re.sub(r"(?<=[a-z])(?=[A-Z])", "_", rule).lower()
     if field := name.removesuffix("_in_range") if name.endswith("_in_range") else "":
         return f"{field} is between 2 and 36"
@@ -194,7 +194,7 @@ def rule_comment(rule):
         return f"{part}_consecutive_digit_separator only with an internal, leading or trailing flag of the {part}"
     if name == "reserved_bits_are_zero":
         return "the bits of no field are 0"
-    # The flags are those of the smallest word that breaks the rule.
+    # The flags are the flags of the smallest word that breaks the rule.
     number = rules().index(rule)
     word = int(check_format.RULES[number][3], 16)
     both = [flag for bit, flag, _ in check_format.FLAGS if word >> int(bit) & 1]
@@ -202,7 +202,7 @@ def rule_comment(rule):
 
 
 def wrong_comments():
-    """What is wrong with the comments."""
+    """Returns the faults of the comments."""
     texts = list(comments())
     for phrase in phrases():
         texts_with = [text for text in texts if phrase in text]

@@ -1,6 +1,6 @@
 #!/usr/bin/env python3
 """Writes the parts of peltzivar.py that come from peltzivar.h, each between the lines `# Made: ..` and `# End`. The
-sentences on fields are those of docs/FORMAT.md. docs/check.py tests that the parts are up to date."""
+sentences on fields come from docs/FORMAT.md. docs/check.py tests that the parts are up to date."""
 import pathlib
 import re
 import sys
@@ -88,12 +88,12 @@ def argument(text):
 
 
 def getters():
-    """Returns the getters of flags, groups and bytes."""
+    """Returns the flag getters, the group getters and the byte getters."""
     lines = []
     for _, name, meaning in check_format.FLAGS:
         lines += getter(name, "bool", f"self._flag(Setter.{name.upper()})", f"If true, a parser {meaning}.")
     for name, _, meaning in check_format.GROUPS:
-        told = f"Whether any flag of the group is set: {meaning}."
+        told = f"True if any flag of the group is set: {meaning}."
         lines += getter(name, "bool", f"self._flag(Setter.{name.upper()})", told)
     for *_, name, meaning in check_format.BYTES:
         told = re.sub("^.*; (else )?", "", meaning).replace("×", "*")

@@ -612,47 +612,47 @@ class FormatView:
 
     @property
     def required_digits(self) -> bool:
-        """Whether any flag of the group is set: digits that must be present."""
+        """True if any flag of the group is set: digits that must be present."""
         return self._flag(Setter.REQUIRED_DIGITS)
 
     @property
     def internal_digit_separator(self) -> bool:
-        """Whether any flag of the group is set: a separator between digits."""
+        """True if any flag of the group is set: a separator between digits."""
         return self._flag(Setter.INTERNAL_DIGIT_SEPARATOR)
 
     @property
     def leading_digit_separator(self) -> bool:
-        """Whether any flag of the group is set: a separator before digits."""
+        """True if any flag of the group is set: a separator before digits."""
         return self._flag(Setter.LEADING_DIGIT_SEPARATOR)
 
     @property
     def trailing_digit_separator(self) -> bool:
-        """Whether any flag of the group is set: a separator after digits."""
+        """True if any flag of the group is set: a separator after digits."""
         return self._flag(Setter.TRAILING_DIGIT_SEPARATOR)
 
     @property
     def consecutive_digit_separator(self) -> bool:
-        """Whether any flag of the group is set: consecutive separators."""
+        """True if any flag of the group is set: consecutive separators."""
         return self._flag(Setter.CONSECUTIVE_DIGIT_SEPARATOR)
 
     @property
     def digit_separator_flags(self) -> bool:
-        """Whether any flag of the group is set: every separator."""
+        """True if any flag of the group is set: every separator."""
         return self._flag(Setter.DIGIT_SEPARATOR_FLAGS)
 
     @property
     def integer_digit_separator_flags(self) -> bool:
-        """Whether any flag of the group is set: separators in the integer."""
+        """True if any flag of the group is set: separators in the integer."""
         return self._flag(Setter.INTEGER_DIGIT_SEPARATOR_FLAGS)
 
     @property
     def fraction_digit_separator_flags(self) -> bool:
-        """Whether any flag of the group is set: separators in the fraction."""
+        """True if any flag of the group is set: separators in the fraction."""
         return self._flag(Setter.FRACTION_DIGIT_SEPARATOR_FLAGS)
 
     @property
     def exponent_digit_separator_flags(self) -> bool:
-        """Whether any flag of the group is set: separators in the exponent."""
+        """True if any flag of the group is set: separators in the exponent."""
         return self._flag(Setter.EXPONENT_DIGIT_SEPARATOR_FLAGS)
 
     @property
@@ -709,7 +709,7 @@ class FormatView:
         return tuple(Edit._of_numbers(edit) for edit in edits[:count])
 
     def normal_form(self: View) -> View:
-        """Returns the normal form: the canonical word of all words that mean the same format."""
+        """Returns the normal form: the canonical word of all words that express the same format."""
         return type(self)(_joined(_library.peltzivar_normal_form(self._halves())))
 
     def check(self) -> Format:

@@ -3,7 +3,7 @@
 
     c/settings_compare.py C RUST NUMBER FILE..    the two programs, how many random files, and other files
 
-The lines of a file are made of names, typos of names, values, separators, comments and any bytes. Both programs print
+The lines of a file consist of names, typos of names, values, separators, comments and any bytes. Both programs print
 the same findings and end with the same status. Exit status: 0, or 1 after the first file that differs.
 """
 

@@ -202,7 +202,7 @@ plusplus() {
     passes warns "$1" -std=c++17 -x c++
 }
 
-# compilers: the header in each language that it is said to be.
+# compilers: the header in each language that it supports.
 compilers() {
     needing python3 sources
     passes imports
@@ -225,7 +225,7 @@ declares() {
     diff <("$@" | awk 'NF == 3 && $3 !~ /^__/ { print $3 }' | sort) <(calls | grep -vx "${without:-}")
 }
 
-# exports SHARED: the shared library exports the calls of the header alone.
+# exports SHARED: the shared library exports only the calls of the header.
 exports() {
     diff <(nm -gD --defined-only "$1" | cut -d' ' -f3 | sort) <(calls)
 }
@@ -309,7 +309,7 @@ hides() {
     ! grep -laF -- "$@"
 }
 
-# dynamic NAME ENTRY FILE: the entry of the dynamic section has this name, or there is none.
+# dynamic NAME ENTRY FILE: the entry of the dynamic section has this name, or is absent if NAME is empty.
 dynamic() {
     compares "$1" "$(readelf -d "$3" | sed -n "s/.*($2).*\[\(.*peltzivar.*\)\]/\1/p")" "$2 of $3"
 }
@@ -331,7 +331,7 @@ programs() {
             'cc '*) program "$line" "$soname" ;;
         esac
     done < <(block sh)
-    # Names that a program hides are its own, not those of the library.
+    # Names that a program hides are its own names, not names of the library.
     # shellcheck disable=SC2016
     passes bash -c 'cc -x c - $(pkg-config --cflags --libs peltzivar) -o hidden' << 'END' &&
 #pragma GCC visibility push(hidden)

@@ -1,13 +1,13 @@
 #!/usr/bin/env python3
-"""Says which public names of the Rust crate lexical-util 1.0.7 are otherwise in rust/.
+"""Finds the public names of lexical-util 1.0.7 that differ in rust/.
 
     compare/names.py                   prints them as a table
-    compare/names.py --check PAGE      compares the table with that in the page; the status is 1 if they differ
+    compare/names.py --check PAGE      compares the table with the one in the page; the status is 1 if they differ
     compare/names.py --list            reads the names from the folder UPSTREAM into names.txt
 
-The names of the crate's seven modules are the lines of names.txt; where UPSTREAM is set, these are compared too. The
-compiler says what is otherwise: each name is used once, as it can be with the crate, in a program over rust/, and what does
-not compile is taken out and tried again.
+The names of the seven modules of lexical-util are the lines of names.txt. If UPSTREAM is set, the lines are compared with
+its sources. The compiler finds the differences: a program over rust/ uses each name once, as it can be used with
+lexical-util. A use that does not compile is removed, and the rest is compiled again.
 """
 import os
 import pathlib
@@ -41,7 +41,7 @@ use peltzivar::{error::Error, feature_format::NumberFormat, format::STANDARD};
 use peltzivar::format_builder::{NumberFormatBuilder, OptionU8};
 """
 
-# What an error of the compiler means.
+# The meaning of each error of the compiler.
 LACKING = {"E0277", "E0405", "E0412", "E0423", "E0425", "E0432", "E0433", "E0599"}
 SIGNATURE = {"E0061", "E0107", "E0308"}
 
@@ -71,7 +71,7 @@ def plain_type(text, owner=""):
 
 
 def functions(text, owner=""):
-    """Returns the public functions and constants of a text, those of a type with its name."""
+    """Returns the public functions and constants of a text. The name of an associated one begins with its type."""
     prefix = f"{owner}::" if owner else ""
     pattern = r"((?:#\[[^\]]*\]\s*)*)pub (const )?fn (\w+)(<[^>]*>)?\(([^)]*)\)(?: -> ([^{]+?))? \{"
     for attributes, const, name, generic, arguments, result in re.findall(pattern, text):
@@ -185,7 +185,7 @@ def use_of(module, name, names):
 
 
 def messages(items, folder):
-    """Returns what the compiler says of each item of a program: the line in `items`, and the message."""
+    """Returns the compiler's message for each item of a program: the line in `items`, and the message."""
     lines = sorted(items)
     (folder / "src/lib.rs").write_text(FRAME + "\n".join(items[it] for it in lines) + "\n")
     words = ["cargo", "check", "--offline", "--quiet", "--message-format", "short"]
@@ -198,7 +198,7 @@ def messages(items, folder):
 
 
 def differences(names):
-    """Returns each name that is otherwise here, with what it is there and here."""
+    """Returns each name that differs here, with its form there and here."""
     found = {}
     with tempfile.TemporaryDirectory() as temporary:
         folder = pathlib.Path(temporary)
@@ -228,7 +228,7 @@ def differences(names):
 
 
 def here(message):
-    """Returns what an error of the compiler says of a name."""
+    """Returns the difference of a name that an error of the compiler shows."""
     code, text = re.match(r"error(?:\[(E\d+)\])?: (.*)", message).groups()
     if code in LACKING:
         return "is not here"
@@ -243,7 +243,7 @@ def here(message):
 # THE TABLE
 
 def there(name):
-    """Returns a name and what it is in the crate, without what is the same of many."""
+    """Returns a name and its form in lexical-util, without the parts that many names share."""
     module, name = name.split(" ", 1)
     if found := re.fullmatch(r"(deprecated )?(const )?fn ([^(]+)\(.*\) -> (.+)", name):
         return f"{module}::{found[3]}", bool(found[1]), found[4]

@@ -1,8 +1,7 @@
 # shellcheck shell=bash
 # Shared by compare/run.sh and bench/run.sh: sourced, not run. It needs UPSTREAM, and takes WORK.
 #
-# UPSTREAM  the sources of the Rust crate lexical-util 1.0.7: its folder, or one that holds its files
-#           as src--src--NAME.rs.txt
+# UPSTREAM  the sources of lexical-util 1.0.7: its folder, or a folder with its files as src--src--NAME.rs.txt
 # WORK      a folder to work in and keep; by default a new temporary one, which is removed
 
 repository=$(cd "$(dirname "${BASH_SOURCE[0]}")/.." && pwd)
@@ -17,11 +16,11 @@ prepare_work() {
     fi
 }
 
-# Copies seven modules of the Rust crate into the frame in compare/upstream.
+# Copies seven modules of lexical-util into the frame in compare/upstream.
 prepare_upstream() {
     : "${UPSTREAM:?name the folder of the sources of lexical-util 1.0.7}"
     if [ -f "$UPSTREAM/Cargo.toml" ] && ! grep -q '^version = "1\.0\.7"' "$UPSTREAM/Cargo.toml"; then
-        echo "note: $UPSTREAM/Cargo.toml does not say version 1.0.7" >&2
+        echo "note: $UPSTREAM/Cargo.toml does not have version 1.0.7" >&2
     fi
     rm -rf "$work/upstream"
     mkdir -p "$work/upstream/src"
@@ -47,7 +46,7 @@ prepare_rust() {
     (cd "$repository/rust" && tar -c --exclude ./target .) | tar -x -C "$work/rust"
 }
 
-# Copies the crates of the library for `rt`, with what earlier checks kept.
+# Copies the crates of the library for `rt`, with the results of earlier checks.
 prepare_project() {
     rm -rf "$work/project"
     mkdir -p "$work/project/.git" "$work/project/crates"

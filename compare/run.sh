@@ -1,5 +1,5 @@
 #!/usr/bin/env bash
-# Compares the library with the Rust crate lexical-util 1.0.7, and its exports as proved with the same as plain Rust.
+# Compares the library with lexical-util 1.0.7, and its proved exports with its exports in plain Rust.
 #
 #     UPSTREAM=folder compare/run [--seed N] [--scale N] [--threads N] [--only SECTION]
 #     UPSTREAM=folder compare/run --record crates/recorded/data/results.txt
@@ -14,7 +14,7 @@ build_member numfmt
 build_driver compare x86-64
 export NUMFMT=${NUMFMT:-$work/target-rust/release/numfmt} HEADER=$repository/c/peltzivar.h
 
-# The exports as the prover accepted them, and the same as plain Rust. ARCHIVE names the archive if it is elsewhere.
+# The proved exports, and the exports in plain Rust. ARCHIVE names the archive if it is elsewhere.
 if [ -z "${ARCHIVE:-}" ] && command -v rt > /dev/null; then
     (cd "$repository/crates/lexical_c" && rt lib > "$work/archive.log")
     ARCHIVE=$repository/crates/lexical_c/out/liblexical_c.a

@@ -1,22 +1,23 @@
 #!/usr/bin/env python3
-"""Compares the pages with the repository, prints what differs, and ends with 1 if something does.
+"""Compares the pages with the repository, prints each difference, and ends with status 1 if there is one.
 
 - Each link between pages has a file and a heading to lead to.
-- Each block of code is a piece of a file; `..` stands for lines that it leaves out.
-- Each name with a `_` or `::` is in some code, but for those of the changelog, and each word of FORMAT.md.
+- Each block of code is a piece of a file; `..` replaces lines that it leaves out.
+- Each name with a `_` or `::`, except in the changelog, is in some code, and so is each word of FORMAT.md.
 - check_format.py compares FORMAT.md, check_header.py the header of C, and check_clauses.py the clauses in PROVED.md.
 - c/peltzivar.py is what c/make_python.py writes.
 - check_prose.py compares sentences: the fields of FORMAT's example, exit statuses, and the least version of Rust. It
   also finds constructions that neither a page nor a comment may have, except for those that it lists with a reason.
 - check_definitions.py follows the definitions that headline calls cite, and compares the reading lists in PROVED.md.
-- DIFFERENCES.md names each public name that the Rust crate does not have.
+- DIFFERENCES.md names each public name that lexical-util does not have.
 - A format word outside of a block of code can be pasted: it has no `_`.
-- Flags, fields, rules, reserved bits and outcomes are as many as a page says, and so are the rows of the eraser's tables.
-- Each file of a folder must-fail/ is an edit. There are no fewer edits and tests than before.
-- No line of code or proof has over 160 columns, and at most 150 have over 120. No line of a page has, but those of
-  tables and code.
+- The numbers of flags, fields, rules, reserved bits and outcomes in pages are right, and so are the numbers of rows in the
+  eraser's tables.
+- Each file of a folder must-fail/ is an edit. The numbers of edits and tests are not below the last ones.
+- No line of code or proof has over 160 columns, and at most 150 have over 120. In pages, only lines of tables and code
+  have over 120 columns.
 - No proof reaches a fact by two positions.
-- README has at most 800 words, and its ratios of time are those of bench/README.md.
+- README has at most 800 words, and its ratios of time are in bench/README.md.
 - README has a command of cargo that runs something, one that runs all tests, and `rt ci`; `.ci/run` calls its tests.
 - `.ci/run`, or a script that it calls, calls each script that is a test by its name.
 
@@ -43,13 +44,13 @@ PAGES = sorted(page for folder in (".", "docs", "compare", "bench", "rust", "exp
 SOURCES = [("crates", "*.rt"), ("crates", "*.antt"), ("rust", "*.rs"), ("rust", "*.toml"), ("c", "*.[chp]*")]
 LANGUAGES = ["rust", "antt", "c", "python", "toml"]
 LIBRARIES = ["lexical_base", "lexical_flags", "lexical_builder", "lexical_util"]
-# How many must-fail edits and tests there are at least.
+# The least numbers of must-fail edits and tests.
 LEAST_EDITS, LEAST_TESTS = 64, 115
-# How many words README has at most.
+# The most words of README.
 MOST_WORDS = 800
-# How a command of README begins.
+# The starts of commands in README.
 STARTS = ["cd rust && cargo run ", "cd rust && cargo test", "rt ci"]
-# What only the Rust crate has.
+# Names that only lexical-util has.
 NOT_HERE = ["format::JSON"]
 WORDS = {"six": "6", "seven": "7", "eight": "8", "nine": "9", "ten": "10", "eleven": "11", "twelve": "12"}
 FENCED = re.compile(r"^```(\w*)\n(.*?)^```", re.M | re.S)
@@ -62,13 +63,13 @@ def lines_of(text):
 
 
 def files_of(folder, pattern):
-    """Returns the files of a folder and of those in it that are not built."""
+    """Returns the files of a folder and of its folders, except for build folders."""
     paths = (TOP / folder).rglob(pattern)
     return sorted(path for path in paths if not {"out", "target"} & set(path.parts))
 
 
 def words_of(files):
-    """Returns the words of the files of each name, and under "" those of all files."""
+    """Returns the words of the files of each name, and under "" the words of all files."""
     words = {"": set(re.findall(r"\w+", (TOP / "crates.txt").read_text()))}
     for path, lines in files.items():
         for name in ("", path.stem):
@@ -112,7 +113,7 @@ def broken_links(page, text):
 
 
 def wrong_counts(text, wanted):
-    """Returns the numbers of flags and the like that the page says wrong; `32 bytes` are none of a word."""
+    """Returns the wrong numbers of flags and the like in the page. `32 bytes` does not count the bytes of a word."""
     for number, name in re.findall(rf"\b(\d+|{'|'.join(WORDS)}) ({'|'.join(wanted)})\b", text):
         is_of_a_word = name != "bytes" or number in WORDS
         if is_of_a_word and WORDS.get(number, number) != str(wanted[name]):
@@ -128,7 +129,7 @@ def unused_words(text, files):
 
 
 def public_names():
-    """Returns the public names of the libraries, each with its module; those of laws are left out."""
+    """Returns the public names of the libraries, each with its module, without names of laws."""
     for library in LIBRARIES:
         for path in files_of(f"crates/{library}/src", "*.rt"):
             module = path.relative_to(TOP / f"crates/{library}/src").parts[0].removesuffix(".rt")
@@ -145,7 +146,7 @@ def added_names(text):
     public = list(public_names())
     yield from (f"not public in {module}: {name}" for module, name in added if (module, name) not in public)
     if f" {len(public) - len(added)} others " not in section:
-        yield f"there are {len(public) - len(added)} public names beside the added ones"
+        yield f"there are {len(public) - len(added)} public names in addition to the added ones"
 
 
 def not_run():
@@ -185,7 +186,7 @@ def not_exported():
 
 
 def substituted(text):
-    """Returns whether the rows of the eraser's tables are not as many as the page says."""
+    """Returns the numbers of rows in the eraser's tables that differ from the page."""
     counts = {"texts": len(erase.SUBSTITUTIONS + erase.EVERYWHERE), "items in place": len(erase.ITEMS)}
     for name, count in counts.items():
         number = re.search(rf"(\w+) {name}", text.partition("## The plain Rust")[2])[1]

@@ -1,7 +1,7 @@
 """Compares the clauses that PROVED.md names with the contracts in crates/*/src.
 
 A row of a table describes the functions that its first cell names in backquotes, as `name`, `Type::name` or `name` of `Type`,
-or by words of TOLD; a paragraph that begins with a name in bold describes the functions that it names before its verb, and
+or by a name of CALLED; a paragraph that begins with a name in bold describes the functions that it names before its verb, and
 has their clauses in brackets. Each clause that it names is one of theirs, and each of theirs is named. Each named clause of a
 public function of the libraries is named somewhere. The page names the public functions of the libraries that have premises
 (`requires`).
@@ -11,8 +11,8 @@ import re
 
 TOP = pathlib.Path(__file__).resolve().parent.parent
 HEADER = re.compile(r"^ *(?:pub(?:\(\w+\))? )?(?:const )?(fn|impl|trait)\b(.*)$")
-# The functions that words of a cell stand for.
-TOLD = {
+# The functions to which other texts in a cell refer.
+CALLED = {
     "`==`": "eq",
     "`Display` of": "fmt",
     "`Default`": "default",
@@ -24,10 +24,10 @@ TOLD = {
 }
 # Rows that leave out clauses of their functions, with the reason.
 PARTIAL = {
-    "`laws::layout_facts`": "one clause a fact, all told together",
+    "`laws::layout_facts`": "one clause a fact, all described together",
 }
 LIBRARIES = ["lexical_base", "lexical_flags", "lexical_builder", "lexical_util"]
-# Functions with clauses that stand in no row: examples, the method of a trait that callers implement, texts of private types.
+# Functions with clauses in no row: examples, the method of a trait that callers implement, texts of private types.
 UNTOLD = re.compile(r"\w+::(\w+_examples|put)|(Described|Numbered)::fmt")
 
 
@@ -54,7 +54,7 @@ def functions():
 
 
 def premised():
-    """Returns the names of the public functions of the libraries with a `requires`, also those of a public trait."""
+    """Returns the names of the public functions of the libraries with a `requires`, including methods of a public trait."""
     for library in LIBRARIES:
         for path in sorted((TOP / "crates" / library / "src").rglob("*.rt")):
             in_trait = False
@@ -82,11 +82,11 @@ def rows(page):
 
 
 def named(cell, section, known):
-    """Returns the functions that a cell names: those of the section's crate, if it is one, and of the types that it names."""
+    """Returns the functions that a cell names, in the section's crate if it is one, and in the types that the cell names."""
     words = set(re.findall(r"`([\w:]+)`", cell))
     types = {word for path in words for word in path.split("::") if word[:1].isupper()}
     names = {word.split("::")[-1] for word in words - types}
-    for told, others in TOLD.items():
+    for told, others in CALLED.items():
         names |= set(others.split()) if told in cell else set()
     crates = {crate for crate, *_ in known}
     found = [it for it in known if it[2] in names and (it[0] == section or section not in crates)]

@@ -5,7 +5,7 @@
     docs/check_definitions.py edit_word --text  prints its definitions and its contract, to be read from top to bottom
     docs/check_definitions.py --write           writes the tables of PROVED.md
 
-Lines are those of definitions with their comments, and of the first comment of each file, without imports and blank
+The lines of definitions, of their comments and of the first comment of each file are counted, without imports and blank
 lines. Types of the program, such as `Error`, are names that code and definitions share, and are not counted. Findings:
 
 - A name in a definition or in a headline contract is unknown to definitions.py.
@@ -14,7 +14,7 @@ lines. Types of the program, such as `Error`, are names that code and definition
 - No headline call reaches a file at the top of a library's specs/, and APART gives no reason for it.
 - The first comment of a file in a folder of a library's specs/ names no public function that it serves.
 - No public contract reaches a definition of a library, and its file is not one of UNCITED.
-- The tables of PROVED.md are not those of today.
+- The tables of PROVED.md are not up to date.
 """
 import re
 import sys
@@ -42,9 +42,9 @@ APART = {
     "lexical_base.Outcomes": "the 49 values of `Error`, and their texts",
     "lexical_base.OutcomeOrder": "their order",
     "lexical_flags.Common": "the bits that two words share, for the values of constants",
-    "lexical_flags.Constants": "what each constant of the program stands for",
+    "lexical_flags.Constants": "the value of each constant of the program",
     "lexical_flags.Literals": "what a proof may unfold",
-    "lexical_builder.BuilderBits": "the record that a builder stands for, by `impl Model`",
+    "lexical_builder.BuilderBits": "the record that a builder represents, by `impl Model`",
     "lexical_builder.RecordCode": "bookkeeping of the prover for that record",
     "lexical_util.Unfoldable": "what a caller's proof may unfold",
 }
@@ -102,7 +102,7 @@ def unfit(call):
     for name in CALLS[call]:
         read = [re.findall(r"ensures (\w+) \{", it.clauses) for it in public(call) if it.name == name]
         if len(read) != 1 or read[0] not in [it[3] for it in clauses_of() if it[2] == name]:
-            yield f"{call}: there is no one public function {name}, or not all of its clauses are read"
+            yield f"{call}: not exactly one public function is {name}, or not all of its clauses are read"
 
 
 def misplaced():
@@ -118,7 +118,7 @@ def misplaced():
             yield f"{name}: no public contract reaches {uncited}"
         if name.count(".") > 1 and not file.endswith(".Private") and not served:
             yield f"{name}: its first comment names no public function that it serves"
-    yield from (f"{it} is no file for the table" for it in APART if it not in files or files[it] in headline)
+    yield from (f"{it} is not a file for the table" for it in APART if it not in files or files[it] in headline)
 
 
 def tables():

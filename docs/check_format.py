@@ -1,4 +1,4 @@
-"""What of docs/FORMAT.md differs from the tests in rust/tests/known, from the setters, and from itself."""
+"""Compares docs/FORMAT.md with the tests in rust/tests/known, with the setters, and with itself."""
 import pathlib
 import re
 
@@ -13,10 +13,10 @@ FLAGS = re.findall(r"^\| (\d+) \| `(\w+)` \| \w+ \| (.*) \|$", PAGE, re.M)
 GROUPS = re.findall(r"^\| `(\w+)` \| ([\d ]+) \| (.*) \|$", PAGE, re.M)
 BYTES = re.findall(r"^\| (\d+) to (\d+) \| `(\w+)` \| \d+ \| (.*) \|$", PAGE, re.M)
 RULES = re.findall(r"^\| (\d+) \| (.*) \| `Invalid(\w+)` \| `(\w+)` \| .* \|$", PAGE, re.M)
-# The files in which a constant or a getter points to the setter that says what it means.
+# The files in which a constant or a getter links to the setter that describes its meaning.
 POINTING = ["flags/src/format_flags", "builder/src/format_builder/getters"]
 POINTING += ["util/src/feature_format", "util/src/feature_format/getters"]
-# The words that a group's text has exactly if its name has the other ones.
+# The words that a group's text has if and only if the group's name has the other ones.
 CUES = {
     "required": "must",
     "internal": "between",
@@ -35,7 +35,7 @@ def bits_of(mask):
 
 
 def rows():
-    """Returns the rows that the tables of the tests stand for, without their last columns."""
+    """Returns the rows that follow from the tables of the tests, without their last columns."""
     standard = int(re.search(r"\bSTANDARD\],\s+\[(0x\w+); 2\]", TESTS["constants"])[1], 16)
     for bit, name in re.findall(r"(\d+) (\w+) [A-Z_]+ get_", TESTS["main"]):
         yield f"| {bit} | `{name}` | {str(bool(standard >> int(bit) & 1)).lower()} |"
@@ -83,16 +83,16 @@ def docs_of(setter):
 
 
 def meanings():
-    """Returns the meanings of flags, groups and bytes that are not those of their setters."""
+    """Returns the meanings of flags, groups and bytes that differ from their setters."""
     told = [(name, f"If set, a parser {meaning}") for _, name, meaning in FLAGS]
     told += [(name, f"Sets all flags of the group: {meaning}") for name, _, meaning in GROUPS]
     told += [(name, re.sub("^.*; (else )?", "", meaning)) for _, _, name, meaning in BYTES]
     for name, meaning in told:
         if not re.search(re.escape(meaning) + "[.:,;]", docs_of(name)):
-            yield f"the setter `{name}` does not say: {meaning}"
+            yield f"the comment of the setter `{name}` does not have: {meaning}"
     for name, _, meaning in GROUPS:
         if any((part in name) != (cue in meaning) for part, cue in CUES.items()):
-            yield f"`{name}` is about something else: {meaning}"
+            yield f"`{name}` does not have the meaning of its name: {meaning}"
 
 
 def first_lines():
@@ -104,11 +104,11 @@ def first_lines():
         docs = {name: " ".join(comment.replace("///", "").split()) for name, comment in found}
         for _, name, meaning in FLAGS:
             if not re.search(rf"a parser {re.escape(meaning)}[ :,]", docs.get(name, "")):
-                yield f"rust/src/{path}.rs: `{name}` does not say: {meaning}"
+                yield f"rust/src/{path}.rs: the comment of `{name}` does not have: {meaning}"
 
 
 def pointers():
-    """Returns the constants and getters that point to another setter than that of their field."""
+    """Returns the constants and getters that link to the setter of another field."""
     for path in POINTING:
         text = (CRATES / f"lexical_{path}.rt").read_text()
         pointer = r"(?:Builder::|of \[`Self::|the \[[a-z ]+\]\[Self::)(\w+)`?\].*\n(?: *[/#].*\n)* *pub const (?:fn )?(\w+)"
@@ -133,7 +133,7 @@ def demand(number, error, word):
         return "the reserved bits are 0"
     if len(flags) == 2:
         return "not both flags {} and {}".format(*flags)
-    # The last group that has the flag is that of the integer, of the fraction or of the exponent.
+    # The last group with the flag is the group of the integer, the fraction or the exponent.
     group = [bits.split() for _, bits, _ in GROUPS if flags[0] in bits.split()][-1]
     return "flag {3} only with {0}, {1} or {2}".format(*group)
 

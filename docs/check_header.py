@@ -1,5 +1,5 @@
-"""What of c/peltzivar.h differs from the exports of lexical_c and the one written by hand, from the tables of setters and
-outcomes, from the version, and from the lengths of texts."""
+"""Compares c/peltzivar.h with the exports of lexical_c and the one written by hand, with the tables of setters and outcomes,
+with the version, and with the lengths of texts."""
 import pathlib
 import re
 
@@ -23,7 +23,7 @@ TEXTS = ("name", "text", "to")
 
 
 def argument(name, kind):
-    """Returns the argument, or the pointer and the length, that stand in C for an argument of an export."""
+    """Returns the argument, or the pointer and the length, that C has for an argument of an export."""
     reference, slice_of, kind, length = re.fullmatch(r"(&mut |&|)(\[?)(\w+)(?:; (\w+))?\]?", kind).groups()
     kind = "char" if slice_of and name in TEXTS else TYPES[kind]
     if length:
@@ -88,7 +88,7 @@ def constants():
 
 
 def header(wanted):
-    """Returns what differs; `wanted` says how many fields, groups and outcomes there are."""
+    """Returns the differences. `wanted` has the numbers of fields, groups and outcomes."""
     declared, exported = list(declarations()), [(it, macros(it)) for it in prototypes()]
     yield from (f"not both declared and exported: {front}{it}" for it, front in sorted({*declared} ^ {*exported}))
     if not len(declared) == len(exported) == EXPORTS.count("no_mangle"):

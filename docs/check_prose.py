@@ -12,11 +12,11 @@ PATTERNS = [
     ("exactly if", r"\bexactly (if|then|where)\b"),
     ("is no X", r"\b(?<!there )(is|are|was|be) no [a-z]"),
     ("is none", r"\b(is|are) none\b|(if|where) there (is|are) none\b"),
-    ("a comment from its middle", r"^ *(//[/!]?|--|/?\*)? *(and|those|that|the same|such|before|after|but) "),
+    ("a comment from its middle", r"^ *(//[/!]?|--|/?\*|#|\"\"\")? *(and|those|that|the same|such|before|after|but) "),
     ("that of", r"\b([Tt]hat|[Tt]hose) (of|in) "),
     ("the same of", r"\b[Tt]he same (of|for|by|with|after|is|on|holds)\b"),
     ("says or about", r"\b([Ss]ays?|[Ss]aid|[Tt]ells?|[Tt]old|about)\b"),
-    ("what or who first", r"(^|[.:;|(] |//[/!]? |-- )(What|Who|That which|Of) "),
+    ("what or who first", r"(^|[.:;|(] |//[/!]? |-- |# |\"\"\")(What|Who|That which|Of) "),
     (", of which", r", (of|by|in|for|from|with|on|over) (which|whom|whose|what)\b"),
     ("made of", r"\b([Mm]ade|[Mm]akes?|built|builds) (out )?of\b"),
     ("otherwise", r"\b(is|are) otherwise\b|\bturned\b|\bchange places\b"),
@@ -30,16 +30,17 @@ PATTERNS = [
     ("reads back", r"\b(gives?|reads?) (it |them )?back\b|\bmeans? the same\b"),
     ("is 2 to 36", r"\b(is|are|be|not) [0-9]+ to [0-9]+\b"),
     ("two semicolons", r";[^;]*;"),
-    ("how many or whether", r"^ *(//[/!]?|--|/?\*) ([Hh]ow (many|a|the)|[Ww]hether) "),
+    ("how many or whether", r"^ *(//[/!]? |-- |/?\* |# |\"\"\")([Hh]ow (many|a|the)|[Ww]hether) "),
     ("words for names", r"\b([Ii]ts|own|with the|has the|in the library.s) words\b|\bone word\b"),
     ("setters of flags", r"\b([Ee]rrors?|[Rr]ules?|[Ss]etters?|[Gg]etters?|[Rr]easons?) of (a |an |the )?(parsing|formats?|options|flags?|bytes?|punctuation|radixes|reserved bits|groups?)\b"),
     ("the Rust crate", r"\bthe Rust crate\b|\bempty (exponent )?(base|radix|bytes?)\b"),
 ]
 # The constructions with which a comment or a paragraph begins. A line in its middle may have these words in front.
 AT_START = ["a comment from its middle", "what or who first", "how many or whether"]
-# The files with prose, by the folder in which they are; pages are those of check.py.
+# The files with prose, by their folders. check.py has the pages.
 PROSE = [("crates", "*.rt"), ("crates", "*.antt"), ("rust", "*.rs"), ("c", "*.[ch]"), ("bench", "*.rs"), ("bench", "*.in"),
-         ("compare", "*.rs"), ("explorer", "*.js"), ("explorer", "*.rs")]  # fmt: skip
+         ("compare", "*.rs"), ("explorer", "*.js"), ("explorer", "*.rs"), (".", "*.sh"), (".ci", "run"),
+         ("docs", "*.py"), ("c", "*.py"), ("compare", "*.py"), ("crates", "*.py"), ("rust", "*.py")]  # fmt: skip
 # Where a construction stays: the file, the construction, the number of lines, and the reason.
 KEPT = [
     ("CHANGELOG.md", "two semicolons", 5, "lists"),
@@ -119,20 +120,32 @@ def prose(name, text):
                 yield f"Rust {version} is not the least version, {LEAST}"
 
 
+def is_prose(path, text):
+    """Yields for each line of a file whether it is prose: a line of a page, of a comment, or of a docstring."""
+    is_code, string = False, ""
+    for line in text.splitlines():
+        is_code ^= line.startswith("```")
+        begins = "docstring" if re.match(' *"""', line) else "string"
+        if path.suffix == ".md":
+            yield not is_code and not line.startswith(("    ", "```", "#"))
+        elif path.suffix == ".py":
+            yield (string or begins) == "docstring" or not string and bool(re.match(" *#", line))
+            if line.count('"""') % 2:
+                string = "" if string else begins
+        else:
+            yield bool(re.match(" *#" if path.suffix in (".sh", "") else r" *(//|-- |/?\*)(?!! #)", line))
+
+
 def prose_of(path):
-    """Returns the lines of a page, or of the comments of a source: the number, the text, and whether the text begins."""
+    """Returns the lines of prose in a file: the number, the text, and whether a comment or a paragraph begins there."""
     text = path.read_text()
     if "Made by" in "".join(text.splitlines(True)[:3]):
         return
-    before, is_code = "", False
-    for number, line in enumerate(text.splitlines(), 1):
-        is_code ^= line.startswith("```")
-        is_page = path.suffix == ".md" and not is_code and not line.startswith(("    ", "```"))
-        if is_page or path.suffix != ".md" and re.match(r" *(//|-- |/?\*)", line):
+    before = ""
+    for number, (line, is_read) in enumerate(zip(text.splitlines(), is_prose(path, text)), 1):
+        if is_read:
             yield number, line, not re.search(r"\w", before) or before.startswith("|")
-            before = line.strip()
-        else:
-            before = ""
+        before = line.strip() if is_read else ""
 
 
 def found_in(path):

@@ -13,7 +13,7 @@ import tempfile
 TOP = pathlib.Path(__file__).resolve().parent.parent
 COPIED = ["*.md", "crates.txt", ".ci", "bench", "c", "compare", "crates", "docs", "explorer", "rust"]
 
-# A file, a piece of it (`None`: its end, also of a new file), what stands there instead, and what has to be printed.
+# A file, a piece of it (`None`: its end, also of a new file), its replacement, and the text that must be printed.
 FLAGS, FORMAT, DIGIT = "crates/lexical_flags/src/format_flags.rt", "docs/FORMAT.md", "crates/lexical_base/src/digit.rt"
 DIGITS, SPECS, HEADER = "crates/lexical_base/specs/Digits.antt", "crates/lexical_util/specs", "c/peltzivar.h"
 EDITS, UTIL = "crates/lexical_util/src/edits.rt", "Rattle.lexical_util.specs"
@@ -40,16 +40,16 @@ PLANTS = [
      "docs/FORMAT.md: not in the table once: | 12 | `no_integer_leading_zeros` | false |"),
     (FORMAT, None, "| 7 |\n", "docs/FORMAT.md: the tests have "),
     (FORMAT, "refuses `+1` |", "refuses `+2` |",
-     "docs/FORMAT.md: the setter `no_positive_mantissa_sign` does not say: If set, a parser refuses `+2`"),
+     "docs/FORMAT.md: the comment of the setter `no_positive_mantissa_sign` does not have: If set, a parser refuses `+2`"),
     (FORMAT, "| separators in the integer |", "| separators in the fraction |",
-     "docs/FORMAT.md: `integer_digit_separator_flags` is about something else: separators in the fraction"),
+     "docs/FORMAT.md: `integer_digit_separator_flags` does not have the meaning of its name: separators in the fraction"),
     (FORMAT, " 127       120 ", " 127       121 ", "docs/FORMAT.md: the drawing has other bits than the tables"),
     (FORMAT, "| not both flags 4 and 5 |", "| not both flags 4 and 6 |",
      "docs/FORMAT.md: rule 9 demands another thing: not both flags 4 and 6"),
     (FORMAT, "its flag 16, 17", "its flag 17, 17", "docs/FORMAT.md: does not have: If a base prefix, a base suffix"),
     (FORMAT, "Exit status: 0;", "Exit status: 4;", "docs/FORMAT.md: does not have: Exit status: 0;"),
     ("rust/src/feature_format.rs", "/// True if a parser refuses `.`:", "/// True if a parser refuses `,`:",
-     "docs/FORMAT.md: rust/src/feature_format.rs: `required_mantissa_digits` does not say: refuses `.`"),
+     "docs/FORMAT.md: rust/src/feature_format.rs: the comment of `required_mantissa_digits` does not have: refuses `.`"),
     (FLAGS, "::required_fraction_digits]", "::required_integer_digits]",
      "format_flags.rt: `REQUIRED_FRACTION_DIGITS` points to the setter `required_integer_digits`"),
     (FLAGS, None, "pub const PLANTED: u128 = 0;\n", "not exported by lexical_util::format: PLANTED"),
@@ -105,7 +105,7 @@ PLANTS = [
     (EDITS, "\nghost use ", f"\nghost use {UTIL}.declared.TheConstants.{{FLAG_MASK}};\nghost use ", ""),
     (EDITS, "\nghost use ", f"\nghost use {UTIL}.Additions.SettingNumbers.{{mask_of_edit}};\nghost use ",
      "migrate reaches the addition mask_of_edit by its contract"),
-    ("docs/check_definitions.py", "APART = {", "APART = {'planted': '',", "planted is no file for the table"),
+    ("docs/check_definitions.py", "APART = {", "APART = {'planted': '',", "planted is not a file for the table"),
     ("docs/check_definitions.py", '"edit_word": 300', '"edit_word": 3', " lines of definitions, more than 3\n"),
     ("docs/PROVED.md", "<!-- calls -->\n", "<!-- calls -->\n\n", "docs/PROVED.md: its tables of definitions are old"),
     ("docs/RUST.md", None, "This is no page.\n", ": is no X: This is no page."),
@@ -113,6 +113,8 @@ PLANTS = [
     (DIGITS, None, "-- The error of parsing, planted.\n", ": setters of flags: -- The error of parsing, planted."),
     (EDITS, None, "// It says planted.\n", ": says or about: // It says planted."),
     (HEADER, None, "/* Planted; planted; planted. */\n", ": two semicolons: /* Planted; planted; planted. */"),
+    ("c/test.sh", None, "# Planted, but for one.\n", ": but for: # Planted, but for one."),
+    ("docs/definitions.py", None, '"""Whether it is planted."""\n', ': how many or whether: """Whether it is planted."""'),
     ("docs/check_prose.py", "KEPT = [", "KEPT = [('planted', '', 99, ''),", "docs/check_prose.py: KEPT lists "),
     ("docs/planted_test.sh", None, "", "docs/planted_test.sh: neither .ci/run nor what it runs calls this test"),
 ]  # fmt: skip
@@ -128,7 +130,7 @@ def copy(folder):
 
 
 def plant(folder, file, old, new):
-    """Returns whether the piece stands in the file, and puts the fault there."""
+    """Returns whether the piece is in the file, and puts the fault there."""
     path = folder / file
     text = path.read_text() if path.exists() else ""
     path.write_text(text + new if old is None else text.replace(old, new, 1))

@@ -20,7 +20,7 @@ WORD = re.compile(r"\.?\d\w*|\.?[^\W\d][\w'-]*×?(?:\.\w+)*|\[\]|[^\s\w(){}\[\];
 KEYWORDS = set("λ _ → = : . × ⊥ ¬ Type data record where let in then else pub abbrev unfoldable unfolding tt".split())
 KEYWORDS |= set("ensures requires result self Ok Err Some None".split())
 CONSTRUCTORS = set("true false zero suc Ok Err Some None".split())
-# What a word means: the file and name of a definition, or the kind (std, type, constant, unknown name) and the name.
+# The meaning of a word: the file and name of a definition, or the kind (std, type, constant, unknown name) and the name.
 Item = collections.namedtuple("Item", "file name")
 Function = collections.namedtuple("Function", "path name is_public signature clauses")
 

@@ -1,6 +1,6 @@
 #!/usr/bin/env bash
-# Tests the page: its check finds changes; its WebAssembly returns the recorded results in Node.js; the code that it
-# shows builds the word; Chromium takes the steps of a user, and a picture of each is kept in out/.
+# Tests the page. Its check finds changes. Its WebAssembly returns the recorded results in Node.js. The code that it shows
+# builds the word. Chromium takes the steps of a user, and a picture of each is kept in out/.
 #
 # The last line is `N passed, M failed, K skipped`. The exit status is 1 if a row failed, or if rows are missing.
 set -u
@@ -28,7 +28,7 @@ END
     mv "$work/before" "$work/copy/$2"
 }
 
-# checks: `build --check` finds each change but that of a comment.
+# checks: `build --check` finds each change, except for changes of comments.
 checks() {
     passes ./build --check
     tar --exclude=out --exclude=target -C .. -c c crates docs explorer rust | tar -x -C "$work/copy"

@@ -1,15 +1,19 @@
 #!/usr/bin/env bash
-# Tests the program as it was built, with arguments: what it prints and its exit status, also if writes or memory fail;
-# that every bit, byte and rule is printed as FORMAT.md says; that an edit of each name there sets the bits of its row;
-# that the words in the tables of FORMAT.md and MIGRATING.md come out as these say; and that each line `$ numfmt ..` of the
-# pages prints what the page shows below it. The last line is `N passed, M failed, K skipped`; the exit status is 1 if a
-# run failed, or there are fewer than before. Without cc or python3, all are skipped.
+# Tests the built program with arguments:
+#
+# - its output and its exit status, also if writes or memory fail;
+# - every bit, byte and rule is printed as in FORMAT.md, and an edit of each name there sets the bits of its row;
+# - the words in the tables of FORMAT.md and MIGRATING.md have the results that these pages show;
+# - each line `$ numfmt ..` of the pages prints the text that the page shows below it.
+#
+# The last line is `N passed, M failed, K skipped`. The exit status is 1 if a run failed, or if there are fewer runs than
+# before. Without cc or python3, all runs are skipped.
 #
 #     built-program-test.sh            tests out/numfmt, which `rt run` and `rt ci` leave; if that is absent, or older than
 #                                      a source file, `rt run` builds it
-#     built-program-test.sh PROGRAM    tests another program, such as that of rust/numfmt. What fails is tried less often:
-#                                      Rust's std opens /dev/null in place of a closed output, and aborts where memory fails
-# shellcheck disable=SC2016 # the backquotes in patterns are those of pages
+#     built-program-test.sh PROGRAM    tests another program, such as rust/numfmt. Fewer failures are tried, since
+#                                      Rust's std opens /dev/null in place of a closed output, and aborts if memory fails
+# shellcheck disable=SC2016 # the backquotes in patterns come from pages
 set -u
 program=${1:+$(realpath -m "$1")} least=4108
 cd "$(dirname "$0")" || exit
@@ -31,8 +35,8 @@ fi
 folder=$(mktemp -d)
 trap 'rm -r "$folder"' EXIT
 
-# Functions that stand in for those of the C library: `write.so` fails the write that has the number FAILING_WRITE, and
-# ends the program with status 4 at the next one; `malloc.so` has no memory.
+# Functions that replace functions of the C library. `write.so` fails the write with the number FAILING_WRITE, and ends
+# the program with status 4 at the next one. `malloc.so` has no memory.
 cc -shared -fPIC -o "$folder/malloc.so" -x c - <<< 'void *malloc(unsigned long size) { return 0; }'
 cc -shared -fPIC -o "$folder/write.so" -x c - << 'END'
 #include <errno.h>
@@ -63,9 +67,9 @@ refuses() {
     responds 2 "numfmt: $1" "${@:2}"
 }
 
-# fails ARGUMENT..: on a full and on a closed standard output the status is 3, and nothing else is told; so if one write
-# fails, whichever it is. Then the front of the text was written before, and nothing is written after. A row of `responds`
-# or `refuses` says what the text is.
+# fails ARGUMENT..: on a full and on a closed standard output the status is 3, and nothing else is printed; likewise
+# if any single write fails. Then the front of the text was written before, and nothing is written after. A row of
+# `responds` or `refuses` has the text.
 fails() {
     local got front text count
     got=$("$program" "$@" 2>&1 > /dev/full; echo "status $?")

@@ -1,9 +1,9 @@
 #!/usr/bin/env python3
-"""Prints what `built-program-test.sh` tries: arguments of numfmt, and the text and status that they call for.
+"""Prints the runs of `built-program-test.sh`: arguments of numfmt, and the text and status that they must give.
 
-Words with each bit alone, with all but each, and with each value of each byte are shown and written as Rust code; the
-normal forms of the first two are printed; and the smallest word that breaks each rule is checked and explained. Names,
-bits, rules and sentences are read from docs/FORMAT.md; the texts of outcomes are those that the Rust crate printed.
+Words with a single bit, with all bits except one, and with each value of each byte are shown and written as Rust code. The
+normal forms of the first two are printed. The smallest word that breaks each rule is checked and explained. Names, bits,
+rules and sentences are read from docs/FORMAT.md, and lexical-util printed the texts of outcomes.
 """
 import re
 from pathlib import Path
@@ -34,7 +34,7 @@ def fields(word):
 
 
 def filled(word):
-    """The values of the six bytes, where an empty exponent byte is the mantissa radix."""
+    """Returns the values of the six bytes, with the mantissa radix as an absent exponent byte."""
     values = fields(word)
     for name in ("exponent_base", "exponent_radix"):
         values[name] = values[name] or values["mantissa_radix"]

@@ -1,8 +1,9 @@
 #!/usr/bin/env bash
-# Tests the replay as it was built: a line of each kind is kept, and differs once its last part is changed; no line that
-# cannot be read is passed over; the exit status is 1 if a line differs or cannot be read, and if there is no file. It uses
-# out/recorded, which `rt run` and `rt ci` leave; if that is absent, or older than a source file, `rt run` builds it. The
-# last line is `N passed, M failed, K skipped`; the exit status is 1 if a run failed, or there are fewer than before.
+# Tests the built replay. A line of each kind agrees, and differs if its last part is changed. A line that cannot be read
+# is not skipped. The exit status is 1 if a line differs or cannot be read, or if the file is absent. The test uses
+# out/recorded, which `rt run` and `rt ci` leave. If that is absent, or older than a source file, `rt run` builds it. The
+# last line is `N passed, M failed, K skipped`. The exit status of the test is 1 if a run failed, or if there are fewer runs
+# than before.
 set -u
 cd "$(dirname "$0")" || exit
 # shellcheck source=../../.ci/rows.sh
@@ -25,7 +26,7 @@ ends() {
     compares "$2status $1" "${got::${#2}}${got##*$'\n'}" "$3"
 }
 
-# differs LINE: the line alone, and after a thousand that are kept, ends the replay with status 1.
+# differs LINE: the line, by itself and after a thousand lines that agree, ends the replay with status 1.
 differs() {
     echo "$1" > results.txt
     ends 1 "differs: $1" "$1"
@@ -33,7 +34,7 @@ differs() {
     ends 1 "differs: $1" "a thousand lines, and $1"
 }
 
-# unread LINE: the line is no recorded result, so it is told as one that differs.
+# unread LINE: the line is not a recorded result, so it is reported like a line that differs.
 unread() {
     echo "$1" > results.txt
     ends 1 "differs: $1" "$1"
@@ -80,7 +81,7 @@ unread "edit $word 0A0A100000000000000000000000000C colour=1 radix=16"
 unread "edit $word 0A0A100000000000000000000000000C radix=256 radix=16"
 unread "build $word Success colour=1"
 
-# No outcome has these names, whatever text stands there.
+# No outcome has these names, whatever text follows.
 while IFS= read -r line; do
     unread "$line"
 done < <(sed -nE 's/^(printed [0-9]+ [A-Za-z]+) /\1s /p' "$results")

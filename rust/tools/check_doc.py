@@ -3,7 +3,7 @@
 
     rust/tools/check_doc.py FOLDER
 
-Each link leads to a page, and to a part of it that has this name; there are at most MOST pages; no text is one that
+Each link leads to a page, and to a part of it that has this name; there are at most MOST pages, and no text is one that
 documentation.py does not allow. What differs is printed, and the status is then 1.
 """
 import html.parser

@@ -1,4 +1,4 @@
-"""What erase.py changes in the documentation of the library, so that it does not mention the sources in Rattle.
+"""Changes of erase.py in the documentation of the library, so that it does not mention the sources in Rattle.
 
 PROVED lists the calls whose documentation shows their clauses, with a sentence for each clause. A name between
 backquotes becomes a link if the page `definitions` has it. PHRASES are removed or replaced, and no match of FOREIGN may

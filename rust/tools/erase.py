@@ -15,7 +15,7 @@ calls. All other words stay in their order, except for
 documentation of the library. rustfmt does the layout. These are refused with their file and line, and then no file is
 changed: a word of GHOST that is left, a clause without braces, an item of a file without counterpart that plain Rust
 would lose, and a public call with a precondition and without a part `# Panics`. `erase_test.py` compares the words of
-each file with the words of its source.
+the words of each file with its source.
 """
 import pathlib
 import re
@@ -63,7 +63,7 @@ SUBSTITUTIONS = [
     ("ascii.rt", "use std::simd::prelude::*;", "use crate::chunks::{Chunks, SplitChunks}; use crate::lanes::Simd;"),
     ("ascii.rt", "chunks: &[[u8; 32]]", "chunks: Chunks<'_, 32>"),
     ("ascii.rt", "block: &[[u8; N]]", "block: Chunks<'_, N>"),
-    # LLVM gathers entries of 32 bits, and inserts those of 8 bits one by one.
+    # LLVM gathers entries of 32 bits, and inserts entries of 8 bits one by one.
     ("digit.rt", "const VALUES: [u8; 256] = [", "const VALUES: [u32; 256] = ["),
     ("digit.rt", "VALUES[c as usize] as u32", "VALUES[c as usize]"),
     ("error.rt", "use std::cmp::Ordering;", ""),

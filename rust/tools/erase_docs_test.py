@@ -1,6 +1,6 @@
 #!/usr/bin/env python3
 """Tests what erase.py adds to the words of a source, and what it keeps of its comments: the documentation of each made
-file is that of its source, after the changes of documentation.py in the library; the functions in SHOWN, and no others,
+file equals the documentation of its source, after the changes of documentation.py in the library; the functions in SHOWN, and no others,
 have their clauses besides, and a sentence for each, with the cues of CUES and names of the clause only; and a public
 function has `#[must_use]` if and only if it returns something that is not a `Result`. The last line is `N passed, M
 failed`.
@@ -22,10 +22,10 @@ SHOWN = """
     error is_valid_options_punctuation
 """.split()
 
-# What a sentence has if and only if its clause has the other.
+# Texts that a sentence has if and only if its clause has the other text.
 CUES = {"if and only if|the same error": "↔|OkIff", "[Nn]ever": "≢", "No other": r"\(other :", "An `Err`": "IfErr"}
 
-# What each row of PHRASES adds, and texts that have something of FOREIGN.
+# The words that each row of PHRASES adds, and texts that FOREIGN finds.
 ADDED = [
     "", "", "", "", "", "", "[`build_or_panic`][Self::build_or_panic],",
     "If is more, may panic checked, and otherwise returns some byte.", "Panics if is more.",
@@ -40,7 +40,7 @@ ADDED = [
 STRANGE = ["a.rt", "a.antt", "In plain Rust", "in plain Rust", "the crate below", "crates above", "is not proved",
            "has no such function", "Search", "the search", "word::STANDARD"]  # fmt: skip
 
-# What stands behind each reason of an `unsafe` in the exports.
+# The code that follows each reason of an `unsafe` in the exports.
 SAFETY = {
     "no other library has names that begin with `peltzivar_`.": r"#\[unsafe\(no_mangle\)\]",
     "the length is 0, or the caller passes a pointer to as many values.": r"let \w+ = unsafe \{ crate::slices::of\(.*",
@@ -106,7 +106,7 @@ def misfits(sentence, clause):
 
 
 def added(old, new):
-    """The words that a text has besides those of another, in their order."""
+    """Returns the words that one text has in addition to another, in their order."""
     old, new = old.split(), new.split()
     codes = difflib.SequenceMatcher(None, old, new, autojunk=False).get_opcodes()
     return " ".join(word for kind, _, _, start, end in codes if kind != "equal" for word in new[start:end])
@@ -139,7 +139,7 @@ def needs_must_use(words):
 
 
 def rows():
-    """What is compared: its name, what it has to be, and what it is."""
+    """Yields each comparison: its name, the expected value, and the value."""
     found, comments = [], documentation.Comments()
     for path, made, place in pairs():
         source, text = path.read_text(), made.read_text()

@@ -97,8 +97,8 @@ REPOSITORY = {
     "rust/src/by_hand.rs": "",
 }
 
-# One run after another: a file and its new text (`None`: no file), or nothing; the arguments; rows of SUBSTITUTIONS and
-# of EVERYWHERE; what the run has to print; and a row of GROWING. The status is 0 if that begins with `changed` or is empty, and 1 if not.
+# Runs, one after another: a file and its new text (`None`: no file), or nothing, the arguments, rows of SUBSTITUTIONS
+# and of EVERYWHERE, the expected output, and a row of GROWING. The status is 0 if that begins with `changed` or is empty, and 1 if not.
 STALE = "run rust/tools/erase.py: not up to date: "
 BOTH = "src/a.rs src/definitions.rs"
 ONCE = [("a.rt", "A module.", "A file.")]
@@ -162,7 +162,7 @@ def tables():
 
 
 def run(folder, arguments, substitutions, everywhere, growing):
-    """What the program prints in a small repository, and its status."""
+    """Returns the output of the program in a small repository, and its status."""
     program = (
         f"import sys, erase; sys.argv = ['erase.py', *{arguments.split()}]; erase.PLACES = {{'one': erase.LIBRARY}}; "
         f"erase.HIDDEN, erase.GROWING, erase.DERIVED, erase.documentation.PHRASES = {{}}, {growing}, {{}}, []; "

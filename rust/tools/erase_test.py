@@ -1,5 +1,5 @@
 #!/usr/bin/env python3
-"""Tests that each generated file has the words of its source, in their order, without whole ghost items, and except for
+"""Tests that each generated file has the source's words in their order, without whole ghost items, and except for
 the tables of erase.py. Comments are not words. The order of imports, and commas and braces that rustfmt adds, do not
 matter.
 
@@ -201,7 +201,7 @@ def normal(words, is_made=False):
 
 
 def same_words(wanted, made):
-    """Whether two lists of words are the same, but for braces round an arm of a `match`."""
+    """Returns whether two lists of words are equal, except for braces around an arm of a `match`."""
     at, added = 0, []
     for index, word in enumerate(made):
         if at < len(wanted) and wanted[at] == word and not (word == "}" and added and added[-1] == depth_of(made, index)):
@@ -217,7 +217,7 @@ def same_words(wanted, made):
 
 
 def depth_of(words, index, cache={}):
-    """How many braces are open around the brace at an index."""
+    """Returns the number of open braces around the brace at an index."""
     if cache.get("words") is not words:
         depth, depths = 0, []
         for word in words:
@@ -247,7 +247,7 @@ def pairs():
 
 
 def made_files():
-    """Each made file with the words that it has to have, and those that it has."""
+    """Yields each generated file with the expected words and the actual ones."""
     for path, made, place in pairs():
         yield made, wanted_words(path, place), words_of(made.read_text())
 

@@ -1,13 +1,13 @@
 #!/usr/bin/env python3
 """Tests what a caller relies on in addition to results. The lists below have the names of the sources.
 
-- The public modules are those of MODULES, and the names at the root those of ROOT. No code is `unsafe`, none needs
+- MODULES lists the public modules, and ROOT the names at the root. No code is `unsafe`, none needs
   `std`, the compiler refuses what LINTS name, a panic of a function in TRACK_CALLER names its caller, and the enums in
   GROWING may grow.
-- The documentation shows all names of `lexical-util`, and of the others those in SHOWN.
-- Every public function is `const`, but those in NOT_CONST: a function that is `const` calls it.
+- The documentation shows all names of `lexical-util`, and the names in SHOWN.
+- Every public function is `const`, except for the functions in NOT_CONST: a function that is `const` calls it.
 - The compiler warns if a caller drops the result of a public function.
-- A public type has the traits of TRAITS, and no other of those in TESTED.
+- A public type has the traits of TRAITS, and no other trait in TESTED.
 - A constant in REFUSED stops the compiler with the error and the first reason.
 - The view whose word is a const argument returns what the view at run time returns, for each word of a sample.
 
@@ -133,7 +133,7 @@ def crate():
 
 
 def refused():
-    """Whether a constant that is not lawful stops the compiler with the error of its word and the first reason. The
+    """Tests that a constant that is not lawful stops the compiler with the error of its word and the first reason. The
     documentation has the text of one."""
     documented = " ".join(re.sub(r"^ *///", "", (public.SRC / "format.rs").read_text(), flags=re.M).split())
     yield "documentation of build_or_panic", True, any(f"`{it}`" in documented for it in REFUSED.values())
@@ -164,7 +164,7 @@ def all_functions():
 
 
 def are_const():
-    """Whether each function is called by one that is `const`."""
+    """Tests that a `const` function can call each function."""
     found = all_functions()
     lines = [public.caller(it, number, "const ", f" -> {it.result}" if it.result else "", "")
              for number, (_, it) in enumerate(found)]
@@ -179,7 +179,7 @@ def are_const():
 
 
 def warn():
-    """Whether the compiler warns of each result that is dropped."""
+    """Tests that the compiler warns of each dropped result."""
     found = [(name, it) for name, it in all_functions() if it.result]
     lines = [public.caller(it, number, "", "", ";") for number, (_, it) in enumerate(found)]
     _, output, messages = public.run("check", "\n".join([*lines, "fn main() {}"]))
@@ -189,7 +189,7 @@ def warn():
 
 
 def traits():
-    """Whether each type has its traits, and no other."""
+    """Tests that each type has its traits, and no other."""
     found = list(public.types())
     lines = ["struct Is<T>(core::marker::PhantomData<T>);"]
     for number, trait in enumerate(TESTED.values()):
@@ -220,7 +220,7 @@ def words():
 
 
 def twins():
-    """Whether both views return the same of each word, by each function and constant, and convert into each other."""
+    """Tests that both views return equal results for each word, by each function and constant, and convert into each other."""
     runtime = f"peltzivar::{public.RUNTIME}::{public.VIEW}"
     calls = []
     for it in view_functions():

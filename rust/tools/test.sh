@@ -1,9 +1,14 @@
 #!/usr/bin/env bash
-# Tests the plain Rust with cargo and python3, without the kit: that erase.py generates it from the proved sources; its
-# tests, also with the least version of Rust; lints; the names that differ from lexical-util, and its own names; its
-# documentation, layout and package; that it can replace lexical-util; the examples of README and RUST, and numfmt.
+# Tests the plain Rust with cargo and python3, without the kit:
 #
-# The last line is `N passed, M failed, K skipped`; the exit status is 1 if a row failed, or there are fewer than before.
+# - erase.py generates it from the proved sources;
+# - its tests, also with the least version of Rust, and its lints;
+# - its names, and the names that differ from lexical-util;
+# - its documentation, its layout and its package, and that it can replace lexical-util;
+# - the examples of README and RUST, and numfmt.
+#
+# The last line is `N passed, M failed, K skipped`. The exit status is 1 if a row failed, or if there are fewer rows than
+# before.
 set -u
 cd "$(dirname "$0")/.." || exit
 # shellcheck source=../../.ci/rows.sh
