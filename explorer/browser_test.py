@@ -184,6 +184,8 @@ def a_separator_without_a_flag_has_a_note(page):
     page.type("#digit_separator", "_")
     sentence = "no number can have the digit separator '_': no flag allows one"
     same(page.texts("#notes .note")[0].splitlines()[0], sentence)
+    same(page.texts("#notes .link"), ["digit_separator_flags", "digit_separator"])
+    same("no builder makes this one" in page.text("#code"), True)
     same(page.text("#verdict"), "Lawful")
 
 
@@ -248,7 +250,7 @@ def what_is_no_word_is_refused(page):
     ]
     for text, message in rows:
         page.type("#word", text)
-        same(page.text("#word-problem"), f"{message}: a word is 0x and 1 to 32 hexadecimal digits")
+        same(page.text("#word-problem").startswith(f"{message}: a word is 0x and 1 to 32 hexadecimal digits."), True)
         same(page.find("#word").get_attribute("aria-invalid"), "true")
     same(page.all("img"), [])
 

@@ -22,15 +22,17 @@ class Code {
         });
     }
 
-    /* Returns a warning if no builder makes the word. */
-    warning(word) {
-        return this.library.isBuilt(word) ? "" : " (the code builds another word, since no builder makes this one)";
+    /* Returns the comment of the code: the word, and a warning if no builder makes it. */
+    comment(word, text, begin, end = "") {
+        const warning = this.library.isBuilt(word) ? [] : ["The code builds another word: no builder makes this one."];
+        const lines = [text, ...warning];
+        return lines.map((line) => `${begin} ${line}${end}\n`).join("");
     }
 
     rust(word, text) {
         const source = this.library.source(word).replace(/\.(?=\w+\()/g, "\n    .");
         const uses = source.includes("NonZeroU8") ? "use core::num::NonZeroU8;\n" : "";
-        const lines = `/// ${text}${this.warning(word)}\nconst FORMAT: u128 = ${source};\n`;
+        const lines = `${this.comment(word, text, "///")}const FORMAT: u128 = ${source};\n`;
         return `${uses}use peltzivar::format::NumberFormatBuilder;\n\n${lines}`;
     }
 
@@ -39,7 +41,7 @@ class Code {
             const argument = isFlag ? String(Boolean(value)) : literal(value, isNumber, "'");
             return `    {PELTZIVAR_SET_${name.toUpperCase()}, ${argument}},\n`;
         });
-        const head = `#include "peltzivar.h"\n\n/* ${text}${this.warning(word)} */\n`;
+        const head = `#include "peltzivar.h"\n\n${this.comment(word, text, "/*", " */")}`;
         const standard = "static const peltzivar_word FORMAT = PELTZIVAR_STANDARD_INIT;\n";
         if (!rows.length) return `${head}${standard}`;
         return `${head}static const peltzivar_edit EDITS[] = {\n${rows.join("")}};
@@ -58,12 +60,12 @@ static bool build(peltzivar_word *format) {
         });
         const view = this.library.formatError(word) ? "FormatView" : "Format";
         const call = rows.length ? `${view}.of(\n${rows.join("")})` : `${view}()`;
-        return `from peltzivar import ${view}\n\n# ${text}${this.warning(word)}\nformat = ${call}\n`;
+        return `from peltzivar import ${view}\n\n${this.comment(word, text, "#")}format = ${call}\n`;
     }
 
     settings(word, text) {
         const rows = this.edits(word).map((edit) => `${this.setting(edit)}\n`);
-        return `# ${text}${this.warning(word)}\n${rows.join("")}`;
+        return `${this.comment(word, text, "#")}${rows.join("")}`;
     }
 
     /* Returns the setting of an edit, with a character if the library reads the same from it. */

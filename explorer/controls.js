@@ -157,7 +157,7 @@ class Controls {
         const { box, other, problem } = this.inputs.get(name);
         const isAbsent = byte === 0 && name !== "mantissa_radix";
         const numbers = `${byte} = 0x${byte.toString(16).toUpperCase().padStart(2, "0")}`;
-        setText(other, byte === filled ? (isAbsent || isNumber ? "" : numbers) : `is ${filled}`);
+        setText(other, byte === filled ? (isAbsent || isNumber ? "" : numbers) : `means ${filled}`);
         if (document.activeElement === box) return;
         box.value = isAbsent ? "" : byteText(byte, isNumber || this.asNumbers || (byte >= 48 && byte < 58)) || "0";
         box.placeholder = "none";

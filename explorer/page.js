@@ -126,7 +126,8 @@ class Page {
     /* Takes a text as the word, or shows why it is not one. */
     paste(text) {
         const { word, message } = this.library.parseWord(text.trim());
-        setText(find("word-problem"), message ? `${message}: a word is 0x and 1 to 32 hexadecimal digits` : "");
+        const told = `${message}: a word is 0x and 1 to 32 hexadecimal digits. The page shows the last word.`;
+        setText(find("word-problem"), message ? told : "");
         find("word").setAttribute("aria-invalid", String(Boolean(message)));
         if (!message) this.change({ word });
     }

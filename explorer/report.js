@@ -16,6 +16,7 @@ class Report {
         this.masks = library.fields.map((setter) => {
             return { name: library.setters[setter], mask: library.editMask({ setter, value: 1 }) };
         });
+        this.separators = library.editMask({ setter: library.setterOf("digit_separator_flags"), value: 1 });
         this.defaults = new Map(library.editsOf(library.standard).edits.map((edit) => [edit.setter, edit]));
     }
 
@@ -26,9 +27,11 @@ class Report {
         return mask & ~all ? [...names, "reserved"] : names;
     }
 
-    /* Returns buttons that lead to the fields of a mask. */
+    /* Returns buttons that lead to the fields of a mask. All separator flags together have one button. */
     links(mask) {
-        return this.namesOf(mask).map((name) => button("link", name, () => this.go(name), { "data-field": name }));
+        const hasAll = (mask & this.separators) === this.separators;
+        const names = hasAll ? ["digit_separator_flags", ...this.namesOf(mask & ~this.separators)] : this.namesOf(mask);
+        return names.map((name) => button("link", name, () => this.go(name), { "data-field": name }));
     }
 
     reason(word, { text, mask, rules, mends }) {
