@@ -118,20 +118,20 @@ pub fn display(numbers: &[u64]) -> u64 {
     fold.sum
 }
 
+/// Compares each outcome with 32 of its block. No pair comes twice, so that the processor learns none.
 pub fn order(numbers: &[u64]) -> u64 {
     let mut fold = Fold::new();
-    let mut last = Error::Success;
     for block in numbers.as_chunks::<64>().0 {
         let outcomes = outcomes_of(block);
-        for _ in 0..TIMES {
-            for error in &outcomes {
-                let sign = match error.cmp(&last) {
+        for distance in 0..TIMES {
+            for index in 0..64 {
+                let (error, other) = (&outcomes[index], &outcomes[(index + distance) % 64]);
+                let sign = match error.cmp(other) {
                     Ordering::Less => 1,
                     Ordering::Equal => 2,
                     Ordering::Greater => 3,
                 };
-                fold = fold.with(sign).with((*error == last) as u64);
-                last = *error;
+                fold = fold.with(sign).with((error == other) as u64);
             }
         }
     }
