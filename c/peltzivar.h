@@ -11,8 +11,8 @@
  * pointer or sets errno. Calls may run in several threads if none of them writes what another reads or writes.
  *
  * The bits of a word never change their meaning. A new minor version may add a flag, which renumbers setters and
- * the bits of peltzivar_fields. So store words or names of setters, and compile with the header of the library
- * that you link. */
+ * the bits of peltzivar_fields. So store words or names of setters, and compile with the header of the linked
+ * library. */
 #ifndef PELTZIVAR_H
 #define PELTZIVAR_H
 
@@ -336,9 +336,9 @@ PELTZIVAR_API bool peltzivar_is_valid_base_suffix(peltzivar_word format);
 PELTZIVAR_API bool peltzivar_is_valid_punctuation(peltzivar_word format);
 
 /* Returns whether an exponent character and a decimal point fit a word: both are punctuation, and neither shares a
- * byte with the other or with the digit separator, base prefix or base suffix of the word. An exponent character
- * that is a letter has the bytes of both cases, unless case_sensitive_exponent is set; prefix and suffix as in
- * PELTZIVAR_RULE_PUNCTUATION_DIFFERS. The word is not checked otherwise. */
+ * byte with the other or with the digit separator, base prefix or base suffix of the word. If the
+ * exponent character is a letter, it has the bytes of both cases, unless case_sensitive_exponent is set; prefix and
+ * suffix as in PELTZIVAR_RULE_PUNCTUATION_DIFFERS. The word is not checked otherwise. */
 PELTZIVAR_API bool peltzivar_is_valid_options_punctuation(
     peltzivar_word format, uint8_t exponent, uint8_t decimal_point);
 

@@ -52,7 +52,6 @@ KEPT = [
     ("c/peltzivar.h", "words for names", 1, "format words"),
     ("c/peltzivar.h", "is 2 to 36", 1, "a range in parentheses"),
     ("c/settings.c", "house, room or free", 1, "code"),
-    ("docs/ARCHITECTURE.md", "what or who first", 4, "headings of columns"),
     ("docs/C-AND-PYTHON.md", "two semicolons", 1, "a list"),
     ("docs/DECISIONS.md", "alone", 1, "cargo alone"),
     ("docs/DIFFERENCES.md", "two semicolons", 1, "a list"),

@@ -119,8 +119,8 @@ fn max_distance<const N: usize>(
     largest.simd_max(from_first.simd_min(from_second))
 }
 
-// Returns whether each of fewer than 32 bytes is in one of the two ranges. The first 16 bytes, if there
-// are so many, are tested at once, and the others one by one.
+// Returns whether each of fewer than 32 bytes is in one of the two ranges. If there are at least 16 bytes, the
+// first 16 are tested at once. The others are tested one by one.
 #[inline(always)]
 fn rest_in_ranges(bytes: &[u8], mask: u8, first: (u8, u8), second: (u8, u8)) -> bool
     requires { AreTwoRanges first second }
