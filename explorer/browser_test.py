@@ -418,7 +418,7 @@ def times(page):
 
 def loading_and_editing_are_fast(page):
     paint, edit = times(page)
-    is_busy = os.getloadavg()[0] > os.cpu_count()
+    is_busy = "CI" in os.environ or os.getloadavg()[0] > os.cpu_count()
     is_fast = paint < MOST_PAINT and edit < MOST_EDIT
     told = f"first paint {paint:.0f} ms, edit {edit:.1f} ms"
     (page.folder / "times.txt").write_text(f"{told}\n" if is_fast or not is_busy else f"busy: {told}\n")

@@ -74,7 +74,8 @@ python_code() {
         python3 "$work/code/main.py"
 }
 
-# browser: the steps in Chromium. The times are of no use on a machine that runs more programs than it has cores.
+# browser: the steps in Chromium. The times are of no use in .ci/run, or on a machine that runs more programs than it has
+# cores.
 browser() {
     [ "$lacking" ] || rm -rf out
     passes "$python" ./browser_test.py out
