@@ -357,6 +357,14 @@ fn a_mend_mends() {
                         "{word:#034X} {reason:?} {edits:?} {rule:?}"
                     );
                 }
+                // The reason is also gone where packing keeps the digit separator.
+                let builder = apply_all(NumberFormatBuilder::rebuild(word), edits);
+                let kept = builder.integer_internal_digit_separator(true);
+                let left = all_reasons(kept.build_unchecked());
+                assert!(
+                    count == 0 || left.iter().all(|it| it.mask() != reason.mask()),
+                    "{word:#034X} {reason:?} {edits:?}"
+                );
             }
         }
     }
