@@ -225,7 +225,7 @@ fn main() {
     let (mut differing, mut worst) = (0, None::<(f64, &str)>);
     for row in &rows {
         let (ours, theirs) = ((row.ours)(), (row.theirs)());
-        let is_bounded = !row.name.ends_with(user::BESIDE);
+        let is_bounded = !row.name.ends_with(user::OVER);
         if ours != theirs && is_bounded {
             differing += 1;
             println!("{:<50} differs: {ours:016x} and {theirs:016x}", row.name);

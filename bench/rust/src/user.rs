@@ -15,7 +15,7 @@ use upstream::checks::format_error;
 use upstream::format_builder as upstream_builder;
 
 /// The end of the name of a row whose sides return different numbers.
-pub const BESIDE: &str = ", beside format_error";
+pub const OVER: &str = ", over format_error";
 
 const COUNT: usize = 1024;
 
@@ -51,8 +51,8 @@ impl Inputs {
             over_words("Format::new, broken", &self.broken, format_word, lawful_word),
             over_texts("FormatView from text", &self.texts, parsed_view, parsed_word),
             over_texts("Edit::from_setting", &self.settings, edited, set),
-            over_words("reasons, 1 broken rule, beside format_error", &self.one_broken, reasons, error),
-            over_words("explain's sentences, beside format_error", &self.one_broken, sentences, error),
+            over_words("reasons, 1 broken rule, over format_error", &self.one_broken, reasons, error),
+            over_words("explain's sentences, over format_error", &self.one_broken, sentences, error),
         ]
     }
 }
