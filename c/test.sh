@@ -331,6 +331,7 @@ programs() {
             'cc '*) program "$line" "$soname" ;;
         esac
     done < <(block sh)
+    prints 0 "$version" pkg-config --modversion peltzivar
     # Names that a program hides are its own names, not names of the library.
     # shellcheck disable=SC2016
     passes bash -c 'cc -x c - $(pkg-config --cflags --libs peltzivar) -o hidden' << 'END' &&
@@ -357,15 +358,28 @@ int main(void) { return peltzivar_version() != 0x030511; }
 END
 }
 
+# rebuilds: after a change of a source, make builds the library again, and not before.
+rebuilds() {
+    local file
+    make -q build || return
+    for file in Cargo.toml Cargo.lock src/lib.rs capi/build.rs capi/src/lib.rs; do
+        ! make -q -W "../rust/$file" build || return
+    done
+}
+
 # installed: what `make install` writes, and `make uninstall` removes.
 installed() {
-    local prefix=$work/prefix top version soname files
+    local prefix=$work/prefix top version soname files setting
     top=$(cd .. && pwd -P)
     version=$(sed -n 's/^version = "\(.*\)"/\1/p' ../rust/Cargo.toml)
     soname=libpeltzivar_c.so.${version%.*}
     export BUILD=$work/make PKG_CONFIG_PATH=$prefix/lib/pkgconfig
     passes env CARGO_PROFILE_RELEASE_DEBUG=1 make install PREFIX="$prefix" || return
-    passes make install PREFIX=/usr LIBDIR=/usr/lib/here INCLUDEDIR=/srv/include DESTDIR="$work/root"
+    # Each file can be read by all, whatever the umask is.
+    passes bash -c 'umask 077; make install "$@"' make PREFIX=/usr LIBDIR=/usr/lib/here INCLUDEDIR=/srv/include \
+        DESTDIR="$work/root"
+    compares "644 libpeltzivar_c.a 644 peltzivar.h 644 peltzivar.pc 755 libpeltzivar_c.so.$version" \
+        "$(find "$work/root" -type f -printf '%m %f\n' | LC_ALL=C sort | xargs)" modes
     files=(./srv/include/peltzivar.h ./usr/lib/here/libpeltzivar_c.{a,so} ./usr/lib/here/"$soname"{,".${version##*.}"}
         ./usr/lib/here/pkgconfig/peltzivar.pc)
     compares "${files[*]}" "$(cd "$work/root" && find ./* ! -type d | LC_ALL=C sort | xargs)" make install DESTDIR=..
@@ -373,7 +387,10 @@ installed() {
         "$(grep -E '^[a-z]+=' "$work/root/usr/lib/here/pkgconfig/peltzivar.pc" | xargs)" peltzivar.pc
     passes make uninstall PREFIX=/usr LIBDIR=/usr/lib/here INCLUDEDIR=/srv/include DESTDIR="$work/root"
     compares "" "$(find "$work/root" ! -type d)" make uninstall
-    passes bash -c '! make install PREFIX=relative'
+    for setting in PREFIX LIBDIR INCLUDEDIR; do
+        passes bash -c '! make install "$@"' make PREFIX="$work/none" $setting=relative DESTDIR="$work/root/"
+    done
+    passes rebuilds
     rm -rf "$work/make"
     passes hides "$top" "$prefix"/lib/* "$prefix"/lib/pkgconfig/*
     needing nm passes exports "$prefix/lib/libpeltzivar_c.so"
@@ -405,4 +422,4 @@ passes versions
 needing python3 alike "$work/settings"
 needing python3 pythons "$work/false/release/libpeltzivar_c.so"
 needing make installed
-counted 272
+counted 277

@@ -114,6 +114,11 @@ def crate():
         for root in ("src/lib.rs", "lexical-util/src/lib.rs"):
             found = re.findall(rf"^{re.escape(attribute)}$", (erase.RUST / root).read_text(), re.M)
             yield f"{attribute} of {root}", 1, len(found)
+    manifest = (erase.RUST / "Cargo.toml").read_text()
+    yield "license", (erase.RUST / "LICENSE").read_text().split()[0], re.search(r'^license = "(.*)"', manifest, re.M)[1]
+    tests = sorted((erase.RUST / "tests").rglob("*.rs"))
+    outside = [f"/{it.relative_to(erase.RUST)}" for it in tests if "}/../" in it.read_text()]
+    yield "exclude", ["/tools", *outside], re.findall(r'"([^"]*)"', re.search(r"^exclude = (.*\])", manifest, re.M)[1])
     for file, lint in LINTS.items():
         yield f"{lint} of {file}", 1, (erase.RUST / file).read_text().splitlines().count(f'{lint} = "deny"')
     sources = "".join(path.read_text() for path in public.files())
