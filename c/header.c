@@ -1,7 +1,5 @@
 /* Tests that peltzivar.h fits the library: the order of fields, and each call once. Its expected values come from the
- * layout that the header describes, and from lexical-util 1.0.7.
- *
- * With -DWITHOUT_VERSION it does not call peltzivar_version, which the proved library does not have. */
+ * layout that the header describes, and from lexical-util 1.0.7. */
 #include "peltzivar.h"
 
 #include <stdio.h>
@@ -38,9 +36,7 @@ static void test_constants(void) {
     CHECK(is_word(starts[2], PELTZIVAR_STANDARD.high, PELTZIVAR_STANDARD.low));
     const int number = PELTZIVAR_VERSION_MAJOR << 16 | PELTZIVAR_VERSION_MINOR << 8 | PELTZIVAR_VERSION_PATCH;
     CHECK(number == PELTZIVAR_VERSION_NUMBER);
-#ifndef WITHOUT_VERSION
     CHECK(peltzivar_version() == PELTZIVAR_VERSION_NUMBER);
-#endif
 }
 
 /* Each byte of the fields at its bits, and each flag. */
@@ -151,6 +147,28 @@ static void test_rules(void) {
     const peltzivar_word mask = {0, 0xFF00000000000000};
     CHECK(peltzivar_radix_from_flags(hexadecimal, mask, 120) == 16);
     CHECK(peltzivar_radix_from_flags(hexadecimal, mask, 128) == UINT32_MAX);
+}
+
+/* The bytes that are the base prefix and the base suffix: a letter in both cases, unless its flag is set. */
+static void test_affixes(void) {
+    static const struct {
+        peltzivar_word word;
+        const char *prefix, *suffix;
+    } rows[] = {
+        {PELTZIVAR_STANDARD_INIT, "", ""},
+        {{0xC, 0x0000104878000000}, "Xx", "Hh"},
+        {{0x1000C, 0x0000104878000000}, "x", "Hh"},
+        {{0x2000C, 0x0000104878000000}, "Xx", "H"},
+        {{0xC, 0x0000107B40000000}, "@", "{"},
+    };
+    for (size_t row = 0; row < sizeof rows / sizeof *rows; row++) {
+        for (int byte = 0; byte < 256; byte++) {
+            const bool is_prefix = byte != 0 && strchr(rows[row].prefix, byte) != NULL;
+            const bool is_suffix = byte != 0 && strchr(rows[row].suffix, byte) != NULL;
+            CHECK(peltzivar_is_base_prefix(rows[row].word, (uint8_t)byte) == is_prefix);
+            CHECK(peltzivar_is_base_suffix(rows[row].word, (uint8_t)byte) == is_suffix);
+        }
+    }
 }
 
 /* The smallest word that breaks each of the rules 4 to 8 (docs/FORMAT.md) is refused only by the test of that rule. */
@@ -564,6 +582,7 @@ int main(void) {
     test_two_calls();
     test_edits_of();
     test_rules();
+    test_affixes();
     test_one_rule_each();
     test_reasons();
     test_blame();

@@ -253,7 +253,7 @@ enum {
 };
 
 /* Returns the version of the library, in the form of PELTZIVAR_VERSION_NUMBER. If its major or minor part differs
- * from the header, the numbers of setters may differ too. The proved library does not have this call. */
+ * from the header, the numbers of setters may differ too. */
 PELTZIVAR_API uint32_t peltzivar_version(void);
 
 /* FIELDS */
@@ -389,6 +389,11 @@ PELTZIVAR_API peltzivar_word peltzivar_note_mask(const peltzivar_fields *fields,
 
 /* Returns whether a byte is a digit of the mantissa radix or of the exponent radix. */
 PELTZIVAR_API bool peltzivar_is_digit(peltzivar_word format, uint8_t byte);
+
+/* Returns whether a byte is the base prefix or the base suffix of a word. A letter is so in both cases, unless
+ * case_sensitive_base_prefix or case_sensitive_base_suffix is set. An absent prefix or suffix is no byte. */
+PELTZIVAR_API bool peltzivar_is_base_prefix(peltzivar_word format, uint8_t byte);
+PELTZIVAR_API bool peltzivar_is_base_suffix(peltzivar_word format, uint8_t byte);
 
 /* Returns the low 32 bits of (format & mask) >> shift, or the mantissa radix if they are 0. Returns UINT32_MAX if
  * shift is 128 or more. */

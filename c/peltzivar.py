@@ -228,6 +228,8 @@ _CALLS: Dict[str, Tuple[Any, List[Any]]] = {
     "peltzivar_word_reason_mend": (c_size_t, [_Word, c_uint8, c_uint8, POINTER(_Edit)]),
     "peltzivar_note_mask": (_Word, [POINTER(_Fields), c_uint8]),
     "peltzivar_is_digit": (c_bool, [_Word, c_uint8]),
+    "peltzivar_is_base_prefix": (c_bool, [_Word, c_uint8]),
+    "peltzivar_is_base_suffix": (c_bool, [_Word, c_uint8]),
     "peltzivar_radix_from_flags": (c_uint32, [_Word, _Word, c_uint32]),
     "peltzivar_is_valid_ascii": (c_bool, [c_uint8]),
     "peltzivar_is_valid_ascii_slice": (c_bool, [c_char_p, c_size_t]),
@@ -278,14 +280,14 @@ def _load() -> CDLL:
             f"the shared library of peltzivar.h {version} does not load ({why}): name its path in PELTZIVAR_LIBRARY, "
             f"put it beside {__file__}, or install it where the system's loader finds it"
         )
+    # The version is the first call, so a library of another version is not said to lack a call.
     for name, (result, arguments) in _CALLS.items():
         call = getattr(library, name, None)
         if call is None:
             raise ImportError(f"{library._name} does not have the call {name} of peltzivar.h {version}")
         call.restype, call.argtypes = result, arguments
-    number = library.peltzivar_version()
-    if number >> 8 != _MAJOR << 8 | _MINOR:
-        raise ImportError(f"{library._name} has version {number >> 16}.{number >> 8 & 255}, and this file {version}")
+        if name == "peltzivar_version" and call() >> 8 != _MAJOR << 8 | _MINOR:
+            raise ImportError(f"{library._name} has version {call() >> 16}.{call() >> 8 & 255}, and this file {version}")
     return library
 
 
@@ -689,7 +691,15 @@ class FormatView:
 
     def is_digit(self, character: str) -> bool:
         """Returns whether a character is a digit of the mantissa radix or of the exponent radix."""
-        return character.isascii() and bool(_library.peltzivar_is_digit(self._halves(), ord(character)))
+        return self._is(_library.peltzivar_is_digit, character)
+
+    def is_base_prefix(self, character: str) -> bool:
+        """Returns whether a character is the base prefix: a letter in both cases, unless the prefix is case-sensitive."""
+        return self._is(_library.peltzivar_is_base_prefix, character)
+
+    def is_base_suffix(self, character: str) -> bool:
+        """Returns whether a character is the base suffix: a letter in both cases, unless the suffix is case-sensitive."""
+        return self._is(_library.peltzivar_is_base_suffix, character)
 
     def edit(self: View, *settings: Union[Edit, str], **fields: Value) -> View:
         """Returns the view of the word after settings, in their order.
@@ -739,6 +749,9 @@ class FormatView:
 
     def _fields(self) -> Any:
         return _library.peltzivar_fields_of(self._halves())
+
+    def _is(self, call: Any, character: str) -> bool:
+        return ord(character) < 256 and bool(call(self._halves(), ord(character)))
 
     def _flag(self, setter: Setter) -> bool:
         return bool(_library.peltzivar_flag(self._halves(), setter))

@@ -204,6 +204,19 @@ class Words(unittest.TestCase):
         values = [Edit(f"base_prefix={byte}").value for byte in range(256)]
         self.assertEqual(values, [None, *map(chr, range(1, 128)), *range(128, 256)])
 
+    def test_base_prefix_and_base_suffix(self):
+        rows = [
+            (Format(), "", ""),
+            (Format.of(radix=16, base_prefix="x", base_suffix="H"), "Xx", "Hh"),
+            (Format.of(radix=16, base_prefix="x", base_suffix="H", case_sensitive_base_prefix=True), "x", "Hh"),
+            (Format.of(radix=16, base_prefix="x", base_suffix="H", case_sensitive_base_suffix=True), "Xx", "H"),
+            (FormatView.of(radix=16, base_prefix="@", base_suffix=0xE9), "@", "\u00e9"),
+        ]
+        for view, prefix, suffix in rows:
+            self.assertEqual("".join(filter(view.is_base_prefix, map(chr, range(512)))), prefix)
+            self.assertEqual("".join(filter(view.is_base_suffix, map(chr, range(512)))), suffix)
+        self.assertRaises(TypeError, Format().is_base_prefix, "0x")
+
     def test_getters_read_their_bits(self):
         for bit in range(128):
             view = FormatView(1 << bit)
@@ -248,9 +261,12 @@ class Loading(unittest.TestCase):
 
     @unittest.skipUnless(shutil.which("cc"), "cc")
     def test_another_library_is_refused(self):
-        version = "unsigned peltzivar_version(void) { return 0x7f0203; }"
-        others = "".join(f" void {name}(void) {{}}" for name in peltzivar._CALLS if name != "peltzivar_version")
-        rows = [(version, "does not have the call peltzivar_"), (version + others, "has version 127.2, and this file 0.4")]
+        version = "unsigned peltzivar_version(void) { return 0x%x; }"
+        rows = [
+            ("", "does not have the call peltzivar_version of peltzivar.h 0.4"),
+            (version % 0x000403, "does not have the call peltzivar_fields_of of peltzivar.h 0.4"),
+            (version % 0x7F0203, "has version 127.2, and this file 0.4"),
+        ]
         for code, sentence in rows:
             subprocess.run(["cc", "-shared", "-x", "c", "-", "-o", "other.so"], cwd=self.folder, input=code, text=True, check=True)
             got = self.run_copy(PELTZIVAR_LIBRARY="other.so").stderr

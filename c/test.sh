@@ -202,17 +202,25 @@ plusplus() {
     passes warns "$1" -std=c++17 -x c++
 }
 
+# errors COMPILER: in C, and as in C23, whose number a compiler with c2x may not have yet.
+errors() {
+    passes warns "$1" -x c
+    passes warns "$1" -std=c2x -U__STDC_VERSION__ -D__STDC_VERSION__=202311L -x c
+}
+
 # compilers: the header in each language that it supports.
 compilers() {
     needing python3 sources
     passes imports
     headers cc 'header.c' c99 c11 c17
     needing clang headers clang 'header.c' c99 c11 c17
-    needing gcc headers gcc '-include ./peltzivar.h -x c /dev/null' c89
+    needing gcc headers gcc '-include ./peltzivar.h -x c /dev/null' c89 c2x
+    # clang reports that C89 has no `bool`.
+    needing clang headers clang '-Wno-c99-extensions -include ./peltzivar.h -x c /dev/null' c89 c2x
     needing g++ plusplus g++
     needing clang++ plusplus clang++
-    passes warns cc -x c
-    needing clang passes warns clang -x c
+    needing cc errors cc
+    needing clang errors clang
 }
 
 # calls: the names that the header declares.
@@ -222,7 +230,7 @@ calls() {
 
 # declares NM..: the header declares each call that the library has, and no other. rustc's own names begin with `__`.
 declares() {
-    diff <("$@" | awk 'NF == 3 && $3 !~ /^__/ { print $3 }' | sort) <(calls | grep -vx "${without:-}")
+    diff <("$@" | awk 'NF == 3 && $3 !~ /^__/ { print $3 }' | sort) <(calls)
 }
 
 # exports SHARED: the shared library exports only the calls of the header.
@@ -259,7 +267,7 @@ built() {
     passes cc -std=c11 $strict "${@:2}" settings.c "$1" -o "$work/settings" && settings "$work/settings"
     passes cc -std=c11 $strict "${@:2}" settings_test.c "$1" -o "$work/random" &&
         passes "$work/random" "$work/random.txt" 10000
-    passes cc -std=c11 $strict "${@:2}" $defined header.c "$1" -o "$work/header" && passes "$work/header"
+    passes cc -std=c11 $strict "${@:2}" header.c "$1" -o "$work/header" && passes "$work/header"
 }
 
 # alike PROGRAM: settings.c and the Rust example of this name find the same in random files.
@@ -270,7 +278,7 @@ alike() {
 
 # memory ARCHIVE: the programs in C under valgrind.
 memory() {
-    passes cc -g header.c $defined "$1" -o "$work/header" && passes $memcheck "$work/header"
+    passes cc -g header.c "$1" -o "$work/header" && passes $memcheck "$work/header"
     passes cc -g settings.c "$1" -o "$work/settings" &&
         prints 1 "$unlawful" $memcheck "$work/settings" "$work/unlawful.txt"
     passes cc -g settings_test.c "$1" -o "$work/random" && passes $memcheck "$work/random" "$work/random.txt" 50
@@ -287,15 +295,25 @@ symbols() {
     passes declares nm -gD --defined-only "$2"
 }
 
+# versions ARCHIVE: the library returns the version in the manifest of the plain Rust.
+versions() {
+    local major minor patch
+    IFS=. read -r major minor patch < <(sed -n 's/^version = "\(.*\)"/\1/p' ../rust/Cargo.toml)
+    cc -I. -x c - -x none "$1" -o "$work/versions" << END && "$work/versions"
+#include "peltzivar.h"
+int main(void) { return peltzivar_version() != ($major << 16 | $minor << 8 | $patch); }
+END
+}
+
 # library ARCHIVE SHARED: the rows over a library in its two forms.
 library() {
-    local defined=${without:+-DWITHOUT_VERSION}
     built "$1" -O2
     needing 'a sanitizer' built "$1" -O1 -g $sanitizer
     needing valgrind memory "$1"
-    needing clang header clang -std=c99 $strict $defined header.c "$1"
+    needing clang header clang -std=c99 $strict header.c "$1"
     needing g++ header g++ -std=c++17 $strict header.cpp "$1"
-    [ "${without:-}" ] || needing python3 python "$2"
+    passes versions "$1"
+    needing python3 python "$2"
     needing nm symbols "$1" "$2"
 }
 
@@ -346,18 +364,6 @@ END
     needing cmake program 'cmake . && cmake --build . && cp -f example built && mv built example' "$soname"
 }
 
-# versions: a library of another version, whose three numbers differ, returns its number.
-versions() {
-    tar -C .. --exclude=target -cf - rust | tar -C "$work" -xf - &&
-        sed -i 's/\(^version\|, version\) = "[0-9.]*"/\1 = "3.5.17"/' "$work/rust/Cargo.toml" &&
-        env CARGO_TARGET_DIR="$work/version" cargo build --offline --quiet --release \
-            --manifest-path "$work/rust/Cargo.toml" --package peltzivar-capi &&
-        cc -I. -x c - -x none "$work/version/release/libpeltzivar_c.a" -o "$work/versions" << 'END' && "$work/versions"
-#include "peltzivar.h"
-int main(void) { return peltzivar_version() != 0x030511; }
-END
-}
-
 # rebuilds: after a change of a source, make builds the library again, and not before.
 rebuilds() {
     local file
@@ -404,7 +410,6 @@ installed() {
 }
 
 if [ "$given" ]; then
-    without=peltzivar_version
     passes cc -shared -o "$work/library.so" -Wl,--whole-archive "$given" -Wl,--no-whole-archive &&
         library "$given" "$work/library.so"
     counted 81
@@ -418,7 +423,6 @@ for checks in true false; do
     passes cargo build --offline --quiet --release --manifest-path ../rust/Cargo.toml --package peltzivar-capi &&
         library "$work/$checks"/release/libpeltzivar_c.{a,so}
 done
-passes versions
 needing python3 alike "$work/settings"
 needing python3 pythons "$work/false/release/libpeltzivar_c.so"
 needing make installed

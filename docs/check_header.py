@@ -1,12 +1,12 @@
-"""Compares c/peltzivar.h with the exports of lexical_c and the one written by hand, with the tables of setters and outcomes,
-with the version, and with the lengths of texts."""
+"""Compares c/peltzivar.h with the exports of lexical_c, with the tables of setters and outcomes, with the version, with the
+lengths of texts, and with the calls that compare/ compares."""
 import pathlib
 import re
 
 TOP = pathlib.Path(__file__).resolve().parent.parent
 HEADER = (TOP / "c/peltzivar.h").read_text()
-SOURCES = [*sorted((TOP / "crates/lexical_c/src").glob("*.rt")), TOP / "rust/capi/src/lib.rs"]
-EXPORTS = "".join(path.read_text() for path in SOURCES)
+EXPORTS = "".join(path.read_text() for path in sorted((TOP / "crates/lexical_c/src").glob("*.rt")))
+COMPARED = (TOP / "compare/rust/src/exports.rs").read_text()
 
 TYPES = {
     "bool": "bool",
@@ -81,6 +81,8 @@ def constants():
     for part, value in zip(("MAJOR", "MINOR", "PATCH"), parts):
         yield f"#define PELTZIVAR_VERSION_{part} {value}\n"
     yield f"#define PELTZIVAR_VERSION_NUMBER 0x{bytes(parts).hex()}\n"
+    if f"ensures {{ result ≡ 0x{bytes(parts).hex()} }}" not in EXPORTS:
+        yield f"the version {number} in peltzivar_version"
     paths = ("lexical_base/src/error/short_text.rt", "lexical_c/src/word_texts.rt")
     short_text, source = ((TOP / "crates" / path).read_text() for path in paths)
     yield f"#define PELTZIVAR_TEXT_SIZE {re.search(r'ensures short { length self.now < (.*) }', short_text)[1]}\n"
@@ -93,6 +95,9 @@ def header(wanted):
     yield from (f"not both declared and exported: {front}{it}" for it, front in sorted({*declared} ^ {*exported}))
     if not len(declared) == len(exported) == EXPORTS.count("no_mangle"):
         yield f"{len(declared)} calls are declared, and {EXPORTS.count('no_mangle')} exported"
+    calls = [re.search(r"peltzivar_(\w+)\(", it)[1] for it, _ in declared]
+    if re.findall(r"^    (\w+)\(", COMPARED[COMPARED.index("exports! {") :], re.M) != calls:
+        yield "has other calls than compare/rust/src/exports.rs, or in another order"
     names = setters()
     if re.findall(r"^    (PELTZIVAR_SET_.*?),?$", HEADER, re.M) != [f"{names[0]} = 0", *names[1:]]:
         yield "has not the setters in their order"

@@ -45,6 +45,22 @@ impl<const FORMAT: u128> NumberFormat<FORMAT> {
         Self::VIEW.is_digit(byte)
     }
 
+    /// Returns whether `byte` is the base prefix, in both cases of a letter unless
+    /// `case_sensitive_base_prefix` is set.
+    #[must_use]
+    #[inline(always)]
+    pub const fn is_base_prefix(&self, byte: u8) -> bool {
+        Self::VIEW.is_base_prefix(byte)
+    }
+
+    /// Returns whether `byte` is the base suffix, in both cases of a letter unless
+    /// `case_sensitive_base_suffix` is set.
+    #[must_use]
+    #[inline(always)]
+    pub const fn is_base_suffix(&self, byte: u8) -> bool {
+        Self::VIEW.is_base_suffix(byte)
+    }
+
     /// Returns a new builder, whatever the word is.
     #[must_use]
     #[inline(always)]

@@ -202,7 +202,7 @@ impl FormatView {
         flags::exponent_radix(self.format)
     }
 
-    // DIGITS
+    // ROLES OF BYTES
 
     /// Returns whether `byte` is a digit of the mantissa radix or of the exponent radix. A letter is a digit in both
     /// cases.
@@ -210,6 +210,22 @@ impl FormatView {
     #[inline(always)]
     pub const fn is_digit(&self, byte: u8) -> bool {
         flags::is_digit(self.format, byte)
+    }
+
+    /// Returns whether `byte` is the base prefix. A letter is the base prefix in both cases, unless
+    /// `case_sensitive_base_prefix` is set.
+    #[must_use]
+    #[inline(always)]
+    pub const fn is_base_prefix(&self, byte: u8) -> bool {
+        is_byte(self.base_prefix(), self.case_sensitive_base_prefix(), byte)
+    }
+
+    /// Returns whether `byte` is the base suffix. A letter is the base suffix in both cases, unless
+    /// `case_sensitive_base_suffix` is set.
+    #[must_use]
+    #[inline(always)]
+    pub const fn is_base_suffix(&self, byte: u8) -> bool {
+        is_byte(self.base_suffix(), self.case_sensitive_base_suffix(), byte)
     }
 
     // BUILDERS
@@ -239,4 +255,11 @@ impl FormatView {
     pub const fn rebuild(&self) -> NumberFormatBuilder {
         NumberFormatBuilder::rebuild(self.format)
     }
+}
+
+// Returns whether `byte` is `own` or, if `case_sensitive` is false, the same letter in the other case. If `own` is 0,
+// which means absent, the result is `false`.
+#[inline(always)]
+const fn is_byte(own: u8, case_sensitive: bool, byte: u8) -> bool {
+    own != 0 && (byte == own || !case_sensitive && byte.eq_ignore_ascii_case(&own))
 }

@@ -46,7 +46,7 @@ SHOWN = {
     "edits": "Edit FlagSetter SettingError apply apply_all edit_word edits_of from_setting is_built is_set mask migrate"
     " name normal_form same_format",
     "error": "Class class",
-    "feature_format": "is_digit view",
+    "feature_format": "is_base_prefix is_base_suffix is_digit view",
     "format": "ALL Format Mend NAMES broken_rules build_format build_or_panic check check_options edits mends normal_form"
     " notes reasons view word",
     "format_builder": "from_word",
@@ -54,7 +54,7 @@ SHOWN = {
     "lib": "definitions edits reasons source",
     "reasons": "Note Reason breaks mask rule",
     "source": "BuilderExpression",
-    public.RUNTIME: "FormatView is_digit word",
+    public.RUNTIME: "FormatView is_base_prefix is_base_suffix is_digit word",
     "word_text": "parse_word word_text",
 }
 

@@ -232,6 +232,20 @@ fn name(random: &mut Random) -> Vec<u8> {
     name
 }
 
+/// The text of a word, often with one byte changed, or a part of it.
+fn word_text(random: &mut Random) -> Vec<u8> {
+    let mut text = format!("{:#x}", random.word() >> random.below(128)).into_bytes();
+    if random.one_in(2) {
+        let index = random.below(text.len() as u64) as usize;
+        text[index] = random.next() as u8;
+    }
+    if random.one_in(4) {
+        text.extend([b'0', random.next() as u8]);
+    }
+    text.truncate(if random.one_in(4) { random.below(40) as usize } else { 99 });
+    text
+}
+
 /// A name with a value, mostly of a setting.
 fn setting(random: &mut Random) -> Vec<u8> {
     let mut text = name(random);
@@ -260,6 +274,7 @@ macro_rules! compared {
 
 // SAFETY, for all rows: each pointer points to a whole value, or to as many values as its length.
 const COMPARED: &[(&str, Compare)] = compared! {
+    version: on_bytes(|it, _| unsafe { (it.version)() });
     fields_of: on_words(|it, word| unsafe { (it.fields_of)(word) });
     edit_fields: on_random(with_edits(fields), |it, (fields, edits)| {
         let mut fields = *fields;
@@ -300,6 +315,9 @@ const COMPARED: &[(&str, Compare)] = compared! {
     });
     rule_error: on_bytes(|it, rule| unsafe { (it.rule_error)(rule) });
     rule_mask: on_bytes(|it, rule| unsafe { (it.rule_mask)(rule) });
+    flag: on_words(|it, word| {
+        (0..50).map(|setter| unsafe { (it.flag)(word, setter) }).collect::<Vec<u8>>()
+    });
     word_reason_mask: on_words(|it, word| {
         (0..26).map(|index| unsafe { (it.word_reason_mask)(word, index) }).collect::<Vec<Word>>()
     });
@@ -320,6 +338,8 @@ const COMPARED: &[(&str, Compare)] = compared! {
     });
     note_mask: on_random(note, |it, (fields, index)| unsafe { (it.note_mask)(fields, *index) });
     is_digit: on_random(options, |it, (word, byte, _)| unsafe { (it.is_digit)(*word, *byte) });
+    is_base_prefix: on_random(options, |it, (word, byte, _)| unsafe { (it.is_base_prefix)(*word, *byte) });
+    is_base_suffix: on_random(options, |it, (word, byte, _)| unsafe { (it.is_base_suffix)(*word, *byte) });
     radix_from_flags: on_random(masks, |it, (word, mask, shift)| {
         unsafe { (it.radix_from_flags)(*word, *mask, *shift) }
     });
@@ -336,6 +356,11 @@ const COMPARED: &[(&str, Compare)] = compared! {
     });
     char_is_digit_const: on_digits(|it, byte, radix| unsafe { (it.char_is_digit_const)(byte, radix) });
     digit_to_char_const: on_digits(|it, digit, radix| unsafe { (it.digit_to_char_const)(digit.into(), radix) });
+    text_of_word: on_texts(word, |it, word, text, room| unsafe { (it.text_of_word)(*word, text, room) });
+    word_of_text: on_random(word_text, |it, text| {
+        written(|out| unsafe { (it.word_of_text)(text.as_ptr(), text.len(), out) })
+    });
+    source: on_texts(word, |it, word, text, room| unsafe { (it.source)(*word, text, room) });
     description: on_texts(error, |it, error, text, room| unsafe { (it.description)(*error, text, room) });
     text: on_texts(error_at, |it, (error, index), text, room| unsafe { (it.text)(*error, *index, text, room) });
     reason: on_texts(reason, |it, (word, rule, index), text, room| unsafe {
@@ -360,12 +385,12 @@ const COMPARED: &[(&str, Compare)] = compared! {
     edit_mask: on_random(setter, |it, setter| unsafe { (it.edit_mask)(OneEdit(*setter, 1)) });
 };
 
-/// The names that the header declares, without `peltzivar_`. The proved library has no `peltzivar_version`.
+/// The names that the header declares, without `peltzivar_`.
 fn declared(header: &str) -> Vec<&str> {
     let calls = header.split("peltzivar_").skip(1).filter_map(|rest| rest.split_once('('));
     calls
         .map(|(name, _)| name)
-        .filter(|name| *name != "version" && name.chars().all(|c| c == '_' || c.is_ascii_lowercase()))
+        .filter(|name| name.chars().all(|c| c == '_' || c.is_ascii_lowercase()))
         .collect()
 }
 

@@ -89,6 +89,7 @@ macro_rules! exports {
 }
 
 exports! {
+    version() -> u32;
     fields_of(Word) -> CFields;
     edit_fields(&mut CFields, *const CEdit, usize) -> u8;
     pack(&CFields) -> Word;
@@ -113,12 +114,15 @@ exports! {
     keeps_rule(Word, u8) -> u8;
     rule_error(u8) -> u32;
     rule_mask(u8) -> Word;
+    flag(Word, u8) -> u8;
     word_reason_mask(Word, u8) -> Word;
     word_reason_rule(Word, u8) -> u8;
     word_reason_breaks(Word, u8, u8) -> u8;
     word_reason_mend(Word, u8, u8, &mut [CEdit; 3]) -> usize;
     note_mask(&CFields, u8) -> Word;
     is_digit(Word, u8) -> u8;
+    is_base_prefix(Word, u8) -> u8;
+    is_base_suffix(Word, u8) -> u8;
     radix_from_flags(Word, Word, u32) -> u32;
     is_valid_ascii(u8) -> u8;
     is_valid_ascii_slice(*const u8, usize) -> u8;
@@ -131,6 +135,9 @@ exports! {
     char_to_valid_digit_const(u8, u32) -> u32;
     char_is_digit_const(u8, u32) -> u8;
     digit_to_char_const(u32, u32) -> u8;
+    text_of_word(Word, *mut u8, usize) -> usize;
+    word_of_text(*const u8, usize, &mut Word) -> u32;
+    source(Word, *mut u8, usize) -> usize;
     description(u32, *mut u8, usize) -> usize;
     text(u32, usize, *mut u8, usize) -> usize;
     reason(Word, u8, u8, *mut u8, usize) -> usize;

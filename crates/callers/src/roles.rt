@@ -103,16 +103,14 @@ fn is_sign(byte: u8) -> bool
 fn is_prefix(format: u128, byte: u8) -> bool
     ensures { result ≡ prefix (raw format) byte }
 {
-    let view = NumberFormat::new(format);
-    is_byte(view.base_prefix(), view.case_sensitive_base_prefix(), byte)
+    NumberFormat::new(format).is_base_prefix(byte)
 }
 
 // Returns whether `byte` is the base suffix.
 fn is_suffix(format: u128, byte: u8) -> bool
     ensures { result ≡ suffix (raw format) byte }
 {
-    let view = NumberFormat::new(format);
-    is_byte(view.base_suffix(), view.case_sensitive_base_suffix(), byte)
+    NumberFormat::new(format).is_base_suffix(byte)
 }
 
 // Returns whether `byte` is the exponent character `chosen`.

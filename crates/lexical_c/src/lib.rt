@@ -15,5 +15,6 @@ mod reasons;
 mod rules;
 mod setters;
 mod texts;
+mod version;
 mod word_texts;
 mod words;

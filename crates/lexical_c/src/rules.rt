@@ -2,7 +2,7 @@
 
 ghost use Rattle.std.specs.Prelude.{◌≡◌, ◌↔◌, ◌<◌, ◌^◌, ◌-◌, ◌/◌, ◌%◌, IsTrue, IsFalse, IfSome, None};
 ghost use Rattle.lexical_util.specs.Layout as layout;
-ghost use Rattle.lexical_util.specs.Roles.{digits};
+ghost use Rattle.lexical_util.specs.Roles.{digits, prefix, suffix};
 ghost use Rattle.lexical_util.specs.Rules.{Lawful, IsErrorOf, IsRadix, IsFirstError, Holds, radix_rules, error_of};
 ghost use Rattle.lexical_util.specs.declared.format_flags.Rule.TheVariants as rules;
 ghost use Rattle.lexical_util.specs.Record.{raw, effective};
@@ -14,7 +14,7 @@ ghost use Rattle.lexical_util.specs.BrokenRules.{mask_read};
 
 use crate::outcomes::{ErrorNumber, error_number};
 use crate::words::Word;
-use lexical_util::format::format_error;
+use lexical_util::format::{NumberFormat, format_error};
 use lexical_util::format_flags as flags;
 use lexical_util::format_flags::{RULES, Rule};
 
@@ -152,6 +152,22 @@ pub extern "C" fn peltzivar_is_digit(format: Word, byte: u8) -> bool
     ensures { IsTrue result ↔ IsTrue (digits (raw format) byte) }
 {
     flags::is_digit(format.number(), byte)
+}
+
+/// Returns whether a byte is the base prefix, in both cases of a letter unless the prefix is case-sensitive.
+#[unsafe(no_mangle)]
+pub extern "C" fn peltzivar_is_base_prefix(format: Word, byte: u8) -> bool
+    ensures { result ≡ prefix (raw format) byte }
+{
+    NumberFormat::new(format.number()).is_base_prefix(byte)
+}
+
+/// Returns whether a byte is the base suffix, in both cases of a letter unless the suffix is case-sensitive.
+#[unsafe(no_mangle)]
+pub extern "C" fn peltzivar_is_base_suffix(format: Word, byte: u8) -> bool
+    ensures { result ≡ suffix (raw format) byte }
+{
+    NumberFormat::new(format.number()).is_base_suffix(byte)
 }
 
 /// Returns the low bits of a word under a mask, shifted right, or the mantissa radix if they are 0.

@@ -4,7 +4,7 @@
 ghost use Rattle.std.specs.Prelude.{◌≡◌, ◌≢◌, ℕ, ◌↔◌, ◌%◌, ◌^◌, IsTrue};
 ghost use Rattle.lexical_flags.specs.Layout as layout;
 ghost use Rattle.lexical_flags.specs.Record.{raw, fill, effective_exponent_base, effective_exponent_radix};
-ghost use Rattle.lexical_flags.specs.Roles.{digits};
+ghost use Rattle.lexical_flags.specs.Roles.{cased, digits, prefix, suffix};
 ghost use Rattle.lexical_flags.specs.Rules.{IsRadix, Lawful, IsErrorOf, IsFirstError, radix_rules};
 ghost use Rattle.lexical_builder.specs.Writes.{new_record};
 
@@ -244,7 +244,7 @@ impl NumberFormat {
         flags::exponent_radix(self.format)
     }
 
-    // DIGITS
+    // ROLES OF BYTES
 
     /// Returns whether `byte` is a digit of the mantissa radix or of the exponent radix. A letter is a digit in both
     /// cases.
@@ -253,6 +253,24 @@ impl NumberFormat {
         ensures { IsTrue result ↔ IsTrue (digits (raw self.now) byte) }
     {
         flags::is_digit(self.format, byte)
+    }
+
+    /// Returns whether `byte` is the base prefix. A letter is the base prefix in both cases, unless
+    /// `case_sensitive_base_prefix` is set.
+    #[inline(always)]
+    pub const fn is_base_prefix(&self, byte: u8) -> bool
+        ensures { result ≡ prefix (raw self.now) byte }
+    {
+        is_byte(self.base_prefix(), self.case_sensitive_base_prefix(), byte)
+    }
+
+    /// Returns whether `byte` is the base suffix. A letter is the base suffix in both cases, unless
+    /// `case_sensitive_base_suffix` is set.
+    #[inline(always)]
+    pub const fn is_base_suffix(&self, byte: u8) -> bool
+        ensures { result ≡ suffix (raw self.now) byte }
+    {
+        is_byte(self.base_suffix(), self.case_sensitive_base_suffix(), byte)
     }
 
     // BUILDERS
@@ -273,4 +291,14 @@ impl NumberFormat {
     {
         NumberFormatBuilder::rebuild(self.format)
     }
+}
+
+// Returns whether `byte` is `own` or, if `case_sensitive` is false, the same letter in the other case. If `own` is 0,
+// which means absent, the result is `false`.
+#[inline(always)]
+#[tactic(auto, unfolding(lexical_flags::specs::Roles::cased))]
+const fn is_byte(own: u8, case_sensitive: bool, byte: u8) -> bool
+    ensures { result ≡ cased case_sensitive own byte }
+{
+    own != 0 && (byte == own || !case_sensitive && byte.eq_ignore_ascii_case(&own))
 }

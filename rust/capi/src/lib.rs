@@ -23,28 +23,9 @@ mod rules;
 mod setters;
 mod slices;
 mod texts;
+mod version;
 mod word_texts;
 mod words;
-
-/// The version of this library: its major, minor and patch number, each in eight bits.
-const VERSION: u32 = part(env!("CARGO_PKG_VERSION_MAJOR")) << 16
-    | part(env!("CARGO_PKG_VERSION_MINOR")) << 8
-    | part(env!("CARGO_PKG_VERSION_PATCH"));
-
-/// Returns the version of this library.
-// SAFETY: no other library has names that begin with `peltzivar_`.
-#[unsafe(no_mangle)]
-pub extern "C" fn peltzivar_version() -> u32 {
-    VERSION
-}
-
-/// Returns a number of the version, which is below 256.
-const fn part(text: &str) -> u32 {
-    match u8::from_str_radix(text, 10) {
-        Ok(part) => part as u32,
-        Err(_) => panic!("a number of the version is not between 0 and 255"),
-    }
-}
 
 /// Ends the program. Nothing calls this: the sources are proved not to panic.
 #[cfg(not(test))]

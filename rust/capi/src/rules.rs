@@ -6,7 +6,7 @@ use crate::outcomes::{error_number, ErrorNumber};
 use crate::words::Word;
 use peltzivar::format_flags as flags;
 use peltzivar::format_flags::{Rule, RULES};
-use peltzivar::word::format_error;
+use peltzivar::word::{format_error, FormatView};
 
 /// Returns the number of the error of the first rule that a word breaks, or 0 if it is lawful.
 // SAFETY: no other library has names that begin with `peltzivar_`.
@@ -125,6 +125,20 @@ pub extern "C" fn peltzivar_rule_mask(rule: u8) -> Word {
 #[unsafe(no_mangle)]
 pub extern "C" fn peltzivar_is_digit(format: Word, byte: u8) -> bool {
     flags::is_digit(format.number(), byte)
+}
+
+/// Returns whether a byte is the base prefix, in both cases of a letter unless the prefix is case-sensitive.
+// SAFETY: no other library has names that begin with `peltzivar_`.
+#[unsafe(no_mangle)]
+pub extern "C" fn peltzivar_is_base_prefix(format: Word, byte: u8) -> bool {
+    FormatView::new(format.number()).is_base_prefix(byte)
+}
+
+/// Returns whether a byte is the base suffix, in both cases of a letter unless the suffix is case-sensitive.
+// SAFETY: no other library has names that begin with `peltzivar_`.
+#[unsafe(no_mangle)]
+pub extern "C" fn peltzivar_is_base_suffix(format: Word, byte: u8) -> bool {
+    FormatView::new(format.number()).is_base_suffix(byte)
 }
 
 /// Returns the low bits of a word under a mask, shifted right, or the mantissa radix if they are 0.

@@ -174,6 +174,56 @@ fn digits_are_of_the_larger_radix() {
     assert_eq!(digits!(0x0A0AFF00 << 96), alphanumeric);
 }
 
+/// The bytes that are the base prefix of a word, and those that are its base suffix.
+macro_rules! affixes {
+    ($word:expr) => {{
+        let (view, constant) = (FormatView::new($word), NumberFormat::<{ $word }>::new());
+        let bytes =
+            |test: &dyn Fn(u8) -> bool| (0..=255).filter(|it| test(*it)).collect::<Vec<u8>>();
+        let own = [
+            bytes(&|it| view.is_base_prefix(it)),
+            bytes(&|it| view.is_base_suffix(it)),
+        ];
+        assert_eq!(own[0], bytes(&|it| constant.is_base_prefix(it)));
+        assert_eq!(own[1], bytes(&|it| constant.is_base_suffix(it)));
+        own
+    }};
+}
+
+#[test]
+fn a_letter_is_the_base_prefix_or_suffix_in_both_cases_unless_its_flag_is_set() {
+    let affixes = [
+        (affixes!(STANDARD), [&b""[..], b""]),
+        (
+            affixes!(0x00001048_78000000_00000000_0000000C),
+            [b"Xx", b"Hh"],
+        ),
+        (
+            affixes!(0x00001048_78000000_00000000_0001000C),
+            [b"x", b"Hh"],
+        ),
+        (
+            affixes!(0x00001048_78000000_00000000_0002000C),
+            [b"Xx", b"H"],
+        ),
+        (
+            affixes!(0x0000107B_40000000_00000000_0000000C),
+            [b"@", b"{"],
+        ),
+        (
+            affixes!(0x0000105A_61000000_00000000_0000000C),
+            [b"Aa", b"Zz"],
+        ),
+        (
+            affixes!(0x000010C9_E9000000_00000000_0000000C),
+            [b"\xE9", b"\xC9"],
+        ),
+    ];
+    for (own, wanted) in affixes {
+        assert_eq!(own, wanted);
+    }
+}
+
 #[test]
 fn a_view_is_made_of_a_word_and_gives_it() {
     const ALL: u128 = u128::MAX;
