@@ -202,8 +202,8 @@ enum {
     PELTZIVAR_INVALID_POSITIVE_EXPONENT_BREAK = 48
 };
 
-/* The rules in the order in which they are tried, each with the words that keep it. docs/FORMAT.md numbers them
- * from 1, so rule n there is n - 1 here. Punctuation is allowed ASCII (the bytes 9 to 13 and 32 to 126) that is
+/* The rules in the order in which they are tried. The comment on a rule is what it demands. docs/FORMAT.md numbers
+ * them from 1, so rule n there is n - 1 here. Punctuation is allowed ASCII (the bytes 9 to 13 and 32 to 126) that is
  * neither a sign nor a digit of the mantissa or exponent. An exponent base or exponent radix of 0 means the
  * mantissa radix. */
 enum {
@@ -342,9 +342,9 @@ PELTZIVAR_API bool peltzivar_is_valid_punctuation(peltzivar_word format);
 PELTZIVAR_API bool peltzivar_is_valid_options_punctuation(
     peltzivar_word format, uint8_t exponent, uint8_t decimal_point);
 
-/* Returns PELTZIVAR_SUCCESS if they fit, PELTZIVAR_INVALID_EXPONENT_SYMBOL if the exponent character is not
- * punctuation, otherwise PELTZIVAR_INVALID_DECIMAL_POINT if the decimal point is not, and otherwise
- * PELTZIVAR_INVALID_PUNCTUATION. */
+/* Returns PELTZIVAR_SUCCESS if peltzivar_is_valid_options_punctuation returns true. Otherwise returns
+ * PELTZIVAR_INVALID_EXPONENT_SYMBOL if the exponent character is not punctuation, or else
+ * PELTZIVAR_INVALID_DECIMAL_POINT if the decimal point is not, or else PELTZIVAR_INVALID_PUNCTUATION. */
 PELTZIVAR_MUST_USE PELTZIVAR_API peltzivar_error peltzivar_options_error(
     peltzivar_word format, uint8_t exponent, uint8_t decimal_point);
 
@@ -379,8 +379,8 @@ PELTZIVAR_API bool peltzivar_word_reason_breaks(peltzivar_word format, uint8_t i
  * optional byte, or set the mantissa radix to 10. After peltzivar_edit_word with them, each rule is kept that only
  * this reason broke, and so is each rule that was kept. The field is an index in the order of the bits of a word, 0
  * to PELTZIVAR_FIELD_COUNT - 1: the flags as in PELTZIVAR_SET_*, then the six bytes. If no such edits mend the field,
- * or if there is no such reason or field, returns 0 and leaves the array unchanged. Edits behind the returned number
- * are unspecified. */
+ * or if there is no such reason or field, returns 0 and leaves the array unchanged. Otherwise the edits after the
+ * returned number of them are unspecified. */
 PELTZIVAR_API size_t peltzivar_word_reason_mend(
     peltzivar_word format, uint8_t index, uint8_t field, peltzivar_edit edits[PELTZIVAR_MAX_MENDING_EDITS]);
 
@@ -413,11 +413,11 @@ PELTZIVAR_API bool peltzivar_is_valid_letter_slice(const uint8_t *bytes, size_t 
  * PELTZIVAR_NO_DIGIT otherwise. Any other byte has the value 255, so in a radix above 255 it counts as a digit. */
 PELTZIVAR_API uint32_t peltzivar_char_to_digit(uint8_t byte, uint32_t radix);
 
-/* Returns whether peltzivar_char_to_digit does not return PELTZIVAR_NO_DIGIT. */
+/* Returns whether a byte is a digit of the radix: whether peltzivar_char_to_digit returns its value. */
 PELTZIVAR_API bool peltzivar_char_is_digit(uint8_t byte, uint32_t radix);
 
-/* Returns the digit character of a number below 36 (the letters are capitals), or PELTZIVAR_NO_CHAR of any other
- * number. */
+/* Returns the digit character of a number below 36 (the letters are capitals), or PELTZIVAR_NO_CHAR if the number is
+ * larger. */
 PELTZIVAR_API uint8_t peltzivar_digit_to_char(uint32_t digit);
 
 /* The calls that lexical-util has for a radix that is known at compile time. peltzivar_char_to_digit_const and
@@ -432,10 +432,10 @@ PELTZIVAR_API uint8_t peltzivar_digit_to_char_const(uint32_t digit, uint32_t rad
 
 /* TEXTS
  *
- * Each call writes ASCII text with a final 0, as snprintf does: at most len bytes with the 0, the front of a
- * longer text, nothing if len is 0. It returns the length of the whole text without the 0. The text is empty if
- * there is no such error, setter, rule or index. PELTZIVAR_TEXT_SIZE bytes are always enough, except for
- * peltzivar_source, which needs up to PELTZIVAR_SOURCE_SIZE. */
+ * Each call that returns a length writes ASCII text with a final 0, as snprintf does: at most len bytes with the 0,
+ * so only the front of a longer text, and nothing if len is 0. It returns the length of the whole text without the 0.
+ * The text is empty if there is no such error, setter, rule or index. PELTZIVAR_TEXT_SIZE bytes are always enough,
+ * except for peltzivar_source, which needs up to PELTZIVAR_SOURCE_SIZE. */
 
 /* Writes a word as `0x` and 32 hexadecimal digits with capital letters. */
 PELTZIVAR_API size_t peltzivar_text_of_word(peltzivar_word format, char *text, size_t len);
@@ -494,7 +494,7 @@ PELTZIVAR_API uint8_t peltzivar_setter_of_name(const char *name, size_t len);
  * A flag setter takes `true` or `false`. A byte setter takes an ASCII character between two `'`, or `0x` and one or
  * two hexadecimal digits, or one to three decimal digits, and except for mantissa_radix and radix also `none`, which
  * like 0 means absent. No blank is skipped. The text has len bytes and no final 0. Text that is not UTF-8 gives
- * PELTZIVAR_SETTING_UNKNOWN_NAME. */
+ * PELTZIVAR_SETTING_UNKNOWN_NAME, also without a `=`. */
 PELTZIVAR_MUST_USE PELTZIVAR_API uint32_t peltzivar_edit_of_text(const char *text, size_t len, peltzivar_edit *out);
 
 /* Writes to `to`, which has to_len bytes, why peltzivar_edit_of_text refuses a text of len bytes, such as "no_special
