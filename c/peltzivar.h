@@ -343,8 +343,8 @@ PELTZIVAR_API bool peltzivar_is_valid_options_punctuation(
     peltzivar_word format, uint8_t exponent, uint8_t decimal_point);
 
 /* Returns PELTZIVAR_SUCCESS if peltzivar_is_valid_options_punctuation returns true. Otherwise returns
- * PELTZIVAR_INVALID_EXPONENT_SYMBOL if the exponent character is not punctuation, or else
- * PELTZIVAR_INVALID_DECIMAL_POINT if the decimal point is not, or else PELTZIVAR_INVALID_PUNCTUATION. */
+ * PELTZIVAR_INVALID_EXPONENT_SYMBOL if the exponent character is not punctuation, otherwise
+ * PELTZIVAR_INVALID_DECIMAL_POINT if the decimal point is not, and otherwise PELTZIVAR_INVALID_PUNCTUATION. */
 PELTZIVAR_MUST_USE PELTZIVAR_API peltzivar_error peltzivar_options_error(
     peltzivar_word format, uint8_t exponent, uint8_t decimal_point);
 
@@ -390,8 +390,9 @@ PELTZIVAR_API peltzivar_word peltzivar_note_mask(const peltzivar_fields *fields,
 /* Returns whether a byte is a digit of the mantissa radix or of the exponent radix. */
 PELTZIVAR_API bool peltzivar_is_digit(peltzivar_word format, uint8_t byte);
 
-/* Returns whether a byte is the base prefix or the base suffix of a word. A letter is so in both cases, unless
- * case_sensitive_base_prefix or case_sensitive_base_suffix is set. An absent prefix or suffix is no byte. */
+/* Returns whether a byte is the base prefix or the base suffix of a word. A letter is compared without its case,
+ * unless case_sensitive_base_prefix or case_sensitive_base_suffix is set. If the prefix or suffix is absent, returns
+ * false. */
 PELTZIVAR_API bool peltzivar_is_base_prefix(peltzivar_word format, uint8_t byte);
 PELTZIVAR_API bool peltzivar_is_base_suffix(peltzivar_word format, uint8_t byte);
 
