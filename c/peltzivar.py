@@ -280,7 +280,7 @@ def _load() -> CDLL:
             f"the shared library of peltzivar.h {version} does not load ({why}): name its path in PELTZIVAR_LIBRARY, "
             f"put it beside {__file__}, or install it where the system's loader finds it"
         )
-    # The version is the first call, so a library of another version is not said to lack a call.
+    # The first call is the version, so the message for a library of another version names the version.
     for name, (result, arguments) in _CALLS.items():
         call = getattr(library, name, None)
         if call is None:
