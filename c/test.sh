@@ -412,7 +412,7 @@ installed() {
 if [ "$given" ]; then
     passes cc -shared -o "$work/library.so" -Wl,--whole-archive "$given" -Wl,--no-whole-archive &&
         library "$given" "$work/library.so"
-    counted 81
+    counted 84
     exit
 fi
 compilers
