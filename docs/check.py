@@ -17,7 +17,7 @@
 - No line of code or proof has over 160 columns, and at most 150 have over 120. In pages, only lines of tables and code
   have over 120 columns.
 - No proof reaches a fact by two positions.
-- README has at most 800 words, and its ratios of time are in bench/README.md.
+- The pages have at most 1,400 lines, and README 800 words; its ratios of time are in bench/README.md.
 - README has a command of cargo that runs something, one that runs all tests, and `rt ci`; `.ci/run` calls its tests.
 - `.ci/run`, or a script that it calls, calls each script that is a test by its name.
 
@@ -46,8 +46,8 @@ LANGUAGES = ["rust", "antt", "c", "python", "toml"]
 LIBRARIES = ["lexical_base", "lexical_flags", "lexical_builder", "lexical_util"]
 # The least numbers of must-fail edits and tests.
 LEAST_EDITS, LEAST_TESTS = 64, 115
-# The most words of README.
-MOST_WORDS = 800
+# The largest number of lines of the pages, and of words of README.
+MOST_LINES, MOST_WORDS = 1400, 800
 # The starts of commands in README.
 STARTS = ["cd rust && cargo run ", "cd rust && cargo test", "rt ci"]
 # Names that only lexical-util has.
@@ -228,10 +228,21 @@ def not_called():
                 yield f"{path.relative_to(TOP)}: neither .ci/run nor what it runs calls this test"
 
 
+def texts_of_pages():
+    """Returns the texts of README, CONTRIBUTING, CHANGELOG and docs/."""
+    pages = [TOP / name for name in ("README.md", "CONTRIBUTING.md", "CHANGELOG.md")] + sorted((TOP / "docs").glob("*.md"))
+    return [page.read_text() for page in pages]
+
+
+def too_long():
+    """Returns the lines of the pages if there are too many."""
+    lines = sum(len(text.splitlines()) for text in texts_of_pages())
+    return [f"the pages have {lines} lines, more than {MOST_LINES}"] if lines > MOST_LINES else []
+
+
 def counted():
     """Returns the counts of the last line."""
-    pages = [TOP / name for name in ("README.md", "CONTRIBUTING.md", "CHANGELOG.md")] + sorted((TOP / "docs").glob("*.md"))
-    texts = [page.read_text() for page in pages]
+    texts = texts_of_pages()
     lines = sum(len(text.splitlines()) for text in texts)
     transcripts = sum(len(re.findall(r"^    \$ ", FENCED.sub("", text), re.M)) for text in texts)
     blocks = sum(language in LANGUAGES for text in texts for language, _ in FENCED.findall(text))
@@ -266,7 +277,7 @@ def main():
         wrong += len(found)
     constructions, kept = check_prose.constructions(PAGES)
     others = (*constructions, *make_python.stale(), *check_definitions.definitions(), *not_exported(), *not_run())
-    others += (*not_called(), *layout())
+    others += (*not_called(), *layout(), *too_long())
     for it in (*(f"c/peltzivar.h: {it}" for it in check_header.header(wanted)), *others):
         print(it)
         wrong += 1

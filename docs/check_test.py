@@ -34,6 +34,7 @@ PLANTS = [
     ("docs/RUST.md", None, "48 outcomes\n", "docs/RUST.md: there are 49 outcomes, not 48"),
     ("docs/RUST.md", None, "Rust 1.2\n", "docs/RUST.md: Rust 1.2 is not the least version, "),
     ("docs/RUST.md", None, "0x00000000_0\n", "docs/RUST.md: has a `_`: 0x00000000_0"),
+    ("docs/RUST.md", None, "\n" * 99, "the pages have "),
     ("docs/RUST.md", None, f"{'x' * 121}\n", "docs/RUST.md: over 120 columns: xxx"),
     (FORMAT, None, f"`{WORD}`\n", f"docs/FORMAT.md: in no code: {WORD}"),
     (FORMAT, "| 12 | `no_integer_leading_zeros` | false |", "| 12 | `no_integer_leading_zeros` | true |",
