@@ -364,8 +364,8 @@ PELTZIVAR_API peltzivar_word peltzivar_rule_mask(uint8_t rule);
 PELTZIVAR_API bool peltzivar_flag(peltzivar_word format, uint8_t setter);
 
 /* Returns the bits of a word that the reason in a slot blames (peltzivar_word_reason writes its text), or 0 if there
- * is no such reason. A setting is to blame if its peltzivar_edit_mask has a bit in common with this mask. The reason
- * is true of each word that has the same bits under the mask. */
+ * is no such reason. A setting is to blame if its peltzivar_edit_mask has a bit in common with this mask that no later
+ * setting writes. The reason is true of each word that has the same bits under the mask. */
 PELTZIVAR_API peltzivar_word peltzivar_word_reason_mask(peltzivar_word format, uint8_t index);
 
 /* Returns the first rule that the reason in a slot breaks, or PELTZIVAR_RULE_COUNT if there is no such reason. */
