@@ -158,6 +158,7 @@ def a_radix_is_typed(page):
     page.type("#mantissa_radix", "16")
     same(page.word(), "0x0000100078000000000000000000000C")
     same("'invalid exponent symbol: must be ASCII and not a digit or a" in page.text("#options"), True)
+    same(page.text("#options-error"), "The exponent character does not fit the format.")
     same([it.get_attribute("data-field") for it in page.all(".field.blamed")], ["exponent"])
 
 
@@ -174,8 +175,11 @@ def a_value_that_is_none_is_refused(page):
     same(page.word(), "0x0000100078000000000000000000000C")
 
 
-def a_refused_value_is_replaced(page):
+def a_refused_value_stays_until_escape(page):
     page.find("#mantissa_radix").send_keys(Keys.TAB)
+    same(page.value("#mantissa_radix"), "256")
+    same(page.text("#mantissa_radix-problem"), "mantissa_radix takes a number, 2 to 36 in a lawful format")
+    page.find("#mantissa_radix").send_keys(Keys.ESCAPE)
     same(page.value("#mantissa_radix"), "16")
     same(page.text("#mantissa_radix-problem"), "")
 
@@ -234,8 +238,12 @@ def the_way_back_has_the_old_word(page):
     page.wait(lambda: page.word() == "0x000010006200005F000000050000000C")
 
 
-def a_word_is_pasted(page):
+def a_word_is_typed(page):
     page.type("#word", "0xC")
+    same((page.text("#word-problem").startswith("Press Enter"), page.text("#verdict")), (True, ""))
+    same(page.value("#mantissa_radix"), "16")
+    page.find("#word").send_keys(Keys.ENTER)
+    same(page.text("#word-problem"), "")
     same(page.text("#first-error"), "lexical number format error: 'invalid radix for mantissa digits'")
     same(page.texts(".reason strong"), ["the mantissa radix 0 is not between 2 and 36"])
     same(len(page.all(".rules li")), 3)
@@ -250,9 +258,20 @@ def what_is_no_word_is_refused(page):
     ]
     for text, message in rows:
         page.type("#word", text)
-        same(page.text("#word-problem").startswith(f"{message}: a word is 0x and 1 to 32 hexadecimal digits."), True)
+        told = f"{message}. A word is 0x (lower case) and 1 to 32 hexadecimal digits. The rest of the page shows"
+        same(page.text("#word-problem"), f"{told} the last word.")
         same(page.find("#word").get_attribute("aria-invalid"), "true")
+        same((page.text("#verdict"), page.text("#first-error")), ("", ""))
     same(page.all("img"), [])
+
+
+def a_refused_word_stays_until_escape(page):
+    page.find("#word").send_keys(Keys.TAB)
+    same(page.word(), "0x" + 33 * "0")
+    same(page.text("#word-problem").startswith("'numeric overflow occurred'."), True)
+    page.find("#word").send_keys(Keys.ESCAPE)
+    same((page.word(), page.text("#word-problem")), ("0x0000000000000000000000000000000C", ""))
+    same(page.text("#verdict").startswith("Not lawful"), True)
 
 
 def any_text_can_be_pasted(page):
@@ -262,12 +281,12 @@ def any_text_can_be_pasted(page):
     for text in ("\u00e9", "half", "\0\0", "' or '1", "x" * 1_000_000, "_=\u202e"):
         for box in ("word", "base_prefix", "exponent"):
             same(page.run(paste, box, text) != "", True)
-    page.find("#exponent").send_keys(Keys.TAB)
+    page.find("#exponent").send_keys(Keys.ESCAPE)
     same(page.value("#exponent"), "p")
 
 
 def reserved_bits_have_a_reason(page):
-    page.type("#word", "0x00000A00000000000000000080000000")
+    page.type("#word", "0x00000A00000000000000000080000000" + Keys.ENTER)
     same(page.texts(".reason strong"), ["reserved bits are set: 0x80000000"])
     page.click(".reason .mend", "clear the reserved bits")
     same(page.text("#verdict"), "Lawful")
@@ -293,6 +312,21 @@ def a_recipe_brings_its_exponent_character(page):
     same(page.value("#exponent"), "p")
     same(page.value("#digit_separator"), "'")
     same(page.text("#verdict"), "Lawful")
+
+
+def a_changed_recipe_is_no_longer_chosen(page):
+    page.click("#no_special")
+    same(page.value("#recipe"), "")
+    same(page.text("#recipe-changed"), "The word was changed from the recipe C_HEX_FLOAT.")
+    page.click("#no_special")
+    same((page.value("#recipe"), page.text("#recipe-changed")), ("C_HEX_FLOAT", ""))
+
+
+def a_note_marks_the_flags_that_are_set(page):
+    page.type("#digit_separator", "")
+    links = page.texts("#notes .link")
+    same(links[-1], "digit_separator")
+    same([page.find(f"#{name}").is_selected() for name in links[:-1]], [True] * (len(links) - 1))
 
 
 def code_is_shown_in_each_language(page):
@@ -444,7 +478,7 @@ STEPS = [
     a_radix_is_typed,
     an_exponent_character_is_typed,
     a_value_that_is_none_is_refused,
-    a_refused_value_is_replaced,
+    a_refused_value_stays_until_escape,
     a_separator_without_a_flag_has_a_note,
     a_group_of_flags_is_set,
     a_group_is_partly_set,
@@ -453,13 +487,16 @@ STEPS = [
     a_button_leads_to_the_reasons,
     a_button_mends_it,
     the_way_back_has_the_old_word,
-    a_word_is_pasted,
+    a_word_is_typed,
     what_is_no_word_is_refused,
+    a_refused_word_stays_until_escape,
     any_text_can_be_pasted,
     reserved_bits_have_a_reason,
     the_normal_form_is_used,
     a_recipe_is_taken,
     a_recipe_brings_its_exponent_character,
+    a_changed_recipe_is_no_longer_chosen,
+    a_note_marks_the_flags_that_are_set,
     code_is_shown_in_each_language,
     tabs_follow_the_arrows,
     code_is_copied,

@@ -102,7 +102,7 @@ class Controls {
     byteRow(name, title, part, meaning, parsed, use) {
         const problem = element("span", { class: "problem", id: `${name}-problem`, role: "status" });
         let before;
-        const focus = (event) => (before = event.target.value);
+        const focus = () => (before = isRefused(box) ? before : box.value);
         /* While a text is refused, the byte is the one before the text was typed. */
         const input = (event) => {
             const { edit, message } = parsed(event.target.value);
@@ -111,7 +111,9 @@ class Controls {
             use(edit ?? parsed(before).edit);
         };
         const blur = () => this.show(this.shown);
-        const box = element("input", { id: name, input, focus, blur, autocomplete: "off", spellcheck: "false" });
+        const keydown = ({ key }) => key === "Escape" && isRefused(box) && this.fill(name);
+        const listeners = { input, focus, blur, keydown };
+        const box = element("input", { id: name, ...listeners, autocomplete: "off", spellcheck: "false" });
         box.setAttribute("aria-describedby", `${name}-problem ${name}-meaning`);
         const other = element("span", { class: "other" });
         this.inputs.set(name, { box, other, problem });
@@ -152,16 +154,31 @@ class Controls {
         box.indeterminate = isSome && !box.checked;
     }
 
-    /* Shows a byte. Beside it are its numbers, or the number that an absent byte is filled with. */
+    /* Shows a byte. Beside it are its numbers, or the number that an absent byte is filled with. A refused text stays
+     * until its byte changes. */
     showByte(name, byte, isNumber, filled) {
-        const { box, other, problem } = this.inputs.get(name);
+        const input = this.inputs.get(name);
+        const { box, other } = input;
+        const isKept = document.activeElement === box || (isRefused(box) && input.byte === byte);
         const isAbsent = byte === 0 && name !== "mantissa_radix";
         const numbers = `${byte} = 0x${byte.toString(16).toUpperCase().padStart(2, "0")}`;
         setText(other, byte === filled ? (isAbsent || isNumber ? "" : numbers) : `means ${filled}`);
-        if (document.activeElement === box) return;
-        box.value = isAbsent ? "" : byteText(byte, isNumber || this.asNumbers || (byte >= 48 && byte < 58)) || "0";
+        const text = byteText(byte, isNumber || this.asNumbers || (byte >= 48 && byte < 58)) || "0";
+        Object.assign(input, { byte, text: isAbsent ? "" : text });
+        if (!isKept) this.fill(name);
+    }
+
+    /* Writes a byte into its box, in place of a typed text. */
+    fill(name) {
+        const { box, problem, text } = this.inputs.get(name);
+        box.value = text;
         box.placeholder = "none";
         setText(problem, "");
         box.removeAttribute("aria-invalid");
+    }
+
+    /* Writes each byte into its box, in place of a refused text. */
+    fillAll() {
+        for (const name of this.inputs.keys()) this.fill(name);
     }
 }

@@ -25,6 +25,11 @@ function setText(node, text) {
     if (node.textContent !== text) node.textContent = text;
 }
 
+/* Returns whether the text of an input is refused. */
+function isRefused(box) {
+    return box.getAttribute("aria-invalid") === "true";
+}
+
 /* Returns a byte as a character between two ', or as a number if it is not visible. */
 function byteText(byte, asNumber) {
     const isVisible = byte > 32 && byte < 127;

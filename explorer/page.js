@@ -2,6 +2,8 @@
 
 const LANGUAGES = ["rust", "c", "python", "settings"];
 const SAVING_DELAY = 200;
+/* The types of an input that brings a whole text. */
+const WHOLE = ["insertFromPaste", "insertFromDrop"];
 /* The exponent character e and the decimal point. */
 const OPTIONS = { exponent: 101, point: 46 };
 
@@ -44,12 +46,9 @@ class Page {
 
     listen() {
         addEventListener("hashchange", () => this.read());
-        find("word").addEventListener("input", (event) => this.paste(event.target.value));
-        find("word").addEventListener("blur", () => this.showWord());
         find("standard").addEventListener("click", () => {
+            this.recipe = undefined;
             this.jump({ word: this.library.standard, ...OPTIONS });
-            find("recipe").value = "";
-            find("recipe-panel").hidden = true;
         });
         find("recipe").addEventListener("change", ({ target }) => {
             this.start(this.data.recipes.find(({ name }) => name === target.value));
@@ -67,7 +66,16 @@ class Page {
         document.addEventListener("pointerover", ({ target }) => {
             this.mark(marked(target) ?? marked(document.activeElement));
         });
+        this.listenToWord();
         this.listenToTabs();
+    }
+
+    listenToWord() {
+        const box = find("word");
+        box.addEventListener("input", ({ inputType }) => this.take(box.value, WHOLE.includes(inputType)));
+        box.addEventListener("change", () => this.take(box.value, true));
+        box.addEventListener("blur", () => isRefused(box) || this.showWord());
+        box.addEventListener("keydown", ({ key }) => key === "Escape" && this.showWord());
     }
 
     listenToTabs() {
@@ -113,23 +121,46 @@ class Page {
     start(recipe) {
         if (!recipe) return;
         const edits = recipe.settings.map(([text]) => this.library.parseEdit(text).edit);
-        this.jump({ word: this.library.build(edits), ...OPTIONS, exponent: recipe.exponent.charCodeAt(0) });
+        const word = this.library.build(edits);
+        this.recipe = { name: recipe.name, word };
+        this.jump({ word, ...OPTIONS, exponent: recipe.exponent.charCodeAt(0) });
         const rows = recipe.settings.map(([text, meaning]) => {
             const comment = element("span", { class: "meaning" }, withCode(meaning));
             return element("li", {}, element("code", {}, text), " ", comment);
         });
         find("about").replaceChildren(...withCode(recipe.about));
         find("recipe-settings").replaceChildren(...rows);
-        find("recipe-panel").hidden = false;
     }
 
-    /* Takes a text as the word, or shows why it is not one. */
-    paste(text) {
+    /* Shows the recipe as chosen while the word is its word, and otherwise that the word was changed. */
+    showRecipe() {
+        const isSame = this.recipe?.word === this.state.word;
+        find("recipe").value = isSame ? this.recipe.name : "";
+        find("recipe-panel").hidden = !this.recipe;
+        setText(find("recipe-changed"), isSame ? "" : `The word was changed from the recipe ${this.recipe?.name}.`);
+    }
+
+    /* Takes a text as the word, if it is whole, or shows why it is not one. */
+    take(text, isWhole) {
         const { word, message } = this.library.parseWord(text.trim());
-        const told = `${message}: a word is 0x and 1 to 32 hexadecimal digits. The page shows the last word.`;
-        setText(find("word-problem"), message ? told : "");
-        find("word").setAttribute("aria-invalid", String(Boolean(message)));
-        if (!message) this.change({ word });
+        if (message) {
+            this.explain(`${message}. A word is \`0x\` (lower case) and 1 to 32 hexadecimal digits.`, true);
+        } else if (isWhole || word === this.state.word) {
+            this.explain("", false);
+            this.change({ word });
+        } else {
+            this.explain("Press Enter to take this word.", false);
+        }
+    }
+
+    /* Explains why a typed text is refused or waits, which hides the verdict on the last word. */
+    explain(told, isProblem) {
+        const text = told && `${told} The rest of the page shows the last word.`;
+        find("word-problem").replaceChildren(...withCode(text).filter(Boolean));
+        find("word-problem").classList.toggle("waiting", !isProblem);
+        find("word").setAttribute("aria-invalid", String(isProblem));
+        for (const id of ["verdict", "first-error", "options-error"]) find(id).hidden = Boolean(told);
+        this.told = this.state.word;
     }
 
     /* Changes the state, in the place of the old one. The fragment follows when no other change comes. */
@@ -151,6 +182,8 @@ class Page {
         this.state = { ...this.state, ...part };
         history.pushState(null, "", this.fragment());
         this.show();
+        this.showWord();
+        this.controls.fillAll();
     }
 
     link() {
@@ -173,16 +206,17 @@ class Page {
         this.show();
     }
 
-    /* Shows the word as text, in place of a pasted text. */
+    /* Shows the word as text, in place of a typed text. */
     showWord() {
         find("word").value = this.library.wordText(this.state.word);
-        find("word").removeAttribute("aria-invalid");
-        setText(find("word-problem"), "");
+        this.explain("", false);
     }
 
     show() {
         const { word, exponent, point } = this.state;
-        if (document.activeElement !== find("word")) this.showWord();
+        const isKept = isRefused(find("word")) && this.told === word;
+        if (document.activeElement !== find("word") && !isKept) this.showWord();
+        this.showRecipe();
         const blamed = this.report.show(this.state);
         const filled = this.library.bytesOf(word, this.data.bytes.map(({ name }) => name));
         this.controls.show({ word, exponent, point, bytes: this.library.rawBytes(word), filled });

@@ -1,5 +1,7 @@
 /* The report on a word: its reasons, notes, normal form, and differences from the standard format. */
 
+const TITLES = { exponent: "The exponent character", point: "The decimal point" };
+
 /* Returns a button of a class with a text. */
 function button(kind, text, click, attributes = {}) {
     return element("button", { type: "button", class: kind, click, ...attributes }, text);
@@ -58,9 +60,12 @@ class Report {
         );
     }
 
-    note({ text, mask }) {
-        const fields = this.namesOf(mask).join(" ");
-        return element("li", { class: "note", "data-field": fields }, text, element("p", {}, this.links(mask)));
+    /* Shows a note. If separator flags that it describes are set, only these are marked, and otherwise all of them. */
+    note(word, { text, mask }) {
+        const areSet = mask & this.separators & word;
+        const marked = areSet ? (mask & ~this.separators) | areSet : mask;
+        const fields = this.namesOf(marked).join(" ");
+        return element("li", { class: "note", "data-field": fields }, text, element("p", {}, this.links(marked)));
     }
 
     /* Returns a button for each edit that differs from the standard format, which takes it back. */
@@ -88,7 +93,7 @@ class Report {
         find("verdict").className = error ? "bad" : "good";
         setText(find("first-error"), error ? this.library.errorText(error) : "The word keeps all rules.");
         find("reasons").replaceChildren(...reasons.map((reason) => this.reason(word, reason)));
-        find("notes").replaceChildren(...this.library.notes(word).map((note) => this.note(note)));
+        find("notes").replaceChildren(...this.library.notes(word).map((note) => this.note(word, note)));
         find("changes").replaceChildren(...this.code.edits(word).map((edit) => this.change(edit)));
         this.showNormal(word);
         const options = this.showOptions(this.library.optionsError(word, exponent, point));
@@ -102,6 +107,9 @@ class Report {
         find("options").className = error ? "bad" : "good";
         const { INVALID_EXPONENT_SYMBOL, INVALID_DECIMAL_POINT } = this.data.constants;
         const names = { 0: [], [INVALID_EXPONENT_SYMBOL]: ["exponent"], [INVALID_DECIMAL_POINT]: ["point"] };
-        return names[error] ?? ["exponent", "point"];
+        const unfit = names[error] ?? ["exponent", "point"];
+        const titles = { 0: "", 1: `${TITLES[unfit[0]]} does`, 2: "Exponent character and decimal point do" };
+        setText(find("options-error"), error ? `${titles[unfit.length]} not fit the format.` : "");
+        return unfit;
     }
 }
