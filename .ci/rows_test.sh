@@ -101,16 +101,18 @@ for test in "${tests[@]}" ../*/test.sh; do stub "$work/repository/${test#../}" "
 stub "$work/bin/python3" docs/check.py
 stub "$work/bin/shellcheck" shellcheck
 stub "$work/bin/codespell" codespell
-stub "$work/bin/rt" rt $'rt: numfmt proved\nrt: recorded proved\n'
 cp run rows.sh "$work/repository/.ci"
 calls=(docs/check.py shellcheck codespell rt "${tests[@]}")
-for fails in none "${calls[@]}"; do
+for fails in none kept "${calls[@]}"; do
+    lines=$'rt: numfmt proved\nrt: recorded proved\n'
+    if [ "$fails" = kept ]; then lines='rt: numfmt is kept'; fi
+    stub "$work/bin/rt" rt "$lines"
     : > "$work/log"
     LOG=$work/log FAILS=$fails PATH=$work/bin:$PATH "$work/repository/.ci/run" > "$work/printed" 2>&1
     status=$?
     missing=$(printf '%s\n' "${calls[@]}" | grep -vxFf "$work/log")
     tried=$((tried + 1))
-    case $fails:$status:$missing in none:0:) continue ;; none:*) ;; *:0:*) ;; *) continue ;; esac
+    case $fails:$status:$missing in none:0: | kept:0:) continue ;; none:* | kept:*) ;; *:0:*) ;; *) continue ;; esac
     failed=$((failed + 1))
     printf 'run, where this fails: %s: status %s, not called: %s\n' "$fails" "$status" "$missing"
     cat "$work/printed"
