@@ -45,7 +45,7 @@ SOURCES = [("crates", "*.rt"), ("crates", "*.antt"), ("rust", "*.rs"), ("rust", 
 LANGUAGES = ["rust", "antt", "c", "python", "toml"]
 LIBRARIES = ["lexical_base", "lexical_flags", "lexical_builder", "lexical_util"]
 # The least numbers of must-fail edits and tests.
-LEAST_EDITS, LEAST_TESTS = 64, 115
+LEAST_EDITS, LEAST_TESTS = 65, 115
 # The largest number of lines of the pages, and of words of README.
 MOST_LINES, MOST_WORDS = 1400, 800
 # The starts of commands in README.
@@ -156,8 +156,10 @@ def not_run():
     yield from (f"{path.relative_to(TOP)}: not tried, it does not end in .edit" for path in others)
     paths = [*files_of("crates", "*.rt"), *files_of("rust", "*.rs")]
     tests = sum(path.read_text().count("#[test]\n") for path in paths)
-    if len(edits) < LEAST_EDITS or tests < LEAST_TESTS:
-        yield f"{len(edits)} must-fail edits and {tests} tests, fewer than before"
+    if len(edits) < LEAST_EDITS:
+        yield f"{len(edits)} must-fail edits, fewer than before"
+    if tests < LEAST_TESTS:
+        yield f"{tests} tests, fewer than before"
 
 
 def layout():
