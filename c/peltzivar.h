@@ -1,9 +1,10 @@
 /* Number formats in words of 128 bits: their fields, edits and rules.
  *
- * A format word has 31 flags (bits 0 to 17 and 32 to 44) and six bytes: the digit separator (bits 64 to 71), and from
- * the bit in parentheses up the base prefix (88), base suffix (96), mantissa radix (104), exponent base (112) and
- * exponent radix (120). The other bits are reserved. A word is lawful if it keeps the 16 rules below. docs/FORMAT.md
- * of the repository describes each field and each rule, and c/settings.c shows how to read a file of settings.
+ * A format word has 31 flags (bits 0 to 17 and 32 to 44) and six bytes: the digit separator (bits 64 to 71), and,
+ * each from the bit in parentheses upwards, the base prefix (88), base suffix (96), mantissa radix (104), exponent
+ * base (112) and exponent radix (120). The other bits are reserved. A word is lawful if it keeps the 16 rules below.
+ * docs/FORMAT.md of the repository describes each field and each rule, and c/settings.c shows how to read a file of
+ * settings.
  *
  * Any word, number, byte or length of the right type is accepted. A pointer must point to the object or array that
  * its declaration describes; it may be null only with a length of 0. Input must be initialised, and so must *fields
@@ -228,7 +229,7 @@ enum {
     PELTZIVAR_RULE_FRACTION_CONSECUTIVE_IS_ALLOWED,
     /* exponent_consecutive_digit_separator only with an internal, leading or trailing flag of the exponent */
     PELTZIVAR_RULE_EXPONENT_CONSECUTIVE_IS_ALLOWED,
-    PELTZIVAR_RULE_RESERVED_BITS_ARE_ZERO /* the bits of no field are 0 */
+    PELTZIVAR_RULE_RESERVED_BITS_ARE_ZERO /* all bits that hold no field are 0 */
 };
 
 /* The number of rules, the most reasons why one rule is broken, the number of slots for all reasons of a word, the
@@ -261,7 +262,7 @@ PELTZIVAR_API uint32_t peltzivar_version(void);
 /* Returns the fields of a word. An exponent base or exponent radix of 0 becomes the mantissa radix. */
 PELTZIVAR_API peltzivar_fields peltzivar_fields_of(peltzivar_word format);
 
-/* Applies the edits to the fields in order and returns true. If an edit has no such setter, returns false and
+/* Applies the edits to the fields in order and returns true. If an edit names no setter, returns false and
  * leaves *fields unchanged. */
 PELTZIVAR_MUST_USE PELTZIVAR_API bool peltzivar_edit_fields(
     peltzivar_fields *fields, const peltzivar_edit *edits, size_t len);
@@ -270,7 +271,7 @@ PELTZIVAR_MUST_USE PELTZIVAR_API bool peltzivar_edit_fields(
 PELTZIVAR_API peltzivar_word peltzivar_pack(const peltzivar_fields *fields);
 
 /* Applies the edits to a copy of the fields in order, packs the copy as peltzivar_pack does, writes the word to
- * *out and returns true. If an edit has no such setter, returns false and leaves *out unchanged. */
+ * *out and returns true. If an edit names no setter, returns false and leaves *out unchanged. */
 PELTZIVAR_MUST_USE PELTZIVAR_API bool peltzivar_build(
     const peltzivar_fields *fields, const peltzivar_edit *edits, size_t len, peltzivar_word *out);
 
@@ -282,10 +283,10 @@ PELTZIVAR_MUST_USE PELTZIVAR_API peltzivar_error peltzivar_build_strict(
 
 /* WORDS */
 
-/* Applies the edits to a word in order, writes the new word to *out and returns true. If an edit has no such
- * setter, returns false and leaves *out unchanged. Before the edits, an exponent base or exponent radix of 0
- * becomes the mantissa radix; after them, a digit separator that no flag allows is dropped. So two calls do not
- * always give the word of one call with both lists of edits: pass a separator and its flags in one call. */
+/* Applies the edits to a word in order, writes the new word to *out and returns true. If an edit names no setter,
+ * returns false and leaves *out unchanged. Before the edits, an exponent base or exponent radix of 0 becomes the
+ * mantissa radix; after them, a digit separator that no flag allows is dropped. So two calls do not always give the
+ * word of one call with both lists of edits: pass a separator and its flags in one call. */
 PELTZIVAR_MUST_USE PELTZIVAR_API bool peltzivar_edit_word(
     peltzivar_word format, const peltzivar_edit *edits, size_t len, peltzivar_word *out);
 
@@ -303,8 +304,8 @@ PELTZIVAR_API bool peltzivar_same_format(peltzivar_word a, peltzivar_word b);
 PELTZIVAR_API bool peltzivar_is_built(peltzivar_word format);
 
 /* Writes one edit for each field of the word. An absent exponent byte stays absent. The edits in which the word
- * differs from PELTZIVAR_NEW_FIELDS come first; returns their number. Applied to PELTZIVAR_NEW_FIELDS, only these
- * edits give the fields of the word. If peltzivar_is_built returns true, no shorter list of single-field edits builds
+ * differs from PELTZIVAR_NEW_FIELDS come first; returns their number. Applied to PELTZIVAR_NEW_FIELDS, these edits
+ * alone give the fields of the word. If peltzivar_is_built returns true, no shorter list of single-field edits builds
  * the word. */
 PELTZIVAR_API size_t peltzivar_edits_of(peltzivar_word format, peltzivar_edit edits[PELTZIVAR_FIELD_COUNT]);
 
@@ -322,8 +323,8 @@ PELTZIVAR_API bool peltzivar_is_valid_radix(uint32_t radix);
 /* Returns whether a word keeps PELTZIVAR_RULE_EXPONENT_FLAGS_AGREE. */
 PELTZIVAR_API bool peltzivar_is_valid_exponent_flags(peltzivar_word format);
 
-/* Returns whether a word keeps PELTZIVAR_RULE_DIGIT_SEPARATOR_IS_PUNCTUATION. The byte is tested even if no flag allows
- * it. */
+/* Returns whether a word keeps PELTZIVAR_RULE_DIGIT_SEPARATOR_IS_PUNCTUATION. The byte is tested even if no flag
+ * allows it. */
 PELTZIVAR_API bool peltzivar_is_valid_digit_separator(peltzivar_word format);
 
 /* Returns whether a word keeps PELTZIVAR_RULE_BASE_PREFIX_IS_PUNCTUATION. */
@@ -364,20 +365,20 @@ PELTZIVAR_API peltzivar_word peltzivar_rule_mask(uint8_t rule);
 PELTZIVAR_API bool peltzivar_flag(peltzivar_word format, uint8_t setter);
 
 /* Returns the bits of a word that the reason in a slot blames (peltzivar_word_reason writes its text), or 0 if there
- * is no such reason. A setting is to blame if its peltzivar_edit_mask has a bit in common with this mask that no later
- * setting writes. The reason is true of each word that has the same bits under the mask. */
+ * is no such reason. A setting is to blame if its peltzivar_edit_mask has a bit in common with this mask that no
+ * later setting writes. The reason is true of each word that has the same bits under the mask. */
 PELTZIVAR_API peltzivar_word peltzivar_word_reason_mask(peltzivar_word format, uint8_t index);
 
 /* Returns the first rule that the reason in a slot breaks, or PELTZIVAR_RULE_COUNT if there is no such reason. */
 PELTZIVAR_API uint8_t peltzivar_word_reason_rule(peltzivar_word format, uint8_t index);
 
 /* Returns whether the reason in a slot breaks the rule; false if there is no such reason or rule. A mantissa radix
- * also breaks the rules of an exponent base and an exponent radix that are 0. */
+ * out of range also breaks the rules of an exponent base or radix of 0. */
 PELTZIVAR_API bool peltzivar_word_reason_breaks(peltzivar_word format, uint8_t index, uint8_t rule);
 
 /* Writes edits that mend one field for the reason in a slot, and returns their number. They clear a flag or an
- * optional byte, or set the mantissa radix to 10. After peltzivar_edit_word with them, each rule is kept that only
- * this reason broke, and so is each rule that was kept. The field is an index in the order of the bits of a word, 0
+ * optional byte, or set the mantissa radix to 10. After peltzivar_edit_word with them, the word keeps each rule that
+ * only this reason broke, and each that it kept before. The field is an index in the order of the bits of a word, 0
  * to PELTZIVAR_FIELD_COUNT - 1: the flags as in PELTZIVAR_SET_*, then the six bytes. If no such edits mend the field,
  * or if there is no such reason or field, returns 0 and leaves the array unchanged. Otherwise the edits after the
  * returned number of them are unspecified. */
