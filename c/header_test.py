@@ -135,7 +135,7 @@ def phrases():
     return [
         "words of 128 bits",
         f"{len(flags)} flags (bits {ranges(flags)}) and {count} bytes: the {names} (bits {low} to {high}), "
-        f"and from the bit in parentheses up the {', '.join(ends[:-1])} and {ends[-1]}.",
+        f"and, each from the bit in parentheses upwards, the {', '.join(ends[:-1])} and {ends[-1]}.",
         f"the {len(rules())} rules below",
         "eight bits for each part",
         "as two halves",
@@ -193,7 +193,7 @@ def rule_comment(rule):
         part = name.removesuffix("_consecutive_is_allowed")
         return f"{part}_consecutive_digit_separator only with an internal, leading or trailing flag of the {part}"
     if name == "reserved_bits_are_zero":
-        return "the bits of no field are 0"
+        return "all bits that hold no field are 0"
     # The flags are the flags of the smallest word that breaks the rule.
     number = rules().index(rule)
     word = int(check_format.RULES[number][3], 16)
