@@ -679,7 +679,7 @@ class FormatView:
 
     @property
     def exponent_base(self) -> int:
-        """With base 2, `1p3` means 1 * 2^3; the mantissa radix if it is absent."""
+        """The base that is raised to the exponent, such as the 2 in 1 * 2^3; the mantissa radix if it is absent."""
         return int(self._fields().exponent_base)
 
     @property

@@ -127,15 +127,15 @@ def demand(number, error, word):
         return f"the {field} is 0 or punctuation"
     if error == "Punctuation":
         cases = [bit for bit, name, _ in FLAGS if re.fullmatch("case_sensitive_base_.*", name)]
-        both = "a prefix or suffix that is a letter has both cases unless its flag {} or {} is set".format(*cases)
-        return f"no two of these three share a byte; {both}"
+        both = "a prefix or suffix that is a letter has the bytes of both cases unless its flag {} or {} is set"
+        return f"no two of the separator, the prefix and the suffix share a byte; {both.format(*cases)}"
     if not {*flags} <= {bit for bit, _, _ in FLAGS}:
         return "the reserved bits are 0"
     if len(flags) == 2:
-        return "not both flags {} and {}".format(*flags)
+        return "flags {} and {} are not both set".format(*flags)
     # The last group with the flag is the group of the integer, the fraction or the exponent.
     group = [bits.split() for _, bits, _ in GROUPS if flags[0] in bits.split()][-1]
-    return "flag {3} only with {0}, {1} or {2}".format(*group)
+    return "flag {3} is set only if flag {0}, {1} or {2} is set".format(*group)
 
 
 def cells():

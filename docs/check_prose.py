@@ -74,8 +74,8 @@ def case_flags():
     bits = {name: bit for bit, name, _ in check_format.FLAGS}
     flags = [bits[f"case_sensitive_{it}"] for it in ("base_prefix", "base_suffix", "exponent")]
     return (
-        "If a base prefix, a base suffix or an exponent character is a letter, it means both cases, "
-        f"unless its flag {listed(flags, 'or')} is set."
+        "A base prefix, base suffix or exponent character that is a letter matches both cases, "
+        f"unless its flag ({listed(flags, 'or')}, respectively) is set."
     )
 
 
@@ -85,26 +85,26 @@ def example():
     fields = {name: word >> int(first) & 255 for first, _, name, _ in check_format.BYTES}
     bits = [int(bit) for bit, _, _ in check_format.FLAGS if word >> int(bit) & 1]
     separator = fields["digit_separator"]
-    radix, base = fields["exponent_radix"], fields["exponent_base"]
-    exponent = f"exponent radix{'' if radix == base else f' {radix}'} and exponent base {base}"
     absent = "".join(f", no {it.removeprefix('base_')}" for it in ("base_suffix", "base_prefix") if not fields[it])
     return (
-        f"The word `0x{word:032X}` has radix {fields['mantissa_radix']} and the separator `{separator:c}` between "
-        f"digits. From the left: {exponent}, mantissa radix {fields['mantissa_radix']}{absent}, reserved bits, "
-        f"the separator `{separator:c}` (`{separator:X}`), flags {listed([bit for bit in bits if bit >= 32], 'and')} "
-        f"(a separator between digits), flags {listed([bit for bit in bits if bit < 32], 'and')} "
-        "(digits in the mantissa and after an exponent character)."
+        f"The word `0x{word:032X}` has mantissa radix {fields['mantissa_radix']} and allows the separator "
+        f"`{separator:c}` between digits. From left to right, apart from the reserved bits, it holds exponent radix "
+        f"{fields['exponent_radix']}, exponent base {fields['exponent_base']}, mantissa radix "
+        f"{fields['mantissa_radix']}{absent}, the separator `{separator:c}` (`{separator:X}`), flags "
+        f"{listed([bit for bit in bits if bit >= 32], 'and')} (a separator between digits), and flags "
+        f"{listed([bit for bit in bits if bit < 32], 'and')} "
+        "(digits are required after the exponent character and in the mantissa)."
     )
 
 
 def statuses():
-    """The parts of the sentence with the exit statuses."""
+    """The parts of the sentences with the exit statuses."""
     responses = (check_format.CRATES / "numfmt/specs/Response.antt").read_text()
     program = (check_format.CRATES / "numfmt/src/program.rt").read_text()
     status = dict(re.findall(r"^status_of \((.*)\) = (\d)$", responses, re.M))
-    yield f"Exit status: {status['Ok (answers.Sameness true)']};"
-    yield f"{status['Ok (answers.Sameness false)']} if the answer is no,"
-    yield f"{status['Err refusal']} for malformed arguments;"
+    yield f"The exit status is {status['Ok (answers.Sameness true)']} on success,"
+    yield f"{status['Ok (answers.Sameness false)']} for a negative answer:"
+    yield f"{status['Err refusal']} if the arguments are malformed,"
     yield f"{re.search(r'Err[(]_[)] => ([0-9]),', program)[1]} if a write fails"
 
 

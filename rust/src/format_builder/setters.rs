@@ -35,8 +35,8 @@ impl NumberFormatBuilder {
         self.with_byte(MANTISSA_RADIX, radix)
     }
 
-    /// Sets the exponent base: with base 2, `1p3` means 1 × 2^3. In a lawful format it is between 2 and 36. `None`
-    /// means the mantissa radix.
+    /// Sets the exponent base: the base that is raised to the exponent, such as the 2 in 1 × 2^3, which `1p3` means
+    /// with base 2. In a lawful format it is between 2 and 36. `None` means the mantissa radix.
     #[must_use]
     #[inline(always)]
     pub const fn exponent_base(self, base: OptionU8) -> Self {

@@ -42,8 +42,8 @@ impl NumberFormatBuilder {
         self.with_byte(MANTISSA_RADIX, radix)
     }
 
-    /// Sets the exponent base: with base 2, `1p3` means 1 × 2^3. In a lawful format it is between 2 and 36. `None`
-    /// means the mantissa radix.
+    /// Sets the exponent base: the base that is raised to the exponent, such as the 2 in 1 × 2^3, which `1p3` means
+    /// with base 2. In a lawful format it is between 2 and 36. `None` means the mantissa radix.
     #[inline(always)]
     pub const fn exponent_base(self, base: OptionU8) -> Self
         ensures { result ≡ after self (write_byte layout.exponent_base (byte_of_option base) ∷ []) }
