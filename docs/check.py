@@ -177,14 +177,15 @@ def layout():
 
 
 def not_exported():
-    """Returns the public names of `format_flags` that `lexical_util::format` does not export."""
-    source = (TOP / "crates/lexical_flags/src/format_flags.rt").read_text()
-    lists = re.findall(r"^pub use [\w:]+::\{(.*?)\};", source, re.M | re.S)
-    names = {*re.findall(r"\w+", " ".join(lists)), *re.findall(r"^pub (?:const fn|const) (\w+)", source, re.M)}
+    """Returns the public names of `format_flags` and `format_builder` that `lexical_util::format` does not export."""
     exports = (TOP / "crates/lexical_util/src/format.rt").read_text()
-    exports = re.search(r"^pub use lexical_flags::format_flags::\{(.*?)\};", exports, re.M | re.S)[1]
-    exported = re.findall(r"\w+", exports)
-    yield from (f"not exported by lexical_util::format: {name}" for name in sorted(names - {*exported}))
+    for crate, module in (("lexical_flags", "format_flags"), ("lexical_builder", "format_builder")):
+        source = (TOP / f"crates/{crate}/src/{module}.rt").read_text()
+        names = re.findall(r"^pub (?:const fn|fn|const|struct|enum|trait|type) (\w+)", source, re.M)
+        names += re.findall(r"\w+", " ".join(re.findall(r"^pub use [\w:]+::(\{.*?\}|\w+);", source, re.M | re.S)))
+        exported = re.search(rf"^pub use {crate}::{module}::\{{(.*?)\}};", exports, re.M | re.S)[1]
+        lacking = {*names} - {*re.findall(r"\w+", exported)}
+        yield from (f"not exported by lexical_util::format: {name}" for name in sorted(lacking))
 
 
 def substituted(text):

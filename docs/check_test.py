@@ -54,6 +54,8 @@ PLANTS = [
     (FLAGS, "::required_fraction_digits]", "::required_integer_digits]",
      "format_flags.rt: `REQUIRED_FRACTION_DIGITS` points to the setter `required_integer_digits`"),
     (FLAGS, None, "pub const PLANTED: u128 = 0;\n", "not exported by lexical_util::format: PLANTED"),
+    ("crates/lexical_builder/src/format_builder.rt", None, "pub type Planted = u8;\n",
+     "not exported by lexical_util::format: Planted"),
     (DIGIT, None, "pub fn planted()\n    requires { x }\n    ensures clause { x }\n{\n}\n",
      "docs/PROVED.md: public, and has premises: planted"),
     (DIGIT, None, "", "docs/PROVED.md: in no row, the clause `clause` of `digit::planted`"),
