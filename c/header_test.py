@@ -125,17 +125,15 @@ def ranges(bits):
 def phrases():
     """Returns the texts in which a comment may have a number."""
     flags = [int(bit) for bit, _, _ in check_format.FLAGS]
-    (low, high, separator, _), *others = check_format.BYTES
-    ends = [f"{name.replace('_', ' ')} ({first})" for first, _, name, _ in others]
+    ends = [f"the {name.replace('_', ' ')} ({first})" for first, _, name, _ in check_format.BYTES]
     ranks = {name: number for name, number in check_header.outcomes()}
     parse, formats = ranks["PELTZIVAR_INVALID_NEGATIVE_SIGN"], ranks["PELTZIVAR_INVALID_FLAGS"]
     last = max(ranks.values())
     count = {6: "six"}[len(BYTES)]
-    names = separator.replace("_", " ")
     return [
-        "words of 128 bits",
-        f"{len(flags)} flags (bits {ranges(flags)}) and {count} bytes: the {names} (bits {low} to {high}), "
-        f"and, each from the bit in parentheses upwards, the {', '.join(ends[:-1])} and {ends[-1]}.",
+        "128-bit words",
+        f"{len(flags)} flags (bits {ranges(flags)}) and {count} bytes. The lowest bit of each byte is in parentheses: "
+        f"{', '.join(ends[:-1])} and {ends[-1]}.",
         f"the {len(rules())} rules below",
         "eight bits for each part",
         "as two halves",
@@ -143,7 +141,7 @@ def phrases():
         f"one of {last} errors: 1 to {parse} are parse errors, {parse + 1} to {formats} format errors, "
         f"{formats + 1} to {last} option errors",
         "Two rules share PELTZIVAR_INVALID_SPECIAL",
-        "numbers them from 1, so rule n there is n - 1 here",
+        "numbers the rules from 1, so its rule n is rule n - 1 here",
         "(the bytes 9 to 13 and 32 to 126)",
         "is between 2 and 36",
         "No two of",
@@ -153,10 +151,10 @@ def phrases():
         "Returns the low 32 bits",
         "shift is 128 or more",
         "allowed ASCII: 9 to 13 or 32 to 126.",
-        "letters of either case are 10 to 35",
+        "Letters of either case have the values 10 to 35",
         "Any other byte has the value 255, so in a radix above 255 it counts as a digit",
-        "a number below 36 (the letters are capitals)",
-        "PELTZIVAR_NO_CHAR for 36 or more",
+        "a number below 36, with letters in uppercase",
+        "PELTZIVAR_NO_CHAR if the number is 36 or more",
         "'b' is a digit in radix 16",
         "0 to PELTZIVAR_MAX_REASONS - 1",
         "0 to PELTZIVAR_CANDIDATE_COUNT - 1",
@@ -164,8 +162,8 @@ def phrases():
         "0 to PELTZIVAR_FIELD_COUNT - 1",
         f"then the {count} bytes",
         "the mantissa radix to 10",
-        "and, from peltzivar_word_of_text, three parse errors",
-        "32 hexadecimal digits with capital letters",
+        "and the three parse errors of peltzivar_word_of_text",
+        "32 uppercase hexadecimal digits",
         "1 to 32 hexadecimal digits of either case",
         "a 33rd digit",
         "a number above 255 or with",
@@ -191,14 +189,14 @@ def rule_comment(rule):
         return f"{name.removesuffix('_is_punctuation')} is 0 or punctuation"
     if name.endswith("_consecutive_is_allowed"):
         part = name.removesuffix("_consecutive_is_allowed")
-        return f"{part}_consecutive_digit_separator only with an internal, leading or trailing flag of the {part}"
+        return f"{part}_consecutive_digit_separator is set only with an internal, leading or trailing flag of the {part}"
     if name == "reserved_bits_are_zero":
-        return "all bits that hold no field are 0"
+        return "all reserved bits are 0"
     # The flags are the flags of the smallest word that breaks the rule.
     number = rules().index(rule)
     word = int(check_format.RULES[number][3], 16)
     both = [flag for bit, flag, _ in check_format.FLAGS if word >> int(bit) & 1]
-    return f"not both {both[0]} and {both[1]}" if len(both) == 2 else None
+    return f"{both[0]} and {both[1]} are not both set" if len(both) == 2 else None
 
 
 def wrong_comments():

@@ -93,7 +93,7 @@ PLANTS = [
     (HEADER, None, "", "peltzivar.h has what the sources do not have: PELTZIVAR_SET_REQUIRED"),
     (HEADER, "(the bytes 9 to 13 and", "(the bytes 9 to 14 and", "no comment has this text: (the bytes 9 to 13 and"),
     (HEADER, "/* exponent_radix is between", "/* exponent_base is between", "EXPONENT_RADIX_IN_RANGE does not have the"),
-    (HEADER, "* A digit_separator has one byte.", "* An exponent_base has one byte.",
+    (HEADER, "A digit_separator always has", "An exponent_base always has",
      "PELTZIVAR_RULE_PUNCTUATION_DIFFERS has a comment with other names"),
     (HEADER, None, "/* 7 */\n", "nothing compares the number 7: 7"),
     (HEADER, None, "/* peltzivar_planted, such as \"planted\" */\n", "no such name: peltzivar_planted"),

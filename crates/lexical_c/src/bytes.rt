@@ -16,7 +16,7 @@ pub extern "C" fn peltzivar_is_valid_ascii(byte: u8) -> bool
     ascii::is_valid_ascii(byte)
 }
 
-/// Returns whether every byte is allowed ASCII: 9 to 13 or 32 to 126.
+/// Returns whether every byte of a slice is allowed ASCII: 9 to 13 or 32 to 126.
 #[unsafe(no_mangle)]
 pub extern "C" fn peltzivar_is_valid_ascii_slice(bytes: &[u8]) -> bool
     ensures { IsTrue result ↔ AllPass allowed_ascii bytes.now }
@@ -32,7 +32,7 @@ pub extern "C" fn peltzivar_is_valid_letter(byte: u8) -> bool
     ascii::is_valid_letter(byte)
 }
 
-/// Returns whether every byte is an ASCII letter.
+/// Returns whether every byte of a slice is an ASCII letter.
 #[unsafe(no_mangle)]
 pub extern "C" fn peltzivar_is_valid_letter_slice(bytes: &[u8]) -> bool
     ensures { IsTrue result ↔ AllPass letters bytes.now }
@@ -69,7 +69,7 @@ pub extern "C" fn peltzivar_digit_to_char(digit: u32) -> u8
     }
 }
 
-/// Returns the result of [`peltzivar_char_to_digit`], by the call for a radix that is known at compile time.
+/// Returns the result of [`peltzivar_char_to_digit`], from the function for a radix known at compile time.
 #[unsafe(no_mangle)]
 pub extern "C" fn peltzivar_char_to_digit_const(byte: u8, radix: u32) -> u32
     ensures { result ≡ unwrap_or (digit_of byte radix) (2 ^ 32 - 1) }
@@ -77,7 +77,7 @@ pub extern "C" fn peltzivar_char_to_digit_const(byte: u8, radix: u32) -> u32
     digit_or_max(digit::char_to_digit_const(byte, radix))
 }
 
-/// Returns the value of a byte that is known to be a digit of the radix.
+/// Returns the value of a byte that must be a digit of the radix.
 #[unsafe(no_mangle)]
 pub extern "C" fn peltzivar_char_to_valid_digit_const(byte: u8, radix: u32) -> u32
     ensures small { radix ≤ 10 → result ≡ (byte + 208) % 256 }
@@ -86,7 +86,7 @@ pub extern "C" fn peltzivar_char_to_valid_digit_const(byte: u8, radix: u32) -> u
     digit::char_to_valid_digit_const(byte, radix)
 }
 
-/// Returns the result of [`peltzivar_char_is_digit`], by the call for a radix that is known at compile time.
+/// Returns the result of [`peltzivar_char_is_digit`], from the function for a radix known at compile time.
 #[unsafe(no_mangle)]
 pub extern "C" fn peltzivar_char_is_digit_const(byte: u8, radix: u32) -> bool
     ensures { IsTrue result ↔ IsSome (digit_of byte radix) }

@@ -19,7 +19,7 @@ use lexical_util::edits::{Edit, FIELD_COUNT, apply, edits_of};
 use lexical_util::format_builder::NumberFormatBuilder;
 use lexical_util::laws::write_facts;
 
-/// Applies the edits to a builder in order. Returns `None` if an edit has no setter.
+/// Applies the edits in order to a builder. Returns `None` if an edit has an unknown setter.
 #[inline(always)]
 pub fn apply_edits(
     mut builder: NumberFormatBuilder,
@@ -47,8 +47,8 @@ pub extern "C" fn peltzivar_fields_of(format: Word) -> Fields
     Fields::new(&NumberFormatBuilder::rebuild(format.number()))
 }
 
-/// Applies the edits to the fields, clears the bits above the flags and returns `true`. Returns `false` if an edit has
-/// no setter.
+/// Applies the edits in order to the fields, clears the bits above the flags and returns `true`. Returns `false` if an
+/// edit has an unknown setter.
 #[unsafe(no_mangle)]
 pub extern "C" fn peltzivar_edit_fields(fields: &mut Fields, edits: &[NumberedEdit]) -> bool
     ensures accepted { IsTrue result ↔ All HasSetter edits.now }
@@ -74,7 +74,7 @@ pub extern "C" fn peltzivar_pack(fields: &Fields) -> Word
     Word::new(fields.builder().build_unchecked())
 }
 
-/// Writes the word of the edited fields and returns `true`. Returns `false` if an edit has no setter.
+/// Writes the word of the edited fields and returns `true`. Returns `false` if an edit has an unknown setter.
 #[unsafe(no_mangle)]
 pub extern "C" fn peltzivar_build(fields: &Fields, edits: &[NumberedEdit], out: &mut Word) -> bool
     ensures accepted { IsTrue result ↔ All HasSetter edits.now }
@@ -90,7 +90,7 @@ pub extern "C" fn peltzivar_build(fields: &Fields, edits: &[NumberedEdit], out: 
     true
 }
 
-/// Writes the word of the fields and returns 0 if the word is lawful. Returns the number of its error otherwise.
+/// Writes the word of the fields and returns 0 if the word is lawful. Otherwise, returns the number of its error.
 #[unsafe(no_mangle)]
 pub extern "C" fn peltzivar_build_strict(fields: &Fields, out: &mut Word) -> ErrorNumber
     ensures { IsWrittenIfLawful (pack (fields_of fields.now)) result out.old out.new }
@@ -98,7 +98,7 @@ pub extern "C" fn peltzivar_build_strict(fields: &Fields, out: &mut Word) -> Err
     write_if_lawful(fields.builder().build_strict(), out)
 }
 
-/// Writes the edited word and returns `true`. Returns `false` if an edit has no setter.
+/// Writes the edited word and returns `true`. Returns `false` if an edit has an unknown setter.
 #[unsafe(no_mangle)]
 pub extern "C" fn peltzivar_edit_word(format: Word, edits: &[NumberedEdit], out: &mut Word) -> bool
     ensures accepted { IsTrue result ↔ All HasSetter edits.now }
@@ -127,7 +127,8 @@ pub extern "C" fn peltzivar_normal_form(format: Word) -> Word
     Word::new(edits::normal_form(format.number()))
 }
 
-/// Writes the normal form of a word and returns 0 if it is lawful. Returns the number of its error otherwise.
+/// Writes the normal form of a word and returns 0 if the normal form is lawful. Otherwise, returns the number of its
+/// error.
 #[unsafe(no_mangle)]
 pub extern "C" fn peltzivar_migrate(format: Word, out: &mut Word) -> ErrorNumber
     ensures { IsWrittenIfLawful (normal_form_of format) result out.old out.new }

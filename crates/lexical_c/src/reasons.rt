@@ -49,7 +49,7 @@ pub extern "C" fn peltzivar_word_reason(format: Word, index: u8, text: &mut [u8]
     }
 }
 
-/// Returns the bits of a word that the reason in a slot blames, or 0 if the slot has no reason.
+/// Returns the bits of a word that the reason in a slot blames, or 0 if the slot is empty.
 #[unsafe(no_mangle)]
 pub extern "C" fn peltzivar_word_reason_mask(format: Word, index: u8) -> Word
     ensures mask { IfSome (word_reason_at format index) (λ reason. result ≡ mask_of_reason reason) }
@@ -61,7 +61,8 @@ pub extern "C" fn peltzivar_word_reason_mask(format: Word, index: u8) -> Word
     }
 }
 
-/// Returns the number of the first rule that the reason in a slot breaks, or the number of rules if the slot has no reason.
+/// Returns the number of the first rule that a word breaks for the reason in a slot, or the number of rules if the slot
+/// is empty.
 #[unsafe(no_mangle)]
 pub extern "C" fn peltzivar_word_reason_rule(format: Word, index: u8) -> u8
     ensures rule { IfSome (word_reason_at format index) (λ reason. rule_of result ≡ Some (rule_of_reason reason)) }
@@ -73,7 +74,8 @@ pub extern "C" fn peltzivar_word_reason_rule(format: Word, index: u8) -> u8
     }
 }
 
-/// Returns whether the reason in a slot breaks a rule, or `false` if the slot is empty or the rule does not exist.
+/// Returns whether a word breaks a rule for the reason in a slot, or `false` if the slot is empty or no rule has this
+/// number.
 #[unsafe(no_mangle)]
 pub extern "C" fn peltzivar_word_reason_breaks(format: Word, index: u8, rule: u8) -> bool
     ensures { IsTrue result ↔ BreaksAt (word_reason_at format index) (rule_of rule) }
@@ -111,8 +113,8 @@ pub extern "C" fn peltzivar_word_reason_mend(
     count
 }
 
-/// Writes the note in a slot, 0 to 2, on fields. A word will not do: packing drops a digit separator that no flag
-/// allows.
+/// Writes the note in a slot, 0 to 2, on fields. It takes fields and not a word, since packing drops a digit separator
+/// that no flag allows.
 #[unsafe(no_mangle)]
 pub extern "C" fn peltzivar_note(fields: &Fields, index: u8, text: &mut [u8]) -> usize
     ensures text { IfSome (note_at (fields_of fields.now) index)

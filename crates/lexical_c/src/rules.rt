@@ -27,7 +27,7 @@ pub extern "C" fn peltzivar_format_error(format: Word) -> ErrorNumber
     error_number(format_error(format.number()))
 }
 
-/// Returns the number of the error of the first radix that is not between 2 and 36, or 0 if all three are.
+/// Returns the number of the error of the first radix that is not between 2 and 36, or 0 if all three radixes are.
 #[unsafe(no_mangle)]
 pub extern "C" fn peltzivar_radix_error(format: Word) -> ErrorNumber
     ensures { IsCodeOfSome (IsFirstError radix_rules format) result }
@@ -97,7 +97,8 @@ pub extern "C" fn peltzivar_is_valid_options_punctuation(
     flags::is_valid_options_punctuation(format.number(), exponent, decimal_point)
 }
 
-/// Returns the number of the error of an exponent character and a decimal point in numbers of a word, or 0 if they fit.
+/// Returns the number of the error of an exponent character and a decimal point that do not fit a word, or 0 if they
+/// fit.
 #[unsafe(no_mangle)]
 pub extern "C" fn peltzivar_options_error(
     format: Word,
@@ -122,7 +123,8 @@ pub extern "C" fn peltzivar_keeps_rule(format: Word, rule: u8) -> bool
     }
 }
 
-/// Returns the number of the error of words that break this rule first, or 0 if no rule has this number.
+/// Returns the number of the error of a word that breaks this rule and no rule before it, or 0 if no rule has this
+/// number.
 #[unsafe(no_mangle)]
 pub extern "C" fn peltzivar_rule_error(rule: u8) -> ErrorNumber
     ensures error { IfSome (rule_of rule) (λ known. result ≡ error_number (error_of known)) }
@@ -154,7 +156,7 @@ pub extern "C" fn peltzivar_is_digit(format: Word, byte: u8) -> bool
     flags::is_digit(format.number(), byte)
 }
 
-/// Returns whether a byte is the base prefix, in both cases of a letter unless the prefix is case-sensitive.
+/// Returns whether a byte is the base prefix. The case of a letter is ignored unless the prefix is case-sensitive.
 #[unsafe(no_mangle)]
 pub extern "C" fn peltzivar_is_base_prefix(format: Word, byte: u8) -> bool
     ensures { result ≡ prefix (raw format) byte }
@@ -162,7 +164,7 @@ pub extern "C" fn peltzivar_is_base_prefix(format: Word, byte: u8) -> bool
     NumberFormat::new(format.number()).is_base_prefix(byte)
 }
 
-/// Returns whether a byte is the base suffix, in both cases of a letter unless the suffix is case-sensitive.
+/// Returns whether a byte is the base suffix. The case of a letter is ignored unless the suffix is case-sensitive.
 #[unsafe(no_mangle)]
 pub extern "C" fn peltzivar_is_base_suffix(format: Word, byte: u8) -> bool
     ensures { result ≡ suffix (raw format) byte }

@@ -87,7 +87,7 @@ fn error_code(error: SettingError) -> u32
     }
 }
 
-/// Returns the bits of a word that an edit writes, or 0 if it has no setter.
+/// Returns the bits of a word that an edit writes, or 0 if the edit has an unknown setter.
 #[unsafe(no_mangle)]
 pub extern "C" fn peltzivar_edit_mask(edit: NumberedEdit) -> Word
     ensures mask { IfSome (decode_edit edit) (λ known. result ≡ mask_of_edit known) }

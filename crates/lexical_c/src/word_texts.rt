@@ -18,7 +18,7 @@ use lexical_util::error::Error;
 use lexical_util::source::BuilderExpression;
 use lexical_util::word_text::{parse_word, word_text};
 
-/// Writes a word as `0x` and 32 hexadecimal digits.
+/// Writes a word as `0x` and 32 uppercase hexadecimal digits.
 #[unsafe(no_mangle)]
 pub extern "C" fn peltzivar_text_of_word(format: Word, text: &mut [u8]) -> usize
     ensures { IsWritten (printed format) result text.old text.new }
@@ -46,7 +46,8 @@ pub extern "C" fn peltzivar_word_of_text(text: &[u8], out: &mut Word) -> ErrorNu
     }
 }
 
-/// Returns whether a word has a flag that the setter sets, or `false` if no flag or group setter has this number.
+/// Returns whether the flag of a flag setter, or at least one flag of a group setter, is set in a word, or `false` if
+/// no such setter has this number.
 #[unsafe(no_mangle)]
 pub extern "C" fn peltzivar_flag(format: Word, setter: u8) -> bool
     ensures flag { IfSome (slice_get SETTERS setter) (λ known. result ≡ any_flag format (flags_of known)) }

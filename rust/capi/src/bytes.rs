@@ -11,7 +11,7 @@ pub extern "C" fn peltzivar_is_valid_ascii(byte: u8) -> bool {
     ascii::is_valid_ascii(byte)
 }
 
-/// Returns whether every byte is allowed ASCII: 9 to 13 or 32 to 126.
+/// Returns whether every byte of a slice is allowed ASCII: 9 to 13 or 32 to 126.
 // SAFETY: no other library has names that begin with `peltzivar_`.
 #[unsafe(no_mangle)]
 pub unsafe extern "C" fn peltzivar_is_valid_ascii_slice(
@@ -30,7 +30,7 @@ pub extern "C" fn peltzivar_is_valid_letter(byte: u8) -> bool {
     ascii::is_valid_letter(byte)
 }
 
-/// Returns whether every byte is an ASCII letter.
+/// Returns whether every byte of a slice is an ASCII letter.
 // SAFETY: no other library has names that begin with `peltzivar_`.
 #[unsafe(no_mangle)]
 pub unsafe extern "C" fn peltzivar_is_valid_letter_slice(
@@ -67,21 +67,21 @@ pub extern "C" fn peltzivar_digit_to_char(digit: u32) -> u8 {
     }
 }
 
-/// Returns the result of [`peltzivar_char_to_digit`], by the call for a radix that is known at compile time.
+/// Returns the result of [`peltzivar_char_to_digit`], from the function for a radix known at compile time.
 // SAFETY: no other library has names that begin with `peltzivar_`.
 #[unsafe(no_mangle)]
 pub extern "C" fn peltzivar_char_to_digit_const(byte: u8, radix: u32) -> u32 {
     digit_or_max(digit::char_to_digit_const(byte, radix))
 }
 
-/// Returns the value of a byte that is known to be a digit of the radix.
+/// Returns the value of a byte that must be a digit of the radix.
 // SAFETY: no other library has names that begin with `peltzivar_`.
 #[unsafe(no_mangle)]
 pub extern "C" fn peltzivar_char_to_valid_digit_const(byte: u8, radix: u32) -> u32 {
     digit::char_to_valid_digit_const(byte, radix)
 }
 
-/// Returns the result of [`peltzivar_char_is_digit`], by the call for a radix that is known at compile time.
+/// Returns the result of [`peltzivar_char_is_digit`], from the function for a radix known at compile time.
 // SAFETY: no other library has names that begin with `peltzivar_`.
 #[unsafe(no_mangle)]
 pub extern "C" fn peltzivar_char_is_digit_const(byte: u8, radix: u32) -> bool {

@@ -8,7 +8,7 @@ use peltzivar::edits;
 use peltzivar::edits::{apply, edits_of, Edit, FIELD_COUNT};
 use peltzivar::format_builder::NumberFormatBuilder;
 
-/// Applies the edits to a builder in order. Returns `None` if an edit has no setter.
+/// Applies the edits in order to a builder. Returns `None` if an edit has an unknown setter.
 #[must_use]
 #[inline(always)]
 pub fn apply_edits(
@@ -31,8 +31,8 @@ pub extern "C" fn peltzivar_fields_of(format: Word) -> Fields {
     Fields::new(&NumberFormatBuilder::rebuild(format.number()))
 }
 
-/// Applies the edits to the fields, clears the bits above the flags and returns `true`. Returns `false` if an edit has
-/// no setter.
+/// Applies the edits in order to the fields, clears the bits above the flags and returns `true`. Returns `false` if an
+/// edit has an unknown setter.
 // SAFETY: no other library has names that begin with `peltzivar_`.
 #[unsafe(no_mangle)]
 pub unsafe extern "C" fn peltzivar_edit_fields(
@@ -56,7 +56,7 @@ pub extern "C" fn peltzivar_pack(fields: &Fields) -> Word {
     Word::new(fields.builder().build_unchecked())
 }
 
-/// Writes the word of the edited fields and returns `true`. Returns `false` if an edit has no setter.
+/// Writes the word of the edited fields and returns `true`. Returns `false` if an edit has an unknown setter.
 // SAFETY: no other library has names that begin with `peltzivar_`.
 #[unsafe(no_mangle)]
 pub unsafe extern "C" fn peltzivar_build(
@@ -74,7 +74,7 @@ pub unsafe extern "C" fn peltzivar_build(
     true
 }
 
-/// Writes the word of the fields and returns 0 if the word is lawful. Returns the number of its error otherwise.
+/// Writes the word of the fields and returns 0 if the word is lawful. Otherwise, returns the number of its error.
 // SAFETY: no other library has names that begin with `peltzivar_`.
 #[unsafe(no_mangle)]
 pub extern "C" fn peltzivar_build_strict(
@@ -84,7 +84,7 @@ pub extern "C" fn peltzivar_build_strict(
     write_if_lawful(fields.builder().build_strict(), out)
 }
 
-/// Writes the edited word and returns `true`. Returns `false` if an edit has no setter.
+/// Writes the edited word and returns `true`. Returns `false` if an edit has an unknown setter.
 // SAFETY: no other library has names that begin with `peltzivar_`.
 #[unsafe(no_mangle)]
 pub unsafe extern "C" fn peltzivar_edit_word(
@@ -110,7 +110,8 @@ pub extern "C" fn peltzivar_normal_form(format: Word) -> Word {
     Word::new(edits::normal_form(format.number()))
 }
 
-/// Writes the normal form of a word and returns 0 if it is lawful. Returns the number of its error otherwise.
+/// Writes the normal form of a word and returns 0 if the normal form is lawful. Otherwise, returns the number of its
+/// error.
 // SAFETY: no other library has names that begin with `peltzivar_`.
 #[unsafe(no_mangle)]
 pub extern "C" fn peltzivar_migrate(format: Word, out: crate::outputs::Out<Word>) -> ErrorNumber {

@@ -50,7 +50,7 @@ pub unsafe extern "C" fn peltzivar_word_reason(
     }
 }
 
-/// Returns the bits of a word that the reason in a slot blames, or 0 if the slot has no reason.
+/// Returns the bits of a word that the reason in a slot blames, or 0 if the slot is empty.
 // SAFETY: no other library has names that begin with `peltzivar_`.
 #[unsafe(no_mangle)]
 pub extern "C" fn peltzivar_word_reason_mask(format: Word, index: u8) -> Word {
@@ -60,7 +60,8 @@ pub extern "C" fn peltzivar_word_reason_mask(format: Word, index: u8) -> Word {
     }
 }
 
-/// Returns the number of the first rule that the reason in a slot breaks, or the number of rules if the slot has no reason.
+/// Returns the number of the first rule that a word breaks for the reason in a slot, or the number of rules if the slot
+/// is empty.
 // SAFETY: no other library has names that begin with `peltzivar_`.
 #[unsafe(no_mangle)]
 pub extern "C" fn peltzivar_word_reason_rule(format: Word, index: u8) -> u8 {
@@ -70,7 +71,8 @@ pub extern "C" fn peltzivar_word_reason_rule(format: Word, index: u8) -> u8 {
     }
 }
 
-/// Returns whether the reason in a slot breaks a rule, or `false` if the slot is empty or the rule does not exist.
+/// Returns whether a word breaks a rule for the reason in a slot, or `false` if the slot is empty or no rule has this
+/// number.
 // SAFETY: no other library has names that begin with `peltzivar_`.
 #[unsafe(no_mangle)]
 pub extern "C" fn peltzivar_word_reason_breaks(format: Word, index: u8, rule: u8) -> bool {
@@ -102,8 +104,8 @@ pub extern "C" fn peltzivar_word_reason_mend(
     count
 }
 
-/// Writes the note in a slot, 0 to 2, on fields. A word will not do: packing drops a digit separator that no flag
-/// allows.
+/// Writes the note in a slot, 0 to 2, on fields. It takes fields and not a word, since packing drops a digit separator
+/// that no flag allows.
 // SAFETY: no other library has names that begin with `peltzivar_`.
 #[unsafe(no_mangle)]
 pub unsafe extern "C" fn peltzivar_note(

@@ -15,7 +15,7 @@ pub extern "C" fn peltzivar_format_error(format: Word) -> ErrorNumber {
     error_number(format_error(format.number()))
 }
 
-/// Returns the number of the error of the first radix that is not between 2 and 36, or 0 if all three are.
+/// Returns the number of the error of the first radix that is not between 2 and 36, or 0 if all three radixes are.
 // SAFETY: no other library has names that begin with `peltzivar_`.
 #[unsafe(no_mangle)]
 pub extern "C" fn peltzivar_radix_error(format: Word) -> ErrorNumber {
@@ -75,7 +75,8 @@ pub extern "C" fn peltzivar_is_valid_options_punctuation(
     flags::is_valid_options_punctuation(format.number(), exponent, decimal_point)
 }
 
-/// Returns the number of the error of an exponent character and a decimal point in numbers of a word, or 0 if they fit.
+/// Returns the number of the error of an exponent character and a decimal point that do not fit a word, or 0 if they
+/// fit.
 // SAFETY: no other library has names that begin with `peltzivar_`.
 #[unsafe(no_mangle)]
 pub extern "C" fn peltzivar_options_error(
@@ -100,7 +101,8 @@ pub extern "C" fn peltzivar_keeps_rule(format: Word, rule: u8) -> bool {
     }
 }
 
-/// Returns the number of the error of words that break this rule first, or 0 if no rule has this number.
+/// Returns the number of the error of a word that breaks this rule and no rule before it, or 0 if no rule has this
+/// number.
 // SAFETY: no other library has names that begin with `peltzivar_`.
 #[unsafe(no_mangle)]
 pub extern "C" fn peltzivar_rule_error(rule: u8) -> ErrorNumber {
@@ -127,14 +129,14 @@ pub extern "C" fn peltzivar_is_digit(format: Word, byte: u8) -> bool {
     flags::is_digit(format.number(), byte)
 }
 
-/// Returns whether a byte is the base prefix, in both cases of a letter unless the prefix is case-sensitive.
+/// Returns whether a byte is the base prefix. The case of a letter is ignored unless the prefix is case-sensitive.
 // SAFETY: no other library has names that begin with `peltzivar_`.
 #[unsafe(no_mangle)]
 pub extern "C" fn peltzivar_is_base_prefix(format: Word, byte: u8) -> bool {
     FormatView::new(format.number()).is_base_prefix(byte)
 }
 
-/// Returns whether a byte is the base suffix, in both cases of a letter unless the suffix is case-sensitive.
+/// Returns whether a byte is the base suffix. The case of a letter is ignored unless the suffix is case-sensitive.
 // SAFETY: no other library has names that begin with `peltzivar_`.
 #[unsafe(no_mangle)]
 pub extern "C" fn peltzivar_is_base_suffix(format: Word, byte: u8) -> bool {

@@ -10,7 +10,7 @@ use peltzivar::error::Error;
 use peltzivar::source::BuilderExpression;
 use peltzivar::word_text::{parse_word, word_text};
 
-/// Writes a word as `0x` and 32 hexadecimal digits.
+/// Writes a word as `0x` and 32 uppercase hexadecimal digits.
 // SAFETY: no other library has names that begin with `peltzivar_`.
 #[unsafe(no_mangle)]
 pub unsafe extern "C" fn peltzivar_text_of_word(
@@ -45,7 +45,8 @@ pub unsafe extern "C" fn peltzivar_word_of_text(
     }
 }
 
-/// Returns whether a word has a flag that the setter sets, or `false` if no flag or group setter has this number.
+/// Returns whether the flag of a flag setter, or at least one flag of a group setter, is set in a word, or `false` if
+/// no such setter has this number.
 // SAFETY: no other library has names that begin with `peltzivar_`.
 #[unsafe(no_mangle)]
 pub extern "C" fn peltzivar_flag(format: Word, setter: u8) -> bool {
