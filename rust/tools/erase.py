@@ -11,11 +11,11 @@ calls. All other words stay in their order, except for
 - the paths of the crates, and of the two modules in MODULES with the type of the view;
 - exports to C, where a slice becomes a pointer and a length.
 
-`#[must_use]` is added, and in the library the attributes in HIDDEN, GROWING and DERIVED; documentation.py changes the
-documentation of the library. rustfmt does the layout. These are refused with their file and line, and then no file is
-changed: a word of GHOST that is left, a clause without braces, an item of a file without counterpart that plain Rust
-would lose, and a public call with a precondition and without a part `# Panics`. `erase_test.py` compares the words of
-the words of each file with its source.
+`#[must_use]` is added, and in the library the attributes in HIDDEN, GROWING and DERIVED; `#[doc(inline)]` is left out
+there, and documentation.py changes the documentation. rustfmt does the layout. These are refused with their file and
+line, and then no file is changed: a word of GHOST that is left, a clause without braces, an item of a file without
+counterpart that plain Rust would lose, and a call with a precondition in a public module and without a part `# Panics`.
+`erase_test.py` compares the words of each file with its source.
 """
 import pathlib
 import re

@@ -1,9 +1,9 @@
 //! `numfmt` shows, edits, compares, checks, explains and migrates number formats, and prints them as Rust code. This
-//! file is written by hand, and `rust/tools/erase.py` generates the others from `crates/numfmt`, whose `src/main.rt`
-//! has the commands.
+//! file and `tests` are written by hand, and `rust/tools/erase.py` generates the others from `crates/numfmt`, whose
+//! `src/main.rt` has the commands.
 //!
-//! Two statuses differ from the proved program, since std decides them: if memory runs out, this program aborts, and a
-//! closed output counts as `/dev/null`.
+//! Two statuses differ from the proved program, since std decides them: if memory runs out, this program aborts, and an
+//! output that is closed or read-only counts as `/dev/null`.
 
 #[allow(clippy::ptr_arg, reason = "as it is proved")]
 mod command;
