@@ -573,6 +573,7 @@ static void test_null(void) {
     CHECK(peltzivar_word_reason(ZERO, 0, NULL, 0) == strlen("the mantissa radix 0 is not between 2 and 36"));
     CHECK(peltzivar_note(&PELTZIVAR_NEW_FIELDS, 0, NULL, 0) == 0);
     CHECK(peltzivar_text_of_word(ZERO, NULL, 0) == 34 && peltzivar_word_of_text(NULL, 0, &word) == PELTZIVAR_EMPTY);
+    CHECK(peltzivar_source(PELTZIVAR_STANDARD, NULL, 0) == strlen("NumberFormatBuilder::new().build_unchecked()"));
 }
 
 int main(void) {

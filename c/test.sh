@@ -279,6 +279,7 @@ alike() {
 # memory ARCHIVE: the programs in C under valgrind.
 memory() {
     passes cc -g header.c "$1" -o "$work/header" && passes $memcheck "$work/header"
+    passes cc -g example.c "$1" -o "$work/example" && prints 0 "$binary" $memcheck "$work/example" radix=2 base_suffix=57
     passes cc -g settings.c "$1" -o "$work/settings" &&
         prints 1 "$unlawful" $memcheck "$work/settings" "$work/unlawful.txt"
     passes cc -g settings_test.c "$1" -o "$work/random" && passes $memcheck "$work/random" "$work/random.txt" 50
@@ -412,7 +413,7 @@ installed() {
 if [ "$given" ]; then
     passes cc -shared -o "$work/library.so" -Wl,--whole-archive "$given" -Wl,--no-whole-archive &&
         library "$given" "$work/library.so"
-    counted 84
+    counted 86
     exit
 fi
 compilers
@@ -426,4 +427,4 @@ done
 needing python3 alike "$work/settings"
 needing python3 pythons "$work/false/release/libpeltzivar_c.so"
 needing make installed
-counted 267
+counted 271

@@ -1,8 +1,8 @@
 //! The calls of `c/peltzivar.h` as a static and a shared library without `std`.
 //!
 //! `rust/tools/erase.py` generates them from the proved exports in `crates/lexical_c`. This file, `outputs` and
-//! `slices` are written by hand. Build with `--release`: the shared library of a dev build does not load, since it
-//! lacks a symbol that only `std` has.
+//! `slices` are written by hand. Build with `--release`: the libraries of a dev build can be neither linked nor loaded,
+//! since they lack a symbol that only `std` has.
 //!
 //! A call trusts its caller to do what the header asks. Arguments are initialised. Each pointer points to an object of
 //! its type, or to as many objects as its length states. Nothing else writes what a call reads, or uses what it writes.
