@@ -180,6 +180,34 @@ fn each_rule_has_its_number_and_the_bits_of_its_fields() {
     assert_eq!(RULES.len(), rows.len());
 }
 
+/// For each bit of a rule's mask there are two words that differ in this bit, one of which keeps the rule.
+#[test]
+fn no_mask_of_a_rule_has_a_bit_too_many() {
+    let mut state = 0u64;
+    let mut half = || {
+        state = state.wrapping_add(0x9E37_79B9_7F4A_7C15);
+        let mixed = (state ^ state >> 30).wrapping_mul(0xBF58_476D_1CE4_E5B9);
+        let mixed = (mixed ^ mixed >> 27).wrapping_mul(0x94D0_49BB_1331_11EB);
+        u128::from(mixed ^ mixed >> 31)
+    };
+    for rule in RULES {
+        let mut left = rule.mask();
+        for tried in 0..2_000_000 {
+            // The first word has no bit of the mask.
+            let word = (half() << 64 | half()) & if tried == 0 { !left } else { !0 };
+            for bit in (0..128).map(|bit| 1 << bit) {
+                if left & bit != 0 && rule.is_kept(word) != rule.is_kept(word ^ bit) {
+                    left ^= bit;
+                }
+            }
+            if left == 0 {
+                break;
+            }
+        }
+        assert_eq!(left, 0, "{rule:?}: {left:#034X}");
+    }
+}
+
 /// `parse` returns each error that `from_text` returns, and it is an error of the standard library.
 #[test]
 fn a_setting_that_cannot_be_read_is_an_error() {
