@@ -88,9 +88,9 @@ fails() {
     compares "some writes" "$([ $count -gt 1 ] && [ $count -lt 100 ] && echo "some writes")" "$@" "(each write fails)"
 }
 
-# shows_page PAGE: the program prints what the page shows. An indented line `$ out/numfmt ARGUMENT..` or `$ numfmt ..` is a
-# command, and `$ .. rt run` or `$ .. cargo run` the program without arguments; the indented lines below it are its text,
-# which may be left out of the last two.
+# shows_page PAGE: the program prints what the page shows. An indented line `$ crates/numfmt/out/numfmt ARGUMENT..` or
+# `$ numfmt ..` is a command, and `$ .. rt run` or `$ .. cargo run` the program without arguments; the indented lines below
+# it are its text, which may be left out of the last two.
 shows_page() {
     local line command='' text='' count=0
     while IFS= read -r line; do
@@ -116,7 +116,7 @@ shown() {
     case "$2" in
         '') ;;
         *'rt run' | *'cargo run') [ -z "$3" ] || compares "$3" "$("$program" 2>&1)"$'\n' "in $1" ;;
-        'numfmt '* | 'out/numfmt '*) compares "$3" "$("$program" "${words[@]:1}" 2>&1)"$'\n' "${words[@]:1}" "in $1" ;;
+        'numfmt '* | 'crates/numfmt/out/numfmt '*) compares "$3" "$("$program" "${words[@]:1}" 2>&1)"$'\n' "${words[@]:1}" "in $1" ;;
         # rust/tools/test.sh and .ci/run call these; docs/check.py tests that they do.
         'cd rust && cargo run --example '* | 'cd rust && cargo test' | 'rt ci') ;;
         *) compares "a command that can be tried" "$2" "in $1" ;;
