@@ -4,57 +4,58 @@
 
 use crate::error::Error;
 use crate::format_builder::{NumberFormatBuilder, OptionU8};
+use crate::format_flags as flags;
 use crate::format_flags::{check, FLAG_MASK};
 
 // Calls `$rows!` with `$args`, a row for each flag, and a row for each group of flags. A row has the variant of
-// `FlagSetter` and the name of the setter. Each flag's getter has the same name.
+// `FlagSetter`, the name of the setter, and the mask that the setter writes. Each flag's getter has the same name.
 macro_rules! with_setters {
     ($rows:ident $args:tt) => {
         $rows! {
             $args
             {
-                RequiredIntegerDigits required_integer_digits;
-                RequiredFractionDigits required_fraction_digits;
-                RequiredExponentDigits required_exponent_digits;
-                RequiredMantissaDigits required_mantissa_digits;
-                NoPositiveMantissaSign no_positive_mantissa_sign;
-                RequiredMantissaSign required_mantissa_sign;
-                NoExponentNotation no_exponent_notation;
-                NoPositiveExponentSign no_positive_exponent_sign;
-                RequiredExponentSign required_exponent_sign;
-                NoExponentWithoutFraction no_exponent_without_fraction;
-                NoSpecial no_special;
-                CaseSensitiveSpecial case_sensitive_special;
-                NoIntegerLeadingZeros no_integer_leading_zeros;
-                NoFloatLeadingZeros no_float_leading_zeros;
-                RequiredExponentNotation required_exponent_notation;
-                CaseSensitiveExponent case_sensitive_exponent;
-                CaseSensitiveBasePrefix case_sensitive_base_prefix;
-                CaseSensitiveBaseSuffix case_sensitive_base_suffix;
-                IntegerInternalDigitSeparator integer_internal_digit_separator;
-                FractionInternalDigitSeparator fraction_internal_digit_separator;
-                ExponentInternalDigitSeparator exponent_internal_digit_separator;
-                IntegerLeadingDigitSeparator integer_leading_digit_separator;
-                FractionLeadingDigitSeparator fraction_leading_digit_separator;
-                ExponentLeadingDigitSeparator exponent_leading_digit_separator;
-                IntegerTrailingDigitSeparator integer_trailing_digit_separator;
-                FractionTrailingDigitSeparator fraction_trailing_digit_separator;
-                ExponentTrailingDigitSeparator exponent_trailing_digit_separator;
-                IntegerConsecutiveDigitSeparator integer_consecutive_digit_separator;
-                FractionConsecutiveDigitSeparator fraction_consecutive_digit_separator;
-                ExponentConsecutiveDigitSeparator exponent_consecutive_digit_separator;
-                SpecialDigitSeparator special_digit_separator;
+                RequiredIntegerDigits required_integer_digits REQUIRED_INTEGER_DIGITS;
+                RequiredFractionDigits required_fraction_digits REQUIRED_FRACTION_DIGITS;
+                RequiredExponentDigits required_exponent_digits REQUIRED_EXPONENT_DIGITS;
+                RequiredMantissaDigits required_mantissa_digits REQUIRED_MANTISSA_DIGITS;
+                NoPositiveMantissaSign no_positive_mantissa_sign NO_POSITIVE_MANTISSA_SIGN;
+                RequiredMantissaSign required_mantissa_sign REQUIRED_MANTISSA_SIGN;
+                NoExponentNotation no_exponent_notation NO_EXPONENT_NOTATION;
+                NoPositiveExponentSign no_positive_exponent_sign NO_POSITIVE_EXPONENT_SIGN;
+                RequiredExponentSign required_exponent_sign REQUIRED_EXPONENT_SIGN;
+                NoExponentWithoutFraction no_exponent_without_fraction NO_EXPONENT_WITHOUT_FRACTION;
+                NoSpecial no_special NO_SPECIAL;
+                CaseSensitiveSpecial case_sensitive_special CASE_SENSITIVE_SPECIAL;
+                NoIntegerLeadingZeros no_integer_leading_zeros NO_INTEGER_LEADING_ZEROS;
+                NoFloatLeadingZeros no_float_leading_zeros NO_FLOAT_LEADING_ZEROS;
+                RequiredExponentNotation required_exponent_notation REQUIRED_EXPONENT_NOTATION;
+                CaseSensitiveExponent case_sensitive_exponent CASE_SENSITIVE_EXPONENT;
+                CaseSensitiveBasePrefix case_sensitive_base_prefix CASE_SENSITIVE_BASE_PREFIX;
+                CaseSensitiveBaseSuffix case_sensitive_base_suffix CASE_SENSITIVE_BASE_SUFFIX;
+                IntegerInternalDigitSeparator integer_internal_digit_separator INTEGER_INTERNAL_DIGIT_SEPARATOR;
+                FractionInternalDigitSeparator fraction_internal_digit_separator FRACTION_INTERNAL_DIGIT_SEPARATOR;
+                ExponentInternalDigitSeparator exponent_internal_digit_separator EXPONENT_INTERNAL_DIGIT_SEPARATOR;
+                IntegerLeadingDigitSeparator integer_leading_digit_separator INTEGER_LEADING_DIGIT_SEPARATOR;
+                FractionLeadingDigitSeparator fraction_leading_digit_separator FRACTION_LEADING_DIGIT_SEPARATOR;
+                ExponentLeadingDigitSeparator exponent_leading_digit_separator EXPONENT_LEADING_DIGIT_SEPARATOR;
+                IntegerTrailingDigitSeparator integer_trailing_digit_separator INTEGER_TRAILING_DIGIT_SEPARATOR;
+                FractionTrailingDigitSeparator fraction_trailing_digit_separator FRACTION_TRAILING_DIGIT_SEPARATOR;
+                ExponentTrailingDigitSeparator exponent_trailing_digit_separator EXPONENT_TRAILING_DIGIT_SEPARATOR;
+                IntegerConsecutiveDigitSeparator integer_consecutive_digit_separator INTEGER_CONSECUTIVE_DIGIT_SEPARATOR;
+                FractionConsecutiveDigitSeparator fraction_consecutive_digit_separator FRACTION_CONSECUTIVE_DIGIT_SEPARATOR;
+                ExponentConsecutiveDigitSeparator exponent_consecutive_digit_separator EXPONENT_CONSECUTIVE_DIGIT_SEPARATOR;
+                SpecialDigitSeparator special_digit_separator SPECIAL_DIGIT_SEPARATOR;
             }
             {
-                RequiredDigits required_digits;
-                InternalDigitSeparator internal_digit_separator;
-                LeadingDigitSeparator leading_digit_separator;
-                TrailingDigitSeparator trailing_digit_separator;
-                ConsecutiveDigitSeparator consecutive_digit_separator;
-                DigitSeparatorFlags digit_separator_flags;
-                IntegerDigitSeparatorFlags integer_digit_separator_flags;
-                FractionDigitSeparatorFlags fraction_digit_separator_flags;
-                ExponentDigitSeparatorFlags exponent_digit_separator_flags;
+                RequiredDigits required_digits REQUIRED_DIGITS;
+                InternalDigitSeparator internal_digit_separator INTERNAL_DIGIT_SEPARATOR;
+                LeadingDigitSeparator leading_digit_separator LEADING_DIGIT_SEPARATOR;
+                TrailingDigitSeparator trailing_digit_separator TRAILING_DIGIT_SEPARATOR;
+                ConsecutiveDigitSeparator consecutive_digit_separator CONSECUTIVE_DIGIT_SEPARATOR;
+                DigitSeparatorFlags digit_separator_flags DIGIT_SEPARATOR_FLAG_MASK;
+                IntegerDigitSeparatorFlags integer_digit_separator_flags INTEGER_DIGIT_SEPARATOR_FLAG_MASK;
+                FractionDigitSeparatorFlags fraction_digit_separator_flags FRACTION_DIGIT_SEPARATOR_FLAG_MASK;
+                ExponentDigitSeparatorFlags exponent_digit_separator_flags EXPONENT_DIGIT_SEPARATOR_FLAG_MASK;
             }
         }
     };
@@ -227,7 +228,7 @@ pub enum Edit {
 
 // The variants as an array: the flags, then the groups.
 macro_rules! variants {
-    (() { $($Flag:ident $flag:ident;)* } { $($Group:ident $group:ident;)* }) => {
+    (() { $($Flag:ident $flag:ident $FLAG:ident;)* } { $($Group:ident $group:ident $GROUP:ident;)* }) => {
         [$(FlagSetter::$Flag,)* $(FlagSetter::$Group,)*]
     };
 }
@@ -265,16 +266,23 @@ const fn apply_flag(
     setter: FlagSetter,
     flag: bool,
 ) -> NumberFormatBuilder {
-    macro_rules! call_setter {
-        (($builder:ident, $setter:ident, $value:ident)
-            { $($Flag:ident $flag:ident;)* } { $($Group:ident $group:ident;)* }) => {
+    builder.with_flags(mask_of(setter) as u128, flag)
+}
+
+// Returns the mask of the flags that a setter writes. All flags are in the lower 64 bits of a word, and the compiler
+// makes a table only of numbers with at most 64 bits.
+#[inline(always)]
+const fn mask_of(setter: FlagSetter) -> u64 {
+    macro_rules! masks {
+        (($setter:ident)
+            { $($Flag:ident $flag:ident $FLAG:ident;)* } { $($Group:ident $group:ident $GROUP:ident;)* }) => {
             match $setter {
-                $(FlagSetter::$Flag => $builder.$flag($value),)*
-                $(FlagSetter::$Group => $builder.$group($value),)*
+                $(FlagSetter::$Flag => flags::$FLAG as u64,)*
+                $(FlagSetter::$Group => flags::$GROUP as u64,)*
             }
         };
     }
-    with_setters!(call_setter(builder, setter, flag))
+    with_setters!(masks(setter))
 }
 
 /// Applies `edits` to a builder in order, each as one setter call.
@@ -295,6 +303,7 @@ const fn apply_flag(
 /// ensures legal { All IsLegal (all_writes edits.now) }
 /// ```
 #[must_use]
+#[inline(always)]
 pub const fn apply_all(mut builder: NumberFormatBuilder, edits: &[Edit]) -> NumberFormatBuilder {
     let mut index = 0;
     while index < edits.len() {
@@ -360,6 +369,7 @@ pub const fn apply_all(mut builder: NumberFormatBuilder, edits: &[Edit]) -> Numb
 /// ensures legal { All IsLegal (all_writes edits.now) }
 /// ```
 #[must_use]
+#[inline]
 pub const fn edit_word(format: u128, edits: &[Edit]) -> u128 {
     apply_all(NumberFormatBuilder::rebuild(format), edits).build_unchecked()
 }

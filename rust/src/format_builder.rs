@@ -342,17 +342,19 @@ impl NumberFormatBuilder {
         (self.flags, self.bytes)
     }
 
+    /// Sets all flags in `mask`, a mask of a format word, to `value`. Its other bits have no effect.
+    #[must_use]
+    #[inline(always)]
+    #[doc(hidden)]
+    pub const fn with_flags(mut self, mask: u128, value: bool) -> Self {
+        self.flags = replace_bits(self.flags, builder_flags(mask), value);
+        self
+    }
+
     // Returns whether the flag with this mask is set.
     #[inline(always)]
     const fn has_flag(&self, mask: u128) -> bool {
         self.flags & builder_flags(mask) != 0
-    }
-
-    // Sets all flags in a mask to `value`.
-    #[inline(always)]
-    const fn with_flags(mut self, mask: u128, value: bool) -> Self {
-        self.flags = replace_bits(self.flags, builder_flags(mask), value);
-        self
     }
 
     // Sets the byte at `index`.

@@ -111,7 +111,7 @@ HIDDEN = {
     "error/sink.rt": "Sink",
     "format_flags/all_rules.rt": "RULES if_broken broken_rules",
     "format_flags/rules.rt": "clashes options_error radix_error_impl format_error_impl check",
-    "format_builder.rt": "from_parts to_parts",
+    "format_builder.rt": "from_parts to_parts with_flags",
     "edits.rt": "FIELD_COUNT SETTERS",
     "edits/listing.rt": "field_edits_of",
     "edits/numbers.rt": "SETTER_NAMES Argument ArgumentKind of argument_of_byte new setter_number argument"

@@ -1,6 +1,7 @@
--- For the builder, `from_parts` and `to_parts`: where a builder keeps each field, and the record that it represents.
+-- For the builder, `from_parts`, `to_parts` and `with_flags`: where a builder keeps each field, the record that it
+-- represents, and the flags in a mask.
 use Rattle.std.specs.Prelude.{ℕ, ◌+◌, ◌-◌, ◌==◌, nat_lt, if◌then◌else◌, List}
-use Rattle.std.specs.Prelude.{length, slice_index}
+use Rattle.std.specs.Prelude.{length, slice_index, filter}
 use Rattle.lexical_flags.specs.Layout.{part, Flag, Byte, bit, flags, bytes, base_flags, digit_separator_flags}
 use Rattle.lexical_flags.specs.Layout as layout
 use Rattle.lexical_flags.specs.Record.{Record}
@@ -27,3 +28,7 @@ builder_record_of_parts flags bytes =
 -- `builder_record inside` is the record that the builder `inside` represents.
 abbrev pub builder_record : Inside → Record
 builder_record inside = builder_record_of_parts inside.flags inside.bytes
+
+-- `flags_with mask` lists the flags in `mask`, a mask of a format word.
+abbrev pub flags_with : ℕ → List Flag
+flags_with mask = filter (λ f. part mask (bit f) 1 == 1) flags

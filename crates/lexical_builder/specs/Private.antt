@@ -1,5 +1,5 @@
 -- For private functions and the proofs of this crate: no public contract cites these definitions.
-use Rattle.std.specs.Prelude.{ℕ, ◌+◌, ◌*◌, ◌^◌, ◌<◌, ◌==◌, List, filter, find, unwrap_or, length}
+use Rattle.std.specs.Prelude.{ℕ, ◌+◌, ◌*◌, ◌^◌, ◌<◌, ◌==◌, find, unwrap_or, length}
 use Rattle.lexical_flags.specs.Layout.{part, Flag, Byte, bit, flags, bytes, base_flags, digit_separator_flags}
 use Rattle.lexical_flags.specs.Layout as layout
 use Rattle.lexical_builder.specs.BuilderBits.{byte_index}
@@ -12,10 +12,6 @@ flags_in word = part word 0 (length base_flags) + part word 32 (length digit_sep
 -- `flag_with mask` is the flag with the mask `mask`.
 abbrev pub flag_with : ℕ → Flag
 flag_with mask = unwrap_or (find (λ f. 2 ^ bit f == mask) flags) layout.no_special
-
--- `flags_with mask` lists the flags in `mask`.
-abbrev pub flags_with : ℕ → List Flag
-flags_with mask = filter (λ f. part mask (bit f) 1 == 1) flags
 
 -- `byte_at index` is the byte at `index` in a builder.
 abbrev pub byte_at : ℕ → Byte

@@ -7,8 +7,8 @@ ghost use Rattle.lexical_flags.specs.Layout.{IsClean, bit, part};
 ghost use Rattle.lexical_flags.specs.Record.{Record, HasBytes, raw, fill, trim, pack, effective, separator_allowed};
 ghost use Rattle.lexical_flags.specs.Rules.{IsErrorOf, IsRadix, Lawful};
 ghost use Rattle.lexical_builder.specs.OptionByte.{byte_of_option};
-ghost use Rattle.lexical_builder.specs.BuilderBits.{builder_bit, byte_index, builder_record_of_parts};
-ghost use Rattle.lexical_builder.specs.Private.{flags_in, byte_at, flag_with, flags_with};
+ghost use Rattle.lexical_builder.specs.BuilderBits.{builder_bit, byte_index, builder_record_of_parts, flags_with};
+ghost use Rattle.lexical_builder.specs.Private.{flags_in, byte_at, flag_with};
 ghost use Rattle.lexical_builder.specs.declared.format_builder.TheConstants.{WITH_SEPARATOR, WITHOUT_SEPARATOR};
 ghost use Rattle.lexical_builder.specs.Writes.{new_record, radix_record, after, write_flags, write_byte};
 
@@ -347,6 +347,15 @@ impl NumberFormatBuilder {
         (self.flags, self.bytes)
     }
 
+    /// Sets all flags in `mask`, a mask of a format word, to `value`. Its other bits have no effect.
+    #[inline(always)]
+    pub const fn with_flags(mut self, mask: u128, value: bool) -> Self
+        ensures { result ≡ after self (write_flags (flags_with mask) value) }
+    {
+        self.flags = replace_bits(self.flags, builder_flags(mask), value);
+        self
+    }
+
     // Returns whether the flag with this mask is set.
     #[inline(always)]
     const fn has_flag(&self, mask: u128) -> bool
@@ -354,15 +363,6 @@ impl NumberFormatBuilder {
         ensures { result ≡ self.now.flag (flag_with mask) }
     {
         self.flags & builder_flags(mask) != 0
-    }
-
-    // Sets all flags in a mask to `value`.
-    #[inline(always)]
-    const fn with_flags(mut self, mask: u128, value: bool) -> Self
-        ensures { result ≡ after self (write_flags (flags_with mask) value) }
-    {
-        self.flags = replace_bits(self.flags, builder_flags(mask), value);
-        self
     }
 
     // Sets the byte at `index`.

@@ -1,12 +1,9 @@
--- Lemmas on the numbers and names of flag and group setters, and on edits of the word 0. Each case is computed.
-use Rattle.std.proofs.Common.{◌≡◌, ◌<◌, Some, ℕ, Bool, true, false, if◌then◌else◌, List, [], ◌∷◌, get_or, refl}
+-- Lemmas on the numbers and names of flag and group setters. Each case is computed.
+use Rattle.std.proofs.Common.{◌≡◌, ◌<◌, Some, ℕ, Bool, true, false, if◌then◌else◌, List, get_or, refl}
 use Rattle.std.specs.Bool.{nat_lt}
 use Rattle.std.proofs.lemmas.Bool.Decides.{Decides-ltb}
-use Rattle.lexical_flags.specs.Record as record_of
-use Rattle.lexical_builder.specs.Writes as writes
-use Rattle.lexical_util.specs.Edits.{edited, all_writes}
 use Rattle.lexical_util.specs.Additions.SettingNumbers.{setter_names, setter_count, setter_number_of_name, setter_number}
-use Rattle.lexical_util.specs.Additions.SettingNumbers.{number_of_flags, name_of_flags, name_of, mask_of_edit}
+use Rattle.lexical_util.specs.Additions.SettingNumbers.{number_of_flags, name_of_flags, name_of}
 use Rattle.lexical_util.specs.Additions.SettingNumbers.{edit_with, edit_of_number}
 use Rattle.lexical_util.specs.contracts.edits.FlagSetter.{the_type}
 use Rattle.lexical_util.specs.declared.edits.FlagSetter.{FlagSetter}
@@ -25,13 +22,6 @@ pub number_of_its_name : (edit : Edit) → setter_number_of_name (name_of edit) 
 number_of_its_name (edits.Flag setter flag) = number_of_flag_name setter
 number_of_its_name (edits.DigitSeparator byte) = refl
 number_of_its_name _ = refl
-
--- The word 0, with the flags of a setter set by an edit, is the mask of the setter.
-pub flags_of_zero : (setter : FlagSetter) (flag : Bool)
-    → edited 0 (all_writes (edits.Flag setter true ∷ [])) ≡ mask_of_edit (edits.Flag setter flag)
-unfolding record_of.word_of writes.after
-flags_of_zero setters.RequiredIntegerDigits flag = refl
-flags_of_zero _ flag = refl
 
 -- The number of a setter is the index of its variant, and its name is at that index.
 pub variant_number : (setter : FlagSetter) → tag_of the_type setter ≡ number_of_flags setter

@@ -100,7 +100,7 @@ pub fn edits_of(format: u128) -> ([Edit; FIELD_COUNT], usize) {
 pub const fn field_edits_of(format: u128) -> [Edit; FIELD_COUNT] {
     macro_rules! edits_of_fields {
         (($view:ident, $base:ident, $radix:ident)
-            { $($Flag:ident $flag:ident;)* } $groups:tt) => {
+            { $($Flag:ident $flag:ident $FLAG:ident;)* } $groups:tt) => {
             [
                 $(Edit::Flag(FlagSetter::$Flag, $view.$flag()),)*
                 Edit::DigitSeparator(NonZeroU8::new($view.digit_separator())),

@@ -2,7 +2,7 @@
 
 //! The names and numbers of setters, and edits as a setter number and an argument.
 
-use crate::edits::{edit_word, Edit, FlagSetter, SETTERS};
+use crate::edits::{mask_of, Edit, FlagSetter, SETTERS};
 use crate::format_builder::{NonZeroU8, OptionU8};
 use crate::format_flags as flags;
 
@@ -25,7 +25,7 @@ const SETTER_COUNT: u8 = DIGIT_SEPARATOR + 7;
 
 // The names of the flag setters, the group setters and the byte setters.
 macro_rules! names {
-    (() { $($Flag:ident $flag:ident;)* } { $($Group:ident $group:ident;)* }) => {
+    (() { $($Flag:ident $flag:ident $FLAG:ident;)* } { $($Group:ident $group:ident $GROUP:ident;)* }) => {
         [
             $(stringify!($flag),)*
             $(stringify!($group),)*
@@ -217,7 +217,7 @@ impl Edit {
     #[must_use]
     pub const fn mask(self) -> u128 {
         match self {
-            Edit::Flag(setter, _) => edit_word(0, &[Edit::Flag(setter, true)]),
+            Edit::Flag(setter, _) => mask_of(setter) as u128,
             Edit::DigitSeparator(_) => flags::DIGIT_SEPARATOR,
             Edit::BasePrefix(_) => flags::BASE_PREFIX,
             Edit::BaseSuffix(_) => flags::BASE_SUFFIX,

@@ -9,7 +9,7 @@ ghost use Rattle.lexical_util.specs.Additions.SettingNumbers.{setter_count, sett
 ghost use Rattle.lexical_util.specs.Additions.SettingNumbers.{argument_of, argument_byte, byte_of_argument, kind_of_number};
 ghost use Rattle.lexical_util.specs.Additions.SettingNumbers.{argument_of_byte, edit_with, edit_of_number, edit_of_name, HasByte};
 
-use crate::edits::{Edit, FlagSetter, SETTERS, edit_word};
+use crate::edits::{Edit, FlagSetter, SETTERS, mask_of};
 use lexical_builder::format_builder::{NonZeroU8, OptionU8};
 use lexical_flags::format_flags as flags;
 
@@ -32,7 +32,7 @@ const SETTER_COUNT: u8 = DIGIT_SEPARATOR + 7;
 
 // The names of the flag setters, the group setters and the byte setters.
 macro_rules! names {
-    (() { $($Flag:ident $flag:ident;)* } { $($Group:ident $group:ident;)* }) => {
+    (() { $($Flag:ident $flag:ident $FLAG:ident;)* } { $($Group:ident $group:ident $GROUP:ident;)* }) => {
         [
             $(stringify!($flag),)*
             $(stringify!($group),)*
@@ -236,7 +236,7 @@ impl Edit {
         ensures { result ≡ mask_of_edit self }
     {
         match self {
-            Edit::Flag(setter, _) => edit_word(0, &[Edit::Flag(setter, true)]),
+            Edit::Flag(setter, _) => mask_of(setter) as u128,
             Edit::DigitSeparator(_) => flags::DIGIT_SEPARATOR,
             Edit::BasePrefix(_) => flags::BASE_PREFIX,
             Edit::BaseSuffix(_) => flags::BASE_SUFFIX,

@@ -1,8 +1,6 @@
 use Rattle.std.proofs.Common.{◌∙◌, ap, sym}
 use Rattle.lexical_util.specs.Additions.SettingNumbers.{mask_of_edit}
-use Rattle.lexical_util.proofs.NumberLemmas.{flags_of_zero}
 use Rattle.lexical_util.proofs.edits.Edit.mask.Goals as goal
 
 pub returns-in-Flag : goal.returns-in-Flag
-returns-in-Flag c =
-    c.edit_word.ensures.word ∙ flags_of_zero c.in-Flag.setter c.in-Flag.field-1 ∙ ap mask_of_edit (sym c.in-Flag.is)
+returns-in-Flag c = sym (c.mask_of.ensures.mask c.in-Flag.field-1) ∙ ap mask_of_edit (sym c.in-Flag.is)
