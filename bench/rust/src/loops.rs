@@ -99,7 +99,11 @@ pub fn descriptions(numbers: &[u64]) -> u64 {
         let outcomes = outcomes_of(block);
         for _ in 0..TIMES {
             for error in &outcomes {
-                fold = fold.with(error.description().len() as u64);
+                let text = error.description();
+                fold = fold.with(text.len() as u64);
+                if let Some(c) = text.as_bytes().get(1) {
+                    fold = fold.with(*c as u64);
+                }
             }
         }
     }
