@@ -4,6 +4,7 @@
 - Each link between pages has a file and a heading to lead to.
 - Each block of code is a piece of a file; `..` replaces lines that it leaves out.
 - Each name with a `_` or `::`, except in the changelog, is in some code, and so is each word of FORMAT.md.
+- check_places.py compares the sources that pages name, and the names that pages have in a source.
 - check_format.py compares FORMAT.md, check_header.py the header of C, and check_clauses.py the clauses in PROVED.md.
 - c/peltzivar.py is what c/make_python.py writes.
 - check_prose.py compares sentences: the fields of FORMAT's example, exit statuses, and the least version of Rust. It
@@ -36,6 +37,7 @@ import check_clauses
 import check_definitions
 import check_format
 import check_header
+import check_places
 import check_prose
 import erase
 import make_python
@@ -263,7 +265,7 @@ def main():
         found = [*broken_links(page, text), *unquoted(text, files), *wrong_counts(text, wanted)]
         found += check_prose.prose(page.name, text)
         if page.name != "CHANGELOG.md":
-            found += unknown_names(text, words)
+            found += [*unknown_names(text, words), *check_places.misplaced(text)]
         found += [f"has a `_`: {word}" for word in re.findall(r"0x[0-9A-F]{8}_\w*", FENCED.sub("", text))]
         wide = (line for line in FENCED.sub("", text).splitlines() if len(line) > 120)
         found += [f"over 120 columns: {line}" for line in wide if not line.startswith(("|", "    "))]
