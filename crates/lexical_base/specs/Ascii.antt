@@ -1,7 +1,7 @@
 -- Sets of bytes.
 use Rattle.std.specs.Prelude.{ℕ, Bool, nat_le, ◌&&◌, ◌||◌}
 
--- A set of bytes is the function that is true for its members.
+-- `ByteSet` is the type of sets of bytes. A set is the function that is true for its members.
 abbrev pub ByteSet : Type 0
 ByteSet = ℕ → Bool
 

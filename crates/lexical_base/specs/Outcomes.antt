@@ -82,7 +82,7 @@ index_of (outcomes.InvalidPositiveSign index) = Some index
 index_of (outcomes.InvalidNegativeSign index) = Some index
 index_of _ = None
 
--- `description_of error` is the description of the outcome `error`.
+-- `description_of error` is the text that describes the outcome `error`, without the index that it holds.
 abbrev pub description_of : Error → List ℕ
 description_of (outcomes.Overflow _) = codes "'numeric overflow occurred'"
 description_of (outcomes.Underflow _) = codes "'numeric underflow occurred'"
@@ -149,8 +149,8 @@ held_index error = unwrap_or (index_of error) 0
 abbrev pub IsAt : ℕ → Error → Type 0
 IsAt index error = IsSome (index_of error) → index_of error ≡ Some index
 
--- `class_of error` is the class of the outcome `error`. In the order of the ranks, 19 parse errors come first, then 17
--- format errors and 12 option errors.
+-- `class_of error` is the class of the outcome `error`: by rank, 19 parse errors, then 17 format errors, then 12 option
+-- errors, and last `Success`.
 abbrev pub class_of : Error → Class
 class_of error =
     if nat_lt (rank_of error) 19 then classes.Parse
@@ -158,14 +158,15 @@ class_of error =
     else if nat_lt (rank_of error) (19 + 17 + 12) then classes.Options
     else classes.Success
 
--- `start_of_class class` is the start of each text of the class `class`.
+-- `start_of_class class` is the text with which `Display` begins if the outcome is in the class `class`.
 abbrev pub start_of_class : Class → List ℕ
 start_of_class classes.Parse = codes "lexical parse error: "
 start_of_class classes.Format = codes "lexical number format error: "
 start_of_class classes.Options = codes "lexical options error: "
 start_of_class classes.Success = []
 
--- `end_of_text index` is the end of the text of an outcome that holds `index`. It is empty if `index` is `None`.
+-- `end_of_text index` is the text with which `Display` ends if the outcome holds `index`. It is empty if `index` is
+-- `None`.
 abbrev pub end_of_text : Option ℕ → List ℕ
 end_of_text (Some index) = codes " at index " ++ decimal index
 end_of_text None = []

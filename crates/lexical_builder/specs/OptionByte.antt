@@ -1,7 +1,7 @@
 -- A byte that may be absent, as an option and as a number.
 use Rattle.std.specs.Prelude.{ℕ, ◌==◌, if◌then◌else◌, Option, Some, None}
 
--- `byte_of_option byte` is the byte in the option `byte`, or 0 if it is absent.
+-- `byte_of_option byte` is the byte in the option `byte`, or 0 if `byte` is `None`.
 abbrev pub byte_of_option : Option ℕ → ℕ
 byte_of_option None = 0
 byte_of_option (Some byte) = byte

@@ -5,15 +5,15 @@ use Rattle.lexical_flags.specs.Layout as layout
 use Rattle.lexical_builder.specs.BuilderBits.{byte_index}
 use Rattle.lexical_builder.specs.declared.format_builder.NumberFormatBuilder.TheInside.{Inside}
 
--- `flags_in word` has the flags of `word` at the bits of a builder.
+-- `flags_in word` is the number with the flags of `word` at the bits where a builder keeps them.
 abbrev pub flags_in : ℕ → ℕ
 flags_in word = part word 0 (length base_flags) + part word 32 (length digit_separator_flags) * 2 ^ length base_flags
 
--- `flag_with mask` is the flag with the mask `mask`.
+-- `flag_with mask` is the flag whose bit is the only one in `mask`.
 abbrev pub flag_with : ℕ → Flag
 flag_with mask = unwrap_or (find (λ f. 2 ^ bit f == mask) flags) layout.no_special
 
--- `byte_at index` is the byte at `index` in a builder.
+-- `byte_at index` is the byte that a builder keeps at `index`.
 abbrev pub byte_at : ℕ → Byte
 byte_at index = unwrap_or (find (λ b. byte_index b == index) bytes) layout.digit_separator
 

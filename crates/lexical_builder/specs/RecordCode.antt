@@ -18,6 +18,7 @@ from_lists p = record {
   byte = λ b. slice_index_or p.1 (byte_index b) 0;
 }
 
+-- For each record `r`, `from_lists (to_lists r)` is `r`.
 pub from_lists-to_lists : (r : Record) → from_lists (to_lists r) ≡ r
 from_lists-to_lists r = λ i. record { flag = λ f. on_flag f i; byte = λ b. on_byte b i } where
   on_flag : (f : Flag) → slice_index_or (map r.flag flags) (builder_bit f) false ≡ r.flag f
@@ -28,6 +29,7 @@ from_lists-to_lists r = λ i. record { flag = λ f. on_flag f i; byte = λ b. on
   on_byte layout.digit_separator = refl
   on_byte _ = refl
 
+-- `record_code` encodes a record as the list of its flags and the list of its bytes.
 abbrev pub record_code : Coded Record
 record_code =
     code_by (List Bool × List ℕ) (coded× (coded_list coded_bool) (coded_list coded_ℕ)) to_lists from_lists

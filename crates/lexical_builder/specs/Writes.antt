@@ -12,7 +12,7 @@ pub data Write : Type 0 where
   write_flag : Flag → Bool → Write
   write_byte : Byte → ℕ → Write
 
--- `IsLegal write` holds if the value fits its field: a byte is between 0 and 255.
+-- `IsLegal write` holds if the value of `write` fits its field: the value of a byte is between 0 and 255.
 abbrev pub IsLegal : Write → Type 0
 IsLegal (write_flag f value) = ⊤
 IsLegal (write_byte b value) = value < 256
@@ -39,7 +39,7 @@ last_flag writes f = last_or None (filter_map (λ x. flag_written x f) writes)
 abbrev pub last_byte : List Write → Byte → Option ℕ
 last_byte writes b = last_or None (filter_map (λ x. byte_written x b) writes)
 
--- `after r writes` is the record in which each field has the value of the last write to it, or its value in `r`.
+-- `after r writes` is `r` with new values: each field that `writes` write has the value of the last write to it.
 unfoldable pub after : Record → List Write → Record
 after r writes =
     record { flag = λ f. unwrap_or (last_flag writes f) (r.flag f); byte = λ b. unwrap_or (last_byte writes b) (r.byte b) }
@@ -49,7 +49,7 @@ abbrev pub changes : Record → Write → Bool
 changes r (write_flag f value) = not (beq (r.flag f) value)
 changes r (write_byte b value) = not (r.byte b == value)
 
--- `SameWrites writes others` holds if both lists write the same fields, each with the same last value.
+-- `SameWrites writes others` holds if `writes` and `others` write the same fields, each with the same last value.
 pub record SameWrites (writes others : List Write) : Type 0 where
   pub same_flags : (f : Flag) → last_flag writes f ≡ last_flag others f
   pub same_bytes : (b : Byte) → last_byte writes b ≡ last_byte others b

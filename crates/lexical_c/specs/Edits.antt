@@ -10,11 +10,12 @@ use Rattle.lexical_c.specs.declared.words.NumberedEdit.{NumberedEdit}
 abbrev pub encode_edit : Edit → NumberedEdit
 encode_edit edit = record { setter = setter_number edit; value = argument_byte edit }
 
--- `decode_edit edit` is the edit with this setter number and argument, or `None` if no setter has the number.
+-- `decode_edit edit` is the edit with the setter number and the argument of the pair `edit`, or `None` if no setter has
+-- the number.
 abbrev pub decode_edit : NumberedEdit → Option Edit
 decode_edit edit = edit_of_number edit.setter edit.value
 
--- `HasSetter edit` holds if a setter has the setter number of `edit`.
+-- `HasSetter edit` holds if there is a setter with the setter number of the pair `edit`.
 abbrev pub HasSetter : NumberedEdit → Type 0
 HasSetter edit = IsSome (decode_edit edit)
 
@@ -22,7 +23,7 @@ HasSetter edit = IsSome (decode_edit edit)
 abbrev pub decoded_edits : List NumberedEdit → List Edit
 decoded_edits edits = filter_map decode_edit edits
 
--- `error_code error` is the number of the setting error `error`.
+-- `error_code error` is the number by which C names the setting error `error`.
 abbrev pub error_code : SettingError → ℕ
 error_code errors.UnknownName = 1
 error_code (errors.BadValue number) = 2

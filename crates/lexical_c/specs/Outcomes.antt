@@ -9,15 +9,15 @@ use Rattle.lexical_util.specs.Rules.{Lawful, IsErrorOf}
 abbrev pub outcome_count : ℕ
 outcome_count = rank_of outcomes.Success + 1
 
--- `error_number error` is the number of the outcome `error`.
+-- `error_number error` is the number by which C names the outcome `error`.
 abbrev pub error_number : Error → ℕ
 error_number error = if rank_of error == rank_of outcomes.Success then 0 else rank_of error + 1
 
--- `SUCCESS` is the number of `Success`.
+-- `SUCCESS` is the number by which C names `Success`.
 abbrev pub SUCCESS : ℕ
 SUCCESS = error_number outcomes.Success
 
--- `IsCodeOfSome P number` holds if `number` is the number of an outcome with the property `P`.
+-- `IsCodeOfSome P number` holds if `number` is the number of an outcome that has the property `P`.
 pub record IsCodeOfSome (P : Error → Type 0) (number : ℕ) : Type 0 where
   pub outcome : Error
   pub holds : P outcome

@@ -8,7 +8,8 @@ use Rattle.lexical_flags.specs.Rules.{IsPunctuation, ErrorUnless}
 use Rattle.lexical_base.specs.declared.error.Error.{Error}
 use Rattle.lexical_base.specs.declared.error.Error.TheVariants as errors
 
--- `OptionsFit` holds if both bytes are punctuation, and their roles share no byte with each other or a role of `word`.
+-- `OptionsFit word exponent_byte point_byte` holds if both bytes are punctuation in the format of `word`, and their
+-- roles are disjoint from each other and from the roles of the bytes of `word`.
 pub record OptionsFit (word exponent_byte point_byte : ℕ) : Type 0 where
   pub exponent_is_punctuation : IsPunctuation (raw word) exponent_byte
   pub point_is_punctuation : IsPunctuation (raw word) point_byte
@@ -16,14 +17,15 @@ pub record OptionsFit (word exponent_byte point_byte : ℕ) : Type 0 where
   pub exponent_is_new : AllByRecursion (Disjoint (exponent (raw word) exponent_byte)) (format_roles (raw word))
   pub point_is_new : AllByRecursion (Disjoint (point point_byte)) (format_roles (raw word))
 
--- `IsOptionsError word e p error` holds if `error` is the one of the first demand that `e` and `p` fail, or `Success`.
+-- `IsOptionsError word exponent_byte point_byte error` holds if `error` is the error of the first demand on the two
+-- bytes that fails, or `Success` if all demands hold.
 abbrev pub IsOptionsError : ℕ → ℕ → ℕ → Error → Type 0
 IsOptionsError word exponent_byte point_byte =
     ErrorUnless (IsPunctuation (raw word) exponent_byte) errors.InvalidExponentSymbol
     (ErrorUnless (IsPunctuation (raw word) point_byte) errors.InvalidDecimalPoint
     (ErrorUnless (OptionsFit word exponent_byte point_byte) errors.InvalidPunctuation (λ e. e ≡ errors.Success)))
 
--- `OptionsHaveOneRole` holds if both bytes are allowed ASCII, and no byte plays two of the seven roles.
+-- `OptionsHaveOneRole word exponent_byte point_byte` holds if both bytes are allowed ASCII, and no byte has two roles.
 pub record OptionsHaveOneRole (word exponent_byte point_byte : ℕ) : Type 0 where
   pub exponent_is_text : IsTrue (allowed_ascii exponent_byte)
   pub point_is_text : IsTrue (allowed_ascii point_byte)

@@ -36,8 +36,7 @@ IsAbsentOrPunctuation r byte = (byte ≡ 0) ⊎ IsPunctuation r byte
 abbrev pub IsTextOrNone : ℕ → Type 0
 IsTextOrNone byte = (byte ≡ 0) ⊎ IsTrue (allowed_ascii byte)
 
--- `lacks_position consecutive internal leading trailing` is true if, of these four flags, only the first is set: then
--- consecutive separators are allowed in a part of a number, but no position of a separator is.
+-- `lacks_position consecutive internal leading trailing` is true if only `consecutive` is true: no position is allowed.
 abbrev pub lacks_position : Bool → Bool → Bool → Bool → Bool
 lacks_position consecutive internal leading trailing = consecutive && not (internal || leading || trailing)
 
@@ -119,7 +118,8 @@ rules_in_order = radix_rules ++ punctuation_rules ++ flag_rules ++ rules.Reserve
 abbrev pub ErrorUnless : Type 0 → Error → (Error → Type 0) → Error → Type 0
 ErrorUnless demand own next error = ((demand → ⊥) × (error ≡ own)) ⊎ (demand × next error)
 
--- `IsFirstError rules word error` holds if `error` is the one of the first of `rules` that `word` breaks, or `Success`.
+-- `IsFirstError rules word error` holds if `error` is the error of the first of `rules` that `word` breaks, or
+-- `Success` if `word` keeps them all.
 abbrev pub IsFirstError : List Rule → ℕ → Error → Type 0
 IsFirstError [] word error = error ≡ errors.Success
 IsFirstError (rule ∷ rules) word error = ErrorUnless (Holds rule word) (error_of rule) (IsFirstError rules word) error

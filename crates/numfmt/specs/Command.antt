@@ -19,7 +19,7 @@ use Rattle.lexical_util.specs.Additions.SettingText.{byte_from_digits}
 use Rattle.numfmt.specs.EditText.{edits_from_texts}
 use Rattle.numfmt.specs.Response.{Response}
 
--- A command with the values of its arguments: format words, bytes and edits.
+-- `Command` is the type of the commands, each with its arguments: format words, bytes and edits.
 pub data Command : Type 0 where
   show : ℕ → Command
   edit : ℕ → List Edit → Command
@@ -44,7 +44,7 @@ Answers (source word) (answers.Source written truth) = (written ≡ word) × (Is
 Answers (explain word) (answers.Explanation written truth) = (written ≡ word) × (IsTrue truth ↔ Lawful word)
 Answers _ _ = ⊥
 
--- A request: the command in the program's arguments, or the reason why they are refused.
+-- `Request` is the type of requests: the command in the arguments of the program, or the reason why they are refused.
 abbrev pub Request : Type 0
 Request = Result Command Refusal
 
@@ -53,27 +53,29 @@ abbrev pub request_if_some : {T : Type 0} → Option T → Refusal → (T → Re
 request_if_some None refusal ask = Err refusal
 request_if_some (Some value) refusal ask = ask value
 
--- `one_word ask args` is `ask word` if `args` is the text of one format word, and otherwise a refusal.
+-- `one_word ask args` is `ask word` if `args` has one item, the text of the format word `word`, and a refusal
+-- otherwise.
 abbrev pub one_word : (ℕ → Command) → List (List ℕ) → Request
 one_word ask (word ∷ []) = request_if_some (word_from_text word) BadWord (λ word. Ok (ask word))
 one_word ask _ = Err WrongNumberOfArguments
 
--- `two_words ask args` is `ask a b` if `args` are the texts of two format words, and otherwise a refusal.
+-- `two_words ask args` is `ask a b` if `args` has two items, the texts of the format words `a` and `b`, and a refusal
+-- otherwise.
 abbrev pub two_words : (ℕ → ℕ → Command) → List (List ℕ) → Request
 two_words ask (a ∷ b ∷ []) =
     request_if_some (word_from_text a) BadWord (λ a. request_if_some (word_from_text b) BadWord (λ b. Ok (ask a b)))
 two_words ask _ = Err WrongNumberOfArguments
 
--- `word_and_bytes ask args` is `ask word e p` if `args` are the texts of a format word and of two decimal bytes, and
--- otherwise a refusal.
+-- `word_and_bytes ask args` is `ask word e p` if `args` has three items, the text of the format word `word` and the
+-- decimal bytes `e` and `p`, and a refusal otherwise.
 abbrev pub word_and_bytes : (ℕ → ℕ → ℕ → Command) → List (List ℕ) → Request
 word_and_bytes ask (word ∷ e ∷ p ∷ []) =
     request_if_some (word_from_text word) BadWord (λ word. request_if_some (byte_from_digits 10 3 e) BadByte
     (λ e. request_if_some (byte_from_digits 10 3 p) BadByte (λ p. Ok (ask word e p))))
 word_and_bytes ask _ = Err WrongNumberOfArguments
 
--- `word_and_edits ask args` is `ask word list` if `args` are the texts of a format word and of at most 64 edits, and
--- otherwise a refusal.
+-- `word_and_edits ask args` is `ask word list` if `args` are the text of the format word `word` and the texts of the at
+-- most 64 edits in `list`, and a refusal otherwise.
 abbrev pub word_and_edits : (ℕ → List Edit → Command) → List (List ℕ) → Request
 word_and_edits ask [] = Err WrongNumberOfArguments
 word_and_edits ask (word ∷ texts) =
@@ -95,8 +97,8 @@ commands =
     ∷ (codes "explain", one_word explain)
     ∷ []
 
--- `request_of args` is the request in the program's arguments without its name: to show the standard format if `args`
--- is empty. Otherwise its first item is the name of a command, and the others are the arguments of the command.
+-- `request_of args` is the request in `args`, the arguments of the program without its name. If `args` is empty, it is
+-- to show the standard format. Otherwise the first item is the name of a command, and the others are its arguments.
 abbrev pub request_of : List (List ℕ) → Request
 request_of [] = Ok (show STANDARD)
 request_of (name ∷ args) =

@@ -15,11 +15,11 @@ use Rattle.lexical_util.specs.Additions.WordText.{printed}
 use Rattle.numfmt.specs.Source.{source_lines}
 use Rattle.numfmt.specs.Explanation.{explanation, line}
 
--- A response: an answer, or the reason why the arguments are refused.
+-- `Response` is the type of responses: an answer, or the reason why the arguments are refused.
 abbrev pub Response : Type 0
 Response = Result Answer Refusal
 
--- `field_text name value` is `name`, a space and `value`.
+-- `field_text name value` is the text of a field: `name`, a space and `value`.
 abbrev pub field_text : List ℕ → List ℕ → List ℕ
 field_text name value = name ++ 32 ∷ value
 
@@ -65,7 +65,7 @@ abbrev pub text_of : Response → List ℕ
 text_of (Ok answer) = answer_text answer
 text_of (Err refusal) = line (codes "numfmt: " ++ refusal_text refusal)
 
--- `status_of response` is the exit status: 0, 1 if the answer is no, or 2 for a refusal.
+-- `status_of response` is the exit status of `response`: 0, 1 if the answer is negative, or 2 for a refusal.
 abbrev pub status_of : Response → ℕ
 status_of (Ok (answers.Fields word)) = 0
 status_of (Ok (answers.Word word)) = 0

@@ -17,7 +17,8 @@ use Rattle.lexical_util.specs.declared.edits.Edit.{Edit}
 use Rattle.lexical_util.specs.Edits.{edited, all_writes}
 use Rattle.lexical_util.specs.Groups.{bits_of}
 
--- `HasFields word fields` holds if `fields` are the fields of `word`, with effective values of the exponent bytes.
+-- `HasFields word fields` holds if `fields` are the fields of `word`, where the exponent bytes have their effective
+-- values.
 pub record HasFields (word : ℕ) (fields : Fields) : Type 0 where
   pub flags : bits_of word flags ≡ fields.flags
   pub digit_separator : (raw word).byte layout.digit_separator ≡ fields.digit_separator

@@ -5,16 +5,16 @@ use Rattle.lexical_base.specs.Ascii.{between}
 use Rattle.lexical_base.specs.declared.error.short_text.Piece.{Piece}
 use Rattle.lexical_base.specs.declared.error.short_text.Piece.TheVariants as pieces
 
--- `numbered_byte name byte` is the word `the`, `name`, and `byte` in decimal.
+-- `numbered_byte name byte` is the text `the`, `name` and `byte` in decimal, with spaces between them.
 abbrev pub numbered_byte : List ℕ → ℕ → List ℕ
 numbered_byte name byte = codes "the " ++ (name ++ (codes " " ++ decimal byte))
 
--- `can_be_quoted byte` is true if `byte` is a visible character and not the quote.
+-- `can_be_quoted byte` is true if `byte` is a visible ASCII character, but not the quote.
 abbrev pub can_be_quoted : ℕ → Bool
 can_be_quoted byte = between 33 126 byte && not (byte == 39)
 
--- `quoted_byte name byte` is the word `the`, `name`, and `byte` as a character between quotes, or in decimal if it
--- cannot be quoted.
+-- `quoted_byte name byte` is the text `the`, `name` and `byte`, with spaces between them. The byte is a character in
+-- quotes if it can be quoted, and in decimal otherwise.
 abbrev pub quoted_byte : List ℕ → ℕ → List ℕ
 quoted_byte name byte =
     if can_be_quoted byte then codes "the " ++ (name ++ (codes " '" ++ byte ∷ codes "'")) else numbered_byte name byte
@@ -24,7 +24,7 @@ quoted_byte name byte =
 abbrev pub hexadecimal : ℕ → List ℕ
 hexadecimal number = codes "0x" ++ digits_onto 32 16 true number []
 
--- `piece_text piece` is the text of `piece`.
+-- `piece_text piece` is the text that `piece` puts into a sink.
 abbrev pub piece_text : Piece → List ℕ
 piece_text (pieces.Words words) = words.now
 piece_text (pieces.Number number) = decimal number

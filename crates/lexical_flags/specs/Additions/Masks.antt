@@ -3,15 +3,15 @@ use Rattle.std.specs.Prelude.{ℕ, ◌+◌, ◌-◌, ◌*◌, ◌^◌, List, [],
 use Rattle.lexical_flags.specs.Layout.{Flag, Byte, bit, shift}
 use Rattle.lexical_flags.specs.Layout as layout
 
--- `byte_mask b` is the mask of the byte `b`.
+-- `byte_mask b` is the number with 1 in the eight bits of the byte `b`, and 0 in all other bits.
 abbrev pub byte_mask : Byte → ℕ
 byte_mask b = 255 * 2 ^ shift b
 
--- `mask_of fs` is the mask of the flags `fs`.
+-- `mask_of fs` is the number with 1 in the bits of the flags `fs`, and 0 in all other bits.
 abbrev pub mask_of : List Flag → ℕ
 mask_of fs = sum_by (λ f. 2 ^ bit f) fs
 
--- `reserved_mask` is the mask of the reserved bits.
+-- `reserved_mask` is the number with 1 in the reserved bits, and 0 in all other bits.
 abbrev pub reserved_mask : ℕ
 reserved_mask = (2 ^ 14 - 1) * 2 ^ 18 + (2 ^ 19 - 1) * 2 ^ 45 + (2 ^ 16 - 1) * 2 ^ 72
 

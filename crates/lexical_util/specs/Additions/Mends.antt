@@ -14,7 +14,7 @@ use Rattle.lexical_util.specs.declared.edits.Edit.TheVariants as edits
 use Rattle.lexical_util.specs.declared.reasons.Reason.{Reason}
 
 -- `radix_edits no_base no_radix` lists the edits that set the mantissa radix to 10 and keep absent exponent bytes
--- absent. The arguments are true if the exponent base and the exponent radix are absent.
+-- absent. `no_base` is true if the exponent base is absent, and `no_radix` if the exponent radix is absent.
 abbrev pub radix_edits : Bool → Bool → List Edit
 radix_edits false false = edits.MantissaRadix 10 ∷ []
 radix_edits true false = edits.Radix 10 ∷ edits.ExponentBase None ∷ []
@@ -34,7 +34,7 @@ edits_for r (edits.ExponentBase (Some base)) = edits.ExponentBase None ∷ []
 edits_for r (edits.ExponentRadix (Some radix)) = edits.ExponentRadix None ∷ []
 edits_for r _ = []
 
--- `has_other_reason word reason rule` is true if `word` breaks `rule` for a reason that blames other bits than
+-- `has_other_reason word reason rule` is true if `word` breaks `rule` for a reason whose mask differs from the mask of
 -- `reason`.
 abbrev pub has_other_reason : ℕ → Reason → Rule → Bool
 has_other_reason word reason rule =
@@ -50,25 +50,26 @@ abbrev pub edited_with_separator : ℕ → List Edit → ℕ
 edited_with_separator word list = pack (after
     (after (fill (raw word)) (all_writes list)) (write_flag layout.integer_internal_digit_separator true ∷ []))
 
--- `keep_rules word reason list` is true if, after the edits in `list`, `word` keeps every rule that has no reason other
--- than `reason`.
+-- `keep_rules word reason list` is true if, after the edits in `list`, `word` keeps every rule except for those that
+-- `word` broke for a reason other than `reason`.
 abbrev pub keep_rules : ℕ → Reason → List Edit → Bool
 keep_rules word reason list =
     list_all (λ rule. has_other_reason word reason rule || is_kept (edited word (all_writes list)) rule) rules_in_order
 
 -- `remove_reason word reason list` is true if, after the edits in `list`, `word` keeps the first rule of `reason` even
--- with the digit separator, or broke this rule for another reason too.
+-- with the digit separator, or if `word` broke this rule for another reason too.
 abbrev pub remove_reason : ℕ → Reason → List Edit → Bool
 remove_reason word reason list =
     has_other_reason word reason (rule_of_reason reason)
     || is_kept (edited_with_separator word list) (rule_of_reason reason)
 
--- `are_mending word reason list` is true if the edits in `list` pass both tests. By the second, they do not mend a
--- digit separator only because packing drops it.
+-- `are_mending word reason list` is true if the edits in `list` mend `word` for `reason`: they pass the tests
+-- `keep_rules` and `remove_reason`. So edits that only make packing drop a digit separator do not mend it.
 abbrev pub are_mending : ℕ → Reason → List Edit → Bool
 are_mending word reason list = keep_rules word reason list && remove_reason word reason list
 
--- `mend_of word reason field` lists the edits that mend `field` of `word` for `reason`. It is empty if no edits do.
+-- `mend_of word reason field` lists the edits that mend `field` of `word` for `reason`. It is empty if there are
+-- no such edits.
 abbrev pub mend_of : ℕ → Reason → Edit → List Edit
 mend_of word reason field =
     let list = edits_for (raw word) field in if are_mending word reason list then list else []

@@ -20,7 +20,7 @@ use Rattle.lexical_util.specs.declared.edits.FlagSetter.TheVariants as setters
 use Rattle.lexical_util.specs.declared.reasons.note.Note.{Note}
 use Rattle.lexical_util.specs.declared.reasons.note.Note.TheVariants as notes
 
--- `mask_of_note note` has the bits that `note` describes.
+-- `mask_of_note note` is the number with 1 in the bits that `note` describes.
 abbrev pub mask_of_note : Note → ℕ
 mask_of_note (notes.SeparatorWithoutFlag edit) = bit_or (mask_of digit_separator_flags) (mask_of_edit edit)
 mask_of_note notes.FlagsWithoutSeparator = bit_or (mask_of digit_separator_flags) (byte_mask layout.digit_separator)
@@ -41,12 +41,13 @@ case_candidate is_set byte flag edit = (
   if byte == 0 then notes.CaseFlagWithoutByte flag edit else notes.CaseFlagOfNonLetter flag edit,
 )
 
--- `prefix_candidate r` and `suffix_candidate r` are the candidates of the case flags of prefix and suffix.
+-- `prefix_candidate r` is the candidate of the case flag of the base prefix of `r`.
 abbrev pub prefix_candidate : Record → Candidate Note
 prefix_candidate r =
     let edit = prefix_edit r in
     case_candidate (r.flag layout.case_sensitive_base_prefix) (argument_byte edit) setters.CaseSensitiveBasePrefix edit
 
+-- `suffix_candidate r` is the candidate of the case flag of the base suffix of `r`.
 abbrev pub suffix_candidate : Record → Candidate Note
 suffix_candidate r =
     let edit = suffix_edit r in
@@ -60,7 +61,7 @@ note_candidates r = separator_candidate r ∷ prefix_candidate r ∷ suffix_cand
 abbrev pub is_blamed : ℕ → ℕ → Bool
 is_blamed word mask = list_any (λ reason. not (bit_and (mask_of_reason reason) mask == 0)) (all_reasons word)
 
--- `unblamed word c` is the candidate `c`, which does not apply if a reason of `word` blames its bits.
+-- `unblamed word c` is the candidate `c`, except that it does not apply if a reason of `word` blames its bits.
 abbrev pub unblamed : ℕ → Candidate Note → Candidate Note
 unblamed word c = (c.0 && not (is_blamed word (mask_of_note c.1)), c.1)
 
@@ -68,17 +69,17 @@ unblamed word c = (c.0 && not (is_blamed word (mask_of_note c.1)), c.1)
 abbrev pub notes_beside : ℕ → Record → List (Candidate Note)
 notes_beside word r = map (unblamed word) (note_candidates r)
 
--- `without_separator r` is `r` with an absent separator, and `set_flags r fs value` is `r` with `value` in the flags
--- `fs`.
+-- `without_separator r` is `r` with an absent digit separator.
 abbrev pub without_separator : Record → Record
 without_separator r = set_byte r layout.digit_separator 0
 
+-- `set_flags r fs value` is `r` with the value `value` in each of the flags `fs`.
 abbrev pub set_flags : Record → List layout.Flag → Bool → Record
 set_flags r fs value =
     record r { flag = λ g. if list_any (λ f. layout.bit g == layout.bit f) fs then value else r.flag g }
 
--- `ReplacesFields fields word other` holds if `other` has the fields `fields`, and its reserved bits are 0 if and only
--- if the reserved bits of `word` are 0.
+-- `ReplacesFields fields word other` holds if `fields` are the fields of `other`, and the reserved bits of `other` are
+-- 0 if and only if the reserved bits of `word` are 0.
 pub record ReplacesFields (fields : Record) (word other : ℕ) : Type 0 where
   pub fields_are : raw other ≡ fields
   pub clean : IsClean word ↔ IsClean other

@@ -10,7 +10,7 @@ use Rattle.lexical_util.specs.declared.reasons.Reason.TheVariants as reasons
 use Rattle.lexical_util.specs.declared.reasons.note.Note.{Note}
 use Rattle.lexical_util.specs.declared.reasons.note.Note.TheVariants as notes
 
--- `label_of edit` is the name of the field of `edit`, as sentences have it.
+-- `label_of edit` is the name by which sentences call the field of `edit`.
 abbrev pub label_of : Edit → List ℕ
 label_of (edits.Flag setter value) = codes "flag"
 label_of (edits.DigitSeparator byte) = codes "digit separator"
@@ -26,8 +26,8 @@ label_of (edits.ExponentRadix radix) = codes "exponent radix"
 abbrev pub described : Edit → List ℕ
 described edit = quoted_byte (label_of edit) (argument_byte edit)
 
--- `clash_text a b flag` is the end of the sentence of the bytes of `a` and `b`, which clash: they are the same, or they
--- differ in case and `flag` is not set. A digit separator has no case flag.
+-- `clash_text a b flag` is the end of the sentence that reports a clash of the bytes of `a` and `b`: the bytes are the
+-- same if `flag` is `None`, and otherwise they differ only in case and the case flag `flag` is not set.
 abbrev pub clash_text : Edit → Edit → Option FlagSetter → List ℕ
 clash_text a b None = codes " are the same"
 clash_text (edits.DigitSeparator byte) (edits.BasePrefix other) (Some flag) =
@@ -36,7 +36,7 @@ clash_text (edits.DigitSeparator byte) b (Some flag) =
     codes " differ only in case, and the base suffix is not case-sensitive"
 clash_text a b (Some flag) = codes " differ only in case, and they are not both case-sensitive"
 
--- `reason_text reason` is the sentence of `reason`.
+-- `reason_text reason` is the sentence that states `reason`.
 abbrev pub reason_text : Reason → List ℕ
 reason_text (reasons.MantissaRadixOutOfRange radix base exponent) =
     numbered_byte (codes "mantissa radix") radix ++ codes " is not between 2 and 36"
@@ -52,7 +52,7 @@ reason_text (reasons.NeedsPosition flag) =
     name_of_flags flag ++ codes " requires an internal, leading or trailing flag for the same part of the number"
 reason_text (reasons.ReservedBits bits) = codes "reserved bits are set: " ++ hexadecimal bits
 
--- `note_text note` is the sentence of `note`.
+-- `note_text note` is the sentence that states `note`.
 abbrev pub note_text : Note → List ℕ
 note_text (notes.SeparatorWithoutFlag edit) =
     codes "no number can have " ++ described edit ++ codes ": no flag allows one"

@@ -34,8 +34,8 @@ HasWrite r (write_byte b value) = r.byte b ≡ value
 abbrev pub Has : ℕ → Edit → Type 0
 Has word edit = AllByRecursion (HasWrite (raw word)) (writes_of edit)
 
--- `positions flag` lists the setters of the internal, leading and trailing flags for the same part of the number as the
--- flag for consecutive separators `flag`.
+-- `positions flag` lists the setters of the internal, leading and trailing flags of one part of the number. `flag` is
+-- the setter of the consecutive separator flag of this part.
 abbrev pub positions : FlagSetter → List FlagSetter
 positions setters.IntegerConsecutiveDigitSeparator =
     setters.IntegerInternalDigitSeparator ∷ setters.IntegerLeadingDigitSeparator
@@ -67,17 +67,18 @@ IsTrueOf word (reasons.NeedsPosition flag) =
 IsTrueOf word (reasons.ReservedBits bits) =
     (bits ≢ 0) × (bit_and bits reserved_mask ≡ bits) × (bit_and word bits ≡ bits)
 
--- `rule_of_reason reason` is the first rule that `reason` breaks. Depending on the reason, it is the rule of a radix
--- that an edit writes (`radix_rule`), of a byte (`punctuation_rule`), or of flags (`rule_of_flags`, `position_rule`).
+-- `radix_rule edit` is the rule of the exponent byte that `edit` writes.
 abbrev pub radix_rule : Edit → Rule
 radix_rule (edits.ExponentBase base) = rules.ExponentBaseInRange
 radix_rule _ = rules.ExponentRadixInRange
 
+-- `punctuation_rule edit` is the punctuation rule of the byte that `edit` writes.
 abbrev pub punctuation_rule : Edit → Rule
 punctuation_rule (edits.DigitSeparator byte) = rules.DigitSeparatorIsPunctuation
 punctuation_rule (edits.BasePrefix byte) = rules.BasePrefixIsPunctuation
 punctuation_rule _ = rules.BaseSuffixIsPunctuation
 
+-- `rule_of_flags a b` is the flag rule that the flags `a` and `b` break if both are set.
 abbrev pub rule_of_flags : FlagSetter → FlagSetter → Rule
 rule_of_flags setters.NoExponentNotation b = rules.ExponentFlagsAgree
 rule_of_flags setters.NoPositiveMantissaSign b = rules.MantissaSignFlagsAgree
@@ -85,11 +86,13 @@ rule_of_flags setters.NoPositiveExponentSign b = rules.ExponentSignFlagsAgree
 rule_of_flags a setters.CaseSensitiveSpecial = rules.SpecialCaseFlagsAgree
 rule_of_flags a b = rules.SpecialSeparatorFlagsAgree
 
+-- `position_rule flag` is the rule that the flag for consecutive separators `flag` breaks if no position is allowed.
 abbrev pub position_rule : FlagSetter → Rule
 position_rule setters.IntegerConsecutiveDigitSeparator = rules.IntegerConsecutiveIsAllowed
 position_rule setters.FractionConsecutiveDigitSeparator = rules.FractionConsecutiveIsAllowed
 position_rule _ = rules.ExponentConsecutiveIsAllowed
 
+-- `rule_of_reason reason` is the first rule that `reason` breaks.
 abbrev pub rule_of_reason : Reason → Rule
 rule_of_reason (reasons.MantissaRadixOutOfRange radix base exponent) = rules.MantissaRadixInRange
 rule_of_reason (reasons.OutOfRange edit) = radix_rule edit
@@ -115,11 +118,12 @@ rules_of_reason (reasons.MantissaRadixOutOfRange radix base exponent) =
     ∷ then_some exponent rules.ExponentRadixInRange ∷ []
 rules_of_reason reason = Some (rule_of_reason reason) ∷ None ∷ None ∷ []
 
--- `mask_of_setter setter` has the bits that the flag setter writes, and `mask_of_reason reason` the bits that `reason`
--- blames. A reason is true of each word that has the same bits under its mask.
+-- `mask_of_setter setter` is the number with 1 in the bits that the flag setter `setter` writes.
 abbrev pub mask_of_setter : FlagSetter → ℕ
 mask_of_setter setter = mask_of (flags_of setter)
 
+-- `mask_of_reason reason` is the number with 1 in the bits that `reason` blames. If `reason` is true of a word, it is
+-- true of each word with equal bits there.
 abbrev pub mask_of_reason : Reason → ℕ
 mask_of_reason (reasons.MantissaRadixOutOfRange radix base exponent) = byte_mask layout.mantissa_radix
 mask_of_reason (reasons.OutOfRange edit) = mask_of_edit edit
@@ -132,7 +136,8 @@ mask_of_reason (reasons.Contradict a b) = bit_or (mask_of_setter a) (mask_of_set
 mask_of_reason (reasons.NeedsPosition flag) = mask_read (position_rule flag)
 mask_of_reason (reasons.ReservedBits bits) = bits
 
--- A candidate: whether a reason or a note applies, and the reason or note.
+-- `Candidate T` is the type of candidates: a `Bool` that is true if the candidate applies, and its reason or note of
+-- type `T`.
 abbrev pub Candidate : Type 0 → Type 0
 Candidate T = Bool × T
 
@@ -140,21 +145,24 @@ Candidate T = Bool × T
 abbrev pub if_applicable : {T : Type 0} → Candidate T → Option T
 if_applicable c = then_some c.0 c.1
 
--- `in_three_slots candidates` lists the candidates that apply, each in its own slot of three.
+-- `in_three_slots candidates` lists the reasons of `candidates` in three slots. The slot of a candidate that does not
+-- apply is `None`.
 abbrev pub in_three_slots : List (Candidate Reason) → List (Option Reason)
 in_three_slots candidates = take 3 (map if_applicable candidates ++ None ∷ None ∷ [])
 
--- `separator_edit r`, `prefix_edit r` and `suffix_edit r` are the edits that write these bytes of `r`.
+-- `separator_edit r` is the edit that writes the digit separator of `r`.
 abbrev pub separator_edit : Record → Edit
 separator_edit r = edits.DigitSeparator (option_of_byte (r.byte layout.digit_separator))
 
+-- `prefix_edit r` is the edit that writes the base prefix of `r`.
 abbrev pub prefix_edit : Record → Edit
 prefix_edit r = edits.BasePrefix (option_of_byte (r.byte layout.base_prefix))
 
+-- `suffix_edit r` is the edit that writes the base suffix of `r`.
 abbrev pub suffix_edit : Record → Edit
 suffix_edit r = edits.BaseSuffix (option_of_byte (r.byte layout.base_suffix))
 
--- `mantissa_candidate r` is the candidate of the mantissa radix of `r`. It applies unless that is between 2 and 36.
+-- `mantissa_candidate r` is the candidate of the mantissa radix of `r`. It applies if the radix is below 2 or above 36.
 abbrev pub mantissa_candidate : Record → Candidate Reason
 mantissa_candidate r = (
   not (between 2 36 (r.byte layout.mantissa_radix)),
@@ -162,23 +170,23 @@ mantissa_candidate r = (
       (r.byte layout.exponent_radix == 0),
 )
 
--- `exponent_candidates r byte edit` lists the candidates of the exponent byte `byte`, which `edit` writes: the mantissa
--- radix if the byte is absent, and the byte itself otherwise.
+-- `exponent_candidates r byte edit` lists the candidates of the exponent byte `byte` of `r`, which `edit` writes: the
+-- mantissa radix applies only if `byte` is absent, and `byte` itself only if it is not.
 abbrev pub exponent_candidates : Record → ℕ → Edit → List (Candidate Reason)
 exponent_candidates r byte edit =
     ((byte == 0) && (mantissa_candidate r).0, (mantissa_candidate r).1)
     ∷ (not (byte == 0) && not (between 2 36 byte), reasons.OutOfRange edit)
     ∷ []
 
--- `radix_of_digit r byte` is the edit of the mantissa radix if `byte` is a digit there, and of the exponent radix
--- otherwise.
+-- `radix_of_digit r byte` is the edit that writes the mantissa radix of `r` if `byte` is a digit in it, and the
+-- edit that writes the exponent radix otherwise.
 abbrev pub radix_of_digit : Record → ℕ → Edit
 radix_of_digit r byte =
     if digits_of (r.byte layout.mantissa_radix) byte then edits.MantissaRadix (r.byte layout.mantissa_radix)
     else edits.ExponentRadix (option_of_byte (r.byte layout.exponent_radix))
 
--- `punctuation_candidates r byte edit` lists the candidates of `byte`, which `edit` writes. In a lawful word it is
--- absent or punctuation, so none of them applies.
+-- `punctuation_candidates r byte edit` lists the candidates of the byte `byte` of `r`, which `edit` writes. None of
+-- them applies if `byte` is absent or punctuation.
 abbrev pub punctuation_candidates : Record → ℕ → Edit → List (Candidate Reason)
 punctuation_candidates r byte edit =
     (not (byte == 0) && not (allowed_ascii byte), reasons.NotText edit)
@@ -240,8 +248,8 @@ candidates_of rule word = (contradict rule (raw word), flag_reason rule) ∷ []
 abbrev pub reasons_of : Rule → ℕ → List Reason
 reasons_of rule word = filter_map if_applicable (candidates_of rule word)
 
--- `candidates word` lists the candidates of all rules, each once: the mantissa radix is not listed again for the
--- exponent bytes.
+-- `candidates word` lists the candidates of all rules for `word`. The mantissa radix is listed only once, and not again
+-- for the exponent bytes.
 abbrev pub candidates : ℕ → List (Candidate Reason)
 candidates word =
     candidates_of rules.MantissaRadixInRange word
@@ -253,8 +261,8 @@ candidates word =
 abbrev pub all_reasons : ℕ → List Reason
 all_reasons word = filter_map if_applicable (candidates word)
 
--- `Blames word other reason` holds if `reason` is true of `other` and `other` breaks its first rule, provided that
--- `word` and `other` have the same bits under its mask.
+-- `Blames word other reason` holds if `reason` is true of `other` and `other` breaks the first rule of `reason`,
+-- provided that `word` and `other` have the same bits under the mask of `reason`.
 abbrev pub Blames : ℕ → ℕ → Reason → Type 0
 Blames word other reason =
     bit_and word (mask_of_reason reason) ≡ bit_and other (mask_of_reason reason)

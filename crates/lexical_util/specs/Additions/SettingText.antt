@@ -18,13 +18,13 @@ use Rattle.lexical_util.specs.declared.edits.Edit.{Edit}
 use Rattle.lexical_util.specs.declared.edits.text.SettingError.{SettingError}
 use Rattle.lexical_util.specs.declared.edits.text.SettingError.TheVariants as errors
 
--- `byte_from_digits radix most digits` is the byte that 1 to `most` digits of `radix` write, or `None` if `digits` are
--- not such digits or the number is above 255.
+-- `byte_from_digits radix most digits` is the number that `digits` represent in `radix`. It is `None` unless `digits`
+-- are 1 to `most` digits of `radix` and the number is at most 255.
 abbrev pub byte_from_digits : ℕ → ℕ → List ℕ → Option ℕ
 byte_from_digits radix most digits =
     then_some (is_numeral radix most digits && nat_le (numeral radix digits) 255) (numeral radix digits)
 
--- `byte_from_text text` is the byte that `text` writes: a character between two quotes, `0x` and 1 or 2 hexadecimal
+-- `byte_from_text text` is the byte that `text` represents: a character between two quotes, `0x` and 1 or 2 hexadecimal
 -- digits, or 1 to 3 decimal digits. It is `None` for any other text.
 abbrev pub byte_from_text : List ℕ → Option ℕ
 byte_from_text text =
@@ -32,22 +32,24 @@ byte_from_text text =
     else if bytes_eq (take 2 text) (codes "0x") then byte_from_digits 16 2 (drop 2 text)
     else byte_from_digits 10 3 text
 
--- `optional_byte_from_text text` is the optional byte that `text` writes: `none` and 0 mean that the byte is absent.
+-- `optional_byte_from_text text` is the optional byte that `text` represents, where `none` and 0 mean that the byte is
+-- absent. It is `None` for any other text.
 abbrev pub optional_byte_from_text : List ℕ → Option (Option ℕ)
 optional_byte_from_text text =
     if bytes_eq text (codes "none") then Some None else option_map option_of_byte (byte_from_text text)
 
--- `bool_text value` is the text of `value`.
+-- `bool_text value` is the text `true` or `false` that represents `value`.
 abbrev pub bool_text : Bool → List ℕ
 bool_text true = codes "true"
 bool_text false = codes "false"
 
--- `bool_from_text text` is the truth value that `text` writes, or `None` for any other text.
+-- `bool_from_text text` is the truth value that `text` represents, or `None` for any other text.
 abbrev pub bool_from_text : List ℕ → Option Bool
 bool_from_text text =
     if bytes_eq text (bool_text true) then Some true else then_some (bytes_eq text (bool_text false)) false
 
--- `argument_from_text kind text` is the argument of this kind that `text` writes, or `None` for any other text.
+-- `argument_from_text kind text` is the argument of the kind `kind` that `text` represents, or `None` for any other
+-- text.
 abbrev pub argument_from_text : ArgumentKind → List ℕ → Option Argument
 argument_from_text kinds.Flag text = option_map arguments.Flag (bool_from_text text)
 argument_from_text kinds.Byte text = option_map arguments.Byte (byte_from_text text)
@@ -59,32 +61,34 @@ is_number text =
     if bytes_eq (take 2 text) (codes "0x") then is_numeral 16 (length (drop 2 text)) (drop 2 text)
     else is_numeral 10 (length text) text
 
--- `value_error number value` is the reason why the setter with this number does not take `value`. A number that a byte
--- setter does not take is out of range.
+-- `value_error number value` is the error of a `value` that the setter with the number `number` does not take:
+-- `OutOfRange` if it is a number and the setter is a byte setter, and `BadValue` otherwise.
 abbrev pub value_error : ℕ → List ℕ → SettingError
 value_error number value =
     if nat_le first_byte number && is_number value then errors.OutOfRange number else errors.BadValue number
 
--- `edit_from_setting name value` is the edit with this setter name and the argument that `value` writes, or an error.
+-- `edit_from_setting name value` is the edit with the setter name `name` and the argument that `value` represents, or
+-- the error if there is no such setter or it does not take `value`.
 abbrev pub edit_from_setting : List ℕ → List ℕ → Result Edit SettingError
 edit_from_setting name value = option_map_or (λ number.
     ok_or (option_and_then (edit_with number) (argument_from_text (kind_of_number number) value)) (value_error number value))
     (setter_number_of_name name) (Err errors.UnknownName)
 
--- `edit_from_text text` is the edit that `text` writes, NAME=VALUE split at the first `=`, or an error.
+-- `edit_from_text text` is the edit that the setting `text` represents: NAME=VALUE, split at the first `=`. It is an
+-- error if `text` is not such a setting.
 unfoldable pub edit_from_text : List ℕ → Result Edit SettingError
 edit_from_text text = if list_any (λ byte. byte == 61) text then
     edit_from_setting (before_first (λ byte. byte == 61) text) (after_first (λ byte. byte == 61) text)
     else Err errors.NoEquals
 
--- `argument_text argument` is the text of `argument`.
+-- `argument_text argument` is the text that represents `argument`: `true`, `false`, `none` or a decimal number.
 abbrev pub argument_text : Argument → List ℕ
 argument_text (arguments.Flag flag) = bool_text flag
 argument_text (arguments.Byte byte) = decimal byte
 argument_text (arguments.OptionalByte None) = codes "none"
 argument_text (arguments.OptionalByte (Some byte)) = decimal byte
 
--- `setting_text edit` is the text NAME=VALUE of `edit`.
+-- `setting_text edit` is the setting NAME=VALUE that represents `edit`.
 abbrev pub setting_text : Edit → List ℕ
 setting_text edit = name_of edit ++ 61 ∷ argument_text (argument_of edit)
 
@@ -102,7 +106,7 @@ taken_text number = unwrap_or (setter_name_of_number number) [] ++ codes " takes
     else if nat_lt number (first_byte + 5) then codes "a number, 2 to 36 in a lawful format"
     else codes "a number, 2 to 36 in a lawful format, or `none`")
 
--- `error_text error` is the sentence of `error`.
+-- `error_text error` is the sentence that states the setting error `error`.
 abbrev pub error_text : SettingError → List ℕ
 error_text errors.NoEquals = codes "expected NAME=VALUE"
 error_text errors.UnknownName = codes "unknown setting name"

@@ -8,27 +8,27 @@ use Rattle.lexical_util.specs.declared.edits.Edit.{Edit}
 use Rattle.lexical_util.specs.declared.edits.numbers.Argument.{Argument}
 use Rattle.lexical_util.specs.declared.edits.numbers.Argument.TheVariants as arguments
 
--- `option_text byte` is the optional byte `byte` as Rust code.
+-- `option_text byte` is the Rust expression of the optional byte `byte`.
 abbrev pub option_text : Option ℕ → List ℕ
 option_text None = codes "None"
 option_text (Some byte) = codes "NonZeroU8::new(" ++ decimal byte ++ codes ")"
 
--- `call name value` is a call of the setter `name` with the argument `value`, both of them texts.
+-- `call name value` is the Rust text of a call of the setter `name` with the argument `value`, both of them texts.
 abbrev pub call : List ℕ → List ℕ → List ℕ
 call name value = codes "." ++ name ++ codes "(" ++ value ++ codes ")"
 
--- `code_of_argument argument` is `argument` as Rust code.
+-- `code_of_argument argument` is the Rust expression of `argument`.
 abbrev pub code_of_argument : Argument → List ℕ
 code_of_argument (arguments.Flag flag) = bool_text flag
 code_of_argument (arguments.Byte byte) = decimal byte
 code_of_argument (arguments.OptionalByte byte) = option_text byte
 
--- `call_text edit` is the setter call of `edit`.
+-- `call_text edit` is the Rust text of the setter call that `edit` represents.
 abbrev pub call_text : Edit → List ℕ
 call_text edit = call (name_of edit) (code_of_argument (argument_of edit))
 
 -- `source_text word` is the builder expression of `word`: a new builder, a setter call for each field in which `word`
--- differs from it, and the call that packs the word.
+-- differs from a new builder, and the call that packs the word.
 unfoldable pub source_text : ℕ → List ℕ
 source_text word =
     codes "NumberFormatBuilder::new()" ++ flat_map call_text (needed_edits (raw word)) ++ codes ".build_unchecked()"

@@ -13,7 +13,7 @@ use Rattle.lexical_util.specs.Additions.Numeral.{is_digit_of_radix, is_numeral}
 abbrev pub hex_digits : List ℕ → List ℕ
 hex_digits text = drop 2 text
 
--- `hex text` is the number that `text` writes.
+-- `hex text` is the number that the hexadecimal digits of `text` after `0x` represent.
 abbrev pub hex : List ℕ → ℕ
 hex text = numeral 16 (hex_digits text)
 
@@ -21,11 +21,11 @@ hex text = numeral 16 (hex_digits text)
 abbrev pub is_word_text : List ℕ → Bool
 is_word_text text = bytes_eq (take 2 text) (codes "0x") && is_numeral 16 32 (hex_digits text)
 
--- `word_from_text text` is `Some word` if `text` writes `word`, and `None` if it is not the text of a word.
+-- `word_from_text text` is `Some word` if `text` represents `word`, and `None` if it is not the text of a word.
 abbrev pub word_from_text : List ℕ → Option ℕ
 word_from_text text = then_some (is_word_text text) (hex text)
 
--- `IsWordText text` holds if `text` writes a word.
+-- `IsWordText text` holds if `text` is the text of a word.
 abbrev pub IsWordText : List ℕ → Type 0
 IsWordText text = IsTrue (is_word_text text)
 
@@ -46,15 +46,15 @@ misfit_error index None = errors.Empty index
 misfit_error index (Some byte) =
     if (index == 34) && is_digit_of_radix 16 byte then errors.Overflow index else errors.InvalidDigit index
 
--- `word_error text` is the error of a `text` that is not the text of a word.
+-- `word_error text` is the error of `text`, which is not the text of a word.
 abbrev pub word_error : List ℕ → Error
 word_error text = misfit_error (first_misfit text) (slice_get text (first_misfit text))
 
--- `parsed_word text` is `Ok word` if `text` writes `word`, and the error of `text` if it is not the text of a word.
+-- `parsed_word text` is `Ok word` if `text` represents `word`, and the error of `text` if it is not the text of a word.
 abbrev pub parsed_word : List ℕ → Result ℕ Error
 parsed_word text = if is_word_text text then Ok (hex text) else Err (word_error text)
 
--- `IsPrintedForm text` holds if `text` is the text of a word with 32 digits and without lowercase letters among them.
+-- `IsPrintedForm text` holds if `text` is the text of a word with 32 digits and has no lowercase letter among them.
 pub record IsPrintedForm (text : List ℕ) : Type 0 where
   pub word : IsWordText text
   pub full : length (hex_digits text) ≡ 32
@@ -69,6 +69,6 @@ unfoldable pub last_digits : ℕ → ℕ → List ℕ
 last_digits zero number = []
 last_digits (suc count) number = digit_at number count ∷ last_digits count number
 
--- `printed word` is the text of `word` as it is printed: with 32 digits.
+-- `printed word` is the text of `word` with which it is printed: `0x` and 32 hexadecimal digits.
 abbrev pub printed : ℕ → List ℕ
 printed word = codes "0x" ++ last_digits 32 word
