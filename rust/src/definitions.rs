@@ -10,7 +10,7 @@
 //!
 //! ## `ByteSet`
 //!
-//! A set of bytes is the function that is true for its members.
+//! `ByteSet` is the type of sets of bytes. A set is the function that is true for its members.
 //!
 //! ```text
 //! ByteSet : Type 0
@@ -447,7 +447,7 @@
 //!
 //! ## `byte_of_option`
 //!
-//! `byte_of_option byte` is the byte in the option `byte`, or 0 if it is absent.
+//! `byte_of_option byte` is the byte in the option `byte`, or 0 if `byte` is `None`.
 //!
 //! ```text
 //! byte_of_option : Option ℕ → ℕ
@@ -478,7 +478,7 @@
 //!
 //! ## `IsLegal`
 //!
-//! `IsLegal write` holds if the value fits its field: a byte is between 0 and 255.
+//! `IsLegal write` holds if the value of `write` fits its field: the value of a byte is between 0 and 255.
 //!
 //! ```text
 //! IsLegal : Write → Type 0
@@ -535,7 +535,7 @@
 //!
 //! ## `after`
 //!
-//! `after r writes` is the record in which each field has the value of the last write to it, or its value in `r`.
+//! `after r writes` is `r` with new values: each field that `writes` write has the value of the last write to it.
 //!
 //! ```text
 //! after : Record → List Write → Record
@@ -555,7 +555,7 @@
 //!
 //! ## `SameWrites`
 //!
-//! `SameWrites writes others` holds if both lists write the same fields, each with the same last value.
+//! `SameWrites writes others` holds if `writes` and `others` write the same fields, each with the same last value.
 //!
 //! ```text
 //! record SameWrites (writes others : List Write) : Type 0 where
@@ -859,7 +859,7 @@
 //!
 //! ## `lacks_position`
 //!
-//! `lacks_position consecutive internal leading trailing` is true if, of these four flags, only the first is set: then consecutive separators are allowed in a part of a number, but no position of a separator is.
+//! `lacks_position consecutive internal leading trailing` is true if only `consecutive` is true: no position is allowed.
 //!
 //! ```text
 //! lacks_position : Bool → Bool → Bool → Bool → Bool
@@ -991,7 +991,7 @@
 //!
 //! ## `IsFirstError`
 //!
-//! `IsFirstError rules word error` holds if `error` is the one of the first of `rules` that `word` breaks, or `Success`.
+//! `IsFirstError rules word error` holds if `error` is the error of the first of `rules` that `word` breaks, or `Success` if `word` keeps them all.
 //!
 //! ```text
 //! IsFirstError : List Rule → ℕ → Error → Type 0
@@ -1038,7 +1038,7 @@
 //!
 //! ## `OptionsFit`
 //!
-//! `OptionsFit` holds if both bytes are punctuation, and their roles share no byte with each other or a role of `word`.
+//! `OptionsFit word exponent_byte point_byte` holds if both bytes are punctuation in the format of `word`, and their roles are disjoint from each other and from the roles of the bytes of `word`.
 //!
 //! ```text
 //! record OptionsFit (word exponent_byte point_byte : ℕ) : Type 0 where
@@ -1051,7 +1051,7 @@
 //!
 //! ## `OptionsHaveOneRole`
 //!
-//! `OptionsHaveOneRole` holds if both bytes are allowed ASCII, and no byte plays two of the seven roles.
+//! `OptionsHaveOneRole word exponent_byte point_byte` holds if both bytes are allowed ASCII, and no byte has two roles.
 //!
 //! ```text
 //! record OptionsHaveOneRole (word exponent_byte point_byte : ℕ) : Type 0 where

@@ -67,12 +67,12 @@ IsTrueOf word (reasons.NeedsPosition flag) =
 IsTrueOf word (reasons.ReservedBits bits) =
     (bits ≢ 0) × (bit_and bits reserved_mask ≡ bits) × (bit_and word bits ≡ bits)
 
--- `radix_rule edit` is the rule of the exponent byte that `edit` writes.
+-- `radix_rule edit` is the radix rule that reads the exponent byte that `edit` writes.
 abbrev pub radix_rule : Edit → Rule
 radix_rule (edits.ExponentBase base) = rules.ExponentBaseInRange
 radix_rule _ = rules.ExponentRadixInRange
 
--- `punctuation_rule edit` is the punctuation rule of the byte that `edit` writes.
+-- `punctuation_rule edit` is the rule that requires punctuation in the byte that `edit` writes.
 abbrev pub punctuation_rule : Edit → Rule
 punctuation_rule (edits.DigitSeparator byte) = rules.DigitSeparatorIsPunctuation
 punctuation_rule (edits.BasePrefix byte) = rules.BasePrefixIsPunctuation
