@@ -1,5 +1,6 @@
-//! Number formats in a `u128`: how numbers may be written, as 31 flags and six bytes. This crate builds, reads, checks
-//! and edits formats, for authors of number parsers, writers and checkers. It does not parse.
+//! A number format states how numbers may be written: radix, prefix, signs, digit separators. Here it is a `u128` of 31
+//! flags and six bytes. This crate builds, reads, checks and edits formats, and explains what is wrong with one, for
+//! authors of number parsers, writers and checkers. It does not parse.
 //!
 //! The [`u128`] is the *format word*, so a format can be a const argument. It is *lawful* if it keeps every [`Rule`]:
 //! each radix is between 2 and 36, no two flags contradict each other, each byte is ASCII with one meaning, and the

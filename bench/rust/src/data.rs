@@ -1,7 +1,7 @@
 //! The data of the loops, generated from one seed.
 //!
-//! No word has a reserved bit, or the two cases of one letter as two of its bytes, since for such words the
-//! library differs from `lexical-util` on purpose.
+//! No lawful or broken word has a reserved bit, or the two cases of one letter as two of its bytes, since for such words
+//! the library differs from `lexical-util` on purpose. The rows over words of any bits do not test a rule that differs.
 
 use crate::random::Random;
 use upstream::format_flags::FLAG_MASK;
