@@ -67,6 +67,18 @@ passes() {
     fi
 }
 
+# counts LEAST COMMAND..: the command ends with 0, and its last line begins with `N passed`, where N is at least LEAST.
+counts() {
+    local got
+    tried || return 0
+    if got=$("${@:2}" 2>&1) && [[ ${got##*$'\n'} =~ ^([0-9]+)' passed' ]] && [ "${BASH_REMATCH[1]}" -ge "$1" ]; then
+        passed=$((passed + 1))
+    else
+        failed=$((failed + 1))
+        printf '%s: not %s rows that pass\n%s\n' "${*:2}" "$1" "$got"
+    fi
+}
+
 # lacks NAME: this machine has no NAME.
 lacks() {
     here[$1]=no

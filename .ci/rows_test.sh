@@ -1,7 +1,12 @@
 #!/usr/bin/env bash
-# Tests rows.sh: what rows print that pass, that fail and that are skipped, and the status of what counts them. And each
-# script that uses it, where no compiler is installed: it skips as many rows as it counts. And tests run, over programs
-# that do nothing: it calls each test, and fails if one fails. The last line is `N passed, M failed`.
+# Tests the scripts that test:
+#
+# - rows.sh: the texts and the counts of rows that pass, that fail and that are skipped, and the status;
+# - each script that uses it, where no compiler is installed: it skips as many rows as it counts;
+# - run, over programs that do nothing: it calls each test, and fails if one fails;
+# - the commands of rust/tools/test.sh: each is called, and its row fails if it fails.
+#
+# The last line is `N passed, M failed`.
 set -u
 cd "$(dirname "$0")" || exit
 work=$(mktemp -d)
@@ -55,6 +60,13 @@ row 1 "echo a  b in $work/page"$'\n  wanted: $\'a b\\n\'\n  got:    $\'c a b\\n\
 row 1 "a line in $work/page"$'\n  wanted: no\n  got:    \'\'\n0 passed, 1 failed, 0 skipped' \
     "shows $work/page no echo; counted 1"
 row 0 $'yes\n1 passed, 0 failed, 0 skipped' 'passes echo a && echo yes; counted 1'
+row 0 '1 passed, 0 failed, 0 skipped' 'counts 2 echo "3 passed, 0 failed" || echo no; counted 1'
+row 0 '1 passed, 0 failed, 0 skipped' "counts 3 printf 'a\n3 passed, 0 failed\n'; counted 1"
+row 1 $'echo 3 passed: not 4 rows that pass\n3 passed\n0 passed, 1 failed, 0 skipped' 'counts 4 echo "3 passed"; counted 1'
+row 1 $'echo 3 failed: not 1 rows that pass\n3 failed\n0 passed, 1 failed, 0 skipped' 'counts 1 echo "3 failed"; counted 1'
+row 1 $'no: not 0 rows that pass\n1 passed\n0 passed, 1 failed, 0 skipped' \
+    'no() { echo 1 passed; false; }; counts 0 no; counted 1'
+row 0 $'skipped: no-such\n0 passed, 0 failed, 1 skipped' 'needing no-such counts 1 false; counted 1'
 row 1 $'bash -c echo a; echo b >&2; false\na\nb\nno\n0 passed, 1 failed, 0 skipped' \
     'passes bash -c "echo a; echo b >&2; false" || echo no; counted 1'
 printf '%s\n' '    $ echo 1' '    1' '    $ echo 2' '    3' > "$work/two"
@@ -116,6 +128,68 @@ for fails in none kept "${calls[@]}"; do
     failed=$((failed + 1))
     printf 'run, where this fails: %s: status %s, not called: %s\n' "$fails" "$status" "$missing"
     cat "$work/printed"
+done
+
+# The commands of rust/tools/test.sh, in a copy with tools that log their arguments. If all tools fail, each row fails,
+# except for the two rows that find a command in a page. If no tool fails, dropping_in_test.sh calls cargo twice.
+copy=$work/rust
+mkdir -p "$copy"/{.ci,docs,compare,crates/numfmt,tools} "$copy/rust/tests"
+cp rows.sh "$copy/.ci"
+cp -r ../rust/tools "$copy/rust"
+cp ../compare/names.py "$copy/compare"
+printf '%s\n' '    $ cd rust && cargo run --example a' '    a' > "$copy/README.md"
+printf '%s\n' '    $ cargo run --example b -- c' '    b' > "$copy/docs/RUST.md"
+echo 'rust-version = "1.2"' > "$copy/rust/Cargo.toml"
+echo '#[test]' > "$copy/rust/tests/a.rs"
+for tool in cargo cargo-clippy cargo-fmt cc python3 rustc rustdoc rustfmt; do
+    cat > "$copy/tools/$tool" << 'END'
+#!/bin/sh
+[ "$*" != --version ] || { echo rustc 1.2.0; exit; }
+echo "${RUSTC:+RUSTC }${RUSTDOCFLAGS:+$RUSTDOCFLAGS }${0##*/} $*" | sed "s,${CARGO_TARGET_DIR%/*},TARGET," >> "$LOG"
+exit "$STATUS"
+END
+    chmod +x "$copy/tools/$tool"
+done
+cp "$copy/tools/cc" "$copy/crates/numfmt/built-program-test.sh"
+cat > "$work/commands" << 'END'
+python3 tools/erase.py --check
+python3 tools/erase_test.py
+python3 tools/erase_docs_test.py
+python3 tools/erase_tables_test.py
+python3 ../compare/names.py --check ../docs/RUST.md
+python3 ../compare/names.py --check ../README.md
+python3 tools/public_test.py
+cargo fmt --all --check
+cargo clippy --quiet --workspace --all-targets -- -D warnings
+cargo test
+cargo test --quiet --lib --bins --tests --examples -- --list
+cargo test --quiet --lib --bins --tests --examples -- --list --ignored
+cargo run --quiet --example face_program
+RUSTC cargo test --quiet --workspace --lib --bins --tests --examples
+-Dwarnings cargo doc --quiet --no-deps --workspace
+python3 tools/check_doc.py TARGET/target/doc
+python3 tools/check_doc_test.py
+cargo run --quiet
+cargo package --quiet --package peltzivar --allow-dirty
+cargo run --quiet --example a
+cargo run --quiet --example b -- c
+cargo run --quiet
+built-program-test.sh TARGET/target/debug/numfmt
+END
+for STATUS in 1 0; do
+    export STATUS
+    : > "$work/log"
+    got=$(env -u CI LOG="$work/log" PATH="$copy/tools:$PATH" "$copy/rust/tools/test.sh" 2>&1; echo "status $?")
+    tried=$((tried + 1))
+    if [ $STATUS = 0 ]; then
+        [ "$(uniq "$work/log")" = "$(cat "$work/commands")" ] && [ "$(grep -cx 'cargo run --quiet' "$work/log")" = 3 ]
+    else
+        [ "$(cat "$work/log")" = "$(cat "$work/commands")" ] &&
+            [ "$(tail -n 2 <<< "$got")" = $'2 passed, 23 failed, 0 skipped\nstatus 1' ]
+    fi && continue
+    failed=$((failed + 1))
+    printf 'rust/tools/test.sh, over tools that end with %s:\n%s\n' $STATUS "$got"
+    diff "$work/commands" "$work/log"
 done
 echo "$((tried - failed)) passed, $failed failed"
 [ "$failed" -eq 0 ]

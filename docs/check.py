@@ -20,7 +20,8 @@
 - No proof reaches a fact by two positions.
 - The pages have at most 1,400 lines, and README 800 words; its ratios of time are in bench/README.md.
 - README has a command of cargo that runs something, one that runs all tests, and `rt ci`; `.ci/run` calls its tests.
-- `.ci/run`, or a script that it calls, calls each script that is a test by its name.
+- `.ci/run`, or a script that it calls, calls each script that is a test by its name. Each script of shell fails if a
+  command does: it begins with `set -e`, or ends with the count of failures.
 
 The last line counts the lines of the pages, the words of README, the transcripts (which the tests of numfmt, of rust/
 and of c/ run, except for lines `$ cc ..`), the blocks of code (which are compared here), and the lines of prose that
@@ -233,6 +234,17 @@ def not_called():
                 yield f"{path.relative_to(TOP)}: neither .ci/run nor what it runs calls this test"
 
 
+def lenient():
+    """Returns the scripts of shell that neither stop at a failure nor end with the status of what counts failures."""
+    for folder in sorted(path.name for path in TOP.iterdir() if path.is_dir() and path.name != ".git"):
+        for path in [*files_of(folder, "*.sh"), *(TOP / folder).glob("run"), *(TOP / folder).glob("build")]:
+            lines = ["", *path.read_text().splitlines()]
+            first = next((line for line in lines if line and not line.startswith("#")), "")
+            is_strict = re.match(r"set -\w*e|exec ", first) or re.match(r'counted |\[ "\$failed" -eq 0 \]$', lines[-1])
+            if not is_strict and "# shellcheck shell=bash" not in lines[:2]:
+                yield f"{path.relative_to(TOP)}: a failure of a command is not a failure of the script"
+
+
 def texts_of_pages():
     """Returns the texts of README, CONTRIBUTING, CHANGELOG and docs/."""
     pages = [TOP / name for name in ("README.md", "CONTRIBUTING.md", "CHANGELOG.md")] + sorted((TOP / "docs").glob("*.md"))
@@ -282,7 +294,7 @@ def main():
         wrong += len(found)
     constructions, kept = check_prose.constructions(PAGES)
     others = (*constructions, *make_python.stale(), *check_definitions.definitions(), *not_exported(), *not_run())
-    others += (*not_called(), *layout(), *too_long())
+    others += (*not_called(), *lenient(), *layout(), *too_long())
     for it in (*(f"c/peltzivar.h: {it}" for it in check_header.header(wanted)), *others):
         print(it)
         wrong += 1

@@ -1,9 +1,13 @@
 #!/usr/bin/env python3
-"""Tests what erase.py adds to the words of a source, and what it keeps of its comments: the documentation of each made
-file equals the documentation of its source, after the changes of documentation.py in the library; the functions in SHOWN, and no others,
-have their clauses besides, and a sentence for each, with the cues of CUES and names of the clause only; and a public
-function has `#[must_use]` if and only if it returns something that is not a `Result`. The last line is `N passed, M
-failed`.
+"""Tests what erase.py adds to the words of a source, and what it keeps of its comments:
+
+- The documentation of each made file equals the documentation of its source, after the changes of documentation.py in
+  the library.
+- The functions in SHOWN, and no others, have their clauses besides, and a sentence for each, with the cues of CUES and
+  names of the clause only. The meanings in STD have the words of MEANT.
+- A public function has `#[must_use]` if and only if it returns something that is not a `Result`.
+
+The last line is `N passed, M failed`.
 """
 import difflib
 import re
@@ -39,6 +43,32 @@ ADDED = [
 ]  # fmt: skip
 STRANGE = ["a.rt", "a.antt", "In plain Rust", "in plain Rust", "the crate below", "crates above", "is not proved",
            "has no such function", "Search", "the search", "word::STANDARD"]  # fmt: skip
+
+# The words of each meaning in STD, without the words in SMALL. Each was compared with its definition in Rattle's std.
+SMALL = "the The is of if a an and it for in which that each by or to as are".split()
+MEANT = """
+    natural numbers / truth values `true` `false` / `[]` empty list `x ∷ xs` `x` followed `xs` `xs ++ ys` `xs` followed `ys`
+    / As Rust `None` `Some value` / `x ≡ y` holds both equal `x ≢ y` they not / If only
+    / `A → B` holds `B` follows from `A` `(x : T) → A` holds `A` does every `x` type `T` Between types type functions
+    / And `.0` `.1` two parts / Or / It always holds / It never holds / `λ x. t` function returns `t` `x`
+    / Addition `*` `/` `%` `^` multiplication division without remainder remainder power
+    / Subtraction returns 0 second number larger / `a < b` holds `a` less than `b` `a ≤ b` at most `b`
+    / `x == y` truth value `x ≡ y` numbers `beq x y` one truth values
+    / `a && b` true both `a || b` one `not a` `a` false / `if b then x else y` `x` `b` true `y` otherwise
+    / `nat_le a b` truth value `a ≤ b` `nat_lt a b` one `a < b` / `min a b` smaller two numbers
+    / `IsTrue b` holds `b` `true` `IsFalse b` `false`
+    / `OkIff result P x` holds `result` `Ok x` `P` holds `Err` `P` does not
+    / `IfOk result P` holds `result` `Err` `Ok x` `P` holds `x` / `IfErr result P` holds `result` `Ok` `Err x` `P` holds `x`
+    / `All P xs` holds `P` holds entry `xs` `AllByRecursion` same
+    / `AllZip P xs ys` holds both lists have one length `P` holds two entries at one index / number entries list
+    / `take n xs` list first `n` entries `xs` / `range_with_len start n` list `n` numbers from `start` up
+    / `map f xs` list `f x` `x` `xs` / `flat_map f xs` joins lists `f x` `x` `xs`
+    / `filter p xs` list `x` `xs` `p x` true / `filter_map f xs` list `y` `f x` `Some y` `x` `xs`
+    / `list_any p xs` true `p x` true some `x` `xs` `list_all p xs` / `sum_by f xs` sum `f x` `x` `xs`
+    / `last_or option xs` `Some` last entry `xs` `option` `xs` empty
+    / `position p xs` `Some` index first entry `p` true `None` / `unwrap_or option x` value `option` `x` `None`
+    / `codes text` list bytes text
+"""
 
 # The code that follows each reason of an `unsafe` in the exports.
 SAFETY = {
@@ -112,6 +142,11 @@ def added(old, new):
     return " ".join(word for kind, _, _, start, end in codes if kind != "equal" for word in new[start:end])
 
 
+def words_of_meaning(text):
+    """Returns the words and the pieces of code of a text, except for the words in SMALL."""
+    return " ".join(it for it in re.findall(r"`[^`]+`|\w+", text) if it not in SMALL)
+
+
 def names_of_shown(text):
     """The names of the functions whose documentation has a part `Proved`, in their order."""
     after = r"/// # Proved\n(?: *(?:///|//|#\[).*\n)* *pub (?:const )?fn (\w+)"
@@ -164,6 +199,8 @@ def rows():
             yield f"{name}: // SAFETY: {reason}: {line}", True, bool(re.fullmatch(SAFETY.get(reason, "nothing"), line))
     yield "the functions with clauses", sorted(SHOWN), sorted(found)
     yield "PHRASES", ADDED, [added(*it) for it in documentation.PHRASES]
+    for (name, text), words in zip(documentation.STD.items(), re.split(r"\s/\s", MEANT), strict=True):
+        yield f"STD: {name}", " ".join(words.split()), words_of_meaning(text)
     for text in STRANGE:
         yield f"FOREIGN: {text}", True, bool(documentation.FOREIGN.search(text))
 

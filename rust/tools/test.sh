@@ -21,18 +21,23 @@ has cargo || lacking=cargo
 # eraser: that the plain Rust is what erase.py makes.
 eraser() {
     passes tools/erase.py --check
-    passes tools/erase_test.py
-    passes tools/erase_docs_test.py
-    passes tools/erase_tables_test.py
+    counts 918 tools/erase_test.py
+    counts 639 tools/erase_docs_test.py
+    counts 62 tools/erase_tables_test.py
 }
 needing python3 needing rustfmt eraser
 needing python3 passes ../compare/names.py --check ../docs/RUST.md
 # names.py refuses a page without that table.
 needing python3 passes bash -c '../compare/names.py --check ../README.md 2> /dev/null | grep "another table"'
-needing python3 passes tools/public_test.py
+needing python3 counts 1008 tools/public_test.py
 needing cargo-fmt passes cargo fmt --all --check
 needing cargo-clippy passes cargo clippy --quiet --workspace --all-targets -- -D warnings
 passes cargo test
+# Each `#[test]` of the files was run, and none is ignored.
+attributes=$(find . -name target -prune -o -name '*.rs' -exec cat {} + | grep -c '^ *#\[test\]$')
+listed='cargo test --quiet --lib --bins --tests --examples -- --list'
+listed="echo \$($listed | grep -c ': test\$') tests, \$($listed --ignored | grep -c ': test\$') ignored"
+prints 0 "$attributes tests, 0 ignored" bash -c "$listed"
 # The program of docs/RUST.md: its assertions hold when it runs.
 passes cargo run --quiet --example face_program
 # The least version of Rust, if a folder of the PATH has it, as one has with Debian's `rustc-web` and `cargo-web`.
@@ -48,7 +53,7 @@ needing "rustc $least" passes env CARGO_TARGET_DIR="$work/least" RUSTC="$found/r
     "$found/cargo" test --quiet --workspace --lib --bins --tests --examples
 passes env RUSTDOCFLAGS=-Dwarnings cargo doc --quiet --no-deps --workspace
 needing python3 passes tools/check_doc.py "$CARGO_TARGET_DIR/doc"
-needing python3 passes tools/check_doc_test.py
+needing python3 counts 8 tools/check_doc_test.py
 passes tools/dropping_in_test.sh
 passes cargo package --quiet --package peltzivar --allow-dirty
 shows ../README.md "cd rust && cargo run" cargo run --quiet
@@ -59,4 +64,4 @@ head -c 1020 /dev/zero > "$work/short"
 short="trap '' XFSZ; ulimit -f 1; '$CARGO_TARGET_DIR/debug/numfmt' show 0xC >> '$work/short'; echo \$?"
 prints 0 3 bash -c "$short"
 needing cc needing python3 passes ../crates/numfmt/built-program-test.sh "$CARGO_TARGET_DIR/debug/numfmt"
-counted 24
+counted 25
