@@ -129,7 +129,7 @@ def tables():
         for file, names in needed(call).items():
             crates.setdefault(file.split(".")[0], []).append(f"`{file.split('.')[-1]}` {lines(file, names)}")
         title = ", ".join(f"`{name}`" for name in CALLS.get(call, [])) or "all of these"
-        places = "; ".join(f"`{crate}`: {', '.join(its)}" for crate, its in crates.items())
+        places = ", ".join(f"`{crate}` ({', '.join(its)})" for crate, its in crates.items())
         calls += f"| {title} | {places} | {total(call)} |\n"
     others, crates = "| Crate | Other files of `specs/`, with their first comments |\n|---|---|\n", {}
     for file in FILES:
