@@ -93,7 +93,7 @@ def getters():
     for _, name, meaning in check_format.FLAGS:
         lines += getter(name, "bool", f"self._flag(Setter.{name.upper()})", f"If true, a parser {meaning}.")
     for name, _, meaning in check_format.GROUPS:
-        told = f"True if any flag of the group is set: {meaning}."
+        told = f"True if any of the flags that {meaning} is set."
         lines += getter(name, "bool", f"self._flag(Setter.{name.upper()})", told)
     for *_, name, meaning in check_format.BYTES:
         told = re.sub("^.*; (else )?", "", meaning).replace("×", "*")

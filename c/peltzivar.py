@@ -464,7 +464,7 @@ class FormatView:
 
     @property
     def required_fraction_digits(self) -> bool:
-        """If true, a parser refuses `1.`."""
+        """If true, a parser refuses `1.` but accepts `1`."""
         return self._flag(Setter.REQUIRED_FRACTION_DIGITS)
 
     @property
@@ -479,7 +479,7 @@ class FormatView:
 
     @property
     def no_positive_mantissa_sign(self) -> bool:
-        """If true, a parser refuses `+1`."""
+        """If true, a parser refuses `+1` but accepts `-1`."""
         return self._flag(Setter.NO_POSITIVE_MANTISSA_SIGN)
 
     @property
@@ -494,7 +494,7 @@ class FormatView:
 
     @property
     def no_positive_exponent_sign(self) -> bool:
-        """If true, a parser refuses `1e+5`."""
+        """If true, a parser refuses `1e+5` but accepts `1e5` and `1e-5`."""
         return self._flag(Setter.NO_POSITIVE_EXPONENT_SIGN)
 
     @property
@@ -504,7 +504,7 @@ class FormatView:
 
     @property
     def no_exponent_without_fraction(self) -> bool:
-        """If true, a parser refuses `1e5`, not `1.0e5`."""
+        """If true, a parser refuses `1e5` but accepts `1.0e5`."""
         return self._flag(Setter.NO_EXPONENT_WITHOUT_FRACTION)
 
     @property
@@ -514,17 +514,17 @@ class FormatView:
 
     @property
     def case_sensitive_special(self) -> bool:
-        """If true, a parser refuses `nan`, if `NaN` is the spelling."""
+        """If true, a parser refuses `nan` when the spelling is `NaN`."""
         return self._flag(Setter.CASE_SENSITIVE_SPECIAL)
 
     @property
     def no_integer_leading_zeros(self) -> bool:
-        """If true, a parser refuses `01` as an integer, not `0`."""
+        """If true, a parser refuses the integer `01` but accepts `0`."""
         return self._flag(Setter.NO_INTEGER_LEADING_ZEROS)
 
     @property
     def no_float_leading_zeros(self) -> bool:
-        """If true, a parser refuses `01.0`, not `0.1`."""
+        """If true, a parser refuses `01.0` but accepts `0.1`."""
         return self._flag(Setter.NO_FLOAT_LEADING_ZEROS)
 
     @property
@@ -534,17 +534,17 @@ class FormatView:
 
     @property
     def case_sensitive_exponent(self) -> bool:
-        """If true, a parser refuses `1E5`, if the exponent character is `e`."""
+        """If true, a parser refuses `1E5` when the exponent character is `e`."""
         return self._flag(Setter.CASE_SENSITIVE_EXPONENT)
 
     @property
     def case_sensitive_base_prefix(self) -> bool:
-        """If true, a parser refuses `0X1F`, if the base prefix is `x`."""
+        """If true, a parser refuses `0X1F` when the base prefix is `x`."""
         return self._flag(Setter.CASE_SENSITIVE_BASE_PREFIX)
 
     @property
     def case_sensitive_base_suffix(self) -> bool:
-        """If true, a parser refuses `1FH`, if the base suffix is `h`."""
+        """If true, a parser refuses `1FH` when the base suffix is `h`."""
         return self._flag(Setter.CASE_SENSITIVE_BASE_SUFFIX)
 
     @property
@@ -594,67 +594,67 @@ class FormatView:
 
     @property
     def integer_consecutive_digit_separator(self) -> bool:
-        """If true, a parser accepts `1__2` if it accepts `1_2`, `__12` if `_12`, and `12__` if `12_`."""
+        """If true, a parser accepts `1__2`, `__12` or `12__` whenever it accepts `1_2`, `_12` or `12_`, respectively."""
         return self._flag(Setter.INTEGER_CONSECUTIVE_DIGIT_SEPARATOR)
 
     @property
     def fraction_consecutive_digit_separator(self) -> bool:
-        """If true, a parser accepts `0.1__2` if it accepts `0.1_2`, `0.__12` if `0._12`, and `0.12__` if `0.12_`."""
+        """If true, a parser accepts `0.1__2`, `0.__12` or `0.12__` whenever it accepts `0.1_2`, `0._12` or `0.12_`, respectively."""
         return self._flag(Setter.FRACTION_CONSECUTIVE_DIGIT_SEPARATOR)
 
     @property
     def exponent_consecutive_digit_separator(self) -> bool:
-        """If true, a parser accepts `1e1__2` if it accepts `1e1_2`, `1e__12` if `1e_12`, and `1e12__` if `1e12_`."""
+        """If true, a parser accepts `1e1__2`, `1e__12` or `1e12__` whenever it accepts `1e1_2`, `1e_12` or `1e12_`, respectively."""
         return self._flag(Setter.EXPONENT_CONSECUTIVE_DIGIT_SEPARATOR)
 
     @property
     def special_digit_separator(self) -> bool:
-        """If true, a parser accepts `N__a_N_` for `NaN`."""
+        """If true, a parser accepts `N__a_N_` as `NaN`."""
         return self._flag(Setter.SPECIAL_DIGIT_SEPARATOR)
 
     @property
     def required_digits(self) -> bool:
-        """True if any flag of the group is set: digits that must be present."""
+        """True if any of the flags that require digits is set."""
         return self._flag(Setter.REQUIRED_DIGITS)
 
     @property
     def internal_digit_separator(self) -> bool:
-        """True if any flag of the group is set: a separator between digits."""
+        """True if any of the flags that allow a digit separator between digits is set."""
         return self._flag(Setter.INTERNAL_DIGIT_SEPARATOR)
 
     @property
     def leading_digit_separator(self) -> bool:
-        """True if any flag of the group is set: a separator before digits."""
+        """True if any of the flags that allow a digit separator before digits is set."""
         return self._flag(Setter.LEADING_DIGIT_SEPARATOR)
 
     @property
     def trailing_digit_separator(self) -> bool:
-        """True if any flag of the group is set: a separator after digits."""
+        """True if any of the flags that allow a digit separator after digits is set."""
         return self._flag(Setter.TRAILING_DIGIT_SEPARATOR)
 
     @property
     def consecutive_digit_separator(self) -> bool:
-        """True if any flag of the group is set: consecutive separators."""
+        """True if any of the flags that allow consecutive digit separators is set."""
         return self._flag(Setter.CONSECUTIVE_DIGIT_SEPARATOR)
 
     @property
     def digit_separator_flags(self) -> bool:
-        """True if any flag of the group is set: every separator."""
+        """True if any of the flags that allow digit separators is set."""
         return self._flag(Setter.DIGIT_SEPARATOR_FLAGS)
 
     @property
     def integer_digit_separator_flags(self) -> bool:
-        """True if any flag of the group is set: separators in the integer."""
+        """True if any of the flags that allow digit separators in the integer is set."""
         return self._flag(Setter.INTEGER_DIGIT_SEPARATOR_FLAGS)
 
     @property
     def fraction_digit_separator_flags(self) -> bool:
-        """True if any flag of the group is set: separators in the fraction."""
+        """True if any of the flags that allow digit separators in the fraction is set."""
         return self._flag(Setter.FRACTION_DIGIT_SEPARATOR_FLAGS)
 
     @property
     def exponent_digit_separator_flags(self) -> bool:
-        """True if any flag of the group is set: separators in the exponent."""
+        """True if any of the flags that allow digit separators in the exponent is set."""
         return self._flag(Setter.EXPONENT_DIGIT_SEPARATOR_FLAGS)
 
     @property
@@ -664,12 +664,12 @@ class FormatView:
 
     @property
     def base_prefix(self) -> Optional[str]:
-        """The byte that may follow a leading zero to show the radix, such as the `x` in `0x1F`; None if it is absent."""
+        """The byte that may follow a leading zero to indicate the radix, such as the `x` in `0x1F`; None if it is absent."""
         return _character(self._fields().base_prefix)
 
     @property
     def base_suffix(self) -> Optional[str]:
-        """The byte that may follow the digits to show the radix, such as the `h` in `1Fh`; None if it is absent."""
+        """The byte that may follow the digits to indicate the radix, such as the `h` in `1Fh`; None if it is absent."""
         return _character(self._fields().base_suffix)
 
     @property
@@ -684,7 +684,7 @@ class FormatView:
 
     @property
     def exponent_radix(self) -> int:
-        """The radix of the digits of an exponent; the mantissa radix if it is absent."""
+        """The radix of the exponent digits; the mantissa radix if it is absent."""
         return int(self._fields().exponent_radix)
 
     # End

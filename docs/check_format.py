@@ -18,7 +18,7 @@ POINTING = ["flags/src/format_flags", "builder/src/format_builder/getters"]
 POINTING += ["util/src/feature_format", "util/src/feature_format/getters"]
 # The words that a group's text has if and only if the group's name has the other ones.
 CUES = {
-    "required": "must",
+    "required": "require",
     "internal": "between",
     "leading": "before",
     "trailing": "after",
@@ -84,8 +84,8 @@ def docs_of(setter):
 
 def meanings():
     """Returns the meanings of flags, groups and bytes that differ from their setters."""
-    told = [(name, f"If set, a parser {meaning}") for _, name, meaning in FLAGS]
-    told += [(name, f"Sets all flags of the group: {meaning}") for name, _, meaning in GROUPS]
+    told = [(name, f"If so, a parser {meaning}") for _, name, meaning in FLAGS]
+    told += [(name, f"Sets all flags that {meaning}") for name, _, meaning in GROUPS]
     told += [(name, re.sub("^.*; (else )?", "", meaning)) for _, _, name, meaning in BYTES]
     for name, meaning in told:
         if not re.search(re.escape(meaning) + "[.:,;]", docs_of(name)):
@@ -103,7 +103,7 @@ def first_lines():
         found = ((re.sub("(?<=[a-z])(?=[A-Z])", "_", name).lower(), comment) for comment, name in found)
         docs = {name: " ".join(comment.replace("///", "").split()) for name, comment in found}
         for _, name, meaning in FLAGS:
-            if not re.search(rf"a parser {re.escape(meaning)}[ :,]", docs.get(name, "")):
+            if not re.search(rf"a parser {re.escape(meaning)}[.,]", docs.get(name, "")):
                 yield f"rust/src/{path}.rs: the comment of `{name}` does not have: {meaning}"
 
 

@@ -50,7 +50,7 @@ def flags():
 def groups():
     """Returns the groups of flags, each with its bits."""
     for name, bits, meaning in check_format.GROUPS:
-        yield {"name": name, "bits": [*map(int, bits.split())], "meaning": meaning}
+        yield {"name": name, "bits": [*map(int, bits.split())], "meaning": f"flags that {meaning}"}
 
 
 def fields():

@@ -40,7 +40,7 @@ class Controls {
             const flags = this.data.flags.filter((flag) => flag.section === title);
             const isOfGroup = flags.some(({ bit }) => group.bits.includes(bit));
             const rows = flags.map((flag) => this.flagRow(flag, flag.meaning));
-            const meaning = `all flags of the group: ${group.meaning}`;
+            const meaning = `all ${group.meaning}`;
             if (isOfGroup) rows.unshift(this.flagRow({ ...group, part: "group" }, meaning));
             find("flags").append(element("fieldset", {}, element("legend", {}, title), rows));
         }

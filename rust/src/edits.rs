@@ -77,131 +77,138 @@ pub use text::{byte_from_decimal, SettingError};
 #[derive(Debug, Clone, Copy, PartialEq, Eq, Hash, PartialOrd, Ord)]
 #[non_exhaustive]
 pub enum FlagSetter {
-    /// If set, a parser refuses `.5`: the flag requires digits before the decimal point
-    /// ([`required_integer_digits`][crate::format_builder::NumberFormatBuilder::required_integer_digits]).
+    /// Sets whether the format requires digits before the decimal point. If so, a parser refuses `.5`. See
+    /// [`required_integer_digits`][crate::format_builder::NumberFormatBuilder::required_integer_digits].
     RequiredIntegerDigits,
-    /// If set, a parser refuses `1.`: the flag requires digits after a decimal point
-    /// ([`required_fraction_digits`][crate::format_builder::NumberFormatBuilder::required_fraction_digits]).
+    /// Sets whether the format requires digits after a decimal point. If so, a parser refuses `1.` but accepts `1`.
+    /// See [`required_fraction_digits`][crate::format_builder::NumberFormatBuilder::required_fraction_digits].
     RequiredFractionDigits,
-    /// If set, a parser refuses `1e`: the flag requires digits after an exponent character
-    /// ([`required_exponent_digits`][crate::format_builder::NumberFormatBuilder::required_exponent_digits]).
+    /// Sets whether the format requires digits after an exponent character. If so, a parser refuses `1e`. See
+    /// [`required_exponent_digits`][crate::format_builder::NumberFormatBuilder::required_exponent_digits].
     RequiredExponentDigits,
-    /// If set, a parser refuses `.`: the flag requires a significant digit in a float
-    /// ([`required_mantissa_digits`][crate::format_builder::NumberFormatBuilder::required_mantissa_digits]).
+    /// Sets whether the format requires a digit in the mantissa of a float. If so, a parser refuses `.`. See
+    /// [`required_mantissa_digits`][crate::format_builder::NumberFormatBuilder::required_mantissa_digits].
     RequiredMantissaDigits,
-    /// If set, a parser refuses `+1`: the flag forbids a `+` before an integer or a float
-    /// ([`no_positive_mantissa_sign`][crate::format_builder::NumberFormatBuilder::no_positive_mantissa_sign]).
+    /// Sets whether the format forbids a `+` before an integer or a float. If so, a parser refuses `+1` but accepts
+    /// `-1`. See [`no_positive_mantissa_sign`][crate::format_builder::NumberFormatBuilder::no_positive_mantissa_sign].
     NoPositiveMantissaSign,
-    /// If set, a parser refuses `1`: the flag requires a sign before an integer or a float
-    /// ([`required_mantissa_sign`][crate::format_builder::NumberFormatBuilder::required_mantissa_sign]).
+    /// Sets whether the format requires a sign before an integer or a float. If so, a parser refuses `1`, and a writer
+    /// writes `+1`. See
+    /// [`required_mantissa_sign`][crate::format_builder::NumberFormatBuilder::required_mantissa_sign].
     RequiredMantissaSign,
-    /// If set, a parser refuses `1e5`: the flag forbids an exponent in a float
-    /// ([`no_exponent_notation`][crate::format_builder::NumberFormatBuilder::no_exponent_notation]).
+    /// Sets whether the format forbids an exponent in a float. If so, a parser refuses `1e5`, and a writer writes all
+    /// digits instead. See [`no_exponent_notation`][crate::format_builder::NumberFormatBuilder::no_exponent_notation].
     NoExponentNotation,
-    /// If set, a parser refuses `1e+5`: the flag forbids a `+` in the exponent
-    /// ([`no_positive_exponent_sign`][crate::format_builder::NumberFormatBuilder::no_positive_exponent_sign]).
+    /// Sets whether the format forbids a `+` in the exponent. If so, a parser refuses `1e+5` but accepts `1e5` and
+    /// `1e-5`. See
+    /// [`no_positive_exponent_sign`][crate::format_builder::NumberFormatBuilder::no_positive_exponent_sign].
     NoPositiveExponentSign,
-    /// If set, a parser refuses `1e5`: the flag requires a sign in the exponent
-    /// ([`required_exponent_sign`][crate::format_builder::NumberFormatBuilder::required_exponent_sign]).
+    /// Sets whether the format requires a sign in the exponent. If so, a parser refuses `1e5`, and a writer writes
+    /// `1e+5`. See [`required_exponent_sign`][crate::format_builder::NumberFormatBuilder::required_exponent_sign].
     RequiredExponentSign,
-    /// If set, a parser refuses `1e5`, not `1.0e5`: the flag requires a decimal point before an exponent, but no
-    /// digits after that point
-    /// ([`no_exponent_without_fraction`][crate::format_builder::NumberFormatBuilder::no_exponent_without_fraction]).
+    /// Sets whether the format requires a decimal point before an exponent. If so, a parser refuses `1e5` but accepts
+    /// `1.0e5`. See
+    /// [`no_exponent_without_fraction`][crate::format_builder::NumberFormatBuilder::no_exponent_without_fraction].
     NoExponentWithoutFraction,
-    /// If set, a parser refuses `NaN` and `inf`, and every other special value: the flag forbids special values
-    /// ([`no_special`][crate::format_builder::NumberFormatBuilder::no_special]).
+    /// Sets whether the format forbids all special values. If so, a parser refuses `NaN` and `inf`. See
+    /// [`no_special`][crate::format_builder::NumberFormatBuilder::no_special].
     NoSpecial,
-    /// If set, a parser refuses `nan`, if `NaN` is the spelling: the flag makes special values case-sensitive
-    /// ([`case_sensitive_special`][crate::format_builder::NumberFormatBuilder::case_sensitive_special]).
+    /// Sets whether special values are case-sensitive. If so, a parser refuses `nan` when the spelling is `NaN`. See
+    /// [`case_sensitive_special`][crate::format_builder::NumberFormatBuilder::case_sensitive_special].
     CaseSensitiveSpecial,
-    /// If set, a parser refuses `01` as an integer, not `0`: the flag forbids leading zeros in an integer
-    /// ([`no_integer_leading_zeros`][crate::format_builder::NumberFormatBuilder::no_integer_leading_zeros]).
+    /// Sets whether the format forbids leading zeros in an integer. If so, a parser refuses the integer `01` but
+    /// accepts `0`. See
+    /// [`no_integer_leading_zeros`][crate::format_builder::NumberFormatBuilder::no_integer_leading_zeros].
     NoIntegerLeadingZeros,
-    /// If set, a parser refuses `01.0`, not `0.1`: the flag forbids leading zeros in a float
-    /// ([`no_float_leading_zeros`][crate::format_builder::NumberFormatBuilder::no_float_leading_zeros]).
+    /// Sets whether the format forbids leading zeros in a float. If so, a parser refuses `01.0` but accepts `0.1`. See
+    /// [`no_float_leading_zeros`][crate::format_builder::NumberFormatBuilder::no_float_leading_zeros].
     NoFloatLeadingZeros,
-    /// If set, a parser refuses `1.0`: the flag requires an exponent in a float
-    /// ([`required_exponent_notation`][crate::format_builder::NumberFormatBuilder::required_exponent_notation]).
+    /// Sets whether the format requires an exponent in a float. If so, a parser refuses `1.0`, and a writer writes
+    /// every float with an exponent. See
+    /// [`required_exponent_notation`][crate::format_builder::NumberFormatBuilder::required_exponent_notation].
     RequiredExponentNotation,
-    /// If set, a parser refuses `1E5`, if the exponent character is `e`: the flag makes the exponent character
-    /// case-sensitive
-    /// ([`case_sensitive_exponent`][crate::format_builder::NumberFormatBuilder::case_sensitive_exponent]).
+    /// Sets whether the exponent character is case-sensitive. If so, a parser refuses `1E5` when the exponent
+    /// character is `e`. See
+    /// [`case_sensitive_exponent`][crate::format_builder::NumberFormatBuilder::case_sensitive_exponent].
     CaseSensitiveExponent,
-    /// If set, a parser refuses `0X1F`, if the base prefix is `x`: the flag makes the base prefix case-sensitive
-    /// ([`case_sensitive_base_prefix`][crate::format_builder::NumberFormatBuilder::case_sensitive_base_prefix]).
+    /// Sets whether the base prefix is case-sensitive. If so, a parser refuses `0X1F` when the base prefix is `x`. See
+    /// [`case_sensitive_base_prefix`][crate::format_builder::NumberFormatBuilder::case_sensitive_base_prefix].
     CaseSensitiveBasePrefix,
-    /// If set, a parser refuses `1FH`, if the base suffix is `h`: the flag makes the base suffix case-sensitive
-    /// ([`case_sensitive_base_suffix`][crate::format_builder::NumberFormatBuilder::case_sensitive_base_suffix]).
+    /// Sets whether the base suffix is case-sensitive. If so, a parser refuses `1FH` when the base suffix is `h`. See
+    /// [`case_sensitive_base_suffix`][crate::format_builder::NumberFormatBuilder::case_sensitive_base_suffix].
     CaseSensitiveBaseSuffix,
-    /// If set, a parser accepts `1_2`: the flag allows a digit separator between integer digits
-    /// ([`integer_internal_digit_separator`][crate::format_builder::NumberFormatBuilder::integer_internal_digit_separator]).
+    /// Sets whether the format allows a digit separator between integer digits. If so, a parser accepts `1_2`. See
+    /// [`integer_internal_digit_separator`][crate::format_builder::NumberFormatBuilder::integer_internal_digit_separator].
     IntegerInternalDigitSeparator,
-    /// If set, a parser accepts `0.1_2`: the flag allows a digit separator between fraction digits
-    /// ([`fraction_internal_digit_separator`][crate::format_builder::NumberFormatBuilder::fraction_internal_digit_separator]).
+    /// Sets whether the format allows a digit separator between fraction digits. If so, a parser accepts `0.1_2`. See
+    /// [`fraction_internal_digit_separator`][crate::format_builder::NumberFormatBuilder::fraction_internal_digit_separator].
     FractionInternalDigitSeparator,
-    /// If set, a parser accepts `1e1_2`: the flag allows a digit separator between exponent digits
-    /// ([`exponent_internal_digit_separator`][crate::format_builder::NumberFormatBuilder::exponent_internal_digit_separator]).
+    /// Sets whether the format allows a digit separator between exponent digits. If so, a parser accepts `1e1_2`. See
+    /// [`exponent_internal_digit_separator`][crate::format_builder::NumberFormatBuilder::exponent_internal_digit_separator].
     ExponentInternalDigitSeparator,
-    /// If set, a parser accepts `_12`: the flag allows a digit separator before integer digits
-    /// ([`integer_leading_digit_separator`][crate::format_builder::NumberFormatBuilder::integer_leading_digit_separator]).
+    /// Sets whether the format allows a digit separator before the integer digits. If so, a parser accepts `_12`. See
+    /// [`integer_leading_digit_separator`][crate::format_builder::NumberFormatBuilder::integer_leading_digit_separator].
     IntegerLeadingDigitSeparator,
-    /// If set, a parser accepts `0._12`: the flag allows a digit separator before fraction digits
-    /// ([`fraction_leading_digit_separator`][crate::format_builder::NumberFormatBuilder::fraction_leading_digit_separator]).
+    /// Sets whether the format allows a digit separator before the fraction digits. If so, a parser accepts `0._12`.
+    /// See
+    /// [`fraction_leading_digit_separator`][crate::format_builder::NumberFormatBuilder::fraction_leading_digit_separator].
     FractionLeadingDigitSeparator,
-    /// If set, a parser accepts `1e_12`: the flag allows a digit separator before exponent digits
-    /// ([`exponent_leading_digit_separator`][crate::format_builder::NumberFormatBuilder::exponent_leading_digit_separator]).
+    /// Sets whether the format allows a digit separator before the exponent digits. If so, a parser accepts `1e_12`.
+    /// See
+    /// [`exponent_leading_digit_separator`][crate::format_builder::NumberFormatBuilder::exponent_leading_digit_separator].
     ExponentLeadingDigitSeparator,
-    /// If set, a parser accepts `12_`: the flag allows a digit separator after integer digits
-    /// ([`integer_trailing_digit_separator`][crate::format_builder::NumberFormatBuilder::integer_trailing_digit_separator]).
+    /// Sets whether the format allows a digit separator after the integer digits. If so, a parser accepts `12_`. See
+    /// [`integer_trailing_digit_separator`][crate::format_builder::NumberFormatBuilder::integer_trailing_digit_separator].
     IntegerTrailingDigitSeparator,
-    /// If set, a parser accepts `0.12_`: the flag allows a digit separator after fraction digits
-    /// ([`fraction_trailing_digit_separator`][crate::format_builder::NumberFormatBuilder::fraction_trailing_digit_separator]).
+    /// Sets whether the format allows a digit separator after the fraction digits. If so, a parser accepts `0.12_`.
+    /// See
+    /// [`fraction_trailing_digit_separator`][crate::format_builder::NumberFormatBuilder::fraction_trailing_digit_separator].
     FractionTrailingDigitSeparator,
-    /// If set, a parser accepts `1e12_`: the flag allows a digit separator after exponent digits
-    /// ([`exponent_trailing_digit_separator`][crate::format_builder::NumberFormatBuilder::exponent_trailing_digit_separator]).
+    /// Sets whether the format allows a digit separator after the exponent digits. If so, a parser accepts `1e12_`.
+    /// See
+    /// [`exponent_trailing_digit_separator`][crate::format_builder::NumberFormatBuilder::exponent_trailing_digit_separator].
     ExponentTrailingDigitSeparator,
-    /// If set, a parser accepts `1__2` if it accepts `1_2`, `__12` if `_12`, and `12__` if `12_`: the flag allows
-    /// consecutive digit separators in each position of the integer that allows one
-    /// ([`integer_consecutive_digit_separator`][crate::format_builder::NumberFormatBuilder::integer_consecutive_digit_separator]).
+    /// Sets whether the format allows consecutive digit separators in the integer. If so, a parser accepts `1__2`,
+    /// `__12` or `12__` whenever it accepts `1_2`, `_12` or `12_`, respectively. See
+    /// [`integer_consecutive_digit_separator`][crate::format_builder::NumberFormatBuilder::integer_consecutive_digit_separator].
     IntegerConsecutiveDigitSeparator,
-    /// If set, a parser accepts `0.1__2` if it accepts `0.1_2`, `0.__12` if `0._12`, and `0.12__` if `0.12_`: the flag
-    /// allows consecutive digit separators in each position of the fraction that allows one
-    /// ([`fraction_consecutive_digit_separator`][crate::format_builder::NumberFormatBuilder::fraction_consecutive_digit_separator]).
+    /// Sets whether the format allows consecutive digit separators in the fraction. If so, a parser accepts `0.1__2`,
+    /// `0.__12` or `0.12__` whenever it accepts `0.1_2`, `0._12` or `0.12_`, respectively. See
+    /// [`fraction_consecutive_digit_separator`][crate::format_builder::NumberFormatBuilder::fraction_consecutive_digit_separator].
     FractionConsecutiveDigitSeparator,
-    /// If set, a parser accepts `1e1__2` if it accepts `1e1_2`, `1e__12` if `1e_12`, and `1e12__` if `1e12_`: the flag
-    /// allows consecutive digit separators in each position of the exponent that allows one
-    /// ([`exponent_consecutive_digit_separator`][crate::format_builder::NumberFormatBuilder::exponent_consecutive_digit_separator]).
+    /// Sets whether the format allows consecutive digit separators in the exponent. If so, a parser accepts `1e1__2`,
+    /// `1e__12` or `1e12__` whenever it accepts `1e1_2`, `1e_12` or `1e12_`, respectively. See
+    /// [`exponent_consecutive_digit_separator`][crate::format_builder::NumberFormatBuilder::exponent_consecutive_digit_separator].
     ExponentConsecutiveDigitSeparator,
-    /// If set, a parser accepts `N__a_N_` for `NaN`: the flag allows digit separators before, between and after the
-    /// letters of a special value, also consecutive ones
-    /// ([`special_digit_separator`][crate::format_builder::NumberFormatBuilder::special_digit_separator]).
+    /// Sets whether the format allows digit separators in special values. If so, a parser accepts `N__a_N_` as `NaN`.
+    /// See [`special_digit_separator`][crate::format_builder::NumberFormatBuilder::special_digit_separator].
     SpecialDigitSeparator,
-    /// The flags of a group: digits that must be present
-    /// ([`required_digits`][crate::format_builder::NumberFormatBuilder::required_digits]).
+    /// Sets all flags that require digits. See
+    /// [`required_digits`][crate::format_builder::NumberFormatBuilder::required_digits].
     RequiredDigits,
-    /// The flags of a group: a separator between digits
-    /// ([`internal_digit_separator`][crate::format_builder::NumberFormatBuilder::internal_digit_separator]).
+    /// Sets all flags that allow a digit separator between digits. See
+    /// [`internal_digit_separator`][crate::format_builder::NumberFormatBuilder::internal_digit_separator].
     InternalDigitSeparator,
-    /// The flags of a group: a separator before digits
-    /// ([`leading_digit_separator`][crate::format_builder::NumberFormatBuilder::leading_digit_separator]).
+    /// Sets all flags that allow a digit separator before digits. See
+    /// [`leading_digit_separator`][crate::format_builder::NumberFormatBuilder::leading_digit_separator].
     LeadingDigitSeparator,
-    /// The flags of a group: a separator after digits
-    /// ([`trailing_digit_separator`][crate::format_builder::NumberFormatBuilder::trailing_digit_separator]).
+    /// Sets all flags that allow a digit separator after digits. See
+    /// [`trailing_digit_separator`][crate::format_builder::NumberFormatBuilder::trailing_digit_separator].
     TrailingDigitSeparator,
-    /// The flags of a group: consecutive separators, where one is allowed
-    /// ([`consecutive_digit_separator`][crate::format_builder::NumberFormatBuilder::consecutive_digit_separator]).
+    /// Sets all flags that allow consecutive digit separators. See
+    /// [`consecutive_digit_separator`][crate::format_builder::NumberFormatBuilder::consecutive_digit_separator].
     ConsecutiveDigitSeparator,
-    /// The flags of a group: every separator, including special values
-    /// ([`digit_separator_flags`][crate::format_builder::NumberFormatBuilder::digit_separator_flags]).
+    /// Sets all flags that allow digit separators. See
+    /// [`digit_separator_flags`][crate::format_builder::NumberFormatBuilder::digit_separator_flags].
     DigitSeparatorFlags,
-    /// The flags of a group: separators in the integer
-    /// ([`integer_digit_separator_flags`][crate::format_builder::NumberFormatBuilder::integer_digit_separator_flags]).
+    /// Sets all flags that allow digit separators in the integer. See
+    /// [`integer_digit_separator_flags`][crate::format_builder::NumberFormatBuilder::integer_digit_separator_flags].
     IntegerDigitSeparatorFlags,
-    /// The flags of a group: separators in the fraction
-    /// ([`fraction_digit_separator_flags`][crate::format_builder::NumberFormatBuilder::fraction_digit_separator_flags]).
+    /// Sets all flags that allow digit separators in the fraction. See
+    /// [`fraction_digit_separator_flags`][crate::format_builder::NumberFormatBuilder::fraction_digit_separator_flags].
     FractionDigitSeparatorFlags,
-    /// The flags of a group: separators in the exponent
-    /// ([`exponent_digit_separator_flags`][crate::format_builder::NumberFormatBuilder::exponent_digit_separator_flags]).
+    /// Sets all flags that allow digit separators in the exponent. See
+    /// [`exponent_digit_separator_flags`][crate::format_builder::NumberFormatBuilder::exponent_digit_separator_flags].
     ExponentDigitSeparatorFlags,
 }
 

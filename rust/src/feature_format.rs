@@ -143,116 +143,115 @@ macro_rules! methods {
 }
 
 fields! {
-    /// True if a parser refuses `.5`: the flag requires digits before the decimal point
-    /// ([setter][NumberFormatBuilder::required_integer_digits]).
+    /// True if the format requires digits before the decimal point. In that case, a parser refuses `.5`. See the
+    /// [setter][NumberFormatBuilder::required_integer_digits].
     REQUIRED_INTEGER_DIGITS required_integer_digits bool;
-    /// True if a parser refuses `1.`: the flag requires digits after a decimal point
-    /// ([setter][NumberFormatBuilder::required_fraction_digits]).
+    /// True if the format requires digits after a decimal point. In that case, a parser refuses `1.` but accepts `1`.
+    /// See the [setter][NumberFormatBuilder::required_fraction_digits].
     REQUIRED_FRACTION_DIGITS required_fraction_digits bool;
-    /// True if a parser refuses `1e`: the flag requires digits after an exponent character
-    /// ([setter][NumberFormatBuilder::required_exponent_digits]).
+    /// True if the format requires digits after an exponent character. In that case, a parser refuses `1e`. See the
+    /// [setter][NumberFormatBuilder::required_exponent_digits].
     REQUIRED_EXPONENT_DIGITS required_exponent_digits bool;
-    /// True if a parser refuses `.`: the flag requires a significant digit in a float
-    /// ([setter][NumberFormatBuilder::required_mantissa_digits]).
+    /// True if the format requires a digit in the mantissa of a float. In that case, a parser refuses `.`. See the
+    /// [setter][NumberFormatBuilder::required_mantissa_digits].
     REQUIRED_MANTISSA_DIGITS required_mantissa_digits bool;
-    /// True if any flag of a group is set: digits that must be present
-    /// ([setter][NumberFormatBuilder::required_digits]).
+    /// True if any of the flags that require digits is set. See the [setter][NumberFormatBuilder::required_digits].
     REQUIRED_DIGITS required_digits bool;
-    /// True if a parser refuses `+1`: the flag forbids a `+` before an integer or a float
-    /// ([setter][NumberFormatBuilder::no_positive_mantissa_sign]).
+    /// True if the format forbids a `+` before an integer or a float. In that case, a parser refuses `+1` but accepts
+    /// `-1`. See the [setter][NumberFormatBuilder::no_positive_mantissa_sign].
     NO_POSITIVE_MANTISSA_SIGN no_positive_mantissa_sign bool;
-    /// True if a parser refuses `1`: the flag requires a sign before an integer or a float
-    /// ([setter][NumberFormatBuilder::required_mantissa_sign]).
+    /// True if the format requires a sign before an integer or a float. In that case, a parser refuses `1`, and a
+    /// writer writes `+1`. See the [setter][NumberFormatBuilder::required_mantissa_sign].
     REQUIRED_MANTISSA_SIGN required_mantissa_sign bool;
-    /// True if a parser refuses `1e5`: the flag forbids an exponent in a float
-    /// ([setter][NumberFormatBuilder::no_exponent_notation]).
+    /// True if the format forbids an exponent in a float. In that case, a parser refuses `1e5`, and a writer writes all
+    /// digits instead. See the [setter][NumberFormatBuilder::no_exponent_notation].
     NO_EXPONENT_NOTATION no_exponent_notation bool;
-    /// True if a parser refuses `1e+5`: the flag forbids a `+` in the exponent
-    /// ([setter][NumberFormatBuilder::no_positive_exponent_sign]).
+    /// True if the format forbids a `+` in the exponent. In that case, a parser refuses `1e+5` but accepts `1e5` and
+    /// `1e-5`. See the [setter][NumberFormatBuilder::no_positive_exponent_sign].
     NO_POSITIVE_EXPONENT_SIGN no_positive_exponent_sign bool;
-    /// True if a parser refuses `1e5`: the flag requires a sign in the exponent
-    /// ([setter][NumberFormatBuilder::required_exponent_sign]).
+    /// True if the format requires a sign in the exponent. In that case, a parser refuses `1e5`, and a writer writes
+    /// `1e+5`. See the [setter][NumberFormatBuilder::required_exponent_sign].
     REQUIRED_EXPONENT_SIGN required_exponent_sign bool;
-    /// True if a parser refuses `1e5`, not `1.0e5`: the flag requires a decimal point before an exponent, but no digits
-    /// after that point ([setter][NumberFormatBuilder::no_exponent_without_fraction]).
+    /// True if the format requires a decimal point before an exponent. In that case, a parser refuses `1e5` but accepts
+    /// `1.0e5`. See the [setter][NumberFormatBuilder::no_exponent_without_fraction].
     NO_EXPONENT_WITHOUT_FRACTION no_exponent_without_fraction bool;
-    /// True if a parser refuses `NaN` and `inf`, and every other special value: the flag forbids special values
-    /// ([setter][NumberFormatBuilder::no_special]).
+    /// True if the format forbids all special values. In that case, a parser refuses `NaN` and `inf`. See the
+    /// [setter][NumberFormatBuilder::no_special].
     NO_SPECIAL no_special bool;
-    /// True if a parser refuses `nan`, if `NaN` is the spelling: the flag makes special values case-sensitive
-    /// ([setter][NumberFormatBuilder::case_sensitive_special]).
+    /// True if special values are case-sensitive. In that case, a parser refuses `nan` when the spelling is `NaN`. See
+    /// the [setter][NumberFormatBuilder::case_sensitive_special].
     CASE_SENSITIVE_SPECIAL case_sensitive_special bool;
-    /// True if a parser refuses `01` as an integer, not `0`: the flag forbids leading zeros in an integer
-    /// ([setter][NumberFormatBuilder::no_integer_leading_zeros]).
+    /// True if the format forbids leading zeros in an integer. In that case, a parser refuses the integer `01` but
+    /// accepts `0`. See the [setter][NumberFormatBuilder::no_integer_leading_zeros].
     NO_INTEGER_LEADING_ZEROS no_integer_leading_zeros bool;
-    /// True if a parser refuses `01.0`, not `0.1`: the flag forbids leading zeros in a float
-    /// ([setter][NumberFormatBuilder::no_float_leading_zeros]).
+    /// True if the format forbids leading zeros in a float. In that case, a parser refuses `01.0` but accepts `0.1`.
+    /// See the [setter][NumberFormatBuilder::no_float_leading_zeros].
     NO_FLOAT_LEADING_ZEROS no_float_leading_zeros bool;
-    /// True if a parser refuses `1.0`: the flag requires an exponent in a float
-    /// ([setter][NumberFormatBuilder::required_exponent_notation]).
+    /// True if the format requires an exponent in a float. In that case, a parser refuses `1.0`, and a writer writes
+    /// every float with an exponent. See the [setter][NumberFormatBuilder::required_exponent_notation].
     REQUIRED_EXPONENT_NOTATION required_exponent_notation bool;
-    /// True if a parser refuses `1E5`, if the exponent character is `e`: the flag makes the exponent character
-    /// case-sensitive ([setter][NumberFormatBuilder::case_sensitive_exponent]).
+    /// True if the exponent character is case-sensitive. In that case, a parser refuses `1E5` when the exponent
+    /// character is `e`. See the [setter][NumberFormatBuilder::case_sensitive_exponent].
     CASE_SENSITIVE_EXPONENT case_sensitive_exponent bool;
-    /// True if a parser refuses `0X1F`, if the base prefix is `x`: the flag makes the base prefix case-sensitive
-    /// ([setter][NumberFormatBuilder::case_sensitive_base_prefix]).
+    /// True if the base prefix is case-sensitive. In that case, a parser refuses `0X1F` when the base prefix is `x`.
+    /// See the [setter][NumberFormatBuilder::case_sensitive_base_prefix].
     CASE_SENSITIVE_BASE_PREFIX case_sensitive_base_prefix bool;
-    /// True if a parser refuses `1FH`, if the base suffix is `h`: the flag makes the base suffix case-sensitive
-    /// ([setter][NumberFormatBuilder::case_sensitive_base_suffix]).
+    /// True if the base suffix is case-sensitive. In that case, a parser refuses `1FH` when the base suffix is `h`. See
+    /// the [setter][NumberFormatBuilder::case_sensitive_base_suffix].
     CASE_SENSITIVE_BASE_SUFFIX case_sensitive_base_suffix bool;
-    /// True if a parser accepts `1_2`: the flag allows a digit separator between integer digits
-    /// ([setter][NumberFormatBuilder::integer_internal_digit_separator]).
+    /// True if the format allows a digit separator between integer digits. In that case, a parser accepts `1_2`. See
+    /// the [setter][NumberFormatBuilder::integer_internal_digit_separator].
     INTEGER_INTERNAL_DIGIT_SEPARATOR integer_internal_digit_separator bool;
-    /// True if a parser accepts `0.1_2`: the flag allows a digit separator between fraction digits
-    /// ([setter][NumberFormatBuilder::fraction_internal_digit_separator]).
+    /// True if the format allows a digit separator between fraction digits. In that case, a parser accepts `0.1_2`. See
+    /// the [setter][NumberFormatBuilder::fraction_internal_digit_separator].
     FRACTION_INTERNAL_DIGIT_SEPARATOR fraction_internal_digit_separator bool;
-    /// True if a parser accepts `1e1_2`: the flag allows a digit separator between exponent digits
-    /// ([setter][NumberFormatBuilder::exponent_internal_digit_separator]).
+    /// True if the format allows a digit separator between exponent digits. In that case, a parser accepts `1e1_2`. See
+    /// the [setter][NumberFormatBuilder::exponent_internal_digit_separator].
     EXPONENT_INTERNAL_DIGIT_SEPARATOR exponent_internal_digit_separator bool;
-    /// True if any flag of a group is set: a separator between digits
-    /// ([setter][NumberFormatBuilder::internal_digit_separator]).
+    /// True if any of the flags that allow a digit separator between digits is set. See the
+    /// [setter][NumberFormatBuilder::internal_digit_separator].
     INTERNAL_DIGIT_SEPARATOR internal_digit_separator bool;
-    /// True if a parser accepts `_12`: the flag allows a digit separator before integer digits
-    /// ([setter][NumberFormatBuilder::integer_leading_digit_separator]).
+    /// True if the format allows a digit separator before the integer digits. In that case, a parser accepts `_12`. See
+    /// the [setter][NumberFormatBuilder::integer_leading_digit_separator].
     INTEGER_LEADING_DIGIT_SEPARATOR integer_leading_digit_separator bool;
-    /// True if a parser accepts `0._12`: the flag allows a digit separator before fraction digits
-    /// ([setter][NumberFormatBuilder::fraction_leading_digit_separator]).
+    /// True if the format allows a digit separator before the fraction digits. In that case, a parser accepts `0._12`.
+    /// See the [setter][NumberFormatBuilder::fraction_leading_digit_separator].
     FRACTION_LEADING_DIGIT_SEPARATOR fraction_leading_digit_separator bool;
-    /// True if a parser accepts `1e_12`: the flag allows a digit separator before exponent digits
-    /// ([setter][NumberFormatBuilder::exponent_leading_digit_separator]).
+    /// True if the format allows a digit separator before the exponent digits. In that case, a parser accepts `1e_12`.
+    /// See the [setter][NumberFormatBuilder::exponent_leading_digit_separator].
     EXPONENT_LEADING_DIGIT_SEPARATOR exponent_leading_digit_separator bool;
-    /// True if any flag of a group is set: a separator before digits
-    /// ([setter][NumberFormatBuilder::leading_digit_separator]).
+    /// True if any of the flags that allow a digit separator before digits is set. See the
+    /// [setter][NumberFormatBuilder::leading_digit_separator].
     LEADING_DIGIT_SEPARATOR leading_digit_separator bool;
-    /// True if a parser accepts `12_`: the flag allows a digit separator after integer digits
-    /// ([setter][NumberFormatBuilder::integer_trailing_digit_separator]).
+    /// True if the format allows a digit separator after the integer digits. In that case, a parser accepts `12_`. See
+    /// the [setter][NumberFormatBuilder::integer_trailing_digit_separator].
     INTEGER_TRAILING_DIGIT_SEPARATOR integer_trailing_digit_separator bool;
-    /// True if a parser accepts `0.12_`: the flag allows a digit separator after fraction digits
-    /// ([setter][NumberFormatBuilder::fraction_trailing_digit_separator]).
+    /// True if the format allows a digit separator after the fraction digits. In that case, a parser accepts `0.12_`.
+    /// See the [setter][NumberFormatBuilder::fraction_trailing_digit_separator].
     FRACTION_TRAILING_DIGIT_SEPARATOR fraction_trailing_digit_separator bool;
-    /// True if a parser accepts `1e12_`: the flag allows a digit separator after exponent digits
-    /// ([setter][NumberFormatBuilder::exponent_trailing_digit_separator]).
+    /// True if the format allows a digit separator after the exponent digits. In that case, a parser accepts `1e12_`.
+    /// See the [setter][NumberFormatBuilder::exponent_trailing_digit_separator].
     EXPONENT_TRAILING_DIGIT_SEPARATOR exponent_trailing_digit_separator bool;
-    /// True if any flag of a group is set: a separator after digits
-    /// ([setter][NumberFormatBuilder::trailing_digit_separator]).
+    /// True if any of the flags that allow a digit separator after digits is set. See the
+    /// [setter][NumberFormatBuilder::trailing_digit_separator].
     TRAILING_DIGIT_SEPARATOR trailing_digit_separator bool;
-    /// True if a parser accepts `1__2` if it accepts `1_2`, `__12` if `_12`, and `12__` if `12_`: the flag allows
-    /// consecutive digit separators in each position of the integer that allows one
-    /// ([setter][NumberFormatBuilder::integer_consecutive_digit_separator]).
+    /// True if the format allows consecutive digit separators in the integer. In that case, a parser accepts `1__2`,
+    /// `__12` or `12__` whenever it accepts `1_2`, `_12` or `12_`, respectively. See the
+    /// [setter][NumberFormatBuilder::integer_consecutive_digit_separator].
     INTEGER_CONSECUTIVE_DIGIT_SEPARATOR integer_consecutive_digit_separator bool;
-    /// True if a parser accepts `0.1__2` if it accepts `0.1_2`, `0.__12` if `0._12`, and `0.12__` if `0.12_`: the flag
-    /// allows consecutive digit separators in each position of the fraction that allows one
-    /// ([setter][NumberFormatBuilder::fraction_consecutive_digit_separator]).
+    /// True if the format allows consecutive digit separators in the fraction. In that case, a parser accepts `0.1__2`,
+    /// `0.__12` or `0.12__` whenever it accepts `0.1_2`, `0._12` or `0.12_`, respectively. See the
+    /// [setter][NumberFormatBuilder::fraction_consecutive_digit_separator].
     FRACTION_CONSECUTIVE_DIGIT_SEPARATOR fraction_consecutive_digit_separator bool;
-    /// True if a parser accepts `1e1__2` if it accepts `1e1_2`, `1e__12` if `1e_12`, and `1e12__` if `1e12_`: the flag
-    /// allows consecutive digit separators in each position of the exponent that allows one
-    /// ([setter][NumberFormatBuilder::exponent_consecutive_digit_separator]).
+    /// True if the format allows consecutive digit separators in the exponent. In that case, a parser accepts `1e1__2`,
+    /// `1e__12` or `1e12__` whenever it accepts `1e1_2`, `1e_12` or `1e12_`, respectively. See the
+    /// [setter][NumberFormatBuilder::exponent_consecutive_digit_separator].
     EXPONENT_CONSECUTIVE_DIGIT_SEPARATOR exponent_consecutive_digit_separator bool;
-    /// True if any flag of a group is set: consecutive separators, where one is allowed
-    /// ([setter][NumberFormatBuilder::consecutive_digit_separator]).
+    /// True if any of the flags that allow consecutive digit separators is set. See the
+    /// [setter][NumberFormatBuilder::consecutive_digit_separator].
     CONSECUTIVE_DIGIT_SEPARATOR consecutive_digit_separator bool;
-    /// True if a parser accepts `N__a_N_` for `NaN`: the flag allows digit separators before, between and after the
-    /// letters of a special value, also consecutive ones ([setter][NumberFormatBuilder::special_digit_separator]).
+    /// True if the format allows digit separators in special values. In that case, a parser accepts `N__a_N_` as `NaN`.
+    /// See the [setter][NumberFormatBuilder::special_digit_separator].
     SPECIAL_DIGIT_SEPARATOR special_digit_separator bool;
     /// The [digit separator][NumberFormatBuilder::digit_separator], even if no flag allows it, or 0 if it is absent.
     DIGIT_SEPARATOR digit_separator u8;

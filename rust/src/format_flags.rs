@@ -19,154 +19,153 @@ pub use crate::format_flags::rules::{
 
 // FLAGS OTHER THAN DIGIT SEPARATOR FLAGS
 
-/// If set, a parser refuses `.5`: the flag requires digits before the decimal point
-/// ([setter][crate::format_builder::NumberFormatBuilder::required_integer_digits]).
+/// The flag that requires digits before the decimal point. If it is set, a parser refuses `.5`. See the
+/// [setter][crate::format_builder::NumberFormatBuilder::required_integer_digits].
 pub const REQUIRED_INTEGER_DIGITS: u128 = 0x1;
 
-/// If set, a parser refuses `1.`: the flag requires digits after a decimal point
-/// ([setter][crate::format_builder::NumberFormatBuilder::required_fraction_digits]).
+/// The flag that requires digits after a decimal point. If it is set, a parser refuses `1.` but accepts `1`. See the
+/// [setter][crate::format_builder::NumberFormatBuilder::required_fraction_digits].
 pub const REQUIRED_FRACTION_DIGITS: u128 = 0x2;
 
-/// If set, a parser refuses `1e`: the flag requires digits after an exponent character
-/// ([setter][crate::format_builder::NumberFormatBuilder::required_exponent_digits]).
+/// The flag that requires digits after an exponent character. If it is set, a parser refuses `1e`. See the
+/// [setter][crate::format_builder::NumberFormatBuilder::required_exponent_digits].
 pub const REQUIRED_EXPONENT_DIGITS: u128 = 0x4;
 
-/// If set, a parser refuses `.`: the flag requires a significant digit in a float
-/// ([setter][crate::format_builder::NumberFormatBuilder::required_mantissa_digits]).
+/// The flag that requires a digit in the mantissa of a float. If it is set, a parser refuses `.`. See the
+/// [setter][crate::format_builder::NumberFormatBuilder::required_mantissa_digits].
 pub const REQUIRED_MANTISSA_DIGITS: u128 = 0x8;
 
-/// Mask of a flag group: digits that must be present
-/// ([setter][crate::format_builder::NumberFormatBuilder::required_digits]).
+/// Mask of all flags that require digits. See the
+/// [setter][crate::format_builder::NumberFormatBuilder::required_digits].
 pub const REQUIRED_DIGITS: u128 = 0xF;
 
-/// If set, a parser refuses `+1`: the flag forbids a `+` before an integer or a float
-/// ([setter][crate::format_builder::NumberFormatBuilder::no_positive_mantissa_sign]).
+/// The flag that forbids a `+` before an integer or a float. If it is set, a parser refuses `+1` but accepts `-1`. See
+/// the [setter][crate::format_builder::NumberFormatBuilder::no_positive_mantissa_sign].
 pub const NO_POSITIVE_MANTISSA_SIGN: u128 = 0x10;
 
-/// If set, a parser refuses `1`: the flag requires a sign before an integer or a float
-/// ([setter][crate::format_builder::NumberFormatBuilder::required_mantissa_sign]).
+/// The flag that requires a sign before an integer or a float. If it is set, a parser refuses `1`, and a writer writes
+/// `+1`. See the [setter][crate::format_builder::NumberFormatBuilder::required_mantissa_sign].
 pub const REQUIRED_MANTISSA_SIGN: u128 = 0x20;
 
-/// If set, a parser refuses `1e5`: the flag forbids an exponent in a float
-/// ([setter][crate::format_builder::NumberFormatBuilder::no_exponent_notation]).
+/// The flag that forbids an exponent in a float. If it is set, a parser refuses `1e5`, and a writer writes all digits
+/// instead. See the [setter][crate::format_builder::NumberFormatBuilder::no_exponent_notation].
 pub const NO_EXPONENT_NOTATION: u128 = 0x40;
 
-/// If set, a parser refuses `1e+5`: the flag forbids a `+` in the exponent
-/// ([setter][crate::format_builder::NumberFormatBuilder::no_positive_exponent_sign]).
+/// The flag that forbids a `+` in the exponent. If it is set, a parser refuses `1e+5` but accepts `1e5` and `1e-5`.
+/// See the [setter][crate::format_builder::NumberFormatBuilder::no_positive_exponent_sign].
 pub const NO_POSITIVE_EXPONENT_SIGN: u128 = 0x80;
 
-/// If set, a parser refuses `1e5`: the flag requires a sign in the exponent
-/// ([setter][crate::format_builder::NumberFormatBuilder::required_exponent_sign]).
+/// The flag that requires a sign in the exponent. If it is set, a parser refuses `1e5`, and a writer writes `1e+5`.
+/// See the [setter][crate::format_builder::NumberFormatBuilder::required_exponent_sign].
 pub const REQUIRED_EXPONENT_SIGN: u128 = 0x100;
 
-/// If set, a parser refuses `1e5`, not `1.0e5`: the flag requires a decimal point before an exponent, but no digits
-/// after that point ([setter][crate::format_builder::NumberFormatBuilder::no_exponent_without_fraction]).
+/// The flag that requires a decimal point before an exponent. If it is set, a parser refuses `1e5` but accepts
+/// `1.0e5`. See the [setter][crate::format_builder::NumberFormatBuilder::no_exponent_without_fraction].
 pub const NO_EXPONENT_WITHOUT_FRACTION: u128 = 0x200;
 
-/// If set, a parser refuses `NaN` and `inf`, and every other special value: the flag forbids special values
-/// ([setter][crate::format_builder::NumberFormatBuilder::no_special]).
+/// The flag that forbids all special values. If it is set, a parser refuses `NaN` and `inf`. See the
+/// [setter][crate::format_builder::NumberFormatBuilder::no_special].
 pub const NO_SPECIAL: u128 = 0x400;
 
-/// If set, a parser refuses `nan`, if `NaN` is the spelling: the flag makes special values case-sensitive
-/// ([setter][crate::format_builder::NumberFormatBuilder::case_sensitive_special]).
+/// The flag that makes special values case-sensitive. If it is set, a parser refuses `nan` when the spelling is `NaN`.
+/// See the [setter][crate::format_builder::NumberFormatBuilder::case_sensitive_special].
 pub const CASE_SENSITIVE_SPECIAL: u128 = 0x800;
 
-/// If set, a parser refuses `01` as an integer, not `0`: the flag forbids leading zeros in an integer
-/// ([setter][crate::format_builder::NumberFormatBuilder::no_integer_leading_zeros]).
+/// The flag that forbids leading zeros in an integer. If it is set, a parser refuses the integer `01` but accepts `0`.
+/// See the [setter][crate::format_builder::NumberFormatBuilder::no_integer_leading_zeros].
 pub const NO_INTEGER_LEADING_ZEROS: u128 = 0x1000;
 
-/// If set, a parser refuses `01.0`, not `0.1`: the flag forbids leading zeros in a float
-/// ([setter][crate::format_builder::NumberFormatBuilder::no_float_leading_zeros]).
+/// The flag that forbids leading zeros in a float. If it is set, a parser refuses `01.0` but accepts `0.1`. See the
+/// [setter][crate::format_builder::NumberFormatBuilder::no_float_leading_zeros].
 pub const NO_FLOAT_LEADING_ZEROS: u128 = 0x2000;
 
-/// If set, a parser refuses `1.0`: the flag requires an exponent in a float
-/// ([setter][crate::format_builder::NumberFormatBuilder::required_exponent_notation]).
+/// The flag that requires an exponent in a float. If it is set, a parser refuses `1.0`, and a writer writes every
+/// float with an exponent. See the [setter][crate::format_builder::NumberFormatBuilder::required_exponent_notation].
 pub const REQUIRED_EXPONENT_NOTATION: u128 = 0x4000;
 
-/// If set, a parser refuses `1E5`, if the exponent character is `e`: the flag makes the exponent character
-/// case-sensitive ([setter][crate::format_builder::NumberFormatBuilder::case_sensitive_exponent]).
+/// The flag that makes the exponent character case-sensitive. If it is set, a parser refuses `1E5` when the exponent
+/// character is `e`. See the [setter][crate::format_builder::NumberFormatBuilder::case_sensitive_exponent].
 pub const CASE_SENSITIVE_EXPONENT: u128 = 0x8000;
 
-/// If set, a parser refuses `0X1F`, if the base prefix is `x`: the flag makes the base prefix case-sensitive
-/// ([setter][crate::format_builder::NumberFormatBuilder::case_sensitive_base_prefix]).
+/// The flag that makes the base prefix case-sensitive. If it is set, a parser refuses `0X1F` when the base prefix is
+/// `x`. See the [setter][crate::format_builder::NumberFormatBuilder::case_sensitive_base_prefix].
 pub const CASE_SENSITIVE_BASE_PREFIX: u128 = 0x1_0000;
 
-/// If set, a parser refuses `1FH`, if the base suffix is `h`: the flag makes the base suffix case-sensitive
-/// ([setter][crate::format_builder::NumberFormatBuilder::case_sensitive_base_suffix]).
+/// The flag that makes the base suffix case-sensitive. If it is set, a parser refuses `1FH` when the base suffix is
+/// `h`. See the [setter][crate::format_builder::NumberFormatBuilder::case_sensitive_base_suffix].
 pub const CASE_SENSITIVE_BASE_SUFFIX: u128 = 0x2_0000;
 
 // DIGIT SEPARATOR FLAGS
 
-/// If set, a parser accepts `1_2`: the flag allows a digit separator between integer digits
-/// ([setter][crate::format_builder::NumberFormatBuilder::integer_internal_digit_separator]).
+/// The flag that allows a digit separator between integer digits. If it is set, a parser accepts `1_2`. See the
+/// [setter][crate::format_builder::NumberFormatBuilder::integer_internal_digit_separator].
 pub const INTEGER_INTERNAL_DIGIT_SEPARATOR: u128 = 0x1_0000_0000;
 
-/// If set, a parser accepts `0.1_2`: the flag allows a digit separator between fraction digits
-/// ([setter][crate::format_builder::NumberFormatBuilder::fraction_internal_digit_separator]).
+/// The flag that allows a digit separator between fraction digits. If it is set, a parser accepts `0.1_2`. See the
+/// [setter][crate::format_builder::NumberFormatBuilder::fraction_internal_digit_separator].
 pub const FRACTION_INTERNAL_DIGIT_SEPARATOR: u128 = 0x2_0000_0000;
 
-/// If set, a parser accepts `1e1_2`: the flag allows a digit separator between exponent digits
-/// ([setter][crate::format_builder::NumberFormatBuilder::exponent_internal_digit_separator]).
+/// The flag that allows a digit separator between exponent digits. If it is set, a parser accepts `1e1_2`. See the
+/// [setter][crate::format_builder::NumberFormatBuilder::exponent_internal_digit_separator].
 pub const EXPONENT_INTERNAL_DIGIT_SEPARATOR: u128 = 0x4_0000_0000;
 
-/// If set, a parser accepts `_12`: the flag allows a digit separator before integer digits
-/// ([setter][crate::format_builder::NumberFormatBuilder::integer_leading_digit_separator]).
+/// The flag that allows a digit separator before the integer digits. If it is set, a parser accepts `_12`. See the
+/// [setter][crate::format_builder::NumberFormatBuilder::integer_leading_digit_separator].
 pub const INTEGER_LEADING_DIGIT_SEPARATOR: u128 = 0x8_0000_0000;
 
-/// If set, a parser accepts `0._12`: the flag allows a digit separator before fraction digits
-/// ([setter][crate::format_builder::NumberFormatBuilder::fraction_leading_digit_separator]).
+/// The flag that allows a digit separator before the fraction digits. If it is set, a parser accepts `0._12`. See the
+/// [setter][crate::format_builder::NumberFormatBuilder::fraction_leading_digit_separator].
 pub const FRACTION_LEADING_DIGIT_SEPARATOR: u128 = 0x10_0000_0000;
 
-/// If set, a parser accepts `1e_12`: the flag allows a digit separator before exponent digits
-/// ([setter][crate::format_builder::NumberFormatBuilder::exponent_leading_digit_separator]).
+/// The flag that allows a digit separator before the exponent digits. If it is set, a parser accepts `1e_12`. See the
+/// [setter][crate::format_builder::NumberFormatBuilder::exponent_leading_digit_separator].
 pub const EXPONENT_LEADING_DIGIT_SEPARATOR: u128 = 0x20_0000_0000;
 
-/// If set, a parser accepts `12_`: the flag allows a digit separator after integer digits
-/// ([setter][crate::format_builder::NumberFormatBuilder::integer_trailing_digit_separator]).
+/// The flag that allows a digit separator after the integer digits. If it is set, a parser accepts `12_`. See the
+/// [setter][crate::format_builder::NumberFormatBuilder::integer_trailing_digit_separator].
 pub const INTEGER_TRAILING_DIGIT_SEPARATOR: u128 = 0x40_0000_0000;
 
-/// If set, a parser accepts `0.12_`: the flag allows a digit separator after fraction digits
-/// ([setter][crate::format_builder::NumberFormatBuilder::fraction_trailing_digit_separator]).
+/// The flag that allows a digit separator after the fraction digits. If it is set, a parser accepts `0.12_`. See the
+/// [setter][crate::format_builder::NumberFormatBuilder::fraction_trailing_digit_separator].
 pub const FRACTION_TRAILING_DIGIT_SEPARATOR: u128 = 0x80_0000_0000;
 
-/// If set, a parser accepts `1e12_`: the flag allows a digit separator after exponent digits
-/// ([setter][crate::format_builder::NumberFormatBuilder::exponent_trailing_digit_separator]).
+/// The flag that allows a digit separator after the exponent digits. If it is set, a parser accepts `1e12_`. See the
+/// [setter][crate::format_builder::NumberFormatBuilder::exponent_trailing_digit_separator].
 pub const EXPONENT_TRAILING_DIGIT_SEPARATOR: u128 = 0x100_0000_0000;
 
-/// If set, a parser accepts `1__2` if it accepts `1_2`, `__12` if `_12`, and `12__` if `12_`: the flag allows
-/// consecutive digit separators in each position of the integer that allows one
-/// ([setter][crate::format_builder::NumberFormatBuilder::integer_consecutive_digit_separator]).
+/// The flag that allows consecutive digit separators in the integer. If it is set, a parser accepts `1__2`, `__12` or
+/// `12__` whenever it accepts `1_2`, `_12` or `12_`, respectively. See the
+/// [setter][crate::format_builder::NumberFormatBuilder::integer_consecutive_digit_separator].
 pub const INTEGER_CONSECUTIVE_DIGIT_SEPARATOR: u128 = 0x200_0000_0000;
 
-/// If set, a parser accepts `0.1__2` if it accepts `0.1_2`, `0.__12` if `0._12`, and `0.12__` if `0.12_`: the flag
-/// allows consecutive digit separators in each position of the fraction that allows one
-/// ([setter][crate::format_builder::NumberFormatBuilder::fraction_consecutive_digit_separator]).
+/// The flag that allows consecutive digit separators in the fraction. If it is set, a parser accepts `0.1__2`,
+/// `0.__12` or `0.12__` whenever it accepts `0.1_2`, `0._12` or `0.12_`, respectively. See the
+/// [setter][crate::format_builder::NumberFormatBuilder::fraction_consecutive_digit_separator].
 pub const FRACTION_CONSECUTIVE_DIGIT_SEPARATOR: u128 = 0x400_0000_0000;
 
-/// If set, a parser accepts `1e1__2` if it accepts `1e1_2`, `1e__12` if `1e_12`, and `1e12__` if `1e12_`: the flag
-/// allows consecutive digit separators in each position of the exponent that allows one
-/// ([setter][crate::format_builder::NumberFormatBuilder::exponent_consecutive_digit_separator]).
+/// The flag that allows consecutive digit separators in the exponent. If it is set, a parser accepts `1e1__2`,
+/// `1e__12` or `1e12__` whenever it accepts `1e1_2`, `1e_12` or `1e12_`, respectively. See the
+/// [setter][crate::format_builder::NumberFormatBuilder::exponent_consecutive_digit_separator].
 pub const EXPONENT_CONSECUTIVE_DIGIT_SEPARATOR: u128 = 0x800_0000_0000;
 
-/// Mask of a flag group: a separator between digits
-/// ([setter][crate::format_builder::NumberFormatBuilder::internal_digit_separator]).
+/// Mask of all flags that allow a digit separator between digits. See the
+/// [setter][crate::format_builder::NumberFormatBuilder::internal_digit_separator].
 pub const INTERNAL_DIGIT_SEPARATOR: u128 = 0x7_0000_0000;
 
-/// Mask of a flag group: a separator before digits
-/// ([setter][crate::format_builder::NumberFormatBuilder::leading_digit_separator]).
+/// Mask of all flags that allow a digit separator before digits. See the
+/// [setter][crate::format_builder::NumberFormatBuilder::leading_digit_separator].
 pub const LEADING_DIGIT_SEPARATOR: u128 = 0x38_0000_0000;
 
-/// Mask of a flag group: a separator after digits
-/// ([setter][crate::format_builder::NumberFormatBuilder::trailing_digit_separator]).
+/// Mask of all flags that allow a digit separator after digits. See the
+/// [setter][crate::format_builder::NumberFormatBuilder::trailing_digit_separator].
 pub const TRAILING_DIGIT_SEPARATOR: u128 = 0x1C0_0000_0000;
 
-/// Mask of a flag group: consecutive separators, where one is allowed
-/// ([setter][crate::format_builder::NumberFormatBuilder::consecutive_digit_separator]).
+/// Mask of all flags that allow consecutive digit separators. See the
+/// [setter][crate::format_builder::NumberFormatBuilder::consecutive_digit_separator].
 pub const CONSECUTIVE_DIGIT_SEPARATOR: u128 = 0xE00_0000_0000;
 
-/// If set, a parser accepts `N__a_N_` for `NaN`: the flag allows digit separators before, between and after the
-/// letters of a special value, also consecutive ones
-/// ([setter][crate::format_builder::NumberFormatBuilder::special_digit_separator]).
+/// The flag that allows digit separators in special values. If it is set, a parser accepts `N__a_N_` as `NaN`. See the
+/// [setter][crate::format_builder::NumberFormatBuilder::special_digit_separator].
 pub const SPECIAL_DIGIT_SEPARATOR: u128 = 0x1000_0000_0000;
 
 // BYTES
@@ -225,23 +224,23 @@ pub const FLAG_MASK: u128 = 0x1FFF_0003_FFFF;
 /// the exponent character), leading zeros of floats, and digit separators (except in special values).
 pub const INTERFACE_FLAG_MASK: u128 = 0xFFF_0000_63CF;
 
-/// Mask of a flag group: every separator, including special values
-/// ([setter][crate::format_builder::NumberFormatBuilder::digit_separator_flags]).
+/// Mask of all flags that allow digit separators. See the
+/// [setter][crate::format_builder::NumberFormatBuilder::digit_separator_flags].
 pub const DIGIT_SEPARATOR_FLAG_MASK: u128 = 0x1FFF_0000_0000;
 
 /// Mask of the exponent flags, without [`CASE_SENSITIVE_EXPONENT`].
 pub const EXPONENT_FLAG_MASK: u128 = 0x924_0000_43C4;
 
-/// Mask of a flag group: separators in the integer
-/// ([setter][crate::format_builder::NumberFormatBuilder::integer_digit_separator_flags]).
+/// Mask of all flags that allow digit separators in the integer. See the
+/// [setter][crate::format_builder::NumberFormatBuilder::integer_digit_separator_flags].
 pub const INTEGER_DIGIT_SEPARATOR_FLAG_MASK: u128 = 0x249_0000_0000;
 
-/// Mask of a flag group: separators in the fraction
-/// ([setter][crate::format_builder::NumberFormatBuilder::fraction_digit_separator_flags]).
+/// Mask of all flags that allow digit separators in the fraction. See the
+/// [setter][crate::format_builder::NumberFormatBuilder::fraction_digit_separator_flags].
 pub const FRACTION_DIGIT_SEPARATOR_FLAG_MASK: u128 = 0x492_0000_0000;
 
-/// Mask of a flag group: separators in the exponent
-/// ([setter][crate::format_builder::NumberFormatBuilder::exponent_digit_separator_flags]).
+/// Mask of all flags that allow digit separators in the exponent. See the
+/// [setter][crate::format_builder::NumberFormatBuilder::exponent_digit_separator_flags].
 pub const EXPONENT_DIGIT_SEPARATOR_FLAG_MASK: u128 = 0x924_0000_0000;
 
 // Mask of the reserved bits: all bits except the flags, the digit separator, and the bits from the base

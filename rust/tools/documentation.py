@@ -2,7 +2,7 @@
 
 PROVED lists the calls whose documentation shows their clauses, with a sentence for each clause. A name between
 backquotes becomes a link if the page `definitions` has it. PHRASES are removed or replaced, and no match of FOREIGN may
-remain. The first line of a flag's constant or getter repeats the first line of its setter.
+remain. The first lines of a flag's constant, getter and variant are made from the first line of its setter.
 """
 import functools
 import pathlib
@@ -263,36 +263,42 @@ class Comments:
             return lines
         return textwrap.wrap(" ".join(text.split()), width, break_long_words=False, break_on_hyphens=False)
 
-    def sentence(self, setter):
-        """Returns the effect of a flag or the fields of a group, from the comment of its setter; without the full stop."""
-        text = self.setters[setter]
-        if group := re.match(r"Sets all flags of the group: (.*?)\.(?: |$)", text):
-            return group[1]
-        if flag := re.match(r"(.*?)\. If set, a parser (.*?)\.(?: |$)", text):
-            return f"{flag[2]}: the flag {flag[1][0].lower()}{flag[1][1:]}"
-        raise Unfit(f"the setter {setter} does not state the effect of its flag: {text}")
+    def flag(self, setter):
+        """Returns the condition that a flag expresses, and what a parser then does, from the comment of its setter."""
+        if found := re.match(r"Sets whether (.*?)\. If so, a parser (.*?)\.(?: |$)", self.setters[setter]):
+            return found.groups()
+        raise Unfit(f"the setter {setter} does not state the effect of its flag: {self.setters[setter]}")
+
+    def group(self, setter):
+        """Returns `flags that ..` for a group, from the comment of its setter, or `None` if it is not a group's."""
+        found = re.match(r"Sets all (flags that .*?)\.(?: |$)", self.setters[setter])
+        return found and found[1]
 
     def pointed(self, it):
         """Returns the first line of a constant or a getter that links to a setter."""
         before, kind, path, setter, _ = it.groups()
-        link = f"([setter][{path}{setter}])."
+        see = f"See the [setter][{path}{setter}]."
         if kind == "group":
+            flags = self.group(setter)
             is_mask = before.startswith("Mask")
-            start = "Mask of a flag group" if is_mask else "Returns whether any flag of a group is set"
-            return f"{start}: {self.sentence(setter)} {link}"
+            return f"{f'Mask of all {flags}' if is_mask else f'Returns whether any of the {flags} is set'}. {see}"
         if before.startswith("Returns"):
             return self.getter(setter, path)
-        return f"If set, a parser {self.sentence(setter)} {link}"
+        condition, effect = self.flag(setter)
+        task = re.sub(r"^(.*) (is|are) case-sensitive$", r"makes \1 case-sensitive", condition.removeprefix("the format "))
+        return f"The flag that {task}. If it is set, a parser {effect}. {see}"
 
     def getter(self, setter, path):
-        return f"Returns whether a parser {self.sentence(setter)} ([setter][{path}{setter}])."
+        condition, effect = self.flag(setter)
+        return f"Returns whether {condition}. If so, a parser {effect}. See the [setter][{path}{setter}]."
 
     def variant(self, setter):
         """Returns the documentation of a variant of `FlagSetter`."""
-        is_group = self.setters[setter].startswith("Sets all flags of the group")
-        start = "The flags of a group: " if is_group else "If set, a parser "
-        link = f"([`{setter}`][crate::format_builder::NumberFormatBuilder::{setter}])"
-        return f"{start}{self.sentence(setter)} {link}."
+        if flags := self.group(setter):
+            text = f"Sets all {flags}."
+        else:
+            text = "Sets whether {}. If so, a parser {}.".format(*self.flag(setter))
+        return f"{text} See [`{setter}`][crate::format_builder::NumberFormatBuilder::{setter}]."
 
     def unused(self):
         return [phrase for phrase, _ in PHRASES if phrase not in self.used]
