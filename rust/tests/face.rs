@@ -7,7 +7,7 @@ use peltzivar::format::{BASE_PREFIX_SHIFT, BASE_SUFFIX_SHIFT, STANDARD};
 use peltzivar::reasons::{notes, reasons};
 use peltzivar::{Edit, Error, FlagSetter, Format, FormatView, NumberFormat, Rule};
 use std::fmt::{Debug, Display, LowerHex, UpperHex};
-use std::hash::Hash;
+use std::hash::{DefaultHasher, Hash, Hasher};
 use std::num::NonZeroU8;
 use std::panic;
 use std::str::FromStr;
@@ -102,6 +102,28 @@ fn a_format_is_a_word_without_error() {
     assert_eq!(built, Ok(format));
 }
 
+/// Formats and views are ordered and hashed by their words.
+#[test]
+fn a_format_is_compared_by_its_word() {
+    let formats: Vec<Format> = words().filter_map(|word| Format::new(word).ok()).collect();
+    for pair in formats.windows(2) {
+        let [a, b] = [pair[0], pair[1]];
+        let order = a.word().cmp(&b.word());
+        assert_eq!((a.cmp(&b), a.view().cmp(&b.view())), (order, order));
+        assert_eq!(
+            (hash_of(a), hash_of(a.view())),
+            (hash_of(a.word()), hash_of(a.word()))
+        );
+    }
+    assert!(formats.len() > 10);
+}
+
+fn hash_of(value: impl Hash) -> u64 {
+    let mut hasher = DefaultHasher::new();
+    value.hash(&mut hasher);
+    hasher.finish()
+}
+
 #[test]
 fn a_format_has_a_normal_form_that_is_one_too() {
     for format in words().filter_map(|word| Format::new(word).ok()) {
@@ -167,6 +189,9 @@ fn a_mend_keeps_rules_and_mends_those_that_only_its_reason_broke() {
                 let reasons = view.reasons().filter(|it| it.breaks(rule));
                 !rule.is_kept(word) && !reasons.eq([reason])
             };
+            for (mend, other) in view.mends(reason).zip(view.mends(reason).skip(1)) {
+                assert_eq!(mend == other, mend.edits() == other.edits(), "{word:#034X}");
+            }
             for mend in view.mends(reason) {
                 let edited = edit_word(word, mend.edits());
                 let mut broken = FormatView::new(edited).broken_rules();
@@ -191,10 +216,12 @@ fn edits_make_the_fields_of_their_word() {
         let builder: NumberFormatBuilder = view.edits().collect();
         assert_eq!(builder, apply_all(NumberFormatBuilder::new(), &edits));
         assert_eq!(builder, NumberFormatBuilder::from_word(word));
-        assert_eq!(builder, edits.iter().collect());
+        // Each edit is of another field, so their order does not matter.
+        assert_eq!(builder, edits.iter().rev().collect());
         let mut other = NumberFormatBuilder::new();
         other.extend(&edits[..2]);
-        other.extend(edits[2..].iter().copied());
+        other.extend(edits[2..4].iter().copied());
+        other.extend(&edits[4..]);
         assert_eq!(
             (other, other.view().word()),
             (builder, builder.build_unchecked())
