@@ -3,7 +3,8 @@
 
     c/header_test.py              prints a program in C11 that compiles if the header has the enumerators, constants and
                                   types of the sources, and no other enumerator or numeric constant
-    c/header_test.py --comments   compares the numbers and names in the comments, and looks for their examples in tests
+    c/header_test.py --comments   compares the numbers and names in the comments, and looks for their examples in tests;
+                                  compares the enumerations and sizes of peltzivar.py
 
 Each enumerator is compared by its name and number, each constant and each member of a struct by name, value and type.
 """
@@ -148,7 +149,7 @@ def phrases():
         "So two calls do not",
         "whether two words",
         "the first of the three radix rules",
-        "Returns the low 32 bits",
+        "Returns the low 32 bits of (format & mask) >> shift, or the mantissa radix if they are 0",
         "shift is 128 or more",
         "allowed ASCII: 9 to 13 or 32 to 126.",
         "Letters of either case have the values 10 to 35",
@@ -170,6 +171,28 @@ def phrases():
         "character between two `'`, or `0x` and one or two hexadecimal digits, or one to three decimal digits",
         "UTF-8",
     ]
+
+
+def python_faults():
+    """Returns the enumerations and sizes of peltzivar.py that differ from the sources."""
+    text = (TOP / "c/peltzivar.py").read_text()
+    wanted, numeric = enumerators(), constants()
+    errors = dict(check_header.outcomes())
+    for name, prefix in (("Setter", "SET_"), ("Rule", "RULE_"), ("Error", "")):
+        body = re.search(rf"^class {name}\(IntEnum\):(.*?)^(?:class|# End)", text, re.M | re.S)[1]
+        found = {f"PELTZIVAR_{prefix}{it}": int(number) for it, number in re.findall(r"^    (\w+) = (\d+)$", body, re.M)}
+        if found != (errors if name == "Error" else {it: wanted[it] for it in wanted if it.startswith(f"PELTZIVAR_{prefix}")}):
+            yield f"peltzivar.py: {name} differs from the sources"
+    for name in ("FIELD_COUNT", "CANDIDATE_COUNT", "MAX_NOTES", "TEXT_SIZE", "SOURCE_SIZE"):
+        if f"\n_{name} = {numeric[f'PELTZIVAR_{name}']}\n" not in text:
+            yield f"peltzivar.py: _{name} is not {numeric[f'PELTZIVAR_{name}']}"
+
+
+def outputs():
+    """Returns the calls with an output whose comment does not state that it stays unchanged."""
+    for comment, call in re.findall(r"/\*((?:(?!\*/).)*)\*/\n[^;]*?(peltzivar_\w+)\([^;]*\*out\);", HEADER, re.S):
+        if "leaves *out unchanged" not in re.sub(r"\s+\*?\s*", " ", comment.replace("*out", "@")).replace("@", "*out"):
+            yield f"the comment of {call} does not have: leaves *out unchanged"
 
 
 def punctuation():
@@ -219,13 +242,15 @@ def wrong_comments():
         yield from (f"no such name: {it}" for it in names if it not in known)
         examples = re.findall(r'such as "([^"]*)"', text)
         yield from (f"in no test: {it}" for it in examples if it not in tests)
+    yield from python_faults()
+    yield from outputs()
     if not punctuation():
         yield "PELTZIVAR_RULE_PUNCTUATION_DIFFERS has a comment with other names than the fields that it reads"
     lines = HEADER[HEADER.index("PELTZIVAR_RULE_") :]
     for rule in rules():
         if wanted := rule_comment(rule):
-            name, wanted = re.escape(constant(f"RULE_{rule}")), re.escape(wanted)
-            if not re.search(rf"{name}(?: = 0)?,? /\* {wanted} \*/\n|/\* {wanted} \*/\n +{name},", lines):
+            name, told = re.escape(constant(f"RULE_{rule}")), re.escape(wanted)
+            if not re.search(rf"{name}(?: = 0)?,? /\* {told} \*/\n|/\* {told} \*/\n +{name},", lines):
                 yield f"{constant(f'RULE_{rule}')} does not have the comment: {wanted}"
 
 
