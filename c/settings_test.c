@@ -140,6 +140,7 @@ static void write_bad(size_t line) {
         {"\xEF\xBB\xBFradix", "2", 1, not_ascii},   {"radix", "\xFF", 1, not_ascii},
         {"\xFF", NULL, 0, not_ascii},                 {"radix", NULL, 0, no_equals},
         {"radix 2", NULL, 0, no_equals},            {"~\x7F\x1B[31m", NULL, 0, no_equals},
+        {"\x7F\x7F", "2", 1, unknown},
     };
     const size_t row = below(sizeof rows / sizeof *rows + 2);
     if (row < sizeof rows / sizeof *rows) {
