@@ -99,11 +99,7 @@ pub fn descriptions(numbers: &[u64]) -> u64 {
         let outcomes = outcomes_of(block);
         for _ in 0..TIMES {
             for error in &outcomes {
-                let text = error.description();
-                fold = fold.with(text.len() as u64);
-                if let Some(c) = text.as_bytes().get(1) {
-                    fold = fold.with(*c as u64);
-                }
+                fold = fold.with(error.description().len() as u64);
             }
         }
     }
