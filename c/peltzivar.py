@@ -23,6 +23,9 @@ from ctypes import create_string_buffer
 from enum import IntEnum
 from typing import Any, Dict, Iterable, List, NamedTuple, Optional, Tuple, Type, TypeVar, Union
 
+__all__ = ["STANDARD", "Edit", "Error", "Format", "FormatError", "FormatView", "Note", "Reason", "Rule", "Setter"]
+__all__ += ["Value", "notes_of"]
+
 # Made: constants
 _MAJOR, _MINOR = 0, 4
 STANDARD = 0x00000A0000000000000000000000000C

@@ -82,18 +82,22 @@ impl fmt::Debug for NumberFormatBuilder {
     }
 }
 
+/// Writes the word, each field that differs from a new builder's, and the reserved bits and broken rules, if there are
+/// any.
 impl fmt::Debug for FormatView {
     fn fmt(&self, f: &mut fmt::Formatter<'_>) -> fmt::Result {
         write(f, "FormatView", self.word(), self.word())
     }
 }
 
+/// Writes the word, and each field that differs from a new builder's.
 impl fmt::Debug for Format {
     fn fmt(&self, f: &mut fmt::Formatter<'_>) -> fmt::Result {
         write(f, "Format", self.word(), self.word())
     }
 }
 
+/// Writes the word as [`FormatView`] does.
 impl<const FORMAT: u128> fmt::Debug for NumberFormat<FORMAT> {
     fn fmt(&self, f: &mut fmt::Formatter<'_>) -> fmt::Result {
         write(f, "NumberFormat", FORMAT, FORMAT)

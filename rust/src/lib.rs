@@ -55,7 +55,7 @@
 //! - The slice tests of [`ascii`] are not `const`, and `build` is not deprecated.
 //! - The ready made formats of `lexical-util`, such as `JSON`, are not here: copy one from `examples/recipes.rs`.
 //!
-//! [`Format`], [`FormatView`], [`edits`] and [`reasons`] are new.
+//! [`Format`], [`FormatView`], [`edits`], [`reasons`] and [`source`] are new.
 //!
 //! # What is proved
 //!

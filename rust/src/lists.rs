@@ -31,6 +31,9 @@ impl FormatView {
     }
 
     /// Returns notes on the fields that are set and change no number that can be written. A lawful word may have notes.
+    ///
+    /// A builder drops a digit separator that no flag allows when it packs a word. So only the notes of the builder
+    /// report it, not those of the packed word.
     pub fn notes(&self) -> impl Iterator<Item = Note> + Clone {
         notes(self.word()).into_iter().flatten()
     }
@@ -45,7 +48,7 @@ impl FormatView {
 
 impl NumberFormatBuilder {
     /// Returns notes on the fields that are set and change no number that can be written. A digit separator that no
-    /// flag allows has a note, although the packed word does not have it.
+    /// flag allows has a note, although it is dropped when the word is packed.
     pub fn notes(&self) -> impl Iterator<Item = Note> + Clone {
         notes_of_fields(self).into_iter().flatten()
     }

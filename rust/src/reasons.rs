@@ -30,7 +30,7 @@ pub const CANDIDATE_COUNT: usize = 24;
 #[derive(Debug, Clone, Copy, PartialEq, Eq, Hash)]
 #[non_exhaustive]
 pub enum Reason {
-    /// The mantissa radix is not between 2 and 36. The first value is `true` if the exponent base is absent, and the
+    /// The mantissa radix is not between 2 and 36. The first `bool` is `true` if the exponent base is absent, and the
     /// second if the exponent radix is absent: they follow the mantissa radix, so it breaks their rules too.
     MantissaRadixOutOfRange(u8, bool, bool),
     /// An exponent base or exponent radix is present and not between 2 and 36.

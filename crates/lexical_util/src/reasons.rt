@@ -44,7 +44,7 @@ pub const CANDIDATE_COUNT: usize = 24;
 /// One cause of broken rules in a format word. A byte is given as the edit that writes it.
 #[derive(Debug, Clone, Copy, PartialEq, Eq)]
 pub enum Reason {
-    /// The mantissa radix is not between 2 and 36. The first value is `true` if the exponent base is absent, and the
+    /// The mantissa radix is not between 2 and 36. The first `bool` is `true` if the exponent base is absent, and the
     /// second if the exponent radix is absent: they follow the mantissa radix, so it breaks their rules too.
     MantissaRadixOutOfRange(u8, bool, bool),
     /// An exponent base or exponent radix is present and not between 2 and 36.

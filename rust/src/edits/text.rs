@@ -11,6 +11,8 @@ use crate::numeral::read_numeral;
 use core::fmt;
 
 /// The reason why a text is not a setting.
+///
+/// Its text never repeats a part of that text, which may come from a file that is not trusted.
 #[derive(Debug, Clone, Copy, PartialEq, Eq, Hash)]
 pub enum SettingError {
     /// The text has no `=`.

@@ -68,7 +68,9 @@ impl Reason {
 
     /// Returns the bits of a word that the reason blames. The reason is true of each word that has the same bits there.
     ///
-    /// A setting may be to blame if its [`Edit::mask`] has a bit in common with this mask.
+    /// These are the bits of each byte and flag that the variant holds. For a flag that needs a position, these are the
+    /// bits of all separator flags of its part of the number. A setting is to blame if its [`Edit::mask`] has one of
+    /// these bits that no later setting overrides.
     #[must_use]
     pub const fn mask(&self) -> u128 {
         match self {

@@ -19,7 +19,7 @@ pub const MAX_NOTES: usize = 3;
 #[derive(Debug, Clone, Copy, PartialEq, Eq, Hash)]
 #[non_exhaustive]
 pub enum Note {
-    /// A digit separator that no flag allows. The normal form does not have it.
+    /// A digit separator that no flag allows. It is dropped when a builder packs a word, and in the normal form.
     SeparatorWithoutFlag(Edit),
     /// Flags allow a digit separator, but it is absent.
     FlagsWithoutSeparator,

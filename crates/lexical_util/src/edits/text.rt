@@ -20,6 +20,8 @@ use lexical_builder::format_builder::{NonZeroU8, OptionU8};
 use std::fmt;
 
 /// The reason why a text is not a setting.
+///
+/// Its text never repeats a part of that text, which may come from a file that is not trusted.
 #[derive(Debug, Clone, Copy, PartialEq, Eq)]
 pub enum SettingError {
     /// The text has no `=`.
