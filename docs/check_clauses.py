@@ -3,8 +3,8 @@
 A row of a table describes the functions that its first cell names in backquotes, as `name`, `Type::name` or `name` of `Type`,
 or by a name of CALLED; a paragraph that begins with a name in bold describes the functions that it names before its verb, and
 has their clauses in brackets. Each clause that it names is one of theirs, and each of theirs is named. Each named clause of a
-public function of the libraries is named somewhere. The page names the public functions of the libraries that have premises
-(`requires`).
+public function of the libraries is named somewhere. The page names the public functions of the libraries that have
+preconditions (`requires`).
 """
 import pathlib
 import re
@@ -53,7 +53,7 @@ def functions():
                 clauses += re.findall(r"^ *ensures (\w+) \{", line)
 
 
-def premised():
+def restricted():
     """Returns the names of the public functions of the libraries with a `requires`, including methods of a public trait."""
     for library in LIBRARIES:
         for path in sorted((TOP / "crates" / library / "src").rglob("*.rt")):
@@ -94,17 +94,17 @@ def named(cell, section, known):
     return [it for it in found if it[1] in types or it[2] not in owned]
 
 
-def premises():
-    """Returns the public functions with premises that the page does not name, and those without that it does."""
-    told = re.search(r"have premises,\s+and\s+no\s+others:(.*?)\.", (TOP / "docs/PROVED.md").read_text(), re.S)[1]
-    told, known = set(re.findall(r"`(\w+)`", told)), set(premised())
-    yield from (f"public, and has premises: {name}" for name in sorted(known - told))
-    yield from (f"no public function that has premises: {name}" for name in sorted(told - known))
+def preconditions():
+    """Returns the public functions with preconditions that the page does not name, and those without that it does."""
+    told = re.search(r"have\s+preconditions\s+\(`requires`\):(.*?)\.", (TOP / "docs/PROVED.md").read_text(), re.S)[1]
+    told, known = set(re.findall(r"`(\w+)`", told)), set(restricted())
+    yield from (f"public, and has preconditions: {name}" for name in sorted(known - told))
+    yield from (f"no public function that has preconditions: {name}" for name in sorted(told - known))
 
 
 def clauses():
     """Returns what differs."""
-    yield from premises()
+    yield from preconditions()
     known, told, seen = list(functions()), set(), set()
     for section, cells in rows("PROVED.md"):
         calls, _, where = cells

@@ -33,7 +33,7 @@ impl FormatView {
     /// Returns notes on the fields that are set and change no number that can be written. A lawful word may have notes.
     ///
     /// A builder drops a digit separator that no flag allows when it packs a word. So only the notes of the builder
-    /// report it, not those of the packed word.
+    /// report it. The notes of the packed word do not.
     pub fn notes(&self) -> impl Iterator<Item = Note> + Clone {
         notes(self.word()).into_iter().flatten()
     }
