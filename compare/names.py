@@ -255,7 +255,7 @@ def table(found):
     rows, alike = [], {}
     for name, text in found:
         path, _, result = there(name)
-        kind = "ready made formats" if " ready made " in name else ""
+        kind = "prebuilt formats" if " ready made " in name else ""
         if text.startswith("`") and result:
             kind, text = f" returns `{result}`", f"returns {text}"
         elif text == "not `const`":
@@ -266,7 +266,7 @@ def table(found):
             kind = " is `#[non_exhaustive]`"
         alike.setdefault((kind, text), []).append(path)
     for (kind, text), paths in alike.items():
-        if kind == "ready made formats":
+        if kind == "prebuilt formats":
             example = "format::JSON" if "format::JSON" in paths else paths[0]
             rows.append(f"| {len(paths)} {kind}, such as `{example}` | are not here |")
         else:

@@ -46,7 +46,7 @@ KEPT = [
     ("CHANGELOG.md", "two semicolons", 5, "lists"),
     ("README.md", "the Rust crate", 1, "states what lexical-util is"),
     ("README.md", "alone", 1, "cargo alone"),
-    ("README.md", "two semicolons", 5, "lists"),
+    ("README.md", "two semicolons", 1, "a list"),
     ("bench/README.md", "the Rust crate", 1, "states what lexical-util is"),
     ("c/settings.c", "house, room or free", 1, "code"),
     ("docs/C-AND-PYTHON.md", "two semicolons", 1, "a list"),

@@ -1,12 +1,12 @@
 // Made by rust/tools/erase.py from crates/lexical_base/src/digit.rt: change that file.
 
-//! Converts and tests single digits. No function here iterates over a text.
+//! Conversions and tests of single digits. These functions do not process whole strings.
 //!
 //! The digit characters are `0` to `9` and the letters `A` to `Z`, uppercase or lowercase, with the
 //! values 0 to 35. Every other byte has the value 255. A byte is a digit of a radix if its value is
 //! below the radix.
 //!
-//! The `_const` functions are for a radix known at compile time: up to radix 10 they need no table.
+//! The `_const` functions are for a radix that is known at compile time. Up to radix 10, they do not need a table.
 
 // The digit characters. Each is at the index of its value.
 const DIGIT_CHARACTERS: [u8; 36] = *b"0123456789ABCDEFGHIJKLMNOPQRSTUVWXYZ";
@@ -36,9 +36,9 @@ const fn byte_value(c: u8) -> u32 {
 
 /// Returns the value of the byte `c`, which must be a digit of `radix` for the result to be meaningful.
 ///
-/// Any `radix` is allowed. Up to radix 10 the result is `c.wrapping_sub(b'0')`. Above radix 10 it is the
-/// value of `c`, which is 255 unless `c` is a digit character. [`char_to_digit_const`] also tests whether
-/// `c` is a digit of `radix`.
+/// Any `radix` is allowed. Up to radix 10, the result is `c.wrapping_sub(b'0')`. Above radix 10, it is the value of
+/// `c`, which is 255 unless `c` is a digit character. [`char_to_digit_const`] also tests whether `c` is a digit of
+/// `radix`.
 #[must_use]
 #[inline(always)]
 pub const fn char_to_valid_digit_const(c: u8, radix: u32) -> u32 {
@@ -74,8 +74,8 @@ pub const fn char_is_digit_const(c: u8, radix: u32) -> bool {
 
 /// Returns the digit character of `digit` in `radix`: `0` to `9`, or an uppercase letter from 10 on.
 ///
-/// `digit` must be below 36, and should be below `radix`. Any `radix` is allowed. Up to radix 10 the result
-/// is `b'0' + digit`, which is not a digit character if `digit` is 10 or more.
+/// `digit` must be below 36, and should be below `radix`. Any `radix` is allowed. Up to radix 10, the result is `b'0' +
+/// digit`, which is not a digit character if `digit` is 10 or more.
 ///
 /// # Panics
 ///

@@ -1,5 +1,5 @@
-//! The view of a format word that is known when the program is compiled: the word is a const argument of the type, and
-//! each field a constant and a method, as in `lexical-util`.
+//! A view of a format word that is known at compile time. As in `lexical-util`, the word is a const argument of the
+//! type, and each field is available as a constant and as a method.
 //!
 //! ```
 //! use peltzivar::feature_format::NumberFormat;
@@ -14,10 +14,9 @@ use crate::error::Error;
 use crate::format_builder::NumberFormatBuilder;
 use crate::view::FormatView;
 
-/// A format word that is known when the program is compiled, to be read field by field and checked.
+/// A view of a format word that is known at compile time, which reads the fields of the word and checks it.
 ///
-/// Any word is allowed, lawful or not. [`FormatView`] has the same calls for a word that is known only when the program
-/// runs.
+/// Any word is allowed, lawful or not. [`FormatView`] has the same methods for a word that is known only at run time.
 #[derive(Clone, Copy, PartialEq, Eq, Hash)]
 pub struct NumberFormat<const FORMAT: u128>;
 
@@ -31,7 +30,8 @@ impl<const FORMAT: u128> NumberFormat<FORMAT> {
         NumberFormat
     }
 
-    /// Returns the view of the word, whose type is also for words that are known only when the program runs.
+    /// Returns the view of the word as a [`FormatView`], the type that also serves for words that are known only at run
+    /// time.
     #[must_use]
     #[inline(always)]
     pub const fn view(&self) -> FormatView {
@@ -45,7 +45,7 @@ impl<const FORMAT: u128> NumberFormat<FORMAT> {
         Self::VIEW.is_digit(byte)
     }
 
-    /// Returns whether `byte` is the base prefix, in both cases of a letter unless
+    /// Returns whether `byte` is the base prefix. If the base prefix is a letter, both cases of it match unless
     /// `case_sensitive_base_prefix` is set.
     #[must_use]
     #[inline(always)]
@@ -53,7 +53,7 @@ impl<const FORMAT: u128> NumberFormat<FORMAT> {
         Self::VIEW.is_base_prefix(byte)
     }
 
-    /// Returns whether `byte` is the base suffix, in both cases of a letter unless
+    /// Returns whether `byte` is the base suffix. If the base suffix is a letter, both cases of it match unless
     /// `case_sensitive_base_suffix` is set.
     #[must_use]
     #[inline(always)]
@@ -61,14 +61,14 @@ impl<const FORMAT: u128> NumberFormat<FORMAT> {
         Self::VIEW.is_base_suffix(byte)
     }
 
-    /// Returns a new builder, whatever the word is.
+    /// Returns a new builder, which does not depend on the word.
     #[must_use]
     #[inline(always)]
     pub const fn builder() -> NumberFormatBuilder {
         NumberFormatBuilder::new()
     }
 
-    /// Returns a builder with the fields of the word; an exponent base or exponent radix of 0 becomes the mantissa
+    /// Returns a builder with the fields of the word. An exponent base or exponent radix of 0 becomes the mantissa
     /// radix.
     #[must_use]
     #[inline(always)]
@@ -259,9 +259,9 @@ fields! {
     BASE_PREFIX base_prefix u8;
     /// The [base suffix][NumberFormatBuilder::base_suffix], or 0 if it is absent.
     BASE_SUFFIX base_suffix u8;
-    /// The [mantissa radix][NumberFormatBuilder::mantissa_radix], 0 to 255.
+    /// The [mantissa radix][NumberFormatBuilder::mantissa_radix], a number from 0 to 255.
     MANTISSA_RADIX mantissa_radix u32;
-    /// The mantissa radix: another name of [`MANTISSA_RADIX`][Self::MANTISSA_RADIX].
+    /// The mantissa radix. This is another name for [`MANTISSA_RADIX`][Self::MANTISSA_RADIX].
     RADIX radix u32;
     /// The [exponent base][NumberFormatBuilder::exponent_base], or the mantissa radix if that byte is 0.
     EXPONENT_BASE exponent_base u32;
@@ -270,15 +270,15 @@ fields! {
 }
 
 methods! {
-    /// Returns whether the word is lawful, that is, keeps all rules of [`error`][Self::error].
+    /// Returns whether the word is lawful, that is, whether it keeps all rules that [`error`][Self::error] checks.
     is_valid bool;
     /// Returns the error of the first rule that the word breaks, in the order of [`Rule`][crate::format_flags::Rule],
     /// or `Success` if it is lawful.
     error Error;
     /// Returns whether the mantissa radix, the exponent base and the exponent radix are all between 2 and 36.
     is_valid_radix bool;
-    /// Returns the error of the first of mantissa radix, exponent base and exponent radix that is not between 2 and 36,
-    /// or `Success` if all three are.
+    /// Checks the mantissa radix, the exponent base and the exponent radix, in this order. Returns the error of the
+    /// first one that is not between 2 and 36, or `Success` if all three are.
     error_radix Error;
     /// Returns whether the digit separator byte is not 0.
     has_digit_separator bool;

@@ -194,7 +194,7 @@ impl NumberFormatBuilder {
     ///
     /// # Errors
     ///
-    /// If the word is not lawful, the error of the first rule that it breaks, which is never `Success`.
+    /// If the word is not lawful, returns the error of the first rule that it breaks. This is never `Success`.
     ///
     /// # Proved
     ///
@@ -222,7 +222,7 @@ impl NumberFormatBuilder {
         check(self.build_unchecked())
     }
 
-    /// Another name of `build_unchecked`. It is deprecated in `lexical-util`.
+    /// Packs the fields into a format word, as `build_unchecked` does. In `lexical-util`, `build` is deprecated.
     ///
     /// # Proved
     ///

@@ -2,9 +2,9 @@
 
 //! The layout of a format word: the bits of each flag and byte, and the functions that read them.
 //!
-//! A format word is a `u128`. Flags are at the bits from 0 up and from 32 up. Six bytes are at the bits from
-//! 64 up: digit separator, base prefix, base suffix, mantissa radix, exponent base and exponent radix. The
-//! other bits are reserved: they hold no field, and are 0 in a lawful format.
+//! A format word is a `u128`. The flags start at bit 0 and at bit 32. Six bytes start at bit 64: the digit separator,
+//! base prefix, base suffix, mantissa radix, exponent base and exponent radix. The other bits are reserved: they hold
+//! no field, and are 0 in a lawful format.
 
 mod all_rules;
 mod rules;
@@ -194,10 +194,10 @@ pub const MANTISSA_RADIX_SHIFT: i32 = 104;
 /// Mask of the [mantissa radix][crate::format_builder::NumberFormatBuilder::mantissa_radix].
 pub const MANTISSA_RADIX: u128 = 0x0000FF00_00000000_00000000_00000000;
 
-/// Another name of [`MANTISSA_RADIX_SHIFT`].
+/// Another name for [`MANTISSA_RADIX_SHIFT`].
 pub const RADIX_SHIFT: i32 = 104;
 
-/// Another name of [`MANTISSA_RADIX`].
+/// Another name for [`MANTISSA_RADIX`].
 pub const RADIX: u128 = 0x0000FF00_00000000_00000000_00000000;
 
 /// The lowest bit of the exponent base byte.

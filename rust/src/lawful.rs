@@ -14,8 +14,8 @@ use crate::word::STANDARD;
 /// A lawful format: a format word that breaks no rule. Take it as an argument where a number is parsed, written or
 /// checked.
 ///
-/// It dereferences to its [`FormatView`]; in a `const fn`, call [`view`][Self::view] first. It is compared, ordered and
-/// hashed by its word. Two words can express the same format, so compare [normal forms][Self::normal_form].
+/// It dereferences to its [`FormatView`]; in a `const fn`, call [`view`][Self::view] first. Equality, order and hash
+/// are those of its word. Two words can express the same format, so compare [normal forms][Self::normal_form].
 ///
 /// ```
 /// use peltzivar::{Error, Format, FormatView};
@@ -50,7 +50,7 @@ impl Format {
     ///
     /// # Errors
     ///
-    /// The error of the first rule that the word breaks, which is never [`Error::Success`].
+    /// Returns the error of the first rule that the word breaks. This is never [`Error::Success`].
     pub const fn new(word: u128) -> Result<Self, Error> {
         // All other ways to a format call this one.
         match check(word) {
@@ -61,7 +61,7 @@ impl Format {
         }
     }
 
-    /// Returns the format of a word that is known when the program is compiled. An unlawful word does not compile.
+    /// Returns the format of a word that is known at compile time. A word that is not lawful does not compile.
     ///
     /// ```compile_fail,E0080
     /// const FORMAT: peltzivar::Format = peltzivar::Format::of::<0>();
@@ -104,8 +104,8 @@ impl Format {
     ///
     /// # Errors
     ///
-    /// [`Error::InvalidExponentSymbol`] or [`Error::InvalidDecimalPoint`] if the byte is not allowed ASCII, or if it is
-    /// a sign or a digit; [`Error::InvalidPunctuation`] if a byte would play two roles.
+    /// Returns [`Error::InvalidExponentSymbol`] or [`Error::InvalidDecimalPoint`] if the byte is not allowed ASCII, or
+    /// if it is a sign or a digit. Returns [`Error::InvalidPunctuation`] if a byte would play two roles.
     pub const fn check_options(&self, exponent: u8, decimal_point: u8) -> Result<(), Error> {
         match options_error(self.word(), exponent, decimal_point) {
             Error::Success => Ok(()),
@@ -162,7 +162,7 @@ impl From<Format> for FormatView {
 }
 
 impl From<Format> for NumberFormatBuilder {
-    /// Returns a builder with the fields as they are written ([`from_word`][NumberFormatBuilder::from_word]).
+    /// Returns a builder with the fields of the word, unchanged ([`from_word`][NumberFormatBuilder::from_word]).
     #[inline(always)]
     fn from(format: Format) -> Self {
         NumberFormatBuilder::from_word(format.word())
@@ -174,7 +174,7 @@ impl FormatView {
     ///
     /// # Errors
     ///
-    /// The error of the first rule that the word breaks.
+    /// Returns the error of the first rule that the word breaks.
     pub const fn check(&self) -> Result<Format, Error> {
         Format::new(self.word())
     }
@@ -191,7 +191,7 @@ impl NumberFormatBuilder {
     ///
     /// # Errors
     ///
-    /// The error of the first rule that the fields break.
+    /// Returns the error of the first rule that the fields break.
     pub const fn build_format(&self) -> Result<Format, Error> {
         Format::new(self.build_unchecked())
     }

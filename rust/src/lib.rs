@@ -45,23 +45,23 @@
 //!
 //! # From `lexical-util`
 //!
-//! Modules, types and methods have the names that they have in `lexical-util` 1.0.7. A program changes the name of the
-//! crate in its `use` lines, or depends on the package `lexical-util` of the repository, which has this crate under
-//! that name. These differ:
+//! Modules, types and methods have the same names as in `lexical-util` 1.0.7. To move a program, change the name of the
+//! crate in its `use` lines. Alternatively, depend on the package `lexical-util` of the repository, which provides this
+//! crate under that name. The differences are:
 //!
 //! - `build_strict` returns a `Result`; in a constant, call `build_or_panic`.
-//! - A base prefix, base suffix or exponent character that is a letter means both cases of it, unless a flag makes it
+//! - A base prefix, base suffix or exponent character that is a letter matches both cases, unless a flag makes it
 //!   case-sensitive. A reserved bit makes a word unlawful.
 //! - The slice tests of [`ascii`] are not `const`, and `build` is not deprecated.
-//! - The ready made formats of `lexical-util`, such as `JSON`, are not here: copy one from `examples/recipes.rs`.
+//! - The ready-made formats of `lexical-util`, such as `JSON`, are not here: copy one from `examples/recipes.rs`.
 //!
 //! [`Format`], [`FormatView`], [`edits`], [`reasons`] and [`source`] are new.
 //!
 //! # What is proved
 //!
 //! The library is written in Rattle, which is Rust with contracts, and a prover accepted every function. From these
-//! sources, a program of the repository generated the files that begin with `Made by`. The parts `Proved` state
-//! contracts, and [`definitions`] has their terms. [`Format`], [`Mend`], [`NumberFormat`], the iterators and
+//! sources, a program of the repository generated the files that begin with `Made by`. The sections `Proved` state
+//! contracts, and [`definitions`] defines their terms. [`Format`], [`Mend`], [`NumberFormat`], the iterators and
 //! conversions, `Display`, `FromStr` and `Debug` of words, `build_or_panic`, decimal digits, and lanes and chunks of
 //! bytes are written by hand. A build of this crate proves nothing: you trust that program, what is written by hand,
 //! and `rustc`.

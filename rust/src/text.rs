@@ -72,8 +72,8 @@ hexadecimal! {
     UpperHex Format;
 }
 
-/// Parses `NAME=VALUE`, split at the first `=`, as [`Edit::from_setting`] parses name and value. `Display` prints a
-/// text that parses to the same edit.
+/// Parses `NAME=VALUE`, split at the first `=`. The name and the value are parsed as in [`Edit::from_setting`].
+/// `Display` prints a text that parses to the same edit.
 impl FromStr for Edit {
     type Err = SettingError;
 
@@ -93,7 +93,7 @@ impl FromStr for FlagSetter {
     }
 }
 
-/// Prints the name.
+/// Prints the name of the setter.
 impl fmt::Display for FlagSetter {
     fn fmt(&self, f: &mut fmt::Formatter<'_>) -> fmt::Result {
         f.pad(self.name())

@@ -55,7 +55,7 @@ impl FormatView {
 
     // CHECKS
 
-    /// Returns whether the word is lawful, that is, keeps all rules of [`error`][Self::error].
+    /// Returns whether the word is lawful, that is, whether it keeps all rules that [`error`][Self::error] checks.
     #[must_use]
     #[inline(always)]
     pub const fn is_valid(&self) -> bool {
@@ -93,8 +93,8 @@ impl FormatView {
         self.error_radix().is_success()
     }
 
-    /// Returns the error of the first of mantissa radix, exponent base and exponent radix that is not between 2 and 36,
-    /// or `Success` if all three are.
+    /// Checks the mantissa radix, the exponent base and the exponent radix, in this order. Returns the error of the
+    /// first one that is not between 2 and 36, or `Success` if all three are.
     #[must_use]
     #[inline(always)]
     pub const fn error_radix(&self) -> Error {
@@ -204,15 +204,15 @@ impl FormatView {
 
     // ROLES OF BYTES
 
-    /// Returns whether `byte` is a digit of the mantissa radix or of the exponent radix. A letter is a digit in both
-    /// cases.
+    /// Returns whether `byte` is a digit of the mantissa radix or of the exponent radix. The case of a letter does not
+    /// matter.
     #[must_use]
     #[inline(always)]
     pub const fn is_digit(&self, byte: u8) -> bool {
         flags::is_digit(self.format, byte)
     }
 
-    /// Returns whether `byte` is the base prefix. A letter is the base prefix in both cases, unless
+    /// Returns whether `byte` is the base prefix. If the base prefix is a letter, both cases of it match unless
     /// `case_sensitive_base_prefix` is set.
     #[must_use]
     #[inline(always)]
@@ -220,7 +220,7 @@ impl FormatView {
         is_byte(self.base_prefix(), self.case_sensitive_base_prefix(), byte)
     }
 
-    /// Returns whether `byte` is the base suffix. A letter is the base suffix in both cases, unless
+    /// Returns whether `byte` is the base suffix. If the base suffix is a letter, both cases of it match unless
     /// `case_sensitive_base_suffix` is set.
     #[must_use]
     #[inline(always)]

@@ -29,10 +29,9 @@ pub use sink::Sink;
 ///
 /// A parse error holds the index of the offending byte, counted from 0. The other variants hold nothing.
 ///
-/// The variants are listed in the order of their ranks, from 0 to 48. Values are ordered by rank,
-/// then by index. This order is total: two values are equal in it if and only if they are the same.
-/// Each test `is_..` returns whether the value is of its variant, so exactly one of the 49 tests returns
-/// `true`.
+/// The variants are listed in the order of their ranks, from 0 to 48. Values are ordered by rank, then by index. This
+/// order is total: two values compare as equal if and only if they are the same. Each of the 49 methods `is_..` tests
+/// for one variant, so exactly one of them returns `true`.
 #[derive(Clone, Copy, Debug)]
 pub enum Error {
     // Parse errors. Each holds the index of the offending byte.
@@ -104,11 +103,11 @@ pub enum Error {
     InvalidExponentSign,
     /// A flag for special values is set, but special values are forbidden.
     InvalidSpecial,
-    /// Consecutive digit separators are allowed in the integer, but no position of a separator is.
+    /// Consecutive digit separators are allowed in the integer, but internal, leading and trailing ones are not.
     InvalidConsecutiveIntegerDigitSeparator,
-    /// Consecutive digit separators are allowed in the fraction, but no position of a separator is.
+    /// Consecutive digit separators are allowed in the fraction, but internal, leading and trailing ones are not.
     InvalidConsecutiveFractionDigitSeparator,
-    /// Consecutive digit separators are allowed in the exponent, but no position of a separator is.
+    /// Consecutive digit separators are allowed in the exponent, but internal, leading and trailing ones are not.
     InvalidConsecutiveExponentDigitSeparator,
     /// A reserved bit is set.
     InvalidFlags,
@@ -128,7 +127,7 @@ pub enum Error {
     InfinityStringTooLong,
     /// The long infinity string is shorter than the short one.
     InfinityStringTooShort,
-    /// Two float parse algorithms are requested that exclude each other.
+    /// Two mutually exclusive float parse algorithms are requested.
     InvalidFloatParseAlgorithm,
     /// The radix is not supported.
     InvalidRadix,

@@ -238,7 +238,7 @@ impl NumberFormatBuilder {
     ///
     /// # Errors
     ///
-    /// If the word is not lawful, the error of the first rule that it breaks, which is never `Success`.
+    /// If the word is not lawful, returns the error of the first rule that it breaks. This is never `Success`.
     #[inline(always)]
     pub const fn build_strict(&self) -> Result<u128, Error>
         ensures lawful { OkIff result (Lawful (pack self.now)) (pack self.now) }
@@ -252,7 +252,7 @@ impl NumberFormatBuilder {
         check(self.build_unchecked())
     }
 
-    /// Another name of `build_unchecked`. It is deprecated in `lexical-util`.
+    /// Packs the fields into a format word, as `build_unchecked` does. In `lexical-util`, `build` is deprecated.
     #[inline(always)]
     pub const fn build(&self) -> u128
         ensures { result ≡ pack self.now }

@@ -85,8 +85,8 @@ pub use numbers::{
 };
 pub use text::{SettingError, byte_from_decimal};
 
-/// A builder setter that takes a `bool`: one for each flag, and one for each of the nine groups of flags. The comment
-/// of a variant is the name of its setter.
+/// A builder setter that takes a `bool`. There is one for each flag, and one for each of the nine groups of flags. The
+/// comment of a variant is the name of its setter.
 #[derive(Debug, Clone, Copy, PartialEq, Eq, Hash)]
 pub enum FlagSetter {
     /// `required_integer_digits`
@@ -182,9 +182,9 @@ pub enum Edit {
     BasePrefix(OptionU8),
     /// Writes the base suffix. `None` means that the format has no base suffix.
     BaseSuffix(OptionU8),
-    /// Writes the mantissa radix, 0 to 255. In a lawful format it is between 2 and 36.
+    /// Writes the mantissa radix, a number from 0 to 255. In a lawful format it is between 2 and 36.
     MantissaRadix(u8),
-    /// Writes the mantissa radix too: the setter `radix` is another name of the setter `mantissa_radix`.
+    /// Writes the mantissa radix too: the setter `radix` is another name for the setter `mantissa_radix`.
     Radix(u8),
     /// Writes the exponent base. `None` means the mantissa radix.
     ExponentBase(OptionU8),
@@ -364,7 +364,7 @@ pub const fn normal_form(format: u128) -> u128
 ///
 /// # Errors
 ///
-/// If the normal form is not lawful, the error of the first rule that it breaks. This is never `Success` or
+/// If the normal form is not lawful, returns the error of the first rule that it breaks. This is never `Success` or
 /// `InvalidFlags`.
 ///
 /// In plain Rust:
@@ -388,7 +388,7 @@ pub const fn migrate(format: u128) -> Result<u128, Error>
     check(normal_form(format))
 }
 
-/// Returns whether two words are equivalent, that is, have the same normal form.
+/// Returns whether two words are equivalent, that is, whether they have the same normal form.
 pub const fn same_format(a: u128, b: u128) -> bool
     ensures normal_forms { IsTrue result ↔ (normal_form_of a ≡ normal_form_of b) }
     ensures fields { IsTrue result ↔ SameFormat (raw a) (raw b) }

@@ -88,7 +88,7 @@ impl NumberFormat {
 
     // CHECKS
 
-    /// Returns whether the word is lawful, that is, keeps all rules of [`error`][Self::error].
+    /// Returns whether the word is lawful, that is, whether it keeps all rules that [`error`][Self::error] checks.
     #[inline(always)]
     pub const fn is_valid(&self) -> bool
         ensures { IsTrue result ↔ Lawful self.now }
@@ -116,8 +116,8 @@ impl NumberFormat {
         self.error_radix().is_success()
     }
 
-    /// Returns the error of the first of mantissa radix, exponent base and exponent radix that is not between 2 and 36,
-    /// or `Success` if all three are.
+    /// Checks the mantissa radix, the exponent base and the exponent radix, in this order. Returns the error of the
+    /// first one that is not between 2 and 36, or `Success` if all three are.
     #[inline(always)]
     pub const fn error_radix(&self) -> Error
         ensures first { IsFirstError radix_rules self.now result }
@@ -246,8 +246,8 @@ impl NumberFormat {
 
     // ROLES OF BYTES
 
-    /// Returns whether `byte` is a digit of the mantissa radix or of the exponent radix. A letter is a digit in both
-    /// cases.
+    /// Returns whether `byte` is a digit of the mantissa radix or of the exponent radix. The case of a letter does not
+    /// matter.
     #[inline(always)]
     pub const fn is_digit(&self, byte: u8) -> bool
         ensures { IsTrue result ↔ IsTrue (digits (raw self.now) byte) }
@@ -255,7 +255,7 @@ impl NumberFormat {
         flags::is_digit(self.format, byte)
     }
 
-    /// Returns whether `byte` is the base prefix. A letter is the base prefix in both cases, unless
+    /// Returns whether `byte` is the base prefix. If the base prefix is a letter, both cases of it match unless
     /// `case_sensitive_base_prefix` is set.
     #[inline(always)]
     pub const fn is_base_prefix(&self, byte: u8) -> bool
@@ -264,7 +264,7 @@ impl NumberFormat {
         is_byte(self.base_prefix(), self.case_sensitive_base_prefix(), byte)
     }
 
-    /// Returns whether `byte` is the base suffix. A letter is the base suffix in both cases, unless
+    /// Returns whether `byte` is the base suffix. If the base suffix is a letter, both cases of it match unless
     /// `case_sensitive_base_suffix` is set.
     #[inline(always)]
     pub const fn is_base_suffix(&self, byte: u8) -> bool

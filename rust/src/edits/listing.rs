@@ -7,8 +7,8 @@ use crate::format_builder::NonZeroU8;
 use crate::format_flags as flags;
 use crate::view::FormatView;
 
-/// Returns whether `build_unchecked` can return this word: its reserved bits are 0, and its digit separator is absent
-/// unless a flag allows one.
+/// Returns whether `build_unchecked` can return `format`. This is the case if the reserved bits are 0, and the digit
+/// separator is absent unless a flag allows one.
 ///
 /// # Proved
 ///
@@ -38,7 +38,8 @@ const fn is_separator_allowed_or_absent(format: u128) -> bool {
 /// Returns the setter calls that build `format` from a new builder, and the number of calls that are needed.
 ///
 /// The list has one edit for each field, with the field's value in `format`. The edits that change a new builder come
-/// first, and the number counts them. The other edits follow. Each part is in the order of the fields' bits.
+/// first, and the returned number is the number of these edits. The other edits follow. Both parts are in the order of
+/// the fields' bits.
 ///
 /// The first part by itself gives a builder with exactly the fields of `format`, and so does the whole list. If
 /// [`is_built`] returns `true`, then `build_unchecked` of this builder returns `format`, and no shorter list of

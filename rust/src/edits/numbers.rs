@@ -113,13 +113,14 @@ impl ArgumentKind {
 }
 
 impl FlagSetter {
-    /// Returns the name of the setter: the variant in snake case.
+    /// Returns the name of the setter, which is the name of the variant in snake case.
     #[must_use]
     pub const fn name(self) -> &'static str {
         SETTER_NAMES[self as usize]
     }
 
-    /// Returns whether `format` has a flag that this setter sets: its flag, or any flag of its group.
+    /// Returns whether the flag of this setter is set in `format`. For a group setter, returns whether any flag of the
+    /// group is set.
     #[must_use]
     pub const fn is_set(self, format: u128) -> bool {
         format & Edit::Flag(self, true).mask() != 0
@@ -169,7 +170,7 @@ impl Edit {
         }
     }
 
-    /// Returns the name of the setter of the edit.
+    /// Returns the name of the setter that the edit calls.
     #[must_use]
     pub const fn name(self) -> &'static str {
         SETTER_NAMES[self.setter_number() as usize]

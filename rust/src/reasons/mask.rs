@@ -45,8 +45,8 @@ impl Reason {
         }
     }
 
-    /// Returns whether the reason breaks a rule: its first rule or, if the reason is a mantissa radix, the rule of an
-    /// exponent byte that follows it.
+    /// Returns whether the reason breaks `rule`. A mantissa radix that is out of range also breaks the rule of each
+    /// absent exponent byte. Any other reason breaks one rule.
     #[must_use]
     pub const fn breaks(&self, rule: Rule) -> bool {
         match self {
@@ -66,7 +66,7 @@ impl Reason {
         }
     }
 
-    /// Returns the bits of a word that the reason blames. The reason is true of each word that has the same bits there.
+    /// Returns the bits of a word that the reason blames. The reason applies to each word that has the same bits there.
     ///
     /// These are the bits of each byte and flag that the variant holds. For a flag that needs a position, these are the
     /// bits of all separator flags of its part of the number. A setting is to blame if its [`Edit::mask`] has one of

@@ -12,9 +12,9 @@ use lexical_base::error::Error;
 
 /// A rule that a format word keeps or breaks. A word that breaks no rule is lawful.
 ///
-/// The variants are in the order in which the rules are tried. The name of each states its demand. *Punctuation* is
-/// allowed ASCII that is neither a sign nor a digit of the mantissa or the exponent. A rule has no `Display`, since a
-/// `Reason` states why a given word breaks it.
+/// The variants are in the order in which the rules are tried. The name of each variant states the condition that the
+/// rule imposes. *Punctuation* is allowed ASCII that is neither a sign nor a digit of the mantissa or the exponent. A
+/// rule has no `Display`, since a `Reason` states why a given word breaks it.
 #[derive(Debug, Clone, Copy, PartialEq, Eq, Hash)]
 pub enum Rule {
     /// The mantissa radix is between 2 and 36.
@@ -33,19 +33,19 @@ pub enum Rule {
     PunctuationDiffers,
     /// Exponents are not both forbidden and required.
     ExponentFlagsAgree,
-    /// The sign of the mantissa is not required while `+` is forbidden.
+    /// The mantissa does not require a sign if it forbids `+`.
     MantissaSignFlagsAgree,
-    /// The sign of the exponent is not required while `+` is forbidden.
+    /// The exponent does not require a sign if it forbids `+`.
     ExponentSignFlagsAgree,
     /// Special values are not both forbidden and case-sensitive.
     SpecialCaseFlagsAgree,
-    /// Digit separators are not allowed in special values while special values are forbidden.
+    /// Special values are not forbidden if digit separators are allowed in them.
     SpecialSeparatorFlagsAgree,
-    /// Consecutive digit separators are allowed in the integer only if some position of a separator is.
+    /// Consecutive digit separators are allowed in the integer only if internal, leading or trailing ones are.
     IntegerConsecutiveIsAllowed,
-    /// Consecutive digit separators are allowed in the fraction only if some position of a separator is.
+    /// Consecutive digit separators are allowed in the fraction only if internal, leading or trailing ones are.
     FractionConsecutiveIsAllowed,
-    /// Consecutive digit separators are allowed in the exponent only if some position of a separator is.
+    /// Consecutive digit separators are allowed in the exponent only if internal, leading or trailing ones are.
     ExponentConsecutiveIsAllowed,
     /// All reserved bits are 0.
     ReservedBitsAreZero,
@@ -75,7 +75,7 @@ pub const RULES: [Rule; 16] = [
 const DIGIT_RADIXES: u128 = MANTISSA_RADIX | EXPONENT_RADIX;
 
 impl Rule {
-    /// Returns the error of a word that breaks this rule and no rule before it.
+    /// Returns the error of a word that breaks this rule and no earlier rule.
     pub const fn error(self) -> Error
         ensures { result ≡ error_of self }
     {
@@ -133,9 +133,9 @@ impl Rule {
         }
     }
 
-    /// Returns the bits of a word that this rule reads. For [`Rule::ReservedBitsAreZero`], these are the
-    /// reserved bits, and for any other rule the bits of certain fields. Words that agree in these bits all keep
-    /// the rule, or all break it.
+    /// Returns the bits of a word that this rule reads. For [`Rule::ReservedBitsAreZero`], these are the reserved bits.
+    /// For any other rule, they are the bits of certain fields. If two words agree in these bits, either both keep the
+    /// rule or both break it.
     pub const fn mask(self) -> u128
         ensures { result ≡ mask_read self }
     {

@@ -50,8 +50,8 @@ const fn larger(a: u32, b: u32) -> u32
     if a < b { b } else { a }
 }
 
-/// Returns whether `byte` is a digit of numbers in this format: a digit of the mantissa radix or of
-/// the exponent radix. A letter that is a digit is one in both cases.
+/// Returns whether `byte` is a digit of numbers in this format: a digit of the mantissa radix or of the exponent radix.
+/// A letter is a digit in either case or in neither.
 ///
 /// If the exponent radix of the format is 0, the mantissa radix is used instead. The exponent base
 /// has no digits. Any word and any byte may be passed. `lexical-util` has no such function.
@@ -209,13 +209,13 @@ pub const fn is_valid_base_suffix(format: u128) -> bool
     is_absent_or_punctuation(format, base_suffix(format))
 }
 
-/// Returns whether digit separator, base prefix and base suffix differ from each other.
+/// Returns whether the digit separator, the base prefix and the base suffix differ from each other.
 ///
-/// A byte of 0 is absent, and is not compared. If the base prefix is a letter, it means both cases of that
-/// letter unless [`CASE_SENSITIVE_BASE_PREFIX`] is set. The base suffix does likewise unless
-/// [`CASE_SENSITIVE_BASE_SUFFIX`] is set. So the prefix `h` and the suffix `H` clash unless both flags are
-/// set. The digit separator is always case-sensitive. `lexical-util` compares the raw bytes, so it accepts the
-/// prefix `h` and the suffix `H` with any flags.
+/// A byte of 0 is absent, and is not compared. A base prefix that is a letter matches both cases of that letter unless
+/// [`CASE_SENSITIVE_BASE_PREFIX`] is set. Likewise, a base suffix that is a letter matches both cases unless
+/// [`CASE_SENSITIVE_BASE_SUFFIX`] is set. So the prefix `h` and the suffix `H` clash unless both flags are set. The
+/// digit separator is always case-sensitive. `lexical-util` compares the raw bytes, so it accepts the prefix `h` and
+/// the suffix `H` with any flags.
 #[inline(always)]
 pub const fn is_valid_punctuation(format: u128) -> bool
     ensures { IsTrue result ↔ Holds rules.PunctuationDiffers format }
@@ -267,12 +267,12 @@ const fn is_disjoint_from_format_roles(format: u128, byte: u8, case_sensitive: b
 /// Returns whether `exponent` can be the exponent character and `decimal_point` the decimal point in
 /// numbers of this format.
 ///
-/// Both must be allowed ASCII that is neither a sign nor a digit of the mantissa or of the exponent, so
-/// neither may be 0. They must differ from each other and from digit separator, base prefix and base
-/// suffix. If the exponent character is a letter, it means both cases of that letter unless
-/// [`CASE_SENSITIVE_EXPONENT`] is set. Base prefix and base suffix are compared as in
-/// [`is_valid_punctuation`]. The decimal point is always case-sensitive. In a lawful format, no byte then
-/// plays two roles. Every lawful format has some such pair. `lexical-util` compares the raw bytes.
+/// Both must be allowed ASCII that is neither a sign nor a digit of the mantissa or of the exponent, so neither may be
+/// 0. They must differ from each other and from the digit separator, the base prefix and the base suffix. If the
+/// exponent character is a letter, it matches both cases of that letter unless [`CASE_SENSITIVE_EXPONENT`] is set. The
+/// base prefix and the base suffix are compared as in [`is_valid_punctuation`]. The decimal point is always
+/// case-sensitive. In a lawful format, no byte then plays two roles. There is such a pair for every lawful format.
+/// `lexical-util` compares the raw bytes.
 ///
 /// In plain Rust:
 ///

@@ -117,14 +117,15 @@ impl ArgumentKind {
 }
 
 impl FlagSetter {
-    /// Returns the name of the setter: the variant in snake case.
+    /// Returns the name of the setter, which is the name of the variant in snake case.
     pub const fn name(self) -> &'static str
         ensures { result.now ≡ name_of_flags self }
     {
         SETTER_NAMES[self as usize]
     }
 
-    /// Returns whether `format` has a flag that this setter sets: its flag, or any flag of its group.
+    /// Returns whether the flag of this setter is set in `format`. For a group setter, returns whether any flag of the
+    /// group is set.
     pub const fn is_set(self, format: u128) -> bool
         ensures { result ≡ any_flag format (flags_of self) }
     {
@@ -176,7 +177,7 @@ impl Edit {
         }
     }
 
-    /// Returns the name of the setter of the edit.
+    /// Returns the name of the setter that the edit calls.
     pub const fn name(self) -> &'static str
         ensures name { result.now ≡ name_of self }
 
