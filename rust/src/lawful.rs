@@ -14,8 +14,8 @@ use crate::word::STANDARD;
 /// A lawful format: a format word that breaks no rule. Take it as an argument where a number is parsed, written or
 /// checked.
 ///
-/// It dereferences to its [`FormatView`]; in a `const fn`, call [`view`][Self::view] first. Equality, order and hash
-/// are those of its word. Two words can express the same format, so compare [normal forms][Self::normal_form].
+/// It dereferences to its [`FormatView`]; in a `const fn`, call [`view`][Self::view] first. Formats are compared
+/// and hashed by their words. Two words can express the same format, so compare [normal forms][Self::normal_form].
 ///
 /// ```
 /// use peltzivar::{Error, Format, FormatView};
