@@ -3,6 +3,7 @@
 #
 # - rows.sh: the texts and the counts of rows that pass, that fail and that are skipped, and the status;
 # - each script that uses it, where no compiler is installed: it skips as many rows as it counts;
+# - docs/check_test.py, over checks that find nothing: it reports each status that is not 1;
 # - run, over programs that do nothing: it calls each test, and fails if one fails;
 # - the commands of rust/tools/test.sh: each is called, and its row fails if it fails.
 #
@@ -92,6 +93,16 @@ skips "$(sed -n 's/^    counted //p' ../c/test.sh)" c/test.sh archive
 script=crates/numfmt/built-program-test.sh
 skips "$(sed -n 's/.* least=\([0-9]*\)$/\1/p;T;q' ../$script)" $script program
 skips "$(sed -n 's/.* || least=//p' ../$script)" $script
+
+mkdir -p "$work/checks"/{docs,c}
+cp ../docs/check_test.py "$work/checks/docs"
+for status in 0 2; do
+    echo "raise SystemExit($status)" | tee "$work/checks/docs/check.py" > "$work/checks/c/header_test.py"
+    tried=$((tried + 1))
+    [ "$(python3 "$work/checks/docs/check_test.py" | grep -c ": the status is $status: $")" = 3 ] && continue
+    failed=$((failed + 1))
+    echo "docs/check_test.py: does not report three times the status $status"
+done
 
 # stub FILE NAME [LINES]: a program that writes its name to LOG, prints the lines, and fails if FAILS is its name. It has a
 # version.

@@ -13,7 +13,7 @@
 - DIFFERENCES.md names each public name that lexical-util does not have.
 - A format word outside of a block of code can be pasted: it has no `_`.
 - The numbers of flags, fields, rules, reserved bits and outcomes in pages are right, and so are the numbers of rows in the
-  eraser's tables.
+  eraser's tables. So are the counts of names in compare/README.md.
 - Each file of a folder must-fail/ is an edit. The numbers of edits and tests are not below the last ones.
 - No line of code or proof has over 160 columns, and at most 150 have over 120. In pages, only lines of tables and code
   have over 120 columns.
@@ -22,6 +22,7 @@
 - README has a command of cargo that runs something, one that runs all tests, and `rt ci`; `.ci/run` calls its tests.
 - `.ci/run`, or a script that it calls, calls each script that is a test by its name. Each script of shell fails if a
   command does: it begins with `set -e`, or ends with the count of failures.
+- No manifest in rust/ turns tests off, except for capi's, which has none.
 
 The last line counts the lines of the pages, the words of README, the transcripts (which the tests of numfmt, of rust/
 and of c/ run, except for lines `$ cc ..`), the blocks of code (which are compared here), and the lines of prose that
@@ -200,6 +201,15 @@ def substituted(text):
             yield f"the eraser has {count} {name}, not {number}"
 
 
+def listed(text):
+    """Returns the sentence with the numbers of names and formats in names.txt if compare/README.md does not have it."""
+    names = (TOP / "compare/names.txt").read_text().splitlines()
+    formats = sum(" ready made " in name for name in names)
+    sentence = f"The names are the {len(names)} lines of `names.txt`, which include {formats} ready made formats."
+    if sentence not in " ".join(text.split()):
+        yield f"does not have: {sentence}"
+
+
 def readme(text):
     """Returns whether README is too long, and its rows of ratios that bench/README.md does not begin so."""
     if len(text.split()) > MOST_WORDS:
@@ -232,6 +242,14 @@ def not_called():
         for path in files_of(folder, "*test.*"):
             if path.suffix in (".py", ".sh") and f"/{path.name}" not in calls:
                 yield f"{path.relative_to(TOP)}: neither .ci/run nor what it runs calls this test"
+
+
+def turned_off():
+    """Returns the manifests in rust/, except for capi's, that turn tests off."""
+    for path in files_of("rust", "Cargo.toml"):
+        is_off = re.search(r"\b((auto|doc)?tests?|harness) *= *false", path.read_text())
+        if is_off and path.parent.name != "capi":
+            yield f"{path.relative_to(TOP)}: turns tests off: {is_off[0]}"
 
 
 def lenient():
@@ -287,6 +305,8 @@ def main():
             found += [*check_clauses.clauses(), *substituted(text)]
         if page == TOP / "README.md":
             found += [*readme(text), *commands(text)]
+        if page == TOP / "compare/README.md":
+            found += listed(text)
         if page.name == "DIFFERENCES.md":
             found += added_names(text)
         for it in found:
@@ -294,7 +314,7 @@ def main():
         wrong += len(found)
     constructions, kept = check_prose.constructions(PAGES)
     others = (*constructions, *make_python.stale(), *check_definitions.definitions(), *not_exported(), *not_run())
-    others += (*not_called(), *lenient(), *layout(), *too_long())
+    others += (*not_called(), *turned_off(), *lenient(), *layout(), *too_long())
     for it in (*(f"c/peltzivar.h: {it}" for it in check_header.header(wanted)), *others):
         print(it)
         wrong += 1

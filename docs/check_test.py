@@ -12,7 +12,7 @@ import tempfile
 
 TOP = pathlib.Path(__file__).resolve().parent.parent
 # The least number of faults.
-LEAST = 92
+LEAST = 94
 COPIED = ["*.md", "crates.txt", ".ci", "bench", "c", "compare", "crates", "docs", "explorer", "rust"]
 
 # A file, a piece of it (`None`: its end, also of a new file), its replacement, and the text that must be printed.
@@ -93,6 +93,10 @@ PLANTS = [
     ("crates/lexical_c/src/version.rt", None, "// no_mangle", " calls are declared, and "),
     ("crates/lexical_c/src/version.rt", "result ≡ 0x", "result ≡ 0x1", "c/peltzivar.h: has not: the version "),
     ("compare/rust/src/exports.rs", "    flag(", "    flags(", "c/peltzivar.h: has other calls than compare/rust/src/"),
+    ("compare/names.txt", "ascii const fn is_valid_letter(u8) -> bool\n", "",
+     "compare/README.md: does not have: The names are the 548 lines of `names.txt`, which include 145 ready made formats."),
+    ("rust/Cargo.toml", "\n[workspace]\n", "\n[lib]\ntest = false\n\n[workspace]\n",
+     "rust/Cargo.toml: turns tests off: test = false"),
     (HEADER, "_SET_REQUIRED_FRACTION_DIGITS,", "_SET_REQUIRED,", "c/peltzivar.h: has not the setters in their order"),
     (HEADER, "_OVERFLOW = 1,", "_OVERFLOW = 2,", "c/peltzivar.h: not there once: PELTZIVAR_OVERFLOW = 1"),
     (HEADER, "#define PELTZIVAR_VERSION_PATCH ", "#define PELTZIVAR_VERSION_PATCH 7",
@@ -149,6 +153,7 @@ def plant(folder, file, old, new):
     """Returns whether the piece is in the file, and puts the fault there."""
     path = folder / file
     text = path.read_text() if path.exists() else ""
+    path.parent.mkdir(parents=True, exist_ok=True)
     path.write_text(text + new if old is None else text.replace(old, new, 1))
     return old is None or old in text
 
