@@ -8,7 +8,7 @@
 - check_format.py compares FORMAT.md, check_header.py the header of C, and check_clauses.py the clauses in PROVED.md.
 - c/peltzivar.py is what c/make_python.py writes.
 - check_prose.py compares sentences: the fields of FORMAT's example, exit statuses, and the least version of Rust. It
-  also finds constructions that neither a page nor a comment may have, except for those that it lists with a reason.
+  also finds constructions that neither a page nor a comment may have, except for the lines that it lists with a reason.
 - check_definitions.py follows the definitions that headline calls cite, and compares the reading lists in PROVED.md.
 - DIFFERENCES.md names each public name that lexical-util does not have.
 - A format word outside of a block of code can be pasted: it has no `_`.

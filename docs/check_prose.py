@@ -1,22 +1,23 @@
 """Sentences of the pages that differ from the sources: flags and fields in FORMAT, exit statuses, the least Rust.
 
-And constructions that neither a page nor a comment has (PATTERNS), except for the lines that KEPT lists with a reason.
+And constructions that neither a page nor a comment has (PATTERNS and AT_START), except for the lines that KEPT lists
+with a reason.
 """
 import re
 
 import check_format
 
 TOP = check_format.CRATES.parent
-# Constructions that stumble a reader, each with an expression that finds it in a line.
+# Constructions that stumble a reader, each with an expression that finds it in a line of a page or a comment.
 PATTERNS = [
     ("exactly if", r"\bexactly (if|then|where)\b"),
-    ("is no X", r"\b(?<!there )(is|are|was|be) no [a-z]"),
+    ("is no X", r"\b(is|are|was|be) no [a-z]"),
     ("is none", r"\b(is|are) none\b|(if|where) there (is|are) none\b"),
-    ("a comment from its middle", r"^ *(//[/!]?|--|/?\*|#|\"\"\")? *(and|those|that|the same|such|before|after|but) "),
+    ("a comment from its middle", r"(//[/!]?|--|\*) (and|those|that|the same|such|before|after|but) "),
     ("that of", r"\b([Tt]hat|[Tt]hose) (of|in) "),
     ("the same of", r"\b[Tt]he same (of|for|by|with|after|is|on|holds)\b"),
     ("says or about", r"\b([Ss]ays?|[Ss]aid|[Tt]ells?|[Tt]old|about)\b"),
-    ("what or who first", r"(^|[.:;|(] |//[/!]? |-- |# |\"\"\")(What|Who|That which|Of) "),
+    ("what or who first", r"(^|[.:;|(] |//[/!]? |-- )(What|Who|That which|Of) "),
     (", of which", r", (of|by|in|for|from|with|on|over) (which|whom|whose|what)\b"),
     ("made of", r"\b([Mm]ade|[Mm]akes?|built|builds) (out )?of\b"),
     ("otherwise", r"\b(is|are) otherwise\b|\bturned\b|\bchange places\b"),
@@ -30,32 +31,60 @@ PATTERNS = [
     ("reads back", r"\b(gives?|reads?) (it |them )?back\b|\bmeans? the same\b"),
     ("is 2 to 36", r"\b(is|are|be|not) [0-9]+ to [0-9]+\b"),
     ("two semicolons", r";[^;]*;"),
-    ("how many or whether", r"^ *(//[/!]? |-- |/?\* |# |\"\"\")([Hh]ow (many|a|the)|[Ww]hether) "),
+    ("how many or whether", r"(//[/!]?|--|\*) ([Hh]ow (many|a|the)|[Ww]hether) "),
     ("words for names", r"\b([Ii]ts|own|with the|has the|in the library.s) words\b|\bone word\b"),
     ("setters of flags", r"\b([Ee]rrors?|[Rr]ules?|[Ss]etters?|[Gg]etters?|[Rr]easons?) of (a |an |the )?(parsing|formats?|options|flags?|bytes?|punctuation|radixes|reserved bits|groups?)\b"),
     ("the Rust crate", r"\bthe Rust crate\b|\bempty (exponent )?(base|radix|bytes?)\b"),
 ]
-# The constructions with which a comment or a paragraph begins. A line in its middle may have these words in front.
-AT_START = ["a comment from its middle", "what or who first", "how many or whether"]
+# Wider expressions for the line with which a comment, a docstring or a paragraph begins.
+AT_START = {
+    "a comment from its middle": r"^ *(//[/!]?|--|/?\*|#|\"\"\")? *(and|those|that|the same|such|before|after|but) ",
+    "what or who first": r"(^|[.:;|(] |//[/!]? |-- |# |\"\"\")(What|Who|That which|Of) ",
+    "how many or whether": r"^ *(//[/!]? |-- |/?\* |# |\"\"\")([Hh]ow (many|a|the)|[Ww]hether) ",
+}
 # The files with prose, by their folders. check.py has the pages.
 PROSE = [("crates", "*.rt"), ("crates", "*.antt"), ("rust", "*.rs"), ("c", "*.[ch]"), ("bench", "*.rs"), ("bench", "*.in"),
          ("compare", "*.rs"), ("explorer", "*.js"), ("explorer", "*.rs"), (".", "*.sh"), (".ci", "run"),
          ("docs", "*.py"), ("c", "*.py"), ("compare", "*.py"), ("crates", "*.py"), ("rust", "*.py")]  # fmt: skip
-# Where a construction stays: the file, the construction, the number of lines, and the reason.
+# The lines that stay: the file, the construction, a piece of the line, and the reason.
 KEPT = [
-    ("CHANGELOG.md", "two semicolons", 5, "lists"),
-    ("README.md", "the Rust crate", 1, "states what lexical-util is"),
-    ("README.md", "alone", 1, "cargo alone"),
-    ("README.md", "two semicolons", 1, "a list"),
-    ("bench/README.md", "the Rust crate", 1, "states what lexical-util is"),
-    ("c/settings.c", "house, room or free", 1, "code"),
-    ("docs/C-AND-PYTHON.md", "two semicolons", 1, "a list"),
-    ("docs/DECISIONS.md", "alone", 1, "cargo alone"),
-    ("docs/DIFFERENCES.md", "two semicolons", 1, "a list"),
-    ("docs/FORMAT.md", "two semicolons", 1, "a list"),
-    ("docs/PROVED.md", "two semicolons", 1, "a list"),
-]
-# The most lines that all rows of KEPT together have.
+    ("CHANGELOG.md", "two semicolons", "a null pointer with length 0 is allowed;", "an old entry"),
+    ("CHANGELOG.md", "two semicolons", "- 0.3.0: ", "an old entry"),
+    ("README.md", "a comment from its middle", "Rust with *contracts* that state", "emphasis"),
+    ("README.md", "the Rust crate", "the Rust crate `lexical-util` 1.0.7", "names the crate"),
+    ("README.md", "alone", "With cargo alone", "cargo alone"),
+    ("README.md", "two semicolons", "mend: base_prefix=none; mend: radix=10", "printed by a program"),
+    ("README.md", "what or who first", "Of 2.6 billion", "a number and its share"),
+    ("bench/README.md", "the Rust crate", "the Rust crate `lexical-util` 1.0.7", "names the crate"),
+    ("c/settings.c", "a comment from its middle", "* after its lines.", "a line within a sentence"),
+    ("c/settings.c", "is no X", "if there is no problem, 1 if there is one", "there is no .."),
+    ("c/settings.c", "is no X", "/* Prints the word if there is no problem", "there is no .."),
+    ("c/settings_test.c", "a comment from its middle", "* that writes each bit", "a line within a sentence"),
+    ("c/settings_test.c", "is no X", "whether there is no problem", "there is no .."),
+    ("c/settings_test.c", "how many or whether", "* whether there is", "a line within a sentence"),
+    ("crates/lexical_c/src/reasons.rt", "a comment from its middle", "/// that no flag", "a line within a sentence"),
+    ("crates/lexical_util/proofs/BlameLemmas.antt", "a comment from its middle", "-- and whether the prefix is case-sensitive",
+     "a line within a sentence"),
+    ("crates/lexical_util/specs/Additions/SettingNumbers.antt", "a comment from its middle", "-- and numbers come from",
+     "a line within a sentence"),
+    ("crates/lexical_util/specs/Additions/SettingNumbers.antt", "is no X", "-- `setter_name_of_number number` is", "there is no .."),
+    ("crates/lexical_util/specs/Additions/SettingNumbers.antt", "is no X", "-- `setter_number_of_name name` is", "there is no .."),
+    ("crates/lexical_util/specs/Additions/SettingText.antt", "is no X", "-- the error if there is no such setter", "there is no .."),
+    ("crates/numfmt/specs/Explanation.antt", "is no X", "if there are no edits", "there are no .."),
+    ("crates/numfmt/src/explanation.rt", "a comment from its middle", "/// and the edits that mend", "a line within a sentence"),
+    ("docs/C-AND-PYTHON.md", "two semicolons", "for (int i = 1; i < argc; i++)", "code"),
+    ("docs/C-AND-PYTHON.md", "two semicolons", "random files of settings;", "a list"),
+    ("docs/DECISIONS.md", "alone", "cargo alone can build it", "cargo alone"),
+    ("docs/PROVED.md", "two semicolons", "| the plain Rust does what", "a list"),
+    ("docs/PROVED.md", "two semicolons", "| what a flag makes a parser or writer do;", "a list"),
+    ("docs/PROVED.md", "two semicolons", "| the eraser |", "a list"),
+    ("explorer/number.js", "is no X", "if there is no such radix", "there is no .."),
+    ("rust/examples/settings.rs", "is no X", "if there is no problem", "there is no .."),
+    ("rust/src/lawful.rs", "a comment from its middle", "/// and hashed by their words.", "a line within a sentence"),
+    ("rust/src/lib.rs", "a comment from its middle", "//! and `rustc`.", "a line within a sentence"),
+    ("rust/tests/details.rs", "a comment from its middle", "//! and numbers of rules,", "a line within a sentence"),
+]  # fmt: skip
+# The most lines that stay.
 MOST_KEPT = 60
 LEAST = re.search(r'^rust-version = "(.*)"$', (TOP / "rust/Cargo.toml").read_text(), re.M)[1]
 
@@ -132,42 +161,34 @@ def is_prose(path, text):
             yield bool(re.match(" *#" if path.suffix in (".sh", "") else r" *(//|-- |/?\*)(?!! #)", line))
 
 
-def prose_of(path):
-    """Returns the lines of prose in a file: the number, the text, and whether a comment or a paragraph begins there."""
+def found_in(path):
+    """Returns the constructions of a file: the number of the line, the name of the construction, and the line."""
     text = path.read_text()
     if "Made by" in "".join(text.splitlines(True)[:3]):
         return
     before = ""
     for number, (line, is_read) in enumerate(zip(text.splitlines(), is_prose(path, text)), 1):
-        if is_read:
-            yield number, line, not re.search(r"\w", before) or before.startswith("|")
+        begins = is_read and (not re.search(r"\w", before) or before.startswith("|"))
+        is_any = is_read or path.suffix == ".md" or line.startswith("//! #")
+        for name, expression in PATTERNS:
+            if is_any and re.search(expression, line) or begins and re.search(AT_START.get(name, expression), line):
+                yield number, name, line.strip()
         before = line.strip() if is_read else ""
 
 
-def found_in(path):
-    """Returns the constructions of a file: the number of the line, the name of the construction, and the line."""
-    for number, line, begins in prose_of(path):
-        for name, expression in PATTERNS:
-            is_list = name == "two semicolons" and line.startswith("|")
-            if re.search(expression, line) and not is_list and (begins or name not in AT_START):
-                yield number, name, line.strip()
-
-
 def constructions(pages):
-    """Returns the constructions that KEPT does not list, and the number of lines that it lists."""
-    paths = [*pages, *(path for folder, pattern in PROSE for path in (TOP / folder).rglob(pattern))]
-    found = {}
+    """Returns the constructions that KEPT does not list, with its rows that no line has, and the number of lines kept."""
+    paths = {*pages, *(path for folder, pattern in PROSE for path in (TOP / folder).rglob(pattern))}
+    wrong, unused, kept = [], list(KEPT), 0
     for path in sorted(path for path in paths if not {"out", "target"} & set(path.parts)):
+        file = str(path.relative_to(TOP))
         for number, name, line in found_in(path):
-            found.setdefault((str(path.relative_to(TOP)), name), []).append((number, line))
-    kept = {(file, name): count for file, name, count, _ in KEPT}
-    wrong = [
-        f"{file}:{number}: {name}: {line}"
-        for (file, name), lines in found.items()
-        for number, line in lines
-        if len(lines) > kept.get((file, name), 0)
-    ]
-    total = sum(kept.values())
-    if total > MOST_KEPT:
-        wrong.append(f"docs/check_prose.py: KEPT lists {total} lines, more than {MOST_KEPT}")
-    return wrong, total
+            rows = [row for row in KEPT if row[:2] == (file, name) and row[2] in line]
+            unused = [row for row in unused if row not in rows]
+            kept += bool(rows)
+            if not rows:
+                wrong.append(f"{file}:{number}: {name}: {line}")
+    wrong += (f"docs/check_prose.py: KEPT has a line that is not found: {', '.join(row[:3])}" for row in unused)
+    if kept > MOST_KEPT:
+        wrong.append(f"docs/check_prose.py: {kept} lines are kept, more than {MOST_KEPT}")
+    return wrong, kept

@@ -3,8 +3,8 @@
 
     rust/tools/check_doc.py FOLDER
 
-Each link leads to a page, and to a part of it that has this name; there are at most MOST pages, and no text is one that
-documentation.py does not allow. What differs is printed, and the status is then 1.
+Each link leads to a page, and to a part of it that has this name. There are at most MOST pages, and no text is one that
+documentation.py does not allow. Each difference is printed, and the status is then 1.
 """
 import html.parser
 import pathlib
