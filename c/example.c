@@ -1,4 +1,4 @@
-/* Builds a format from settings, and prints its word and the fewest settings of single fields that build it.
+/* Builds a format from settings. Prints its word and a shortest list of single-field settings that builds the word.
  *
  *     cc -Wall -Wextra -Werror example.c libpeltzivar_c.a -o example
  *     ./example mantissa_radix=16 digit_separator=95 internal_digit_separator=true */
@@ -19,8 +19,8 @@ static void print_settings(peltzivar_word word) {
 }
 
 int main(int argc, char **argv) {
-    /* A field that no setting names keeps its default, and exponent base and exponent radix follow the mantissa radix.
-     * To change a finished word, call peltzivar_edit_word. */
+    /* A field that no setting names keeps its default. An exponent base or exponent radix that no setting names
+     * follows the mantissa radix. To change a finished word, call peltzivar_edit_word. */
     peltzivar_fields fields = PELTZIVAR_NEW_FIELDS;
     for (int i = 1; i < argc; i++) {
         peltzivar_edit edit;

@@ -1,29 +1,32 @@
-/* Reads a file of settings, one NAME = VALUE a line, and prints the word that they make, and each problem and note
- * after its lines. A line that begins with `#` is a comment. The file may have any bytes.
+/* Reads a settings file and prints each problem and each note, after the numbers of its lines. If the file has no
+ * problems, the program also prints the word that the settings build. A line of the file is blank, a comment that
+ * begins with `#`, or a setting NAME = VALUE. The file may contain any bytes.
  *
  *     cc -Wall -Wextra -Werror settings.c libpeltzivar_c.a -o settings && ./settings hexadecimal.txt
  *
- * The status is 0 if there is no problem, 1 if there is one, and 2 if the file cannot be read. */
+ * The status is 0 if the file has no problems, and 1 if it has any. It is 2 if the program is not called with one file,
+ * or if it cannot read the file or write its output. */
 #include "peltzivar.h"
 
 #include <stdio.h>
 #include <stdlib.h>
 #include <string.h>
 
-/* A setting: its setter, its line, and the bits that it writes and no later line. */
+/* A setting: its setter, the number of its line, and the bits that it writes and that no later line writes. */
 typedef struct {
     uint8_t setter;
     size_t line;
     peltzivar_word left;
 } setting;
 
-/* The settings of which something is left, at most one of each setter. Then what all lines write, and the status. */
+/* The settings that have bits left, at most one for each setter. `fields` has the values that all lines set, and
+ * `status` is the exit status. */
 static setting settings[PELTZIVAR_SET_EXPONENT_RADIX + 2];
 static size_t count;
 static peltzivar_fields fields = PELTZIVAR_NEW_FIELDS_INIT;
 static int status;
 
-/* Prints a sentence between an end and the lines of the settings of which something is left under a mask. */
+/* Prints the numbers of the lines whose settings have bits left under `mask`, then `sentence`, and then `end`. */
 static void print_located(peltzivar_word mask, const char *sentence, const char *end) {
     size_t lines[sizeof settings / sizeof *settings], len = 0;
     for (const setting *it = settings; it < settings + count; it++) {
@@ -34,7 +37,8 @@ static void print_located(peltzivar_word mask, const char *sentence, const char 
     printf(": %s%s", sentence, end);
 }
 
-/* Adds a setting. It is a problem if it leaves nothing of another. It may refine a group. */
+/* Adds a setting. If an earlier setting then has no bits left, that is a problem. A setting may override a part of an
+ * earlier group setting. */
 static void add(peltzivar_edit edit, size_t line) {
     const peltzivar_word mask = peltzivar_edit_mask(edit);
     char name[PELTZIVAR_TEXT_SIZE];
@@ -54,7 +58,8 @@ static void add(peltzivar_edit edit, size_t line) {
     status |= !peltzivar_edit_fields(&fields, &edit, 1);
 }
 
-/* Prints as a question the setter name that shares most pairs of letters with an unknown name, if it is like it. */
+/* Prints, as a question, the setter name that shares the largest part of its pairs of adjacent characters with an
+ * unknown name. Prints nothing if no setter name is similar enough. */
 static void print_suggestion(const char *name, size_t len) {
     bool has_pair[128][128] = {{false}};
     char text[PELTZIVAR_TEXT_SIZE];
@@ -71,7 +76,7 @@ static void print_suggestion(const char *name, size_t len) {
     if (peltzivar_setter_name(nearest, text, sizeof text)) printf("; did you mean %s?", text);
 }
 
-/* Copies a text without blanks at its ends, and returns the length of the copy. */
+/* Copies the text from `start` to `end` without the blanks at its ends, and returns the length of the copy. */
 static size_t copy(char *to, const char *start, const char *end) {
     while (start < end && memchr(" \t\f\r", *start, 4)) start++;
     while (start < end && memchr(" \t\f\r", end[-1], 4)) end--;
@@ -79,7 +84,8 @@ static size_t copy(char *to, const char *start, const char *end) {
     return (size_t)(end - start);
 }
 
-/* Reads a line: blanks, a comment, or a setting. Anything else is a problem. Two copies of the line fit behind it. */
+/* Reads a line that is blank, a comment or a setting. Any other line is a problem. The buffer has capacity for two
+ * copies after the line. */
 static void read_line(char *line, size_t len, size_t number) {
     char *const text = line + len, *const end = text + copy(text, line, text), why[PELTZIVAR_TEXT_SIZE];
     if (text == end || *text == '#') return;
@@ -104,7 +110,8 @@ static void read_line(char *line, size_t len, size_t number) {
     status = 1;
 }
 
-/* Prints the word if there is no problem, and each reason, with settings that each mend it, and each note. */
+/* Prints the word unless a problem was found. Then prints each reason why the word is not lawful, next to the
+ * settings that mend it, and each note. */
 static void print_format(void) {
     char text[PELTZIVAR_TEXT_SIZE];
     peltzivar_edit edits[PELTZIVAR_MAX_MENDING_EDITS];
@@ -115,7 +122,7 @@ static void print_format(void) {
         if (!peltzivar_word_reason(word, index, text, sizeof text)) continue;
         print_located(peltzivar_word_reason_mask(word, index), text, "");
         for (uint8_t field = 0; field < PELTZIVAR_FIELD_COUNT; field++) {
-            /* The other edits only keep exponent bytes absent. */
+            /* The first edit mends the field. The other edits only keep exponent bytes absent. */
             if (!peltzivar_word_reason_mend(word, index, field, edits)) continue;
             peltzivar_text_of_edit(edits[0], text, sizeof text);
             printf("; mend: %s", text);
