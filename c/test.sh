@@ -46,14 +46,26 @@ binary="0x0000023900000000000000000000000C
 base_suffix=57
 mantissa_radix=2"
 
+noted="0x00000A0000000000000000000000080C
+Format.of(case_sensitive_special=True)
+no number can have the digit separator '_': no flag allows one
+digits: 0123456789
+without NaN: 0x0A0A0A0000000000000000000000040C"
+
+# apart COMMAND..: runs the command, and marks the lines that it prints to standard output.
+apart() {
+    set -o pipefail
+    "$@" | sed 's/^/standard output: /'
+}
+
 # example PROGRAM: what the example in C prints.
 example() {
     prints 0 "$separated" "$1" mantissa_radix=16 digit_separator=95 internal_digit_separator=true
     prints 0 "$binary" "$1" mantissa_radix=2 base_suffix=57
-    prints 1 "lexical number format error: 'invalid base suffix character'" "$1" base_suffix=57
+    prints 1 "lexical number format error: 'invalid base suffix character'" apart "$1" base_suffix=57
     shows "$page" ./example "$1"
     for setting in radix radices=2 radix=256 radix= radix=2x radix=none no_special=1; do
-        prints 2 "no setting: $setting" "$1" mantissa_radix=2 $setting
+        prints 2 "no setting: $setting" apart "$1" mantissa_radix=2 $setting
     done
 }
 
@@ -138,9 +150,9 @@ settings() {
     prints 1 "$mistakes" "$1" ../rust/examples/mistakes.txt
     prints 1 "$long" "$1" "$work/long.txt"
     prints 0 0x00000A0000000000000000000000000C "$1" "$work/empty.txt"
-    prints 2 "nothing: No such file or directory" "$1" nothing
-    prints 2 ".: Is a directory" "$1" .
-    prints 2 "settings: name one file" "$1"
+    prints 2 "nothing: No such file or directory" apart "$1" nothing
+    prints 2 ".: Is a directory" apart "$1" .
+    prints 2 "settings: name one file" apart "$1"
     if [ -e /dev/full ]; then
         prints 2 "standard output: No space left on device" bash -c "'$1' '$work/good.txt' > /dev/full"
     fi
@@ -178,6 +190,11 @@ imports() {
         ! cc -D_WIN32 -E peltzivar.h | grep -q declspec
 }
 
+# macros: a program can define the macros of the header.
+macros() {
+    cc -DPELTZIVAR_API=api -DPELTZIVAR_MUST_USE=must -E peltzivar.h | grep -qF 'must api peltzivar_error peltzivar_migrate('
+}
+
 # warns COMPILER..: a result that is an error must not be ignored.
 warns() {
     "$@" -I. -c -o "$work/object" - 2>&1 <<< '#include "peltzivar.h"
@@ -212,6 +229,7 @@ errors() {
 compilers() {
     needing python3 sources
     passes imports
+    passes macros
     headers cc 'header.c' c99 c11 c17
     needing clang headers clang 'header.c' c99 c11 c17
     needing gcc headers gcc '-include ./peltzivar.h -x c /dev/null' c89 c2x
@@ -243,6 +261,7 @@ python() {
     local -x PELTZIVAR_LIBRARY=$1 PYTHONDONTWRITEBYTECODE=1
     passes python3 -m unittest ./peltzivar_test.py
     shows "$page" "python3 example.py" python3 example.py
+    prints 0 "$noted" python3 example.py digit_separator=95 case_sensitive_special=true
     prints 2 "radix=none: radix takes a number, 2 to 36 in a lawful format" python3 example.py no_special=true radix=none
     prints 2 "mantissa_radix: expected NAME=VALUE" python3 example.py mantissa_radix
 }
@@ -413,7 +432,7 @@ installed() {
 if [ "$given" ]; then
     passes cc -shared -o "$work/library.so" -Wl,--whole-archive "$given" -Wl,--no-whole-archive &&
         library "$given" "$work/library.so"
-    counted 86
+    counted 87
     exit
 fi
 compilers
@@ -427,4 +446,4 @@ done
 needing python3 alike "$work/settings"
 needing python3 pythons "$work/false/release/libpeltzivar_c.so"
 needing make installed
-counted 271
+counted 274
