@@ -273,7 +273,7 @@ def sentences():
         texts = (re.sub(r"^Returns |(?<=\]\[)[\w:]*::(?=\w)", "", it) for it in texts)
         wanted, got = (it.casefold() for it in texts)
         if name == "radix":
-            wanted, got = (re.split("[,:]", it)[0] for it in (wanted, got))
+            wanted, got = (re.split("[,:.]", it)[0] for it in (wanted, got))
         yield f"sentence of {name}", wanted, got
 
 

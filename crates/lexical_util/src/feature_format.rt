@@ -179,7 +179,8 @@ impl NumberFormat {
 
     // RADIXES
 
-    /// Returns the [mantissa radix][NumberFormatBuilder::mantissa_radix], 0 to 255. In a lawful word it is between 2 and 36.
+    /// Returns the [mantissa radix][NumberFormatBuilder::mantissa_radix], a number from 0 to 255. In a lawful word, it is
+    /// between 2 and 36.
     #[inline(always)]
     pub const fn mantissa_radix(&self) -> u32
         ensures value { result ≡ (raw self.now).byte layout.mantissa_radix }

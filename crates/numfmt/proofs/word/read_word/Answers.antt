@@ -1,5 +1,5 @@
 -- The result is `Some` if and only if the test of the text is true.
-use Rattle.std.proofs.Common.{◌≡◌, ℕ, Bool, true, false, IsTrue, true≢false, refl, subst, sym, ◌∙◌}
+use Rattle.std.proofs.Common.{ℕ, Bool, true, false, IsTrue, true≢false, refl, subst, sym, ◌∙◌}
 use Rattle.std.specs.Bool.{then_some}
 use Rattle.std.specs.Option.{SomeIff}
 use Rattle.lexical_util.specs.Additions.WordText.{IsWordText, hex, is_word_text}
