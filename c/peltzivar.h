@@ -1,4 +1,4 @@
-/* Number formats in 128-bit words: their fields, edits and rules.
+/* This header declares functions that build, read, check and edit number formats, which are 128-bit words.
  *
  * A format word has 31 flags (bits 0 to 17 and 32 to 44) and six bytes. The lowest bit of each byte is in
  * parentheses: the digit separator (64), the base prefix (88), the base suffix (96), the mantissa radix (104), the
@@ -377,17 +377,17 @@ PELTZIVAR_API bool peltzivar_flag(peltzivar_word format, uint8_t setter);
 
 /* Returns the bits of a word that the reason in a slot blames, as a mask, or 0 if the slot is empty. A word has
  * PELTZIVAR_CANDIDATE_COUNT slots for the reasons why it is not lawful, and peltzivar_word_reason writes the text of
- * the reason in a slot. A setting is to blame if its peltzivar_edit_mask has a bit in common with this mask that no
- * later setting writes. The reason is true of every word that has the same bits under the mask. */
+ * the reason in a slot. A setting is to blame if its peltzivar_edit_mask and this mask share a bit that no later
+ * setting writes. The reason is true of every word that has the same bits under the mask. */
 PELTZIVAR_API peltzivar_word peltzivar_word_reason_mask(peltzivar_word format, uint8_t index);
 
 /* Returns the first rule that a word breaks for the reason in a slot, or PELTZIVAR_RULE_COUNT if the slot is
  * empty. */
 PELTZIVAR_API uint8_t peltzivar_word_reason_rule(peltzivar_word format, uint8_t index);
 
-/* Returns whether a word breaks the rule for the reason in a slot, or false if the slot is empty or no rule has this
- * number. A mantissa radix that is out of range is also the reason why the word breaks the rule of an exponent base
- * or exponent radix of 0. */
+/* Returns whether the reason in a slot is a reason why a word breaks a rule, or false if the slot is empty or no
+ * rule has this number. If an exponent base or exponent radix is 0 and the mantissa radix is out of range, the word
+ * breaks the rule of the exponent byte too, and for the same reason. */
 PELTZIVAR_API bool peltzivar_word_reason_breaks(peltzivar_word format, uint8_t index, uint8_t rule);
 
 /* Writes the edits that mend one field for the reason in a slot, and returns their number. The edits clear a flag or
@@ -442,11 +442,12 @@ PELTZIVAR_API bool peltzivar_char_is_digit(uint8_t byte, uint32_t radix);
  * 36 or more. */
 PELTZIVAR_API uint8_t peltzivar_digit_to_char(uint32_t digit);
 
-/* The functions that lexical-util has for a radix known at compile time. peltzivar_char_to_digit_const and
+/* In lexical-util, these functions take a radix that is known at compile time. peltzivar_char_to_digit_const and
  * peltzivar_char_is_digit_const return the same results as peltzivar_char_to_digit and peltzivar_char_is_digit.
  * peltzivar_char_to_valid_digit_const returns the value of a byte that is a digit of the radix, and an unspecified
- * number for any other byte. peltzivar_digit_to_char_const returns PELTZIVAR_NO_CHAR if the number is 36 or more, the
- * digit character of a smaller number that is below the radix, and an unspecified byte in all other cases. */
+ * number for any other byte. peltzivar_digit_to_char_const returns PELTZIVAR_NO_CHAR if the number is 36 or more.
+ * For a smaller number, it returns the digit character if the number is below the radix, and an unspecified byte
+ * otherwise. */
 PELTZIVAR_API uint32_t peltzivar_char_to_digit_const(uint8_t byte, uint32_t radix);
 PELTZIVAR_API uint32_t peltzivar_char_to_valid_digit_const(uint8_t byte, uint32_t radix);
 PELTZIVAR_API bool peltzivar_char_is_digit_const(uint8_t byte, uint32_t radix);
@@ -455,10 +456,10 @@ PELTZIVAR_API uint8_t peltzivar_digit_to_char_const(uint32_t digit, uint32_t rad
 /* TEXTS
  *
  * Each function below that returns a length writes ASCII text with a final 0, as snprintf does. It writes at most len
- * bytes, including the 0: only the beginning of a text that does not fit, and nothing if len is 0. It returns the
- * length of the whole text, not counting the 0. The text is empty if no error, setter, rule, reason or note has the
- * number or index that is passed. PELTZIVAR_TEXT_SIZE bytes are always enough, except for peltzivar_source, which
- * needs up to PELTZIVAR_SOURCE_SIZE bytes. */
+ * bytes, including the 0. If the text does not fit, the function writes only its beginning. If len is 0, it writes
+ * nothing. It returns the length of the whole text, not counting the 0. The text is empty if no error, setter, rule,
+ * reason or note has the number or index that is passed. PELTZIVAR_TEXT_SIZE bytes are always enough, except for
+ * peltzivar_source, which needs up to PELTZIVAR_SOURCE_SIZE bytes. */
 
 /* Writes a word as `0x` and 32 uppercase hexadecimal digits. */
 PELTZIVAR_API size_t peltzivar_text_of_word(peltzivar_word format, char *text, size_t len);
@@ -496,9 +497,9 @@ PELTZIVAR_API size_t peltzivar_word_reason(peltzivar_word format, uint8_t index,
 
 /* Writes one note on fields, such as "no number can have the digit separator '_': no flag allows one". A note is not
  * an error: the fields of a lawful word may have notes. The index ranges from 0 to PELTZIVAR_MAX_NOTES - 1; any of
- * the texts may be empty. A note is always on one of these: a digit separator that no flag allows, digit separator
- * flags without a digit separator, or a case-sensitivity flag whose base prefix or base suffix is absent or is not a
- * letter. A field that a reason blames has no note. Packing drops a digit separator that no flag allows, so pass the
+ * the texts may be empty. A note describes a digit separator that no flag allows, digit separator flags without a
+ * digit separator, or a case-sensitivity flag whose base prefix or base suffix is absent or is not a letter. If a
+ * reason blames a field, the field has no note. Packing drops a digit separator that no flag allows, so pass the
  * fields that you pack, and not the fields of the packed word. For the notes on a word, pass the result of
  * peltzivar_fields_of. */
 PELTZIVAR_API size_t peltzivar_note(const peltzivar_fields *fields, uint8_t index, char *text, size_t len);
@@ -513,9 +514,9 @@ PELTZIVAR_API uint8_t peltzivar_setter_of_name(const char *name, size_t len);
 
 /* Parses a setting NAME=VALUE, split at the first `=`, writes its edit to *out and returns PELTZIVAR_SETTING_READ,
  * which is 0. The text has len bytes and no final 0. If it is not a setting, leaves *out unchanged and returns
- * PELTZIVAR_SETTING_NO_EQUALS if the text has no `=`, PELTZIVAR_SETTING_UNKNOWN_NAME if no setter has the name,
- * PELTZIVAR_SETTING_OUT_OF_RANGE if the setter takes a byte and the value is a number above 255 or with too many
- * digits, or PELTZIVAR_SETTING_BAD_VALUE if the setter does not take the value for another reason.
+ * PELTZIVAR_SETTING_NO_EQUALS if the text has no `=`, or PELTZIVAR_SETTING_UNKNOWN_NAME if no setter has the name.
+ * If the setter does not take the value, returns PELTZIVAR_SETTING_OUT_OF_RANGE if the setter takes a byte and the
+ * value is a number above 255 or with too many digits, and PELTZIVAR_SETTING_BAD_VALUE for any other value.
  *
  * A flag setter or a group setter takes `true` or `false`. A byte setter takes an ASCII character between two `'`, or
  * `0x` and one or two hexadecimal digits, or one to three decimal digits. Every byte setter except mantissa_radix and
