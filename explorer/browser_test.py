@@ -20,6 +20,8 @@ from selenium.webdriver.support.ui import Select, WebDriverWait
 
 PAGE = pathlib.Path(__file__).resolve().parent / "index.html"
 STANDARD = "0x00000A0000000000000000000000000C"
+# A word with bits in each of its bytes, and among both kinds of flags.
+MIXED = "0x0A0210687800005F00000FC70001441F"
 # How long the first paint after a load and an edit may take, in milliseconds: the least of some tries.
 MOST_PAINT, MOST_EDIT, TRIES = 100, 10, 30
 # The picture for README, and how many bytes it may have.
@@ -110,8 +112,14 @@ def the_standard_format_is_shown(page):
     page.load()
     same(page.word(), STANDARD)
     same(page.text("#verdict"), "Lawful")
+    same(page.text("#first-error"), "The word keeps all rules.")
     same(page.texts("#changes li"), [])
     same(page.text("#options"), "Exponent character and decimal point fit the format.")
+
+
+def the_version_is_that_of_the_header(page):
+    header = (PAGE.parents[1] / "c/peltzivar.h").read_text()
+    same(f'#define PELTZIVAR_VERSION "{page.text("#version")}"\n' in header, True)
 
 
 def a_flag_is_set(page):
@@ -196,6 +204,7 @@ def a_separator_without_a_flag_has_a_note(page):
 def a_group_of_flags_is_set(page):
     page.click("#internal_digit_separator")
     same(page.word(), "0x000010007800005F000000070000000C")
+    same(page.find("#internal_digit_separator").get_property("indeterminate"), False)
     same(page.texts("#notes .note"), [])
     same(page.texts("#number .written")[2], "1_F_0")
 
@@ -246,7 +255,12 @@ def a_word_is_typed(page):
     same(page.text("#word-problem"), "")
     same(page.text("#first-error"), "lexical number format error: 'invalid radix for mantissa digits'")
     same(page.texts(".reason strong"), ["the mantissa radix 0 is not between 2 and 36"])
-    same(len(page.all(".rules li")), 3)
+    rules = [
+        "breaks rule 1, \u201cthe mantissa radix is between 2 and 36\u201d: {}'invalid radix for mantissa digits'",
+        "breaks rule 2, \u201cthe exponent base is between 2 and 36\u201d: {}'invalid exponent base'",
+        "breaks rule 3, \u201cthe exponent radix is between 2 and 36\u201d: {}'invalid radix for exponent digits'",
+    ]
+    same(page.texts(".rules li"), [it.format("lexical number format error: ") for it in rules])
     same(page.value("#mantissa_radix"), "0")
 
 
@@ -344,6 +358,9 @@ def code_is_shown_in_each_language(page):
 
 
 def tabs_follow_the_arrows(page):
+    page.find("#tab-settings").send_keys(Keys.ARROW_LEFT)
+    same(page.run("return document.activeElement.id"), "tab-python")
+    page.find("#tab-python").send_keys(Keys.ARROW_RIGHT)
     page.find("#tab-settings").send_keys(Keys.ARROW_RIGHT)
     same(page.run("return document.activeElement.id"), "tab-rust")
     same(page.find("#tab-rust").get_attribute("aria-selected"), "true")
@@ -385,6 +402,87 @@ def a_link_has_the_whole_state(page):
     same(page.value("#point"), ",")
     page.load("#word=nonsense&exponent=300&point=")
     same((page.word(), page.value("#exponent"), page.value("#point")), (STANDARD, "e", "."))
+
+
+def the_bits_of_a_word_are_shown(page):
+    page.load(f"#word={MIXED}")
+    read = """return [...document.querySelectorAll("#bits .row")].map((row) => {
+        return [...row.querySelectorAll(arguments[0])].map((it) => it.textContent); })"""
+    rows = [
+        ("00001010 00000010 00010000 01101000", "exponent radix, exponent base, mantissa radix, base suffix"),
+        ("01111000 00000000 00000000 01011111", "base prefix, reserved, digit separator"),
+        ("00000000 00000000 00001111 11000111", "reserved, separator flags"),
+        ("00000000 00000001 01000100 00011111", "reserved, flags"),
+    ]
+    bits = [row.replace(" ", "") for row, _ in rows]
+    same(["".join(row) for row in page.run(read, ".bit")], bits)
+    same(["".join(row) for row in page.run(read, ".bit.set")], [row.replace("0", "") for row in bits])
+    same([", ".join(row) for row in page.run(read, ".run")], [titles for _, titles in rows])
+    same(page.run(read, ".number"), [["127", "96"], ["95", "64"], ["63", "32"], ["31", "0"]])
+    same(page.find("#bits").get_attribute("aria-label"), f"The bits of {MIXED}")
+
+
+def a_number_has_what_its_format_allows(page):
+    read = """return [...document.querySelectorAll(".part")].map((part) => {
+        return [".title", ".written", ".presence"].map((it) => part.querySelector(it).textContent).join(" "); })"""
+    rows = {
+        f"#word={MIXED}&exponent=112&point=46": (
+            "sign - optional, prefix 0x optional, integer 1__F__0__ required, point . optional, "
+            "fraction 0__F__ required, exponent p required, its sign + optional, its digits 1__0__ required, "
+            "suffix h optional, special NaN never"
+        ),
+        "#word=0x00000A0000000020000011110000012C&exponent=101&point=44": (
+            "sign + required, integer 1\u24239\u24230 or fraction, point , optional, fraction \u242309 or integer, "
+            "exponent e optional, its sign + required, its digits 10\u2423 required, special N\u2423a\u2423N optional"
+        ),
+        "#word=0x01020A000000000000000000000000CC&exponent=69&point=9": (
+            "sign + optional, integer 190 or fraction, point \\x09 optional, fraction 09 or integer, "
+            "exponent E never, its sign - never, its digits ? never, special NaN optional"
+        ),
+    }
+    for fragment, wanted in rows.items():
+        page.load(fragment)
+        same(", ".join(page.run(read)), wanted)
+
+
+def a_byte_is_shown_with_its_numbers(page):
+    page.load("#word=0x000A10302F000039000000000000000C&exponent=9&point=58")
+    rows = {
+        "digit_separator": ("57", "57 = 0x39"),
+        "base_prefix": ("/", "47 = 0x2F"),
+        "base_suffix": ("48", "48 = 0x30"),
+        "mantissa_radix": ("16", ""),
+        "exponent_base": ("10", ""),
+        "exponent_radix": ("", "means 16"),
+        "exponent": ("9", "9 = 0x09"),
+        "point": (":", "58 = 0x3A"),
+    }
+    for name, wanted in rows.items():
+        same((page.value(f"#{name}"), page.text(f".byte-row[data-field={name}] .other")), wanted)
+
+
+def options_that_share_a_byte_do_not_fit(page):
+    page.load(f"#word={STANDARD}&exponent=46&point=46")
+    same(page.text("#options-error"), "Exponent character and decimal point do not fit the format.")
+    same([it.get_attribute("data-field") for it in page.all(".field.blamed")], ["exponent", "point"])
+
+
+def a_hint_has_the_bits_and_the_meaning_of_a_field(page):
+    rows = {
+        "no_special": "bit 10: if set, a parser refuses NaN and inf",
+        "required_digits": "bits 0, 1, 2, 3: flags that require digits",
+        "exponent_radix": "bits 120 to 127: 0 means the mantissa radix; the radix of the exponent digits",
+        "point": "not in the word: the decimal point, an option of the parser",
+    }
+    for name, wanted in rows.items():
+        page.run("document.getElementById(arguments[0]).focus()", name)
+        same(page.text("#hint"), f"{name} {wanted}")
+
+
+def each_section_has_the_name_of_its_heading(page):
+    others = """return [...document.querySelectorAll("section")].filter((it) =>
+        it.querySelector("h2").id !== it.getAttribute("aria-labelledby")).map((it) => it.outerHTML)"""
+    same(page.run(others), [])
 
 
 def all_controls_have_names(page):
@@ -468,6 +566,7 @@ def the_picture_of_readme_is_taken(page):
 
 STEPS = [
     the_standard_format_is_shown,
+    the_version_is_that_of_the_header,
     a_flag_is_set,
     a_flag_is_set_by_its_label,
     a_flag_is_set_by_the_keyboard,
@@ -504,6 +603,12 @@ STEPS = [
     numbers_are_shown_in_the_place_of_characters,
     what_belongs_together_is_marked,
     a_link_has_the_whole_state,
+    the_bits_of_a_word_are_shown,
+    a_number_has_what_its_format_allows,
+    a_byte_is_shown_with_its_numbers,
+    options_that_share_a_byte_do_not_fit,
+    a_hint_has_the_bits_and_the_meaning_of_a_field,
+    each_section_has_the_name_of_its_heading,
     all_controls_have_names,
     it_fits_a_phone_and_a_dark_screen,
     a_server_gets_one_request,
