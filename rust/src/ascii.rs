@@ -15,7 +15,7 @@ pub const fn is_valid_ascii(c: u8) -> bool {
     (c >= 0x09 && c <= 0x0d) || (c >= 0x20 && c < 0x7f)
 }
 
-/// Returns whether [`is_valid_ascii`] is true of every byte of `slc`; true for an empty slice.
+/// Returns whether [`is_valid_ascii`] is true of every byte of `slc`. For an empty slice, the result is `true`.
 #[must_use]
 pub fn is_valid_ascii_slice(slc: &[u8]) -> bool {
     all_in_ranges(slc, 0xff, (0x09, 0x0d), (0x20, 0x7e))
@@ -28,7 +28,7 @@ pub const fn is_valid_letter(c: u8) -> bool {
     (c >= b'A' && c <= b'Z') || (c >= b'a' && c <= b'z')
 }
 
-/// Returns whether [`is_valid_letter`] is true of every byte of `slc`; true for an empty slice.
+/// Returns whether [`is_valid_letter`] is true of every byte of `slc`. For an empty slice, the result is `true`.
 #[must_use]
 pub fn is_valid_letter_slice(slc: &[u8]) -> bool {
     all_in_ranges(slc, 0xdf, (b'A', b'Z'), (b'A', b'Z'))

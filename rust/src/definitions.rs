@@ -1,10 +1,11 @@
 // Made by rust/tools/erase.py from crates/*/specs: change those files.
 
-//! The definitions that the clauses of the parts `Proved` use, and the definitions that those use.
+//! This module has the definitions that the clauses of the parts `Proved` use, directly or through other
+//! definitions.
 //!
 //! `f x` is `f` applied to `x`. `.now` is the value behind a reference. In a clause, a builder is the record of
 //! its fields. Names such as `edits.Flag` or `rules.PunctuationDiffers` are variants of `Edit`, `FlagSetter`,
-//! `Rule` or `Error`; a name after `layout.` is a flag or a byte.
+//! `Rule` or `Error`. A name after `layout.` is the name of a flag or a byte.
 //!
 //! # Sets of bytes
 //!
@@ -1133,40 +1134,40 @@
 //!
 //! | Name | Meaning |
 //! |---|---|
-//! | `ℕ` | The natural numbers. |
-//! | `Bool` | The truth values `true` and `false`. |
+//! | `ℕ` | The type of the natural numbers. |
+//! | `Bool` | The type of the truth values `true` and `false`. |
 //! | `List` | `[]` is the empty list, `x ∷ xs` is `x` followed by `xs`, and `xs ++ ys` is `xs` followed by `ys`. |
 //! | `Option` | As in Rust: `None`, or `Some value`. |
 //! | `≡` | `x ≡ y` holds if both are equal, and `x ≢ y` if they are not. |
-//! | `↔` | If and only if. |
-//! | `→` | `A → B` holds if `B` follows from `A`, and `(x : T) → A` holds if `A` does for every `x` of the type `T`. Between types it is the type of functions. |
-//! | `×` | And; `.0` and `.1` are the two parts. |
-//! | `⊎` | Or. |
-//! | `⊤` | It always holds. |
-//! | `⊥` | It never holds. |
+//! | `↔` | `A ↔ B` holds if each of `A` and `B` follows from the other. |
+//! | `→` | `A → B` holds if `B` follows from `A`, and `(x : T) → A` holds if `A` holds for every `x` of the type `T`. Between types, it is the type of functions. |
+//! | `×` | `A × B` holds if both `A` and `B` hold. Its two parts are `.0` and `.1`. |
+//! | `⊎` | `A ⊎ B` holds if `A` or `B` holds. |
+//! | `⊤` | `⊤` always holds. |
+//! | `⊥` | `⊥` never holds. |
 //! | `λ` | `λ x. t` is the function that returns `t` for `x`. |
-//! | `+` | Addition, and `*`, `/`, `%` and `^` are multiplication, division without remainder, remainder and power. |
-//! | `-` | Subtraction, which returns 0 if the second number is larger. |
+//! | `+` | Addition. `*`, `/`, `%` and `^` are multiplication, division without remainder, remainder and power. |
+//! | `-` | `a - b` is the difference, or 0 if `b` is larger. |
 //! | `<` | `a < b` holds if `a` is less than `b`, and `a ≤ b` if it is at most `b`. |
-//! | `==` | `x == y` is the truth value of `x ≡ y` for numbers, and `beq x y` the one for truth values. |
-//! | `&&` | `a && b` is true if both are, `a \|\| b` if one is, and `not a` if `a` is false. |
+//! | `==` | `x == y` is the truth value of `x ≡ y` for numbers, and `beq x y` is the one for truth values. |
+//! | `&&` | `a && b` is true if both are true, `a \|\| b` is true if one is true, and `not a` is true if `a` is false. |
 //! | `if` | `if b then x else y` is `x` if `b` is true, and `y` otherwise. |
-//! | `nat_le` | `nat_le a b` is the truth value of `a ≤ b`, and `nat_lt a b` the one of `a < b`. |
+//! | `nat_le` | `nat_le a b` is the truth value of `a ≤ b`, and `nat_lt a b` is the one of `a < b`. |
 //! | `min` | `min a b` is the smaller of two numbers. |
-//! | `IsTrue` | `IsTrue b` holds if `b` is `true`, and `IsFalse b` if it is `false`. |
+//! | `IsTrue` | `IsTrue b` holds if `b` is `true`, and `IsFalse b` holds if it is `false`. |
 //! | `OkIff` | `OkIff result P x` holds if `result` is `Ok x` and `P` holds, or if it is an `Err` and `P` does not. |
 //! | `IfOk` | `IfOk result P` holds if `result` is an `Err`, or if it is `Ok x` and `P` holds for `x`. |
 //! | `IfErr` | `IfErr result P` holds if `result` is an `Ok`, or if it is `Err x` and `P` holds for `x`. |
-//! | `All` | `All P xs` holds if `P` holds for each entry of `xs`; `AllByRecursion` is the same. |
-//! | `AllZip` | `AllZip P xs ys` holds if both lists have one length and `P` holds for each two entries at one index. |
-//! | `length` | The number of entries of a list. |
+//! | `All` | `All P xs` holds if `P` holds for each entry of `xs`. `AllByRecursion P xs` is equivalent. |
+//! | `AllZip` | `AllZip P xs ys` holds if both lists have the same length and `P` holds for each two entries at the same index. |
+//! | `length` | `length xs` is the number of entries of `xs`. |
 //! | `take` | `take n xs` is the list of the first `n` entries of `xs`. |
 //! | `range_with_len` | `range_with_len start n` is the list of the `n` numbers from `start` up. |
 //! | `map` | `map f xs` is the list of `f x` for each `x` in `xs`. |
 //! | `flat_map` | `flat_map f xs` joins the lists `f x` for each `x` in `xs`. |
 //! | `filter` | `filter p xs` is the list of each `x` in `xs` for which `p x` is true. |
 //! | `filter_map` | `filter_map f xs` is the list of each `y` for which `f x` is `Some y`, for `x` in `xs`. |
-//! | `list_any` | `list_any p xs` is true if `p x` is true for some `x` in `xs`, and `list_all p xs` if it is for each. |
+//! | `list_any` | `list_any p xs` is true if `p x` is true for some `x` in `xs`, and `list_all p xs` if it is true for each. |
 //! | `sum_by` | `sum_by f xs` is the sum of `f x` for each `x` in `xs`. |
 //! | `last_or` | `last_or option xs` is `Some` of the last entry of `xs`, or `option` if `xs` is empty. |
 //! | `position` | `position p xs` is `Some` of the index of the first entry for which `p` is true, or `None`. |

@@ -353,7 +353,7 @@ pub const fn apply_all(mut builder: NumberFormatBuilder, edits: &[Edit]) -> Numb
 ///   ([`fill`](crate::definitions#fill)), overwritten in order ([`after`](crate::definitions#after)), and trimmed
 ///   ([`trim`](crate::definitions#trim)).
 /// - Its reserved bits are 0 ([`IsClean`](crate::definitions#isclean)).
-/// - No other word without reserved bits has these fields.
+/// - No other word whose reserved bits are 0 has these fields.
 /// - Legal writes ([`IsLegal`](crate::definitions#islegal)) that give each field the same last value
 ///   ([`SameWrites`](crate::definitions#samewrites)) give the same result. So edits of different fields can be in
 ///   any order, and a group edit equals the edits of its flags in any order.
@@ -394,11 +394,11 @@ pub const fn edit_word(format: u128, edits: &[Edit]) -> u128 {
 /// - Its fields ([`raw`](crate::definitions#raw)) are those of the word, filled
 ///   ([`fill`](crate::definitions#fill)) and trimmed ([`trim`](crate::definitions#trim)).
 /// - Its reserved bits are 0 ([`IsClean`](crate::definitions#isclean)).
-/// - No other word without reserved bits has these fields.
+/// - No other word whose reserved bits are 0 has these fields.
 /// - The normal form of a normal form is itself.
 /// - A word is its own normal form if and only if it is normal ([`IsNormal`](crate::definitions#isnormal)).
-/// - Word and normal form are equivalent ([`SameFormat`](crate::definitions#sameformat)).
-/// - For each list of flags, both words have one of the flags set, or neither has
+/// - The word and its normal form are equivalent ([`SameFormat`](crate::definitions#sameformat)).
+/// - For each list of flags, both words have one of the flags set, or neither word has
 ///   ([`any_flag`](crate::definitions#any_flag)).
 /// - For each list of flags, both words have the same bits ([`bits_of`](crate::definitions#bits_of)).
 /// - The normal form of a [`Lawful`](crate::definitions#lawful) word is lawful.
@@ -498,9 +498,9 @@ pub const fn migrate(format: u128) -> Result<u128, Error> {
 ///
 /// For all arguments:
 ///
-/// - The result is true if and only if the words have one normal form
+/// - The result is true if and only if the words have the same normal form
 ///   ([`normal_form_of`](crate::definitions#normal_form_of)).
-/// - This holds if and only if their fields ([`raw`](crate::definitions#raw)) express the same format
+/// - This holds if and only if the words' fields ([`raw`](crate::definitions#raw)) are equivalent
 ///   ([`SameFormat`](crate::definitions#sameformat)).
 ///
 /// ```text

@@ -159,8 +159,8 @@ impl NumberFormatBuilder {
     ///   allows ([`trim`](crate::definitions#trim)).
     /// - Its reserved bits are 0 ([`IsClean`](crate::definitions#isclean)).
     /// - Each byte of the builder is between 0 and 255 ([`HasBytes`](crate::definitions#hasbytes)).
-    /// - Any fields ([`HasBytes`](crate::definitions#hasbytes)) pack into the same word if and only if they and the
-    ///   builder's are equal after [`trim`](crate::definitions#trim).
+    /// - Any fields ([`HasBytes`](crate::definitions#hasbytes)) pack into the same word if and only if they are equal
+    ///   to the builder's fields after both are trimmed ([`trim`](crate::definitions#trim)).
     ///
     /// ```text
     /// ensures word { result ≡ pack self.now }

@@ -22,7 +22,7 @@ use core::fmt;
 pub struct BuilderExpression(pub u128);
 
 impl BuilderExpression {
-    /// Puts the expression, which has less than 2048 bytes, into a sink. Fails only if the sink fails.
+    /// Puts the expression, which has fewer than 2048 bytes, into a sink. Fails only if the sink fails.
     #[doc(hidden)]
     pub fn put_into<S: Sink>(&self, out: &mut S) -> Result<(), fmt::Error> {
         let (edits, count) = edits_of(self.0);

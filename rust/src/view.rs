@@ -21,8 +21,8 @@ mod getters;
 ///
 /// Every getter works on any word, lawful or not. The word may be known only when the program runs. For a word that is
 /// known when it is compiled, [`NumberFormat`][crate::feature_format::NumberFormat] has each field also as a constant.
-/// Equality, order and hash are those of the word; [`same_format`][crate::edits::same_format] compares what two words
-/// express.
+/// Equality, order and hash are those of the word; [`same_format`][crate::edits::same_format] returns whether two
+/// words are equivalent.
 #[derive(Clone, Copy, PartialEq, Eq, Hash, PartialOrd, Ord)]
 pub struct FormatView {
     format: u128,

@@ -22,8 +22,8 @@ PROVED = {
             "fields": "Its fields (`raw`) are those of the builder, without a separator that no flag allows (`trim`).",
             "clean": "Its reserved bits are 0 (`IsClean`).",
             "bytes": "Each byte of the builder is between 0 and 255 (`HasBytes`).",
-            "alike": "Any fields (`HasBytes`) pack into the same word if and only if they and the builder's are equal"
-            " after `trim`.",
+            "alike": "Any fields (`HasBytes`) pack into the same word if and only if they are equal to the builder's"
+            " fields after both are trimmed (`trim`).",
         },
         "build_strict": {
             "lawful": "The result is `Ok` of the packed word (`pack`) if and only if that word is `Lawful`.",
@@ -53,13 +53,13 @@ PROVED = {
         "edits_of": {
             "list": "The list has an edit for each write (`IsEditOf`): first for the writes that the word needs"
             " (`needed_writes`), then for the others (`other_writes`).",
-            "number": "The number counts the writes that the word needs (`needed_writes`).",
+            "number": "The returned number is the number of writes that the word needs (`needed_writes`).",
             "legal": "Each value fits its field (`IsLegal`).",
             "first": "The first part, applied to a new builder (`after`, `new_record`), gives the fields (`raw`) of the"
             " word.",
             "whole": "The whole list also gives the fields (`raw`) of the word.",
             "builds": "These fields pack (`pack`) into the word if and only if a builder can make it (`IsBuilt`).",
-            "fewest": "No list of fewer writes (`IsLegal`) packs into the word.",
+            "fewest": "No shorter list of legal writes (`IsLegal`) packs into the word.",
         },
     },
     "edits.rt": {
@@ -72,7 +72,7 @@ PROVED = {
             "fields": "Its fields (`raw`) are those of the word, filled (`fill`), overwritten in order (`after`), and"
             " trimmed (`trim`).",
             "clean": "Its reserved bits are 0 (`IsClean`).",
-            "unique": "No other word without reserved bits has these fields.",
+            "unique": "No other word whose reserved bits are 0 has these fields.",
             "same_writes": "Legal writes (`IsLegal`) that give each field the same last value (`SameWrites`) give the"
             " same result. So edits of different fields can be in any order, and a group edit equals the edits of its"
             " flags in any order.",
@@ -82,11 +82,11 @@ PROVED = {
             "word": "The result is the word edited by no writes (`normal_form_of`).",
             "fields": "Its fields (`raw`) are those of the word, filled (`fill`) and trimmed (`trim`).",
             "clean": "Its reserved bits are 0 (`IsClean`).",
-            "unique": "No other word without reserved bits has these fields.",
+            "unique": "No other word whose reserved bits are 0 has these fields.",
             "idempotent": "The normal form of a normal form is itself.",
             "unchanged": "A word is its own normal form if and only if it is normal (`IsNormal`).",
-            "same": "Word and normal form are equivalent (`SameFormat`).",
-            "groups": "For each list of flags, both words have one of the flags set, or neither has (`any_flag`).",
+            "same": "The word and its normal form are equivalent (`SameFormat`).",
+            "groups": "For each list of flags, both words have one of the flags set, or neither word has (`any_flag`).",
             "flags": "For each list of flags, both words have the same bits (`bits_of`).",
             "lawful": "The normal form of a `Lawful` word is lawful.",
             "error": "If neither a reserved bit nor a separator is dropped (`IsClean`, `SeparatorAllowedOrAbsent`),"
@@ -104,8 +104,8 @@ PROVED = {
             "not_flags": "It is never `Err(InvalidFlags)`, since reserved bits are dropped.",
         },
         "same_format": {
-            "normal_forms": "The result is true if and only if the words have one normal form (`normal_form_of`).",
-            "fields": "This holds if and only if their fields (`raw`) express the same format (`SameFormat`).",
+            "normal_forms": "The result is true if and only if the words have the same normal form (`normal_form_of`).",
+            "fields": "This holds if and only if the words' fields (`raw`) are equivalent (`SameFormat`).",
         },
     },
     "feature_format.rt": {
@@ -146,7 +146,7 @@ PHRASES = [
      " argument of the type, and each field is also an associated constant.",
      "The word may be known only when the program runs. For a word that is known when it is compiled,"
      " [`NumberFormat`][crate::feature_format::NumberFormat] has each field also as a constant. Equality, order and hash"
-     " are those of the word; [`same_format`][crate::edits::same_format] compares what two words express."),
+     " are those of the word; [`same_format`][crate::edits::same_format] returns whether two words are equivalent."),
 ]
 
 # No documentation of the library may match this. The module `word` is hidden.
@@ -156,41 +156,43 @@ FOREIGN = re.compile(
 
 # Names of Rattle's standard library that clauses and definitions use, each with its meaning.
 STD = {
-    "ℕ": "The natural numbers.",
-    "Bool": "The truth values `true` and `false`.",
+    "ℕ": "The type of the natural numbers.",
+    "Bool": "The type of the truth values `true` and `false`.",
     "List": "`[]` is the empty list, `x ∷ xs` is `x` followed by `xs`, and `xs ++ ys` is `xs` followed by `ys`.",
     "Option": "As in Rust: `None`, or `Some value`.",
     "≡": "`x ≡ y` holds if both are equal, and `x ≢ y` if they are not.",
-    "↔": "If and only if.",
-    "→": "`A → B` holds if `B` follows from `A`, and `(x : T) → A` holds if `A` does for every `x` of the type `T`."
-    " Between types it is the type of functions.",
-    "×": "And; `.0` and `.1` are the two parts.",
-    "⊎": "Or.",
-    "⊤": "It always holds.",
-    "⊥": "It never holds.",
+    "↔": "`A ↔ B` holds if each of `A` and `B` follows from the other.",
+    "→": "`A → B` holds if `B` follows from `A`, and `(x : T) → A` holds if `A` holds for every `x` of the type `T`."
+    " Between types, it is the type of functions.",
+    "×": "`A × B` holds if both `A` and `B` hold. Its two parts are `.0` and `.1`.",
+    "⊎": "`A ⊎ B` holds if `A` or `B` holds.",
+    "⊤": "`⊤` always holds.",
+    "⊥": "`⊥` never holds.",
     "λ": "`λ x. t` is the function that returns `t` for `x`.",
-    "+": "Addition, and `*`, `/`, `%` and `^` are multiplication, division without remainder, remainder and power.",
-    "-": "Subtraction, which returns 0 if the second number is larger.",
+    "+": "Addition. `*`, `/`, `%` and `^` are multiplication, division without remainder, remainder and power.",
+    "-": "`a - b` is the difference, or 0 if `b` is larger.",
     "<": "`a < b` holds if `a` is less than `b`, and `a ≤ b` if it is at most `b`.",
-    "==": "`x == y` is the truth value of `x ≡ y` for numbers, and `beq x y` the one for truth values.",
-    "&&": "`a && b` is true if both are, `a || b` if one is, and `not a` if `a` is false.",
+    "==": "`x == y` is the truth value of `x ≡ y` for numbers, and `beq x y` is the one for truth values.",
+    "&&": "`a && b` is true if both are true, `a || b` is true if one is true, and `not a` is true if `a` is false.",
     "if": "`if b then x else y` is `x` if `b` is true, and `y` otherwise.",
-    "nat_le": "`nat_le a b` is the truth value of `a ≤ b`, and `nat_lt a b` the one of `a < b`.",
+    "nat_le": "`nat_le a b` is the truth value of `a ≤ b`, and `nat_lt a b` is the one of `a < b`.",
     "min": "`min a b` is the smaller of two numbers.",
-    "IsTrue": "`IsTrue b` holds if `b` is `true`, and `IsFalse b` if it is `false`.",
+    "IsTrue": "`IsTrue b` holds if `b` is `true`, and `IsFalse b` holds if it is `false`.",
     "OkIff": "`OkIff result P x` holds if `result` is `Ok x` and `P` holds, or if it is an `Err` and `P` does not.",
     "IfOk": "`IfOk result P` holds if `result` is an `Err`, or if it is `Ok x` and `P` holds for `x`.",
     "IfErr": "`IfErr result P` holds if `result` is an `Ok`, or if it is `Err x` and `P` holds for `x`.",
-    "All": "`All P xs` holds if `P` holds for each entry of `xs`; `AllByRecursion` is the same.",
-    "AllZip": "`AllZip P xs ys` holds if both lists have one length and `P` holds for each two entries at one index.",
-    "length": "The number of entries of a list.",
+    "All": "`All P xs` holds if `P` holds for each entry of `xs`. `AllByRecursion P xs` is equivalent.",
+    "AllZip": "`AllZip P xs ys` holds if both lists have the same length and `P` holds for each two entries at the"
+    " same index.",
+    "length": "`length xs` is the number of entries of `xs`.",
     "take": "`take n xs` is the list of the first `n` entries of `xs`.",
     "range_with_len": "`range_with_len start n` is the list of the `n` numbers from `start` up.",
     "map": "`map f xs` is the list of `f x` for each `x` in `xs`.",
     "flat_map": "`flat_map f xs` joins the lists `f x` for each `x` in `xs`.",
     "filter": "`filter p xs` is the list of each `x` in `xs` for which `p x` is true.",
     "filter_map": "`filter_map f xs` is the list of each `y` for which `f x` is `Some y`, for `x` in `xs`.",
-    "list_any": "`list_any p xs` is true if `p x` is true for some `x` in `xs`, and `list_all p xs` if it is for each.",
+    "list_any": "`list_any p xs` is true if `p x` is true for some `x` in `xs`, and `list_all p xs` if it is true for"
+    " each.",
     "sum_by": "`sum_by f xs` is the sum of `f x` for each `x` in `xs`.",
     "last_or": "`last_or option xs` is `Some` of the last entry of `xs`, or `option` if `xs` is empty.",
     "position": "`position p xs` is `Some` of the index of the first entry for which `p` is true, or `None`.",
@@ -378,10 +380,11 @@ def part(file, name):
 def definitions():
     """Returns the text of the module `definitions`: all definitions that the shown clauses cite."""
     head = (
-        "The definitions that the clauses of the parts `Proved` use, and the definitions that those use.\n\n"
+        "This module has the definitions that the clauses of the parts `Proved` use, directly or through other\n"
+        "definitions.\n\n"
         "`f x` is `f` applied to `x`. `.now` is the value behind a reference. In a clause, a builder is the record of\n"
         "its fields. Names such as `edits.Flag` or `rules.PunctuationDiffers` are variants of `Edit`, `FlagSetter`,\n"
-        "`Rule` or `Error`; a name after `layout.` is a flag or a byte."
+        "`Rule` or `Error`. A name after `layout.` is the name of a flag or a byte."
     )
     parts = [head]
     for file, names in shown().items():

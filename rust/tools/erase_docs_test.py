@@ -38,8 +38,8 @@ ADDED = [
     "`NAME=VALUE`, such as `mantissa_radix=16`, `no_special=true` or `digit_separator=none`.",
     "[`Rule`][crate::format_flags::Rule],",
     "runs. For a word that is known when compiled, [`NumberFormat`][crate::feature_format::NumberFormat] has each field"
-    " also as constant. Equality, order and hash are those word; [`same_format`][crate::edits::same_format] compares what"
-    " two words express.",
+    " also as constant. Equality, order and hash are those word; [`same_format`][crate::edits::same_format] returns"
+    " whether two words are equivalent.",
 ]  # fmt: skip
 STRANGE = ["a.rt", "a.antt", "In plain Rust", "in plain Rust", "the crate below", "crates above", "is not proved",
            "has no such function", "Search", "the search", "word::STANDARD"]  # fmt: skip
@@ -47,24 +47,28 @@ STRANGE = ["a.rt", "a.antt", "In plain Rust", "in plain Rust", "the crate below"
 # The words of each meaning in STD, without the words in SMALL. Each was compared with its definition in Rattle's std.
 SMALL = "the The is of if a an and it for in which that each by or to as are".split()
 MEANT = """
-    natural numbers / truth values `true` `false` / `[]` empty list `x ∷ xs` `x` followed `xs` `xs ++ ys` `xs` followed `ys`
-    / As Rust `None` `Some value` / `x ≡ y` holds both equal `x ≢ y` they not / If only
-    / `A → B` holds `B` follows from `A` `(x : T) → A` holds `A` does every `x` type `T` Between types type functions
-    / And `.0` `.1` two parts / Or / It always holds / It never holds / `λ x. t` function returns `t` `x`
+    type natural numbers / type truth values `true` `false`
+    / `[]` empty list `x ∷ xs` `x` followed `xs` `xs ++ ys` `xs` followed `ys` / As Rust `None` `Some value`
+    / `x ≡ y` holds both equal `x ≢ y` they not / `A ↔ B` holds `A` `B` follows from other
+    / `A → B` holds `B` follows from `A` `(x : T) → A` holds `A` holds every `x` type `T` Between types type functions
+    / `A × B` holds both `A` `B` hold Its two parts `.0` `.1` / `A ⊎ B` holds `A` `B` holds / `⊤` always holds
+    / `⊥` never holds / `λ x. t` function returns `t` `x`
     / Addition `*` `/` `%` `^` multiplication division without remainder remainder power
-    / Subtraction returns 0 second number larger / `a < b` holds `a` less than `b` `a ≤ b` at most `b`
+    / `a - b` difference 0 `b` larger / `a < b` holds `a` less than `b` `a ≤ b` at most `b`
     / `x == y` truth value `x ≡ y` numbers `beq x y` one truth values
-    / `a && b` true both `a || b` one `not a` `a` false / `if b then x else y` `x` `b` true `y` otherwise
-    / `nat_le a b` truth value `a ≤ b` `nat_lt a b` one `a < b` / `min a b` smaller two numbers
-    / `IsTrue b` holds `b` `true` `IsFalse b` `false`
+    / `a && b` true both true `a || b` true one true `not a` true `a` false
+    / `if b then x else y` `x` `b` true `y` otherwise / `nat_le a b` truth value `a ≤ b` `nat_lt a b` one `a < b`
+    / `min a b` smaller two numbers / `IsTrue b` holds `b` `true` `IsFalse b` holds `false`
     / `OkIff result P x` holds `result` `Ok x` `P` holds `Err` `P` does not
-    / `IfOk result P` holds `result` `Err` `Ok x` `P` holds `x` / `IfErr result P` holds `result` `Ok` `Err x` `P` holds `x`
-    / `All P xs` holds `P` holds entry `xs` `AllByRecursion` same
-    / `AllZip P xs ys` holds both lists have one length `P` holds two entries at one index / number entries list
-    / `take n xs` list first `n` entries `xs` / `range_with_len start n` list `n` numbers from `start` up
-    / `map f xs` list `f x` `x` `xs` / `flat_map f xs` joins lists `f x` `x` `xs`
-    / `filter p xs` list `x` `xs` `p x` true / `filter_map f xs` list `y` `f x` `Some y` `x` `xs`
-    / `list_any p xs` true `p x` true some `x` `xs` `list_all p xs` / `sum_by f xs` sum `f x` `x` `xs`
+    / `IfOk result P` holds `result` `Err` `Ok x` `P` holds `x`
+    / `IfErr result P` holds `result` `Ok` `Err x` `P` holds `x`
+    / `All P xs` holds `P` holds entry `xs` `AllByRecursion P xs` equivalent
+    / `AllZip P xs ys` holds both lists have same length `P` holds two entries at same index
+    / `length xs` number entries `xs` / `take n xs` list first `n` entries `xs`
+    / `range_with_len start n` list `n` numbers from `start` up / `map f xs` list `f x` `x` `xs`
+    / `flat_map f xs` joins lists `f x` `x` `xs` / `filter p xs` list `x` `xs` `p x` true
+    / `filter_map f xs` list `y` `f x` `Some y` `x` `xs`
+    / `list_any p xs` true `p x` true some `x` `xs` `list_all p xs` true / `sum_by f xs` sum `f x` `x` `xs`
     / `last_or option xs` `Some` last entry `xs` `option` `xs` empty
     / `position p xs` `Some` index first entry `p` true `None` / `unwrap_or option x` value `option` `x` `None`
     / `codes text` list bytes text

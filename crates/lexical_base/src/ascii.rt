@@ -18,7 +18,7 @@ pub const fn is_valid_ascii(c: u8) -> bool
     (c >= 0x09 && c <= 0x0d) || (c >= 0x20 && c < 0x7f)
 }
 
-/// Returns whether [`is_valid_ascii`] is true of every byte of `slc`; true for an empty slice.
+/// Returns whether [`is_valid_ascii`] is true of every byte of `slc`. For an empty slice, the result is `true`.
 pub fn is_valid_ascii_slice(slc: &[u8]) -> bool
     ensures { IsTrue result ↔ AllPass allowed_ascii slc.now }
 {
@@ -33,7 +33,7 @@ pub const fn is_valid_letter(c: u8) -> bool
     (c >= b'A' && c <= b'Z') || (c >= b'a' && c <= b'z')
 }
 
-/// Returns whether [`is_valid_letter`] is true of every byte of `slc`; true for an empty slice.
+/// Returns whether [`is_valid_letter`] is true of every byte of `slc`. For an empty slice, the result is `true`.
 pub fn is_valid_letter_slice(slc: &[u8]) -> bool
     ensures { IsTrue result ↔ AllPass letters slc.now }
 {

@@ -15,7 +15,8 @@ pub fn returned_examples()
     ensures other_byte { IsWritten (1 ∷ 2 ∷ []) 2 (9 ∷ 9 ∷ []) (1 ∷ 2 ∷ []) → ⊥ }
 {}
 
-/// An output that a call left unchanged although the word is lawful. Each call proves an example that holds.
+/// States that an output is not written as the contract demands if it is left unchanged although the word is lawful.
+/// Each call proves an example that holds.
 #[tactic(auto, unfolding(lexical_util::specs::Unfoldable::on_literals))]
 pub fn written_examples()
     ensures unchanged { IsWrittenIfLawful 0x00000A00_00000000_00000000_0000000C 0 7 7 → ⊥ }

@@ -12,7 +12,7 @@ pub mod examples;
 pub use lexical_base::laws as base;
 pub use lexical_flags::laws as flags;
 
-/// Writing one list and then another is writing both lists in one.
+/// States that an empty list of writes changes nothing, and that two lists in turn are equivalent to both in one list.
 pub fn write_facts()
     ensures none { (r : Record) → after r [] ≡ r }
     ensures append { (r : Record) → (first second : List Write)

@@ -26,7 +26,7 @@ use std::fmt;
 pub struct BuilderExpression(pub u128);
 
 impl BuilderExpression {
-    /// Puts the expression, which has less than 2048 bytes, into a sink. Fails only if the sink fails.
+    /// Puts the expression, which has fewer than 2048 bytes, into a sink. Fails only if the sink fails.
     pub fn put_into<S: Sink>(&self, out: &mut S) -> Result<(), fmt::Error>
         ensures text { OnOk result (WritesInCalls S.takes out.old (source_text self.now.0) out.new) }
         ensures failed { IsErr result → S.has_failed out.new }

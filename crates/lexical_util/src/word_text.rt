@@ -15,9 +15,9 @@ use lexical_base::error::Error;
 ///
 /// # Errors
 ///
-/// The error of the first byte that does not fit, with its index: [`Error::Overflow`] for a 33rd digit, always at index
-/// 34, and [`Error::InvalidDigit`] for any other byte, also if `0` or `x` is expected there. If the text ends before
-/// its first digit, the error is [`Error::Empty`] with the length of the text: 0, 1 for `0`, or 2 for `0x`.
+/// Returns the error of the first byte that does not fit, with its index: [`Error::Overflow`] for a 33rd digit, always
+/// at index 34, and [`Error::InvalidDigit`] for any other byte, also if `0` or `x` is expected there. If no digit is
+/// reached, since the text ends, returns [`Error::Empty`] with the length of the text: 0, 1 for `0`, or 2 for `0x`.
 ///
 /// In plain Rust:
 ///

@@ -1,9 +1,8 @@
 //! `recorded` replays results of `lexical-util` against the library.
 //!
 //! The file `results.txt` has one recorded result a line, written by `compare/run --record`. The program reads each
-//! line and makes the same call of the library. If all results are equal, it prints how many there are and ends with
-//! status
-//! 0. Otherwise it prints the first line that differs, or that it cannot read, and ends with status 1. The status is
+//! line and makes the same call of the library. If all results are equal, it prints how many there are, and the status
+//! is 0. Otherwise it prints the first line that differs, or that it cannot read, and the status is 1. The status is
 //! also 1 if the file cannot be read or a write fails.
 #![tactic(auto)]
 

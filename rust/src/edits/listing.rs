@@ -61,7 +61,8 @@ const fn is_separator_allowed_or_absent(format: u128) -> bool {
 /// - The list has an edit for each write ([`IsEditOf`](crate::definitions#iseditof)): first for the writes that
 ///   the word needs ([`needed_writes`](crate::definitions#needed_writes)), then for the others
 ///   ([`other_writes`](crate::definitions#other_writes)).
-/// - The number counts the writes that the word needs ([`needed_writes`](crate::definitions#needed_writes)).
+/// - The returned number is the number of writes that the word needs
+///   ([`needed_writes`](crate::definitions#needed_writes)).
 /// - Each value fits its field ([`IsLegal`](crate::definitions#islegal)).
 /// - The first part, applied to a new builder ([`after`](crate::definitions#after),
 ///   [`new_record`](crate::definitions#new_record)), gives the fields ([`raw`](crate::definitions#raw)) of the
@@ -69,7 +70,7 @@ const fn is_separator_allowed_or_absent(format: u128) -> bool {
 /// - The whole list also gives the fields ([`raw`](crate::definitions#raw)) of the word.
 /// - These fields pack ([`pack`](crate::definitions#pack)) into the word if and only if a builder can make it
 ///   ([`IsBuilt`](crate::definitions#isbuilt)).
-/// - No list of fewer writes ([`IsLegal`](crate::definitions#islegal)) packs into the word.
+/// - No shorter list of legal writes ([`IsLegal`](crate::definitions#islegal)) packs into the word.
 ///
 /// ```text
 /// ensures list { AllZip IsEditOf (needed_writes (raw format) ++ other_writes (raw format)) result.0 }

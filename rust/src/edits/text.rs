@@ -102,7 +102,7 @@ impl Edit {
     ///
     /// # Errors
     ///
-    /// A [`SettingError`] if no setter has the name, or if the setter does not take the value.
+    /// Returns a [`SettingError`] if no setter has the name, or if the setter does not take the value.
     pub fn from_setting(name: &str, value: &str) -> Result<Edit, SettingError> {
         match setter_number_of_name(name.as_bytes()) {
             Some(setter) => match edit_with_text(setter, value) {
@@ -119,7 +119,7 @@ impl Edit {
     ///
     /// # Errors
     ///
-    /// A [`SettingError`] if `text` has no `=`, if no setter has the name, or if the setter does not take the
+    /// Returns a [`SettingError`] if `text` has no `=`, if no setter has the name, or if the setter does not take the
     /// value.
     #[doc(hidden)]
     pub fn from_text(text: &str) -> Result<Edit, SettingError> {

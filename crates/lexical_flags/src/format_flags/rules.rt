@@ -496,7 +496,7 @@ const fn first_broken(format: u128) -> Error
 }
 
 /// Returns the error of the first of mantissa radix, exponent base and exponent radix that is not
-/// between 2 and 36, or `Success` if all are.
+/// between 2 and 36, or `Success` if all three are.
 ///
 /// If the exponent base or the exponent radix is 0, the mantissa radix is tested instead.
 #[inline(always)]
@@ -519,7 +519,7 @@ pub const fn radix_error_impl(format: u128) -> Error
 /// Returns the error of the first rule that a format breaks, or `Success` if it breaks none, that
 /// is, if it is lawful.
 ///
-/// The rules in their order, each with its error:
+/// The rules are tried in this order. Each is followed by its error:
 ///
 /// 1. The mantissa radix is between 2 and 36: `InvalidMantissaRadix`.
 /// 2. The effective exponent base, which is the mantissa radix if that byte is 0, is between 2 and 36:
@@ -559,8 +559,8 @@ pub const fn format_error_impl(format: u128) -> Error
 ///
 /// # Errors
 ///
-/// If `format` is not lawful, the error of the first rule that it breaks ([`format_error_impl`]), which is
-/// never `Success`.
+/// If `format` is not lawful, returns the error of the first rule that it breaks ([`format_error_impl`]). This is never
+/// `Success`.
 #[inline(always)]
 pub const fn check(format: u128) -> Result<u128, Error>
     ensures lawful { OkIff result (Lawful format) format }

@@ -118,7 +118,7 @@ impl Edit {
     ///
     /// # Errors
     ///
-    /// A [`SettingError`] if no setter has the name, or if the setter does not take the value.
+    /// Returns a [`SettingError`] if no setter has the name, or if the setter does not take the value.
     pub fn from_setting(name: &str, value: &str) -> Result<Edit, SettingError>
         ensures { result ≡ edit_from_setting name.now value.now }
     {
@@ -137,7 +137,7 @@ impl Edit {
     ///
     /// # Errors
     ///
-    /// A [`SettingError`] if `text` has no `=`, if no setter has the name, or if the setter does not take the
+    /// Returns a [`SettingError`] if `text` has no `=`, if no setter has the name, or if the setter does not take the
     /// value.
     pub fn from_text(text: &str) -> Result<Edit, SettingError>
         ensures { result ≡ edit_from_text text.now }

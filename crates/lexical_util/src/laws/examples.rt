@@ -13,7 +13,7 @@ ghost use Rattle.lexical_util.specs.declared.edits.Edit.TheVariants as edits;
 ghost use Rattle.lexical_util.specs.declared.edits.FlagSetter.TheVariants as setters;
 ghost use Rattle.lexical_util.specs.declared.reasons.Reason.TheVariants as reasons;
 
-/// Lists of writes with the same last values, and lists with different last values.
+/// States that some lists of writes have the same last values, and that others have different last values.
 pub fn write_examples()
     // The order of writes to different fields does not matter.
     ensures order { SameWrites
@@ -26,8 +26,8 @@ pub fn write_examples()
         (write_byte layout.mantissa_radix 16 ∷ write_byte layout.mantissa_radix 8 ∷ []) → ⊥ }
 {}
 
-/// Examples of edits: one that makes a single write, and one that makes several; one of a program, and one whose byte
-/// is too large.
+/// States that an edit of a flag makes a single write and an edit of a group does not, and that a mantissa radix of 16
+/// is a byte and one of 256 is not.
 pub fn edit_examples()
     ensures flag { IsEditOf (write_flag layout.required_integer_digits true)
         (edits.Flag setters.RequiredIntegerDigits true) }
@@ -37,7 +37,8 @@ pub fn edit_examples()
     ensures large { HasByte (edits.MantissaRadix 256) → ⊥ }
 {}
 
-/// Notes: words with and without the case flag of an absent prefix, and words that keep the same rules and that do not.
+/// States examples of notes: the word without the case flag of an absent prefix, a word with another flag, words that
+/// keep the same rules, and words that do not.
 #[tactic(auto, unfolding(crate::specs::Unfoldable::on_literals))]
 pub fn note_examples()
     ensures cleared { ReplacesFields
@@ -52,7 +53,8 @@ pub fn note_examples()
     ensures other_radix { SameOtherRules 0x00000A00_00000000_00000000_0000000C 12 → ⊥ }
 {}
 
-/// Reasons: a reason that a word has and one that it does not have, edits that mend a word and edits that do not.
+/// States examples of reasons: a reason that a word has and one that it does not have, edits that mend a word, and
+/// edits that do not.
 #[tactic(auto, unfolding(crate::specs::Unfoldable::on_literals))]
 pub fn reason_examples()
     ensures blames { Blames 0 0 (reasons.MantissaRadixOutOfRange 0 true true) }
