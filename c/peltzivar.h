@@ -298,7 +298,7 @@ PELTZIVAR_MUST_USE PELTZIVAR_API peltzivar_error peltzivar_build_strict(
 PELTZIVAR_MUST_USE PELTZIVAR_API bool peltzivar_edit_word(
     peltzivar_word format, const peltzivar_edit *edits, size_t len, peltzivar_word *out);
 
-/* Returns the normal form of a word: the canonical word among all words that express the same format. */
+/* Returns the normal form of a word: the canonical word among all equivalent words. */
 PELTZIVAR_API peltzivar_word peltzivar_normal_form(peltzivar_word format);
 
 /* If the normal form of the word is lawful, writes it to *out and returns PELTZIVAR_SUCCESS. If not, returns the

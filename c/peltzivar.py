@@ -722,7 +722,7 @@ class FormatView:
         return tuple(Edit._of_numbers(edit) for edit in edits[:count])
 
     def normal_form(self: View) -> View:
-        """Returns the normal form: the canonical word of all words that express the same format."""
+        """Returns the normal form: the canonical word among all equivalent words."""
         return type(self)(_joined(_library.peltzivar_normal_form(self._halves())))
 
     def check(self) -> Format:

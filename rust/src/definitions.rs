@@ -1146,7 +1146,7 @@
 //! | `⊤` | `⊤` always holds. |
 //! | `⊥` | `⊥` never holds. |
 //! | `λ` | `λ x. t` is the function that returns `t` for `x`. |
-//! | `+` | Addition. `*`, `/`, `%` and `^` are multiplication, division without remainder, remainder and power. |
+//! | `+` | `a + b` is the sum. `*`, `/`, `%` and `^` are multiplication, division without remainder, remainder and power. |
 //! | `-` | `a - b` is the difference, or 0 if `b` is larger. |
 //! | `<` | `a < b` holds if `a` is less than `b`, and `a ≤ b` if it is at most `b`. |
 //! | `==` | `x == y` is the truth value of `x ≡ y` for numbers, and `beq x y` is the one for truth values. |

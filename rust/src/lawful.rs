@@ -14,8 +14,9 @@ use crate::word::STANDARD;
 /// A lawful format: a format word that breaks no rule. Take it as an argument where a number is parsed, written or
 /// checked.
 ///
-/// It dereferences to its [`FormatView`]; in a `const fn`, call [`view`][Self::view] first. Formats are compared
-/// and hashed by their words. Two words can express the same format, so compare [normal forms][Self::normal_form].
+/// It dereferences to its [`FormatView`]. In a `const fn`, call [`view`][Self::view] first. Formats are compared
+/// and hashed by their words. To find out whether two formats are equivalent, compare their
+/// [normal forms][Self::normal_form].
 ///
 /// ```
 /// use peltzivar::{Error, Format, FormatView};
@@ -91,7 +92,7 @@ impl Format {
         self.view
     }
 
-    /// Returns the [normal form][normal_form]: the canonical word of the same format, which is lawful too.
+    /// Returns the [normal form][normal_form]: the canonical word among all equivalent words. It is lawful too.
     #[must_use]
     pub const fn normal_form(&self) -> Self {
         match Format::new(normal_form(self.word())) {

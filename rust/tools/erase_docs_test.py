@@ -53,7 +53,7 @@ MEANT = """
     / `A → B` holds `B` follows from `A` `(x : T) → A` holds `A` holds every `x` type `T` Between types type functions
     / `A × B` holds both `A` `B` hold Its two parts `.0` `.1` / `A ⊎ B` holds `A` `B` holds / `⊤` always holds
     / `⊥` never holds / `λ x. t` function returns `t` `x`
-    / Addition `*` `/` `%` `^` multiplication division without remainder remainder power
+    / `a + b` sum `*` `/` `%` `^` multiplication division without remainder remainder power
     / `a - b` difference 0 `b` larger / `a < b` holds `a` less than `b` `a ≤ b` at most `b`
     / `x == y` truth value `x ≡ y` numbers `beq x y` one truth values
     / `a && b` true both true `a || b` true one true `not a` true `a` false

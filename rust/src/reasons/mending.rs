@@ -17,7 +17,7 @@ pub const MAX_MENDING_EDITS: usize = 3;
 /// `field` is the edit that writes the field with its value in the word. The edits clear a flag or an optional byte, or
 /// set the mantissa radix to 10 unless it is 10 already. If they set it, an absent exponent byte stays absent. After
 /// [`edit_word`] with these edits, the word keeps each rule that only this reason broke, and each rule that it kept.
-/// That [`edit_word`] drops a digit separator that no flag allows is not enough to mend the separator.
+/// [`edit_word`] also drops a digit separator that no flag allows, but this by itself does not mend the separator.
 #[must_use]
 #[doc(hidden)]
 pub fn mend(format: u128, reason: &Reason, field: &Edit) -> ([Edit; MAX_MENDING_EDITS], usize) {
