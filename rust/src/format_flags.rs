@@ -273,7 +273,7 @@ pub const fn base_suffix(format: u128) -> u8 {
     ((format & BASE_SUFFIX) >> BASE_SUFFIX_SHIFT) as u8
 }
 
-/// Returns the mantissa radix, which is at most 255, and between 2 and 36 in a lawful format.
+/// Returns the mantissa radix. It is at most 255, and in a lawful format it is between 2 and 36.
 #[must_use]
 #[inline(always)]
 pub const fn mantissa_radix(format: u128) -> u32 {

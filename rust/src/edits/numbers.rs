@@ -128,8 +128,8 @@ impl FlagSetter {
 }
 
 impl Edit {
-    /// Returns the edit of the setter with this number and `argument`, or `None` if no setter has the number,
-    /// or it takes another kind of argument.
+    /// Returns the edit of the setter with this number and `argument`, or `None` if no setter has the number or the
+    /// setter takes another kind of argument.
     #[must_use]
     #[doc(hidden)]
     pub const fn new(number: u8, argument: Argument) -> Option<Edit> {

@@ -9,7 +9,7 @@ use core::fmt;
 #[derive(Clone, Copy)]
 #[doc(hidden)]
 pub enum Piece {
-    /// This text.
+    /// A text, unchanged.
     Words(&'static str),
     /// A number in decimal.
     Number(usize),
@@ -26,7 +26,7 @@ pub enum Piece {
 #[doc(hidden)]
 pub const EMPTY_PIECE: Piece = Piece::Words("");
 
-/// A text of at most four pieces. Every one that the library returns has fewer than 256 bytes.
+/// A text of at most four pieces. Each `ShortText` that the library returns has fewer than 256 bytes.
 #[derive(Clone, Copy)]
 #[doc(hidden)]
 pub struct ShortText(pub Piece, pub Piece, pub Piece, pub Piece);

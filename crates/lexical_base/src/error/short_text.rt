@@ -11,7 +11,7 @@ use std::marker::Model;
 /// A piece of a short text.
 #[derive(Clone, Copy)]
 pub enum Piece {
-    /// This text.
+    /// A text, unchanged.
     Words(&'static str),
     /// A number in decimal.
     Number(usize),
@@ -27,7 +27,7 @@ pub enum Piece {
 /// The empty piece.
 pub const EMPTY_PIECE: Piece = Piece::Words("");
 
-/// A text of at most four pieces. Every one that the library returns has fewer than 256 bytes.
+/// A text of at most four pieces. Each `ShortText` that the library returns has fewer than 256 bytes.
 #[derive(Drop)]
 pub struct ShortText(pub Piece, pub Piece, pub Piece, pub Piece);
 
