@@ -485,6 +485,30 @@ def each_section_has_the_name_of_its_heading(page):
     same(page.run(others), [])
 
 
+def each_text_has_contrast_with_its_ground(page):
+    low = """const numbers = (colour) => colour.match(/[\\d.]+/g).map(Number);
+        const linear = (it) => it <= 0.04045 ? it / 12.92 : ((it + 0.055) / 1.055) ** 2.4;
+        const luminance = (colour) => [0.2126, 0.7152, 0.0722].reduce(
+            (sum, part, index) => sum + part * linear(numbers(colour)[index] / 255), 0.05);
+        const ground = (it) => {
+            const colour = getComputedStyle(it).backgroundColor;
+            return numbers(colour)[3] === 0 ? ground(it.parentElement) : colour;
+        };
+        const contrast = (it) => {
+            const [text, under] = [getComputedStyle(it).color, ground(it)].map(luminance);
+            return Math.max(text, under) / Math.min(text, under);
+        };
+        const hasText = (it) => it.checkVisibility() && [...it.childNodes].some((node) => {
+            return node.nodeType === Node.TEXT_NODE && node.data.trim();
+        });
+        return [...document.body.querySelectorAll("*")].filter((it) => hasText(it) && contrast(it) < 4.5)
+            .map((it) => it.outerHTML)"""
+    for scheme in ("light", "dark"):
+        page.show(LARGE, scheme)
+        page.load("#word=0x0A0A10006200005F00000007800144CC&exponent=112&point=46")
+        same(page.run(low), [])
+
+
 def all_controls_have_names(page):
     unnamed = """return [...document.querySelectorAll("input, button, select")].filter((it) =>
         !(it.labels?.length || it.getAttribute("aria-label") || it.textContent.trim())).map((it) => it.outerHTML)"""
@@ -609,6 +633,7 @@ STEPS = [
     options_that_share_a_byte_do_not_fit,
     a_hint_has_the_bits_and_the_meaning_of_a_field,
     each_section_has_the_name_of_its_heading,
+    each_text_has_contrast_with_its_ground,
     all_controls_have_names,
     it_fits_a_phone_and_a_dark_screen,
     a_server_gets_one_request,

@@ -1,6 +1,7 @@
 #!/usr/bin/env bash
-# Tests the page. Its check finds changes. Its WebAssembly returns the recorded results in Node.js. The code that it shows
-# builds the word. Chromium takes the steps of a user, and a picture of each is kept in out/.
+# Tests the page. Its check finds changes. The functions of shim.rs return what Rust's own arithmetic does. The
+# WebAssembly returns the recorded results in Node.js. The code that the page shows builds the word. Chromium takes
+# the steps of a user, and a picture of each is kept in out/.
 #
 # The last line is `N passed, M failed, K skipped`. The exit status is 1 if a row failed, or if rows are missing.
 set -u
@@ -41,6 +42,15 @@ checks() {
     stale "$rest" rust/examples/recipes.rs '// refuses ' '// accepts '
     stale "$rest" explorer/page.css '#ffffff' '#fffffe'
     stale "$rest" explorer/index.html '<title>' '<title> '
+    printf '/*%060000d*/\n' 0 >> "$work/copy/explorer/page.css"
+    passes bash -c "! '$work/copy/explorer/build' 2> '$work/size' && grep ' bytes, more than 200000$' '$work/size'"
+}
+
+# shim: the functions of shim.rs return what Rust's own arithmetic does.
+shim() {
+    sed -e '/^#!\[/d' -e '/no_mangle/d' shim.rs | cat - shim_test.rs > "$work/shim.rs"
+    passes rustc --edition=2021 -o "$work/shim" "$work/shim.rs"
+    passes "$work/shim"
 }
 
 # results: the WebAssembly returns the recorded results, and builds the recipes.
@@ -92,7 +102,8 @@ done
 if [ "$python" ]; then here[python3-selenium]=yes; else lacks python3-selenium; fi
 
 needing python3 checks
+needing cargo shim
 needing node needing cargo results
 needing node needing cargo codes
 needing python3-selenium needing chromium needing chromedriver browser
-counted 19
+counted 22
