@@ -1,16 +1,16 @@
 /* This header declares functions that build, read, check and edit number formats, which are 128-bit words.
  *
- * A format word has 31 flags (bits 0 to 17 and 32 to 44) and six bytes. The lowest bit of each byte is in
- * parentheses: the digit separator (64), the base prefix (88), the base suffix (96), the mantissa radix (104), the
- * exponent base (112) and the exponent radix (120). The other bits are reserved. A word is lawful if it keeps the 16
- * rules below. In the repository, docs/FORMAT.md describes each field and each rule, and c/settings.c shows how to
- * read a settings file.
+ * A format word has 31 flags (bits 0 to 17 and 32 to 44) and six bytes. The bytes, with their lowest bits, are the
+ * digit separator (64), the base prefix (88), the base suffix (96), the mantissa radix (104), the exponent base (112)
+ * and the exponent radix (120). The other bits are reserved. A word is lawful if it keeps the 16 rules below. In the
+ * repository, docs/FORMAT.md describes each field and each rule, and c/settings.c shows how to read a settings file.
  *
  * The functions accept any word, number, byte or length of the declared type. A pointer must point to the object or
  * array that its declaration describes. Only a pointer that is passed with a length may be null, and only if the
- * length is 0. Input must be initialised. So must the *fields of peltzivar_edit_fields, which are read before they
- * are written; other output need not be. Output must not overlap input. No function allocates memory, keeps a pointer
- * or sets errno. Calls may run in several threads at once if none of them writes memory that another reads or writes.
+ * length is 0. Input must be initialised. The *fields of peltzivar_edit_fields count as input, since they are read
+ * first. Other output need not be initialised. Output must not overlap input. No function allocates memory, keeps a
+ * pointer or sets errno. Calls may run in several threads at once if none of them writes memory that another reads or
+ * writes.
  *
  * The meaning of a bit of a word never changes. A new minor version may add a flag, which renumbers the setters and
  * the bits of peltzivar_fields. So store words or setter names, not setter numbers or peltzivar_fields, and compile
@@ -42,8 +42,8 @@
 #endif
 #endif
 
-/* PELTZIVAR_MUST_USE makes the compiler warn if a caller ignores the result, which is an error or states whether the
- * function wrote its output. */
+/* PELTZIVAR_MUST_USE makes the compiler warn if a caller ignores the result: an error, or whether the function wrote
+ * its output. */
 #ifndef PELTZIVAR_MUST_USE
 #if defined(__cplusplus) && __cplusplus >= 201703L
 #define PELTZIVAR_MUST_USE [[nodiscard]]
@@ -83,8 +83,8 @@ typedef struct {
     uint8_t setter, value;
 } peltzivar_edit;
 
-/* The standard format as a word, and the fields to start from, which peltzivar_pack packs into that word. The
- * initialisers are constant expressions, so you can also use them at file scope and in arrays. */
+/* The standard format as a word, and as the fields to start from. peltzivar_pack packs these fields into this word.
+ * The initialisers are constant expressions, so you can also use them at file scope and in arrays. */
 #define PELTZIVAR_STANDARD_INIT {UINT64_C(0xC), UINT64_C(0x00000A0000000000)}
 #define PELTZIVAR_NEW_FIELDS_INIT {UINT32_C(0xC), 0, 0, 0, 10, 0, 0}
 static const peltzivar_word PELTZIVAR_STANDARD = PELTZIVAR_STANDARD_INIT;
@@ -208,9 +208,9 @@ enum {
 };
 
 /* The rules, in the order in which they are checked. The comment on each rule states what it demands. docs/FORMAT.md
- * numbers the rules from 1, so its rule n is rule n - 1 here. Punctuation is allowed ASCII (the bytes 9 to 13 and 32
- * to 126) that is neither a sign nor a digit of the mantissa or exponent. In these rules, an exponent base or
- * exponent radix of 0 means the mantissa radix. */
+ * numbers the rules from 1, so its rule n is rule n - 1 here. Punctuation is any allowed ASCII byte (9 to 13 or 32 to
+ * 126) except a sign or a digit of the mantissa or exponent. In these rules, an exponent base or exponent radix of 0
+ * means the mantissa radix. */
 enum {
     PELTZIVAR_RULE_MANTISSA_RADIX_IN_RANGE = 0, /* mantissa_radix is between 2 and 36 */
     PELTZIVAR_RULE_EXPONENT_BASE_IN_RANGE, /* exponent_base is between 2 and 36 */
@@ -218,9 +218,9 @@ enum {
     PELTZIVAR_RULE_DIGIT_SEPARATOR_IS_PUNCTUATION, /* digit_separator is 0 or punctuation */
     PELTZIVAR_RULE_BASE_PREFIX_IS_PUNCTUATION, /* base_prefix is 0 or punctuation */
     PELTZIVAR_RULE_BASE_SUFFIX_IS_PUNCTUATION, /* base_suffix is 0 or punctuation */
-    /* No two of digit_separator, base_prefix and base_suffix share a byte. If base_prefix is a letter, it has the
-     * bytes of both cases unless case_sensitive_base_prefix is set. If base_suffix is a letter, it has the bytes of
-     * both cases unless case_sensitive_base_suffix is set. A digit_separator always has one byte. */
+    /* No two of digit_separator, base_prefix and base_suffix share a byte. A letter in base_prefix plays its role in
+     * both cases unless case_sensitive_base_prefix is set. A letter in base_suffix plays its role in both cases
+     * unless case_sensitive_base_suffix is set. digit_separator is always case-sensitive. */
     PELTZIVAR_RULE_PUNCTUATION_DIFFERS,
     PELTZIVAR_RULE_EXPONENT_FLAGS_AGREE, /* no_exponent_notation and required_exponent_notation are not both set */
     /* no_positive_mantissa_sign and required_mantissa_sign are not both set */
@@ -269,7 +269,7 @@ PELTZIVAR_API uint32_t peltzivar_version(void);
 /* Returns the fields of a word. An exponent base or exponent radix of 0 becomes the mantissa radix. */
 PELTZIVAR_API peltzivar_fields peltzivar_fields_of(peltzivar_word format);
 
-/* Applies the edits in order to *fields and returns true. If an edit has an unknown setter, returns false and leaves
+/* Applies the edits to *fields in order and returns true. If an edit has an unknown setter, returns false and leaves
  * *fields unchanged. */
 PELTZIVAR_MUST_USE PELTZIVAR_API bool peltzivar_edit_fields(
     peltzivar_fields *fields, const peltzivar_edit *edits, size_t len);
@@ -278,8 +278,8 @@ PELTZIVAR_MUST_USE PELTZIVAR_API bool peltzivar_edit_fields(
  * dropped. */
 PELTZIVAR_API peltzivar_word peltzivar_pack(const peltzivar_fields *fields);
 
-/* Applies the edits in order to a copy of the fields, packs the copy as peltzivar_pack does, writes the word to
- * *out and returns true. If an edit has an unknown setter, returns false and leaves *out unchanged. */
+/* Applies the edits to a copy of the fields in order, packs the copy as peltzivar_pack does, writes the word to *out
+ * and returns true. If an edit has an unknown setter, returns false and leaves *out unchanged. */
 PELTZIVAR_MUST_USE PELTZIVAR_API bool peltzivar_build(
     const peltzivar_fields *fields, const peltzivar_edit *edits, size_t len, peltzivar_word *out);
 
@@ -291,10 +291,10 @@ PELTZIVAR_MUST_USE PELTZIVAR_API peltzivar_error peltzivar_build_strict(
 
 /* WORDS */
 
-/* Applies the edits in order to a word, writes the new word to *out and returns true. If an edit has an unknown
- * setter, returns false and leaves *out unchanged. Before the edits, an exponent base or exponent radix of 0
- * becomes the mantissa radix; after them, a digit separator that no flag allows is dropped. So two calls do not
- * always give the same word as one call with both lists of edits: pass a separator and its flags in one call. */
+/* Applies the edits to a word in order, writes the new word to *out and returns true. If an edit has an unknown
+ * setter, returns false and leaves *out unchanged. Before the edits, an exponent base or exponent radix of 0 becomes
+ * the mantissa radix; after them, a digit separator that no flag allows is dropped. So two calls do not always give
+ * the same word as one call with both lists of edits: pass a separator and its flags in one call. */
 PELTZIVAR_MUST_USE PELTZIVAR_API bool peltzivar_edit_word(
     peltzivar_word format, const peltzivar_edit *edits, size_t len, peltzivar_word *out);
 
@@ -345,11 +345,11 @@ PELTZIVAR_API bool peltzivar_is_valid_base_suffix(peltzivar_word format);
 /* Returns whether a word keeps PELTZIVAR_RULE_PUNCTUATION_DIFFERS. */
 PELTZIVAR_API bool peltzivar_is_valid_punctuation(peltzivar_word format);
 
-/* Returns whether an exponent character and a decimal point fit a word: both are punctuation, and neither shares a
- * byte with the other or with the digit separator, base prefix or base suffix of the word. If the exponent character
- * is a letter, it has the bytes of both cases unless case_sensitive_exponent is set. The bytes of the base prefix and
- * the base suffix are determined as in PELTZIVAR_RULE_PUNCTUATION_DIFFERS. The function does not check whether the
- * word is lawful. */
+/* Returns whether an exponent character and a decimal point suit a word: both are punctuation, and neither shares a
+ * byte with the other or with the word's digit separator, base prefix or base suffix. A letter as the exponent
+ * character plays its role in both cases unless case_sensitive_exponent is set. The bytes of the base prefix and the
+ * base suffix are determined as in PELTZIVAR_RULE_PUNCTUATION_DIFFERS. The function does not check whether the word
+ * is lawful. */
 PELTZIVAR_API bool peltzivar_is_valid_options_punctuation(
     peltzivar_word format, uint8_t exponent, uint8_t decimal_point);
 
@@ -368,7 +368,7 @@ PELTZIVAR_API bool peltzivar_keeps_rule(peltzivar_word format, uint8_t rule);
 PELTZIVAR_API peltzivar_error peltzivar_rule_error(uint8_t rule);
 
 /* Returns the bits of a word that a rule reads, as a mask, or 0 if no rule has this number. If the rule is broken, a
- * setting may be to blame if its peltzivar_edit_mask has a bit in common with this mask. */
+ * setting whose peltzivar_edit_mask shares a bit with this mask may be to blame. */
 PELTZIVAR_API peltzivar_word peltzivar_rule_mask(uint8_t rule);
 
 /* For a flag setter, returns whether its flag is set in a word. For a group setter, returns whether at least one flag
@@ -390,12 +390,12 @@ PELTZIVAR_API uint8_t peltzivar_word_reason_rule(peltzivar_word format, uint8_t 
  * breaks the rule of the exponent byte too, and for the same reason. */
 PELTZIVAR_API bool peltzivar_word_reason_breaks(peltzivar_word format, uint8_t index, uint8_t rule);
 
-/* Writes the edits that mend one field for the reason in a slot, and returns their number. The edits clear a flag or
- * an optional byte, or set the mantissa radix to 10. After peltzivar_edit_word with these edits, the word keeps each
- * rule that it broke only for this reason, and each rule that it kept before. The field is an index from 0 to
- * PELTZIVAR_FIELD_COUNT - 1 in the order of the bits of a word: first the flags as in PELTZIVAR_SET_*, then the six
- * bytes. If no such edits mend the field, if the slot is empty, or if no field has this index, returns 0 and leaves
- * the array unchanged. Otherwise, the elements of the array after the returned number of edits are unspecified. */
+/* Writes the edits of one field that remove the reason in a slot, and returns their number. The edits clear a flag or
+ * an optional byte, or set the mantissa radix to 10. Once peltzivar_edit_word has applied these edits, the word keeps
+ * each rule that it kept before or broke only for this reason. The field is an index from 0 to PELTZIVAR_FIELD_COUNT
+ * - 1 in the order of the bits of a word: first the flags as in PELTZIVAR_SET_*, then the six bytes. If no such edits
+ * mend the field, if the slot is empty, or if no field has this index, returns 0 and leaves the array unchanged.
+ * Otherwise, the elements of the array after the returned number of edits are unspecified. */
 PELTZIVAR_API size_t peltzivar_word_reason_mend(
     peltzivar_word format, uint8_t index, uint8_t field, peltzivar_edit edits[PELTZIVAR_MAX_MENDING_EDITS]);
 
@@ -455,7 +455,7 @@ PELTZIVAR_API uint8_t peltzivar_digit_to_char_const(uint32_t digit, uint32_t rad
 
 /* TEXTS
  *
- * Each function below that returns a length writes ASCII text with a final 0, as snprintf does. It writes at most len
+ * Each function below that returns a length writes NUL-terminated ASCII text, as snprintf does. It writes at most len
  * bytes, including the 0. If the text does not fit, the function writes only its beginning. If len is 0, it writes
  * nothing. It returns the length of the whole text, not counting the 0. The text is empty if no error, setter, rule,
  * reason or note has the number or index that is passed. PELTZIVAR_TEXT_SIZE bytes are always enough, except for
@@ -491,8 +491,8 @@ PELTZIVAR_API size_t peltzivar_reason(peltzivar_word format, uint8_t rule, uint8
 
 /* Writes the reason in a slot of a word, such as "no_special and case_sensitive_special cannot both be set". The
  * index of the slot ranges from 0 to PELTZIVAR_CANDIDATE_COUNT - 1. Try every index: any slot may be empty, and then
- * its text is empty. Each cause of broken rules has one slot. The reasons are ordered by the first rule that the word
- * breaks for each of them. All slots are empty if and only if the word is lawful. */
+ * its text is empty. Each cause of broken rules has one slot. The reasons are ordered by the first rule that each one
+ * explains. All slots are empty if and only if the word is lawful. */
 PELTZIVAR_API size_t peltzivar_word_reason(peltzivar_word format, uint8_t index, char *text, size_t len);
 
 /* Writes one note on fields, such as "no number can have the digit separator '_': no flag allows one". A note is not
@@ -512,11 +512,11 @@ PELTZIVAR_API size_t peltzivar_setter_name(uint8_t setter, char *text, size_t le
  * 0, so it can be part of a longer text, such as the part of a setting before the `=`. */
 PELTZIVAR_API uint8_t peltzivar_setter_of_name(const char *name, size_t len);
 
-/* Parses a setting NAME=VALUE, split at the first `=`, writes its edit to *out and returns PELTZIVAR_SETTING_READ,
- * which is 0. The text has len bytes and no final 0. If it is not a setting, leaves *out unchanged and returns
- * PELTZIVAR_SETTING_NO_EQUALS if the text has no `=`, or PELTZIVAR_SETTING_UNKNOWN_NAME if no setter has the name.
- * If the setter does not take the value, returns PELTZIVAR_SETTING_OUT_OF_RANGE if the setter takes a byte and the
- * value is a number above 255 or with too many digits, and PELTZIVAR_SETTING_BAD_VALUE for any other value.
+/* Splits a setting NAME=VALUE at the first `=`, writes its edit to *out and returns PELTZIVAR_SETTING_READ, which is
+ * 0. The text has len bytes and no final 0. If it is not a setting, leaves *out unchanged and returns
+ * PELTZIVAR_SETTING_NO_EQUALS if the text has no `=`, or PELTZIVAR_SETTING_UNKNOWN_NAME if no setter has the name. If
+ * the setter does not take the value, returns PELTZIVAR_SETTING_OUT_OF_RANGE if the setter takes a byte and the value
+ * is a number above 255 or with too many digits, and PELTZIVAR_SETTING_BAD_VALUE for any other value.
  *
  * A flag setter or a group setter takes `true` or `false`. A byte setter takes an ASCII character between two `'`, or
  * `0x` and one or two hexadecimal digits, or one to three decimal digits. Every byte setter except mantissa_radix and

@@ -105,8 +105,8 @@ impl Format {
     ///
     /// # Errors
     ///
-    /// Returns [`Error::InvalidExponentSymbol`] or [`Error::InvalidDecimalPoint`] if the byte is not allowed ASCII, or
-    /// if it is a sign or a digit. Returns [`Error::InvalidPunctuation`] if a byte would play two roles.
+    /// Returns [`Error::InvalidExponentSymbol`] or [`Error::InvalidDecimalPoint`] if that byte is a sign, a digit or
+    /// not allowed ASCII. Returns [`Error::InvalidPunctuation`] if a byte would play two roles.
     pub const fn check_options(&self, exponent: u8, decimal_point: u8) -> Result<(), Error> {
         match options_error(self.word(), exponent, decimal_point) {
             Error::Success => Ok(()),

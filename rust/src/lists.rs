@@ -7,7 +7,7 @@ use crate::reasons::{notes, notes_of_fields, reasons, Note, Reason};
 use crate::view::FormatView;
 
 impl FormatView {
-    /// Returns the rules that the word breaks, in their order.
+    /// Returns the rules that the word breaks, in order.
     pub fn broken_rules(&self) -> impl Iterator<Item = Rule> + Clone {
         broken_rules(self.word()).into_iter().flatten()
     }
@@ -30,9 +30,9 @@ impl FormatView {
         reasons(self.word()).into_iter().flatten()
     }
 
-    /// Returns notes on the fields that are set and change no number that can be written. A lawful word may have notes.
+    /// Returns notes on the fields that are set but have no effect on any number. A lawful word may have notes.
     ///
-    /// A builder drops a digit separator that no flag allows when it packs a word. So only the notes of the builder
+    /// When a builder packs a word, it drops a digit separator that no flag allows. So only the notes of the builder
     /// report it. The notes of the packed word do not.
     pub fn notes(&self) -> impl Iterator<Item = Note> + Clone {
         notes(self.word()).into_iter().flatten()
@@ -47,8 +47,8 @@ impl FormatView {
 }
 
 impl NumberFormatBuilder {
-    /// Returns notes on the fields that are set and change no number that can be written. A digit separator that no
-    /// flag allows has a note, although it is dropped when the word is packed.
+    /// Returns notes on the fields that are set but have no effect on any number. A digit separator that no flag allows
+    /// has a note, although it is dropped when the word is packed.
     pub fn notes(&self) -> impl Iterator<Item = Note> + Clone {
         notes_of_fields(self).into_iter().flatten()
     }
