@@ -241,9 +241,9 @@ impl NumberFormatBuilder {
 
     /// Returns a builder with the fields of a format word, unchanged.
     ///
-    /// An exponent base or exponent radix of 0 stays absent, so it follows a later change of the mantissa
-    /// radix. [`rebuild`][Self::rebuild] replaces it by the mantissa radix. The digit separator is read even if
-    /// no flag allows one. The reserved bits are dropped.
+    /// An exponent base or exponent radix of 0 stays absent, so it follows later changes to the mantissa radix.
+    /// [`rebuild`][Self::rebuild] replaces it by the mantissa radix. The digit separator is read even if no flag allows
+    /// one. The reserved bits are dropped.
     ///
     /// ```
     /// use peltzivar::format_builder::NumberFormatBuilder;

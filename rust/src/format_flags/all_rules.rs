@@ -8,9 +8,9 @@ use crate::format_flags::*;
 
 /// A rule that a format word keeps or breaks. A word that breaks no rule is lawful.
 ///
-/// The variants are in the order in which the rules are tried. The name of each variant states the condition that the
-/// rule imposes. *Punctuation* is allowed ASCII that is neither a sign nor a digit of the mantissa or the exponent. A
-/// rule has no `Display`, since a `Reason` states why a given word breaks it.
+/// The variants are in the order in which the rules are checked. The name of each variant states the condition that the
+/// rule imposes. *Punctuation* is any allowed ASCII byte except a sign or a digit of the mantissa or the exponent.
+/// `Rule` does not implement `Display`, since a `Reason` states why a word breaks a rule.
 #[derive(Debug, Clone, Copy, PartialEq, Eq, Hash, PartialOrd, Ord)]
 #[non_exhaustive]
 pub enum Rule {
@@ -36,7 +36,7 @@ pub enum Rule {
     ExponentSignFlagsAgree,
     /// Special values are not both forbidden and case-sensitive.
     SpecialCaseFlagsAgree,
-    /// Special values are not forbidden if digit separators are allowed in them.
+    /// Digit separators are allowed in special values only if special values are allowed.
     SpecialSeparatorFlagsAgree,
     /// Consecutive digit separators are allowed in the integer only if internal, leading or trailing ones are.
     IntegerConsecutiveIsAllowed,

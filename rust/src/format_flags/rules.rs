@@ -37,10 +37,10 @@ const fn larger(a: u32, b: u32) -> u32 {
     }
 }
 
-/// Returns whether `byte` is a digit of numbers in this format: a digit of the mantissa radix or of the exponent radix.
-/// A letter is a digit in either case or in neither.
+/// Returns whether `byte` is a digit in this format: a digit of the mantissa radix or of the exponent radix. The case
+/// of a letter does not matter.
 ///
-/// If the exponent radix of the format is 0, the mantissa radix is used instead. The exponent base has no digits. Any
+/// If the exponent radix of the format is 0, the mantissa radix is used instead. The exponent base is ignored. Any
 /// word and any byte may be passed.
 #[must_use]
 #[inline(always)]
