@@ -133,7 +133,7 @@ def phrases():
     count = {6: "six"}[len(BYTES)]
     return [
         "128-bit words",
-        f"{len(flags)} flags (bits {ranges(flags)}) and {count} bytes. The lowest bit of each byte is in parentheses: "
+        f"{len(flags)} flags (bits {ranges(flags)}) and {count} bytes. The bytes, with their lowest bits, are "
         f"{', '.join(ends[:-1])} and {ends[-1]}.",
         f"the {len(rules())} rules below",
         "eight bits for each part",

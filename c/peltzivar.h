@@ -1,9 +1,10 @@
 /* This header declares functions that build, read, check and edit number formats, which are 128-bit words.
  *
  * A format word has 31 flags (bits 0 to 17 and 32 to 44) and six bytes. The bytes, with their lowest bits, are the
- * digit separator (64), the base prefix (88), the base suffix (96), the mantissa radix (104), the exponent base (112)
- * and the exponent radix (120). The other bits are reserved. A word is lawful if it keeps the 16 rules below. In the
- * repository, docs/FORMAT.md describes each field and each rule, and c/settings.c shows how to read a settings file.
+ * digit separator (64), the base prefix (88), the base suffix (96), the mantissa radix (104), the exponent base
+ * (112) and the exponent radix (120). The other bits are reserved. A word is lawful if it keeps the 16 rules below.
+ * In the repository, docs/FORMAT.md describes each field and each rule, and c/settings.c shows how to read a
+ * settings file.
  *
  * The functions accept any word, number, byte or length of the declared type. A pointer must point to the object or
  * array that its declaration describes. Only a pointer that is passed with a length may be null, and only if the
@@ -208,9 +209,9 @@ enum {
 };
 
 /* The rules, in the order in which they are checked. The comment on each rule states what it demands. docs/FORMAT.md
- * numbers the rules from 1, so its rule n is rule n - 1 here. Punctuation is any allowed ASCII byte (9 to 13 or 32 to
- * 126) except a sign or a digit of the mantissa or exponent. In these rules, an exponent base or exponent radix of 0
- * means the mantissa radix. */
+ * numbers the rules from 1, so its rule n is rule n - 1 here. Punctuation is any allowed ASCII byte (the bytes 9 to
+ * 13 and 32 to 126) except a sign or a digit of the mantissa or exponent. In these rules, an exponent base or
+ * exponent radix of 0 means the mantissa radix. */
 enum {
     PELTZIVAR_RULE_MANTISSA_RADIX_IN_RANGE = 0, /* mantissa_radix is between 2 and 36 */
     PELTZIVAR_RULE_EXPONENT_BASE_IN_RANGE, /* exponent_base is between 2 and 36 */
@@ -278,8 +279,8 @@ PELTZIVAR_MUST_USE PELTZIVAR_API bool peltzivar_edit_fields(
  * dropped. */
 PELTZIVAR_API peltzivar_word peltzivar_pack(const peltzivar_fields *fields);
 
-/* Applies the edits to a copy of the fields in order, packs the copy as peltzivar_pack does, writes the word to *out
- * and returns true. If an edit has an unknown setter, returns false and leaves *out unchanged. */
+/* Applies the edits to a copy of the fields in order, packs the copy as peltzivar_pack does, writes the word to
+ * *out and returns true. If an edit has an unknown setter, returns false and leaves *out unchanged. */
 PELTZIVAR_MUST_USE PELTZIVAR_API bool peltzivar_build(
     const peltzivar_fields *fields, const peltzivar_edit *edits, size_t len, peltzivar_word *out);
 
@@ -292,9 +293,9 @@ PELTZIVAR_MUST_USE PELTZIVAR_API peltzivar_error peltzivar_build_strict(
 /* WORDS */
 
 /* Applies the edits to a word in order, writes the new word to *out and returns true. If an edit has an unknown
- * setter, returns false and leaves *out unchanged. Before the edits, an exponent base or exponent radix of 0 becomes
- * the mantissa radix; after them, a digit separator that no flag allows is dropped. So two calls do not always give
- * the same word as one call with both lists of edits: pass a separator and its flags in one call. */
+ * setter, returns false and leaves *out unchanged. Before the edits, an exponent base or exponent radix of 0
+ * becomes the mantissa radix; after them, a digit separator that no flag allows is dropped. So two calls do not
+ * always give the same word as one call with both lists of edits: pass a separator and its flags in one call. */
 PELTZIVAR_MUST_USE PELTZIVAR_API bool peltzivar_edit_word(
     peltzivar_word format, const peltzivar_edit *edits, size_t len, peltzivar_word *out);
 

@@ -53,8 +53,8 @@ const fn larger(a: u32, b: u32) -> u32
 /// Returns whether `byte` is a digit in this format: a digit of the mantissa radix or of the exponent radix. The case
 /// of a letter does not matter.
 ///
-/// If the exponent radix of the format is 0, the mantissa radix is used instead. The exponent base is ignored. Any word
-/// and any byte may be passed. `lexical-util` has no such function.
+/// If the exponent radix of the format is 0, the mantissa radix is used instead. The exponent base is ignored. Any
+/// word and any byte may be passed. `lexical-util` has no such function.
 #[inline(always)]
 pub const fn is_digit(format: u128, byte: u8) -> bool
     ensures { IsTrue result ↔ IsTrue (digits (raw format) byte) }
