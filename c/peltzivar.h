@@ -208,10 +208,10 @@ enum {
     PELTZIVAR_INVALID_POSITIVE_EXPONENT_BREAK = 48
 };
 
-/* The rules, in the order in which they are checked. The comment on each rule states what it demands. docs/FORMAT.md
- * numbers the rules from 1, so its rule n is rule n - 1 here. Punctuation is any allowed ASCII byte (the bytes 9 to
- * 13 and 32 to 126) except a sign or a digit of the mantissa or exponent. In these rules, an exponent base or
- * exponent radix of 0 means the mantissa radix. */
+/* The rules, in the order in which they are checked. The comment on each rule states what it demands.
+ * docs/FORMAT.md numbers the rules from 1, so its rule n is rule n - 1 here. Punctuation is any allowed ASCII byte
+ * (the bytes 9 to 13 and 32 to 126) except a sign or a digit of the mantissa or exponent. In these rules, an
+ * exponent base or exponent radix of 0 means the mantissa radix. */
 enum {
     PELTZIVAR_RULE_MANTISSA_RADIX_IN_RANGE = 0, /* mantissa_radix is between 2 and 36 */
     PELTZIVAR_RULE_EXPONENT_BASE_IN_RANGE, /* exponent_base is between 2 and 36 */
