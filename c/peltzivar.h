@@ -466,7 +466,7 @@ PELTZIVAR_API uint8_t peltzivar_digit_to_char_const(uint32_t digit, uint32_t rad
 PELTZIVAR_API size_t peltzivar_text_of_word(peltzivar_word format, char *text, size_t len);
 
 /* Parses `0x` and 1 to 32 hexadecimal digits of either case, writes the word to *out and returns PELTZIVAR_SUCCESS.
- * The text has len bytes and no final 0. If it has another form, leaves *out unchanged and returns an error:
+ * The text has len bytes and needs no NUL. If it has another form, leaves *out unchanged and returns an error:
  * PELTZIVAR_EMPTY if the text ends before its first digit, PELTZIVAR_OVERFLOW if the first offending byte is a 33rd
  * digit, and PELTZIVAR_INVALID_DIGIT if it is any other byte or if the text is not UTF-8. The index of the offending
  * byte is not returned. */
@@ -514,7 +514,7 @@ PELTZIVAR_API size_t peltzivar_setter_name(uint8_t setter, char *text, size_t le
 PELTZIVAR_API uint8_t peltzivar_setter_of_name(const char *name, size_t len);
 
 /* Splits a setting NAME=VALUE at the first `=`, writes its edit to *out and returns PELTZIVAR_SETTING_READ, which is
- * 0. The text has len bytes and no final 0. If it is not a setting, leaves *out unchanged and returns
+ * 0. The text has len bytes and needs no NUL. If it is not a setting, leaves *out unchanged and returns
  * PELTZIVAR_SETTING_NO_EQUALS if the text has no `=`, or PELTZIVAR_SETTING_UNKNOWN_NAME if no setter has the name. If
  * the setter does not take the value, returns PELTZIVAR_SETTING_OUT_OF_RANGE if the setter takes a byte and the value
  * is a number above 255 or with too many digits, and PELTZIVAR_SETTING_BAD_VALUE for any other value.
