@@ -46,6 +46,21 @@ checks() {
     passes bash -c "! '$work/copy/explorer/build' 2> '$work/size' && grep ' bytes, more than 200000$' '$work/size'"
 }
 
+# installs: `build --install` asks apt-get for the compiler, its sources and a linker, and ends if that fails.
+installs() {
+    mkdir "$work/tools"
+    cat > "$work/tools/apt-get" << 'END'
+#!/bin/sh
+[ "${0##*/}" = apt-get ] || exec "$@"
+echo "$*"
+exit 1
+END
+    chmod +x "$work/tools/apt-get"
+    cp "$work/tools/apt-get" "$work/tools/sudo"
+    passes bash -c "! PATH='$work/tools':\$PATH ./build --install > '$work/asked' 2> /dev/null &&
+        grep -x 'install .* rustc-web=1\.85\* rust-web-src=1\.85\* lld' '$work/asked'"
+}
+
 # shim: the functions of shim.rs return what Rust's own arithmetic does.
 shim() {
     sed -e '/^#!\[/d' -e '/no_mangle/d' shim.rs | cat - shim_test.rs > "$work/shim.rs"
@@ -102,8 +117,9 @@ done
 if [ "$python" ]; then here[python3-selenium]=yes; else lacks python3-selenium; fi
 
 needing python3 checks
+needing python3 installs
 needing cargo shim
 needing node needing cargo results
 needing node needing cargo codes
 needing python3-selenium needing chromium needing chromedriver browser
-counted 22
+counted 23
