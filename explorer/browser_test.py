@@ -485,6 +485,27 @@ def each_section_has_the_name_of_its_heading(page):
     same(page.run(others), [])
 
 
+def each_id_names_one_element(page):
+    twice = """const ids = [...document.querySelectorAll("[id]")].map((it) => it.id);
+        return ids.filter((id, index) => ids.indexOf(id) !== index)"""
+    same(page.run(twice), [])
+
+
+def the_page_has_the_classes_of_its_style(page):
+    page.load("#word=0x0A0A10006200005F00000007800344CC&exponent=112&point=46")
+    page.run("document.getElementById('base_prefix').focus()")
+    others = """const rules = (list) => [...list].flatMap((it) => [it, ...rules(it.cssRules ?? [])]);
+        const selectors = rules(document.styleSheets[0].cssRules).map((it) => it.selectorText ?? "").join(" ");
+        const styled = selectors.match(/\\.[a-z][\\w-]*/g).map((it) => it.slice(1));
+        const used = [...document.querySelectorAll("[class]")].flatMap((it) => [...it.classList]);
+        return [styled.filter((it) => !used.includes(it)), [...new Set(used)].filter((it) => !styled.includes(it))]"""
+    same(page.run(others), [[], ["column", "use"]])
+
+
+def the_options_have_labels(page):
+    same(page.texts("#bytes label")[-2:], ["exponent character", "decimal point"])
+
+
 def each_text_has_contrast_with_its_ground(page):
     low = """const numbers = (colour) => colour.match(/[\\d.]+/g).map(Number);
         const linear = (it) => it <= 0.04045 ? it / 12.92 : ((it + 0.055) / 1.055) ** 2.4;
@@ -633,6 +654,9 @@ STEPS = [
     options_that_share_a_byte_do_not_fit,
     a_hint_has_the_bits_and_the_meaning_of_a_field,
     each_section_has_the_name_of_its_heading,
+    each_id_names_one_element,
+    the_page_has_the_classes_of_its_style,
+    the_options_have_labels,
     each_text_has_contrast_with_its_ground,
     all_controls_have_names,
     it_fits_a_phone_and_a_dark_screen,
