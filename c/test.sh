@@ -84,12 +84,14 @@ line 2: no_special = 1: no_special takes \`true\` or \`false\`
 line 3: colour = 7: unknown setting name
 line 4: radix: expected NAME=VALUE
 line 6: mantissa_radix 16: expected NAME=VALUE"
-printf '# 0\0\r\nradix=2\0\r\n\r\n\x1b[2J\xff = 1\r\n\xef\xbb\xbfradix=2\r\nbase_prefix\r=\t256\r\n\vradix\v=\v1 6\v' > "$work/bytes.txt"
+printf '# 0\0\r\nradix=2\0\r\n\r\n\x1b[2J\xff = 1\r\n\xef\xbb\xbfradix=2\r\nbase_prefix\r=\t256\r\n\vradix\v=\v1 6\v\n' > "$work/bytes.txt"
+printf 'dix\0=8' >> "$work/bytes.txt"
 bytes="line 2: radix=2\\x00: radix takes a number, 2 to 36 in a lawful format
 line 4: \\x1b[2J\\xff = 1: the line is not ASCII
 line 5: \\xef\\xbb\\xbfradix=2: the line is not ASCII
 line 6: base_prefix\\x0d=\\x09256: base_prefix takes a character such as '_', a number from 0 to 255, or \`none\`
-line 7: \\x0bradix\\x0b=\\x0b1 6\\x0b: unknown setting name; did you mean radix?"
+line 7: \\x0bradix\\x0b=\\x0b1 6\\x0b: unknown setting name; did you mean radix?
+line 8: dix\\x00=8: unknown setting name"
 printf 'radix = 2\r\nno_special=true\r\n\r\nspecial_digit_separator=true\r' > "$work/crlf.txt"
 either="mend: no_special=false; mend: special_digit_separator=false"
 crlf="lines 2, 4: no_special and special_digit_separator cannot both be set; $either"

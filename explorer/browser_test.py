@@ -261,7 +261,9 @@ def a_word_is_typed(page):
         "breaks rule 3, \u201cthe exponent radix is between 2 and 36\u201d: {}'invalid radix for exponent digits'",
     ]
     same(page.texts(".rules li"), [it.format("lexical number format error: ") for it in rules])
-    same(page.value("#mantissa_radix"), "0")
+    same((page.value("#mantissa_radix"), page.word()), ("0", "0xC"))
+    page.find("#word").send_keys(Keys.TAB)
+    same(page.word(), "0x0000000000000000000000000000000C")
 
 
 def what_is_no_word_is_refused(page):
