@@ -149,6 +149,10 @@ fn the_nearest_name_is_suggested() {
             "requiredExponentDigits",
             "; did you mean required_exponent_digits?",
         ),
+        (
+            "exponent_digit_separator",
+            "; did you mean exponent_digit_separator_flags?",
+        ),
         ("trailing", "; did you mean trailing_digit_separator?"),
         ("required_sign", "; did you mean required_exponent_sign?"),
         ("digits", ""),
