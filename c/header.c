@@ -6,9 +6,11 @@
 #include <string.h>
 
 static int failed = 0;
+static unsigned long tried = 0;
 
 #define CHECK(condition) \
     do { \
+        tried++; \
         if (!(condition)) { \
             printf("line %d: %s\n", __LINE__, #condition); \
             failed = 1; \
@@ -595,5 +597,9 @@ int main(void) {
     test_word_texts();
     test_flag();
     test_null();
+    if (tried < 126761) {
+        printf("fewer checks than before: %lu\n", tried);
+        failed = 1;
+    }
     return failed;
 }
