@@ -144,6 +144,13 @@ PLANTS = [
     ("docs/planted_test.sh", None, "", "docs/planted_test.sh: neither .ci/run nor what it runs calls this test"),
 ]  # fmt: skip
 
+# Arguments of docs/check_definitions.py, and the text that must then be printed or be in PROVED.md.
+TABLES = [
+    (["edit_word"], "edit_word: "),
+    (["edit_word", "--text"], "==== crates/lexical_util/"),
+    (["--write"], "<!-- calls -->\n| Contract of "),
+]
+
 
 def copy(folder):
     """Copies what docs/check.py reads."""
@@ -163,6 +170,13 @@ def plant(folder, file, old, new):
     return old is None or old in text
 
 
+def tables_after(folder, arguments):
+    """Returns what docs/check_definitions.py prints and PROVED.md after that."""
+    program = [sys.executable, "docs/check_definitions.py", *arguments]
+    run = subprocess.run(program, cwd=folder, capture_output=True, text=True)
+    return run.stdout + (folder / "docs/PROVED.md").read_text()
+
+
 def main():
     with tempfile.TemporaryDirectory() as temporary:
         folder = pathlib.Path(temporary)
@@ -170,10 +184,12 @@ def main():
         absent = [file for file, old, new, _ in PLANTS if not plant(folder, file, old, new)]
         programs = [["docs/check.py"], ["c/header_test.py"], ["c/header_test.py", "--comments"]]
         runs = [subprocess.run([sys.executable, *it], cwd=folder, capture_output=True, text=True) for it in programs]
+        unwritten = [it for it, text in TABLES if text not in tables_after(folder, it)]
     printed = "".join(run.stdout + run.stderr for run in runs)
     missing = [text for *_, text in PLANTS if text not in printed]
     failed = [*(f"a piece is not in {file}" for file in absent), *(f"not named: {text}" for text in missing)]
     failed += [f"{len(PLANTS)} faults, fewer than before"] if len(PLANTS) < LEAST else []
+    failed += [f"not printed or written by docs/check_definitions.py: {it}" for it in unwritten]
     failed += [f"{run.args[1:]}: the status is {run.returncode}: {run.stderr}" for run in runs if run.returncode != 1]
     print(*failed, f"{len(PLANTS) - len(missing)} passed, {len(failed)} failed", sep="\n")
     return bool(failed)
