@@ -184,6 +184,8 @@ cargo run --quiet
 cargo package --quiet --package peltzivar --allow-dirty
 cargo run --quiet --example a
 cargo run --quiet --example b -- c
+cargo run --quiet --example settings -- examples/settings.txt
+cargo run --quiet --example settings
 cargo run --quiet
 built-program-test.sh TARGET/target/debug/numfmt
 END
@@ -196,7 +198,7 @@ for STATUS in 1 0; do
         [ "$(uniq "$work/log")" = "$(cat "$work/commands")" ] && [ "$(grep -cx 'cargo run --quiet' "$work/log")" = 3 ]
     else
         [ "$(cat "$work/log")" = "$(cat "$work/commands")" ] &&
-            [ "$(tail -n 2 <<< "$got")" = $'2 passed, 23 failed, 0 skipped\nstatus 1' ]
+            [ "$(tail -n 2 <<< "$got")" = $'2 passed, 25 failed, 0 skipped\nstatus 1' ]
     fi && continue
     failed=$((failed + 1))
     printf 'rust/tools/test.sh, over tools that end with %s:\n%s\n' $STATUS "$got"

@@ -58,10 +58,14 @@ passes tools/dropping_in_test.sh
 passes cargo package --quiet --package peltzivar --allow-dirty
 shows ../README.md "cd rust && cargo run" cargo run --quiet
 shows ../docs/RUST.md "cargo run --example" cargo run --quiet --example
+# A file without problems is printed as a format; a file that cannot be read is a failure.
+settings='cargo run --quiet --example settings'
+prints 0 '    word: 0x000A10007800005F000000010000000C,' bash -o pipefail -c "$settings -- examples/settings.txt | grep word:"
+prints 1 '"": No such file or directory (os error 2)' bash -c "$settings"
 prints 0 "$(cat ../crates/numfmt/stdout)" cargo run --quiet
 # A file that may grow only by 4 bytes: the first write is short, and the second fails.
 head -c 1020 /dev/zero > "$work/short"
 short="trap '' XFSZ; ulimit -f 1; '$CARGO_TARGET_DIR/debug/numfmt' show 0xC >> '$work/short'; echo \$?"
 prints 0 3 bash -c "$short"
 needing cc needing python3 passes ../crates/numfmt/built-program-test.sh "$CARGO_TARGET_DIR/debug/numfmt"
-counted 25
+counted 27
