@@ -46,6 +46,15 @@ checks() {
     passes bash -c "! '$work/copy/explorer/build' 2> '$work/size' && grep ' bytes, more than 200000$' '$work/size'"
 }
 
+# without_a_compiler: without a compiler, `build` names what to install.
+without_a_compiler() {
+    local target=wasm32-unknown-unknown
+    echo 'const ONE: u8 = 1;' >> "$work/copy/rust/src/lib.rs"
+    prints 1 "no compiler has the target $target: run \`rustup target add $target\`, or install these packages of Debian\
+ (explorer/build --install does it): rustc-web=1.85* rust-web-src=1.85* lld" \
+        env PATH=/ "$(python3 -c 'import sys; print(sys.executable)')" "$work/copy/explorer/build.py"
+}
+
 # installs: `build --install` asks apt-get for the compiler, its sources and a linker, and ends if that fails.
 installs() {
     mkdir "$work/tools"
@@ -117,9 +126,10 @@ done
 if [ "$python" ]; then here[python3-selenium]=yes; else lacks python3-selenium; fi
 
 needing python3 checks
+needing python3 without_a_compiler
 needing python3 installs
 needing cargo shim
 needing node needing cargo results
 needing node needing cargo codes
 needing python3-selenium needing chromium needing chromedriver browser
-counted 23
+counted 24
