@@ -231,6 +231,7 @@ def a_link_leads_to_its_control(page):
 
 
 def a_button_leads_to_the_reasons(page):
+    same(page.find("#to-report").get_property("textContent"), "To the reasons")
     page.find("#to-report").send_keys(Keys.ENTER)
     same(page.run("return document.activeElement.id"), "report-title")
 
@@ -447,6 +448,12 @@ def a_number_has_what_its_format_allows(page):
         same(", ".join(page.run(read)), wanted)
 
 
+def each_field_has_a_part_of_the_number(page):
+    page.load(f"#word={MIXED}")
+    names = """return [...document.querySelectorAll(arguments[0])].flatMap((it) => it.dataset.field.split(" "))"""
+    same({*page.run(names, ".part")}, {*page.run(names, ".bit"), "exponent", "point"} - {"reserved"})
+
+
 def a_byte_is_shown_with_its_numbers(page):
     page.load("#word=0x000A10302F000039000000000000000C&exponent=9&point=58")
     rows = {
@@ -652,6 +659,7 @@ STEPS = [
     a_link_has_the_whole_state,
     the_bits_of_a_word_are_shown,
     a_number_has_what_its_format_allows,
+    each_field_has_a_part_of_the_number,
     a_byte_is_shown_with_its_numbers,
     options_that_share_a_byte_do_not_fit,
     a_hint_has_the_bits_and_the_meaning_of_a_field,
