@@ -12,7 +12,7 @@ import tempfile
 
 TOP = pathlib.Path(__file__).resolve().parent.parent
 # The least number of faults.
-LEAST = 98
+LEAST = 99
 COPIED = ["*.md", "crates.txt", ".ci", "bench", "c", "compare", "crates", "docs", "explorer", "rust"]
 
 # A file, a piece of it (`None`: its end, also of a new file), its replacement, and the text that must be printed.
@@ -30,6 +30,7 @@ PLANTS = [
     ("docs/RUST.md", None, "`raw` and `after` in `specs/Record.antt`\n", "docs/RUST.md: not in specs/Record.antt: after"),
     ("docs/RUST.md", None, "in `Edits` `fill`\n", "docs/RUST.md: not in Edits: fill"),
     ("docs/RUST.md", None, "`Listing.{IsEditOf, trim}`\n", "docs/RUST.md: not in Listing: trim"),
+    ("docs/RUST.md", None, "`Outcomes.outcome_count`\n", "docs/RUST.md: not in Outcomes: outcome_count"),
     ("docs/RUST.md", None, "`raw` of `src/numeral.rt`\n", "docs/RUST.md: not in src/numeral.rt: raw"),
     ("docs/RUST.md", None, "30 flags\n", "docs/RUST.md: there are 31 flags, not 30"),
     ("docs/RUST.md", None, "eight groups\n", "docs/RUST.md: there are 9 groups, not eight"),
@@ -144,11 +145,11 @@ PLANTS = [
     ("docs/planted_test.sh", None, "", "docs/planted_test.sh: neither .ci/run nor what it runs calls this test"),
 ]  # fmt: skip
 
-# Arguments of docs/check_definitions.py, and the text that must then be printed or be in PROVED.md.
+# Arguments of docs/check_definitions.py, and the texts that must then be printed or be in PROVED.md.
 TABLES = [
-    (["edit_word"], "edit_word: "),
-    (["edit_word", "--text"], "==== crates/lexical_util/"),
-    (["--write"], "<!-- calls -->\n| Contract of "),
+    (["edit_word"], ["edit_word: ", "\n    lexical_flags.Layout "]),
+    (["edit_word", "--text"], ["/specs/Layout.antt\n-- The ", "\npart word s n = ", "\n==== names of std\n", "\nfn edit_word("]),
+    (["--write"], ["<!-- calls -->\n| Contract of "]),
 ]
 
 
@@ -184,12 +185,13 @@ def main():
         absent = [file for file, old, new, _ in PLANTS if not plant(folder, file, old, new)]
         programs = [["docs/check.py"], ["c/header_test.py"], ["c/header_test.py", "--comments"]]
         runs = [subprocess.run([sys.executable, *it], cwd=folder, capture_output=True, text=True) for it in programs]
-        unwritten = [it for it, text in TABLES if text not in tables_after(folder, it)]
+        texts = [(tables_after(folder, arguments), wanted) for arguments, wanted in TABLES]
+    unwritten = [it for text, wanted in texts for it in wanted if it not in text]
     printed = "".join(run.stdout + run.stderr for run in runs)
     missing = [text for *_, text in PLANTS if text not in printed]
     failed = [*(f"a piece is not in {file}" for file in absent), *(f"not named: {text}" for text in missing)]
     failed += [f"{len(PLANTS)} faults, fewer than before"] if len(PLANTS) < LEAST else []
-    failed += [f"not printed or written by docs/check_definitions.py: {it}" for it in unwritten]
+    failed += [f"not printed or written by docs/check_definitions.py: {it!r}" for it in unwritten]
     failed += [f"{run.args[1:]}: the status is {run.returncode}: {run.stderr}" for run in runs if run.returncode != 1]
     print(*failed, f"{len(PLANTS) - len(missing)} passed, {len(failed)} failed", sep="\n")
     return bool(failed)
