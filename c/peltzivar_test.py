@@ -187,6 +187,7 @@ class Words(unittest.TestCase):
         word = 0x0A0A10000000005F000000070000000C
         edited = Format().edit(mantissa_radix=16, digit_separator="_", internal_digit_separator=True)
         self.assertEqual(int(edited), word)
+        self.assertEqual([getattr(edited, name) for *_, name, _ in check_format.BYTES], ["_", None, None, 16, 10, 10])
         self.assertEqual(int(Format().normal_form()), 0x0A0A0A0000000000000000000000000C)
         source = "NumberFormatBuilder::new().no_special(true).mantissa_radix(16).build_unchecked()"
         self.assertEqual(FormatView(0x0000100000000000000000000000040C).source(), source)
