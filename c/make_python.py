@@ -96,7 +96,7 @@ def getters():
         told = f"True if any of the flags that {meaning} is set."
         lines += getter(name, "bool", f"self._flag(Setter.{name.upper()})", told)
     for *_, name, meaning in check_format.BYTES:
-        told = re.sub("^.*; (else )?", "", meaning).replace("×", "*")
+        told = meaning.replace("×", "*")
         if name.endswith(("_base", "_radix")):
             told += "; the mantissa radix if it is absent" if name.startswith("exponent") else ""
             lines += getter(name, "int", f"int(self._fields().{name})", f"{told[0].upper()}{told[1:]}.")

@@ -597,17 +597,17 @@ class FormatView:
 
     @property
     def integer_consecutive_digit_separator(self) -> bool:
-        """If true, a parser accepts `1__2`, `__12` or `12__` whenever it accepts `1_2`, `_12` or `12_`, respectively."""
+        """If true, a parser accepts `1__2` if it accepts `1_2`, `__12` if it accepts `_12`, and `12__` if it accepts `12_`."""
         return self._flag(Setter.INTEGER_CONSECUTIVE_DIGIT_SEPARATOR)
 
     @property
     def fraction_consecutive_digit_separator(self) -> bool:
-        """If true, a parser accepts `0.1__2`, `0.__12` or `0.12__` whenever it accepts `0.1_2`, `0._12` or `0.12_`, respectively."""
+        """If true, a parser accepts `0.1__2` if it accepts `0.1_2`, `0.__12` if it accepts `0._12`, and `0.12__` if it accepts `0.12_`."""
         return self._flag(Setter.FRACTION_CONSECUTIVE_DIGIT_SEPARATOR)
 
     @property
     def exponent_consecutive_digit_separator(self) -> bool:
-        """If true, a parser accepts `1e1__2`, `1e__12` or `1e12__` whenever it accepts `1e1_2`, `1e_12` or `1e12_`, respectively."""
+        """If true, a parser accepts `1e1__2` if it accepts `1e1_2`, `1e__12` if it accepts `1e_12`, and `1e12__` if it accepts `1e12_`."""
         return self._flag(Setter.EXPONENT_CONSECUTIVE_DIGIT_SEPARATOR)
 
     @property
@@ -647,7 +647,7 @@ class FormatView:
 
     @property
     def integer_digit_separator_flags(self) -> bool:
-        """True if any of the flags that allow digit separators in the integer is set."""
+        """True if any of the flags that allow digit separators in the integer part is set."""
         return self._flag(Setter.INTEGER_DIGIT_SEPARATOR_FLAGS)
 
     @property
@@ -662,7 +662,7 @@ class FormatView:
 
     @property
     def digit_separator(self) -> Optional[str]:
-        """A byte that groups digits, such as the `_` in `1_000`; None if it is absent."""
+        """The byte that separates groups of digits, such as the `_` in `1_000`; None if it is absent."""
         return _character(self._fields().digit_separator)
 
     @property

@@ -86,7 +86,7 @@ def meanings():
     """Returns the meanings of flags, groups and bytes that differ from their setters."""
     told = [(name, f"If so, a parser {meaning}") for _, name, meaning in FLAGS]
     told += [(name, f"Sets all flags that {meaning}") for name, _, meaning in GROUPS]
-    told += [(name, re.sub("^.*; (else )?", "", meaning)) for _, _, name, meaning in BYTES]
+    told += [(name, meaning) for _, _, name, meaning in BYTES]
     for name, meaning in told:
         if not re.search(re.escape(meaning) + "[.:,;]", docs_of(name)):
             yield f"the comment of the setter `{name}` does not have: {meaning}"
@@ -126,9 +126,7 @@ def demand(number, error, word):
     if int(number) <= 6:
         return f"the {field} is 0 or punctuation"
     if error == "Punctuation":
-        cases = [bit for bit, name, _ in FLAGS if re.fullmatch("case_sensitive_base_.*", name)]
-        both = "a prefix or suffix that is a letter has the bytes of both cases unless its flag {} or {} is set"
-        return f"no two of the separator, the prefix and the suffix share a byte; {both.format(*cases)}"
+        return "no byte matches more than one of the digit separator, the base prefix and the base suffix"
     if not {*flags} <= {bit for bit, _, _ in FLAGS}:
         return "the reserved bits are 0"
     if len(flags) == 2:

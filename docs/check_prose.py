@@ -84,19 +84,19 @@ MOST_KEPT = 60
 LEAST = re.search(r'^rust-version = "(.*)"$', (TOP / "rust/Cargo.toml").read_text(), re.M)[1]
 
 
-def listed(words, last):
+def listed(words):
     """Words as a list, such as `1, 2 and 3`."""
     words = [str(word) for word in words]
-    return f"{', '.join(words[:-1])} {last} {words[-1]}" if len(words) > 1 else words[0]
+    return f"{', '.join(words[:-1])} and {words[-1]}"
 
 
 def case_flags():
-    """The sentence with the flags by which a letter has one case."""
+    """The sentences with the flags by which a letter has one case."""
     bits = {name: bit for bit, name, _ in check_format.FLAGS}
-    flags = [bits[f"case_sensitive_{it}"] for it in ("base_prefix", "base_suffix", "exponent")]
+    prefix, suffix, exponent = [bits[f"case_sensitive_{it}"] for it in ("base_prefix", "base_suffix", "exponent")]
     return (
-        "A base prefix, base suffix or exponent character that is a letter matches both cases, "
-        f"unless its flag ({listed(flags, 'or')}, respectively) is set."
+        f"If the base prefix is a letter, it matches both cases unless flag {prefix} is set. The same applies to the "
+        f"base suffix and flag {suffix}, and to the exponent character and flag {exponent}."
     )
 
 
@@ -105,16 +105,14 @@ def example():
     word = int(re.search(r"^The word `0x(\w{32})` has", check_format.PAGE, re.M)[1], 16)
     fields = {name: word >> int(first) & 255 for first, _, name, _ in check_format.BYTES}
     bits = [int(bit) for bit, _, _ in check_format.FLAGS if word >> int(bit) & 1]
-    separator = fields["digit_separator"]
-    absent = "".join(f", no {it.removeprefix('base_')}" for it in ("base_suffix", "base_prefix") if not fields[it])
+    high, low = listed([bit for bit in bits if bit >= 32]), listed([bit for bit in bits if bit < 32])
+    shown = [f"the {it.replace('_', ' ')} (`{fields[it]:02X}`)" for it in reversed(fields) if fields[it]]
     return (
-        f"The word `0x{word:032X}` has mantissa radix {fields['mantissa_radix']} and allows the separator "
-        f"`{separator:c}` between digits. From left to right, apart from the reserved bits, it holds exponent radix "
-        f"{fields['exponent_radix']}, exponent base {fields['exponent_base']}, mantissa radix "
-        f"{fields['mantissa_radix']}{absent}, the separator `{separator:c}` (`{separator:X}`), flags "
-        f"{listed([bit for bit in bits if bit >= 32], 'and')} (a separator between digits), and flags "
-        f"{listed([bit for bit in bits if bit < 32], 'and')} "
-        "(digits are required after the exponent character and in the mantissa)."
+        f"The word `0x{word:032X}` has mantissa radix {fields['mantissa_radix']} and allows the digit separator "
+        f"`{fields['digit_separator']:c}` between digits. From left to right, its nonzero fields are "
+        f"{', '.join(shown)}, flags {high} (`{word >> 32 & 0xFFFFFFFF:X}`), and flags {low} "
+        f"(`{word & 0xFFFFFFFF:X}`). Flags {high} allow a separator between digits. Flags {low} require digits "
+        "after the exponent character and in the mantissa."
     )
 
 

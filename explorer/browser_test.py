@@ -480,7 +480,7 @@ def a_hint_has_the_bits_and_the_meaning_of_a_field(page):
     rows = {
         "no_special": "bit 10: if set, a parser refuses NaN and inf",
         "required_digits": "bits 0, 1, 2, 3: flags that require digits",
-        "exponent_radix": "bits 120 to 127: 0 means the mantissa radix; the radix of the exponent digits",
+        "exponent_radix": "bits 120 to 127: the radix of the exponent digits; 0 means the mantissa radix",
         "point": "not in the word: the decimal point, an option of the parser",
     }
     for name, wanted in rows.items():

@@ -58,6 +58,7 @@ def fields():
     for low, _, name, meaning in check_format.BYTES:
         part = BYTE_PARTS.get(name, "exponent")
         is_number = name.endswith(("_base", "_radix"))
+        meaning += "; 0 means the mantissa radix" if name.startswith("exponent_") else ""
         yield {"bit": int(low), "name": name, "meaning": meaning, "part": part, "isNumber": is_number}
 
 

@@ -86,8 +86,7 @@ class Controls {
     makeBytes() {
         const rows = this.data.bytes.map(({ name, meaning, part }) => {
             const parsed = (text) => this.parsed(name, text);
-            const text = meaning.replace(/^0 means absent; /, "");
-            return this.byteRow(name, name, part, text, parsed, (edit) => this.edit([edit]));
+            return this.byteRow(name, name, part, meaning, parsed, (edit) => this.edit([edit]));
         });
         for (const [name, label, meaning] of [
             ["exponent", "exponent character", "an option of the parser, such as the `e` in `1e5`"],

@@ -168,16 +168,16 @@ pub enum FlagSetter {
     /// See
     /// [`exponent_trailing_digit_separator`][crate::format_builder::NumberFormatBuilder::exponent_trailing_digit_separator].
     ExponentTrailingDigitSeparator,
-    /// Sets whether the format allows consecutive digit separators in the integer. If so, a parser accepts `1__2`,
-    /// `__12` or `12__` whenever it accepts `1_2`, `_12` or `12_`, respectively. See
+    /// Sets whether the format allows consecutive digit separators in the integer part. If so, a parser accepts `1__2`
+    /// if it accepts `1_2`, `__12` if it accepts `_12`, and `12__` if it accepts `12_`. See
     /// [`integer_consecutive_digit_separator`][crate::format_builder::NumberFormatBuilder::integer_consecutive_digit_separator].
     IntegerConsecutiveDigitSeparator,
-    /// Sets whether the format allows consecutive digit separators in the fraction. If so, a parser accepts `0.1__2`,
-    /// `0.__12` or `0.12__` whenever it accepts `0.1_2`, `0._12` or `0.12_`, respectively. See
+    /// Sets whether the format allows consecutive digit separators in the fraction. If so, a parser accepts `0.1__2`
+    /// if it accepts `0.1_2`, `0.__12` if it accepts `0._12`, and `0.12__` if it accepts `0.12_`. See
     /// [`fraction_consecutive_digit_separator`][crate::format_builder::NumberFormatBuilder::fraction_consecutive_digit_separator].
     FractionConsecutiveDigitSeparator,
-    /// Sets whether the format allows consecutive digit separators in the exponent. If so, a parser accepts `1e1__2`,
-    /// `1e__12` or `1e12__` whenever it accepts `1e1_2`, `1e_12` or `1e12_`, respectively. See
+    /// Sets whether the format allows consecutive digit separators in the exponent. If so, a parser accepts `1e1__2`
+    /// if it accepts `1e1_2`, `1e__12` if it accepts `1e_12`, and `1e12__` if it accepts `1e12_`. See
     /// [`exponent_consecutive_digit_separator`][crate::format_builder::NumberFormatBuilder::exponent_consecutive_digit_separator].
     ExponentConsecutiveDigitSeparator,
     /// Sets whether the format allows digit separators in special values. If so, a parser accepts `N__a_N_` as `NaN`.
@@ -201,7 +201,7 @@ pub enum FlagSetter {
     /// Sets all flags that allow digit separators. See
     /// [`digit_separator_flags`][crate::format_builder::NumberFormatBuilder::digit_separator_flags].
     DigitSeparatorFlags,
-    /// Sets all flags that allow digit separators in the integer. See
+    /// Sets all flags that allow digit separators in the integer part. See
     /// [`integer_digit_separator_flags`][crate::format_builder::NumberFormatBuilder::integer_digit_separator_flags].
     IntegerDigitSeparatorFlags,
     /// Sets all flags that allow digit separators in the fraction. See

@@ -235,16 +235,16 @@ fields! {
     /// True if any of the flags that allow a digit separator after digits is set. See the
     /// [setter][NumberFormatBuilder::trailing_digit_separator].
     TRAILING_DIGIT_SEPARATOR trailing_digit_separator bool;
-    /// True if the format allows consecutive digit separators in the integer. In that case, a parser accepts `1__2`,
-    /// `__12` or `12__` whenever it accepts `1_2`, `_12` or `12_`, respectively. See the
+    /// True if the format allows consecutive digit separators in the integer part. In that case, a parser accepts `1__2`
+    /// if it accepts `1_2`, `__12` if it accepts `_12`, and `12__` if it accepts `12_`. See the
     /// [setter][NumberFormatBuilder::integer_consecutive_digit_separator].
     INTEGER_CONSECUTIVE_DIGIT_SEPARATOR integer_consecutive_digit_separator bool;
-    /// True if the format allows consecutive digit separators in the fraction. In that case, a parser accepts `0.1__2`,
-    /// `0.__12` or `0.12__` whenever it accepts `0.1_2`, `0._12` or `0.12_`, respectively. See the
+    /// True if the format allows consecutive digit separators in the fraction. In that case, a parser accepts `0.1__2`
+    /// if it accepts `0.1_2`, `0.__12` if it accepts `0._12`, and `0.12__` if it accepts `0.12_`. See the
     /// [setter][NumberFormatBuilder::fraction_consecutive_digit_separator].
     FRACTION_CONSECUTIVE_DIGIT_SEPARATOR fraction_consecutive_digit_separator bool;
-    /// True if the format allows consecutive digit separators in the exponent. In that case, a parser accepts `1e1__2`,
-    /// `1e__12` or `1e12__` whenever it accepts `1e1_2`, `1e_12` or `1e12_`, respectively. See the
+    /// True if the format allows consecutive digit separators in the exponent. In that case, a parser accepts `1e1__2`
+    /// if it accepts `1e1_2`, `1e__12` if it accepts `1e_12`, and `1e12__` if it accepts `1e12_`. See the
     /// [setter][NumberFormatBuilder::exponent_consecutive_digit_separator].
     EXPONENT_CONSECUTIVE_DIGIT_SEPARATOR exponent_consecutive_digit_separator bool;
     /// True if any of the flags that allow consecutive digit separators is set. See the

@@ -234,8 +234,8 @@ impl FormatView {
         has_any!(self, EXPONENT_TRAILING_DIGIT_SEPARATOR)
     }
 
-    /// Returns whether the format allows consecutive digit separators in the integer. If so, a parser accepts `1__2`,
-    /// `__12` or `12__` whenever it accepts `1_2`, `_12` or `12_`, respectively. See the
+    /// Returns whether the format allows consecutive digit separators in the integer part. If so, a parser accepts
+    /// `1__2` if it accepts `1_2`, `__12` if it accepts `_12`, and `12__` if it accepts `12_`. See the
     /// [setter][super::NumberFormatBuilder::integer_consecutive_digit_separator].
     #[must_use]
     #[inline(always)]
@@ -244,7 +244,7 @@ impl FormatView {
     }
 
     /// Returns whether the format allows consecutive digit separators in the fraction. If so, a parser accepts
-    /// `0.1__2`, `0.__12` or `0.12__` whenever it accepts `0.1_2`, `0._12` or `0.12_`, respectively. See the
+    /// `0.1__2` if it accepts `0.1_2`, `0.__12` if it accepts `0._12`, and `0.12__` if it accepts `0.12_`. See the
     /// [setter][super::NumberFormatBuilder::fraction_consecutive_digit_separator].
     #[must_use]
     #[inline(always)]
@@ -253,7 +253,7 @@ impl FormatView {
     }
 
     /// Returns whether the format allows consecutive digit separators in the exponent. If so, a parser accepts
-    /// `1e1__2`, `1e__12` or `1e12__` whenever it accepts `1e1_2`, `1e_12` or `1e12_`, respectively. See the
+    /// `1e1__2` if it accepts `1e1_2`, `1e__12` if it accepts `1e_12`, and `1e12__` if it accepts `1e12_`. See the
     /// [setter][super::NumberFormatBuilder::exponent_consecutive_digit_separator].
     #[must_use]
     #[inline(always)]

@@ -15,7 +15,7 @@ use lexical_flags::format_flags as flags;
 impl NumberFormatBuilder {
     // SETTERS
 
-    /// Sets the digit separator: a byte that groups digits, such as the `_` in `1_000`.
+    /// Sets the digit separator: the byte that separates groups of digits, such as the `_` in `1_000`.
     ///
     /// The digit separator flags define where it is allowed. It is packed only if one of them is set. In a lawful
     /// format, it is punctuation: allowed ASCII (see `is_valid_ascii`) that is neither a sign nor a digit of the
@@ -352,9 +352,9 @@ impl NumberFormatBuilder {
         self.with_flags(flags::TRAILING_DIGIT_SEPARATOR, flag)
     }
 
-    /// Sets whether the format allows consecutive digit separators in the integer. If so, a parser accepts `1__2`,
-    /// `__12` or `12__` whenever it accepts `1_2`, `_12` or `12_`, respectively. A lawful format with this flag also
-    /// has another separator flag of the integer.
+    /// Sets whether the format allows consecutive digit separators in the integer part. If so, a parser accepts `1__2`
+    /// if it accepts `1_2`, `__12` if it accepts `_12`, and `12__` if it accepts `12_`. In a lawful format, this flag
+    /// is set only if the internal, leading or trailing separator flag of the integer part is set too.
     #[inline(always)]
     pub const fn integer_consecutive_digit_separator(self, flag: bool) -> Self
         ensures { result ≡ after self (write_flag layout.integer_consecutive_digit_separator flag ∷ []) }
@@ -362,9 +362,9 @@ impl NumberFormatBuilder {
         self.with_flags(flags::INTEGER_CONSECUTIVE_DIGIT_SEPARATOR, flag)
     }
 
-    /// Sets whether the format allows consecutive digit separators in the fraction. If so, a parser accepts `0.1__2`,
-    /// `0.__12` or `0.12__` whenever it accepts `0.1_2`, `0._12` or `0.12_`, respectively. A lawful format with this
-    /// flag also has another separator flag of the fraction.
+    /// Sets whether the format allows consecutive digit separators in the fraction. If so, a parser accepts `0.1__2` if
+    /// it accepts `0.1_2`, `0.__12` if it accepts `0._12`, and `0.12__` if it accepts `0.12_`. In a lawful format, this
+    /// flag is set only if the internal, leading or trailing separator flag of the fraction is set too.
     #[inline(always)]
     pub const fn fraction_consecutive_digit_separator(self, flag: bool) -> Self
         ensures { result ≡ after self (write_flag layout.fraction_consecutive_digit_separator flag ∷ []) }
@@ -372,9 +372,9 @@ impl NumberFormatBuilder {
         self.with_flags(flags::FRACTION_CONSECUTIVE_DIGIT_SEPARATOR, flag)
     }
 
-    /// Sets whether the format allows consecutive digit separators in the exponent. If so, a parser accepts `1e1__2`,
-    /// `1e__12` or `1e12__` whenever it accepts `1e1_2`, `1e_12` or `1e12_`, respectively. A lawful format with this
-    /// flag also has another separator flag of the exponent.
+    /// Sets whether the format allows consecutive digit separators in the exponent. If so, a parser accepts `1e1__2` if
+    /// it accepts `1e1_2`, `1e__12` if it accepts `1e_12`, and `1e12__` if it accepts `1e12_`. In a lawful format, this
+    /// flag is set only if the internal, leading or trailing separator flag of the exponent is set too.
     #[inline(always)]
     pub const fn exponent_consecutive_digit_separator(self, flag: bool) -> Self
         ensures { result ≡ after self (write_flag layout.exponent_consecutive_digit_separator flag ∷ []) }
@@ -407,7 +407,7 @@ impl NumberFormatBuilder {
         self.with_flags(flags::DIGIT_SEPARATOR_FLAG_MASK, flag)
     }
 
-    /// Sets all flags that allow digit separators in the integer.
+    /// Sets all flags that allow digit separators in the integer part.
     #[inline(always)]
     pub const fn integer_digit_separator_flags(self, flag: bool) -> Self
         ensures { result ≡ after self (write_flags layout.integer_digit_separator_flags flag) }
