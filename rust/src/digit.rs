@@ -1,17 +1,18 @@
 // Made by rust/tools/erase.py from crates/lexical_base/src/digit.rt: change that file.
 
-//! Conversions and tests of single digits. These functions do not process whole strings.
+//! Functions that convert and test single digits. They do not process whole strings.
 //!
-//! The digit characters are `0` to `9` and the letters `A` to `Z`, uppercase or lowercase, with the
-//! values 0 to 35. Every other byte has the value 255. A byte is a digit of a radix if its value is
-//! below the radix.
+//! The *digit characters* are `0` to `9`, with the values 0 to 9, and the letters of both cases, with the values 10
+//! (`A` and `a`) to 35 (`Z` and `z`). Every other byte has the value 255. A byte is a *digit* of a radix if its value
+//! is below the radix.
 //!
-//! The `_const` functions are for a radix that is known at compile time. Up to radix 10, they do not need a table.
+//! The functions whose names end in `_const` are for a radix that is known at compile time. If the radix is at most 10,
+//! they do not use a table.
 
-// The digit characters. Each is at the index of its value.
+// The digit characters. Each of them is at the index that equals its value.
 const DIGIT_CHARACTERS: [u8; 36] = *b"0123456789ABCDEFGHIJKLMNOPQRSTUVWXYZ";
 
-// The values of all bytes. Each is at the index of its byte.
+// The values of all bytes. Each value is at the index that equals the byte.
 const VALUES: [u32; 256] = [
     255, 255, 255, 255, 255, 255, 255, 255, 255, 255, 255, 255, 255, 255, 255, 255, 255, 255, 255,
     255, 255, 255, 255, 255, 255, 255, 255, 255, 255, 255, 255, 255, 255, 255, 255, 255, 255, 255,
@@ -34,11 +35,11 @@ const fn byte_value(c: u8) -> u32 {
     VALUES[c as usize]
 }
 
-/// Returns the value of the byte `c`, which must be a digit of `radix` for the result to be meaningful.
+/// Returns the value of the byte `c` as a digit of `radix`. The result is meaningful only if `c` is such a digit.
 ///
-/// Any `radix` is allowed. Up to radix 10, the result is `c.wrapping_sub(b'0')`. Above radix 10, it is the value of
-/// `c`, which is 255 unless `c` is a digit character. [`char_to_digit_const`] also tests whether `c` is a digit of
-/// `radix`.
+/// `radix` may be any number. If it is at most 10, the result is `c.wrapping_sub(b'0')`. If it is above 10, the result
+/// is at most 35 if `c` is one of `0` to `9` or a letter, and 255 otherwise. Call [`char_to_digit_const`] to
+/// test whether `c` is a digit of `radix`.
 #[must_use]
 #[inline(always)]
 pub const fn char_to_valid_digit_const(c: u8, radix: u32) -> u32 {
@@ -51,8 +52,9 @@ pub const fn char_to_valid_digit_const(c: u8, radix: u32) -> u32 {
 
 /// Returns the value of the byte `c` as a digit of `radix`, or `None` if its value is not below `radix`.
 ///
-/// Any `radix` is allowed. In a radix from 36 to 255 all digit characters are digits. In a radix above
-/// 255, every other byte is a digit with the value 255.
+/// The digits `0` to `9` have the values 0 to 9, and the letters of either case have the values 10 to 35. `radix` may
+/// be any number. If it is at least 36, all these characters are digits. If it is above 255, every other byte is also a
+/// digit, and has the value 255.
 #[must_use]
 #[inline(always)]
 pub const fn char_to_digit_const(c: u8, radix: u32) -> Option<u32> {
@@ -72,14 +74,14 @@ pub const fn char_is_digit_const(c: u8, radix: u32) -> bool {
     matches!(char_to_digit_const(c, radix), Some(_))
 }
 
-/// Returns the digit character of `digit` in `radix`: `0` to `9`, or an uppercase letter from 10 on.
+/// Returns the character that represents `digit` in `radix`: `0` to `9` for 0 to 9, and `A` to `Z` for 10 to 35.
 ///
-/// `digit` must be below 36, and should be below `radix`. Any `radix` is allowed. Up to radix 10, the result is `b'0' +
-/// digit`, which is not a digit character if `digit` is 10 or more.
+/// `digit` must be below 36, and should be below `radix`, which may be any number. If `radix` is at most 10, the result
+/// is `b'0' + digit`. That byte is not a digit character if `digit` is 10 or more.
 ///
 /// # Panics
 ///
-/// If `digit` is 36 or more, a call may panic if overflow is checked, and otherwise returns some byte.
+/// If `digit` is 36 or more, the result is unspecified, and the call may panic if overflow checks are enabled.
 #[must_use]
 #[inline(always)]
 pub const fn digit_to_char_const(digit: u32, radix: u32) -> u8 {
@@ -92,7 +94,7 @@ pub const fn digit_to_char_const(digit: u32, radix: u32) -> u8 {
 
 /// Returns the value of the byte `c` as a digit of `radix`, or `None` if its value is not below `radix`.
 ///
-/// [`char_to_digit_const`] returns the same result. This function is for a radix known only at run time.
+/// [`char_to_digit_const`] returns the same result. Use `char_to_digit` for a radix that is known only at run time.
 #[must_use]
 #[inline(always)]
 pub const fn char_to_digit(c: u8, radix: u32) -> Option<u32> {
@@ -111,9 +113,9 @@ pub const fn char_is_digit(c: u8, radix: u32) -> bool {
     matches!(char_to_digit(c, radix), Some(_))
 }
 
-/// Returns the digit character of `digit`: `0` to `9`, or an uppercase letter from 10 on.
+/// Returns the character that represents `digit`: `0` to `9` for 0 to 9, and `A` to `Z` for 10 to 35.
 ///
-/// `digit` must be below 36. The character has the value `digit` in every radix above `digit`.
+/// `digit` must be below 36. In every radix above `digit`, the character is a digit with the value `digit`.
 ///
 /// # Panics
 ///

@@ -15,24 +15,25 @@ pub use sink::Sink;
 
 /// The outcome of a parser or a checker: one of 48 errors, or [`Error::Success`].
 ///
-/// A parse error holds the index of the offending byte, counted from 0. The other variants hold nothing.
+/// A [parse error][Class::Parse] holds the index of the offending byte, counted from 0. The other variants hold
+/// nothing.
 ///
-/// The variants are listed in the order of their ranks, from 0 to 48. Values are ordered by rank, then by index. This
-/// order is total: two values compare as equal if and only if they are the same. Each of the 49 methods `is_..` tests
-/// for one variant, so exactly one of them returns `true`.
+/// The *rank* of a variant is its index in the list of variants, from 0 to 48. Values are ordered by rank, then by the
+/// index that they hold. This order is total: two values compare as equal if and only if they are the same. Each of the
+/// 49 methods whose names begin with `is_` tests for one variant, so exactly one of them returns `true`.
 #[derive(Clone, Copy, Debug, PartialEq, Eq, PartialOrd, Ord, Hash)]
 #[non_exhaustive]
 pub enum Error {
     // Parse errors. Each holds the index of the offending byte.
-    /// The number is greater than the largest number of its type.
+    /// The number is greater than the largest value of its type.
     Overflow(usize),
-    /// The number is less than the smallest number of its type.
+    /// The number is less than the smallest value of its type.
     Underflow(usize),
     /// The byte at this index is not a digit, but a digit is required there.
     InvalidDigit(usize),
     /// The input is empty.
     Empty(usize),
-    /// The number has no significant digits, but the format requires one.
+    /// The number has no significant digits, but the format requires at least one.
     EmptyMantissa(usize),
     /// No digit follows the exponent character.
     EmptyExponent(usize),
@@ -44,23 +45,23 @@ pub enum Error {
     InvalidPositiveMantissaSign(usize),
     /// No sign precedes the significant digits, but the format requires one.
     MissingMantissaSign(usize),
-    /// The number has an exponent, but the format forbids it.
+    /// The number has an exponent, but the format forbids exponents.
     InvalidExponent(usize),
-    /// The exponent has the sign `+`, but the format forbids it.
+    /// The exponent has a `+` sign, but the format forbids it.
     InvalidPositiveExponentSign(usize),
     /// The exponent has no sign, but the format requires one.
     MissingExponentSign(usize),
-    /// The number has an exponent and no fraction, but the format forbids this.
+    /// The number has an exponent but no fraction, and the format forbids this.
     ExponentWithoutFraction(usize),
-    /// The number has a leading zero, but the format forbids it.
+    /// The number has a leading zero, but the format forbids leading zeros.
     InvalidLeadingZeros(usize),
     /// The number has no exponent, but the format requires one.
     MissingExponent(usize),
     /// The integer has no sign, but the format requires one.
     MissingSign(usize),
-    /// The integer has the sign `+`, but the format forbids it.
+    /// The integer has a `+` sign, but the format forbids it.
     InvalidPositiveSign(usize),
-    /// The integer has the sign `-`, but its type is unsigned.
+    /// The integer has a `-` sign, but its type is unsigned.
     InvalidNegativeSign(usize),
 
     // Format errors.
@@ -70,35 +71,39 @@ pub enum Error {
     InvalidExponentBase,
     /// The exponent radix is not between 2 and 36.
     InvalidExponentRadix,
-    /// The digit separator is a digit, a sign, or not allowed ASCII.
+    /// The digit separator is a digit, a sign, or a byte that [`is_valid_ascii`][crate::ascii::is_valid_ascii] rejects.
     InvalidDigitSeparator,
-    /// The decimal point is a digit, a sign, or not allowed ASCII.
+    /// The decimal point is a digit, a sign, or a byte that [`is_valid_ascii`][crate::ascii::is_valid_ascii] rejects.
     InvalidDecimalPoint,
-    /// The exponent character is a digit, a sign, or not allowed ASCII.
+    /// The exponent character is a digit, a sign, or a byte that [`is_valid_ascii`][crate::ascii::is_valid_ascii]
+    /// rejects.
     InvalidExponentSymbol,
-    /// The base prefix is a digit, a sign, or not allowed ASCII.
+    /// The base prefix is a digit, a sign, or a byte that [`is_valid_ascii`][crate::ascii::is_valid_ascii] rejects.
     InvalidBasePrefix,
-    /// The base suffix is a digit, a sign, or not allowed ASCII.
+    /// The base suffix is a digit, a sign, or a byte that [`is_valid_ascii`][crate::ascii::is_valid_ascii] rejects.
     InvalidBaseSuffix,
-    /// Two roles share a byte. A format has the roles digit separator, base prefix and base suffix; options add
-    /// the exponent character and the decimal point. If a role is not case-sensitive, both cases of its letter
-    /// play it.
+    /// Two of the following share a byte: the digit separator, the base prefix, the base suffix, the exponent
+    /// character and the decimal point. A base prefix, base suffix or exponent character that is a letter matches both
+    /// cases of that letter unless a flag makes it case-sensitive.
     InvalidPunctuation,
     /// An exponent is both required and forbidden.
     InvalidExponentFlags,
-    /// A mantissa sign is required, but `+` is forbidden there.
+    /// A sign is required before the mantissa, but `+` is forbidden there.
     InvalidMantissaSign,
-    /// An exponent sign is required, but `+` is forbidden there.
+    /// A sign is required in the exponent, but `+` is forbidden there.
     InvalidExponentSign,
-    /// A flag for special values is set, but special values are forbidden.
+    /// A flag for special values (NaN and infinity) is set, but special values are forbidden.
     InvalidSpecial,
-    /// Consecutive digit separators are allowed in the integer, but internal, leading and trailing ones are not.
+    /// Consecutive digit separators are allowed in the integer, but a digit separator is not allowed between, before
+    /// or after its digits.
     InvalidConsecutiveIntegerDigitSeparator,
-    /// Consecutive digit separators are allowed in the fraction, but internal, leading and trailing ones are not.
+    /// Consecutive digit separators are allowed in the fraction, but a digit separator is not allowed between, before
+    /// or after its digits.
     InvalidConsecutiveFractionDigitSeparator,
-    /// Consecutive digit separators are allowed in the exponent, but internal, leading and trailing ones are not.
+    /// Consecutive digit separators are allowed in the exponent, but a digit separator is not allowed between, before
+    /// or after its digits.
     InvalidConsecutiveExponentDigitSeparator,
-    /// A reserved bit is set.
+    /// A reserved bit is set. The reserved bits of a format hold neither a flag nor a byte.
     InvalidFlags,
 
     // Option errors.
@@ -120,15 +125,15 @@ pub enum Error {
     InvalidFloatParseAlgorithm,
     /// The radix is not supported.
     InvalidRadix,
-    /// The minimum number of digits is above the maximum.
+    /// The minimum number of digits is greater than the maximum.
     InvalidFloatPrecision,
-    /// The negative exponent break is above 0.
+    /// The option `negative_exponent_break` of a writer is greater than 0.
     InvalidNegativeExponentBreak,
-    /// The positive exponent break is below 0.
+    /// The option `positive_exponent_break` of a writer is less than 0.
     InvalidPositiveExponentBreak,
 
     // No error.
-    /// Nothing is wrong.
+    /// No error was found.
     Success,
 }
 
@@ -136,17 +141,17 @@ pub enum Error {
 #[derive(Clone, Copy, Debug, PartialEq, Eq, PartialOrd, Ord, Hash)]
 #[non_exhaustive]
 pub enum Class {
-    /// A parse error.
+    /// An error in the text that a parser reads.
     Parse,
-    /// A format error.
+    /// An error in a number format.
     Format,
-    /// An option error, found in the options of a parser or a writer.
+    /// An error in the options of a parser or a writer.
     Options,
-    /// Not an error: [`Error::Success`].
+    /// The class of [`Error::Success`], which is not an error.
     Success,
 }
 
-// The descriptions of all variants. Each is at the index of its rank.
+// The descriptions of all variants. Each of them is at the index that equals the rank of its variant.
 const DESCRIPTIONS: [&str; 49] = [
     "'numeric overflow occurred'",
     "'numeric underflow occurred'",
@@ -200,7 +205,7 @@ const DESCRIPTIONS: [&str; 49] = [
 ];
 
 impl Error {
-    /// Returns the description of the outcome, between single quotes and without the index.
+    /// Returns the description of the outcome, in single quotes and without the index.
     ///
     /// See [`Error::index`] for the index, and `Display` for the whole text.
     #[must_use]
@@ -589,9 +594,9 @@ impl Error {
         }
     }
 
-    /// Returns the outcome with the [rank][Error::rank] `rank`, or `None` if `rank` is 49 or more.
+    /// Returns the outcome whose [rank][Error::rank] is `rank`, or `None` if `rank` is 49 or more.
     ///
-    /// A parse error holds `index`. The other variants ignore it.
+    /// If the outcome is a parse error, it holds `index`. Otherwise, `index` is ignored.
     #[must_use]
     #[inline(always)]
     #[doc(hidden)]
@@ -661,8 +666,12 @@ impl Error {
         }
     }
 
-    /// Puts the text that `Display` prints into a sink. The options of a formatter are ignored. Fails only if
-    /// the sink does.
+    /// Puts the text of the outcome, as `Display` prints it, into the sink `out`. If the sink is a formatter, its
+    /// options are ignored.
+    ///
+    /// # Errors
+    ///
+    /// Returns an error if [`Sink::put`] returns one.
     #[doc(hidden)]
     pub fn put_into<S: Sink>(&self, out: &mut S) -> Result<(), fmt::Error> {
         out.put(self.class().start())?;
@@ -678,7 +687,7 @@ impl Error {
 }
 
 impl Class {
-    // Returns the text with which `Display` begins.
+    // Returns the text that `Display` prints before the description.
     #[inline(always)]
     const fn start(self) -> &'static str {
         match self {
@@ -690,10 +699,10 @@ impl Class {
     }
 }
 
-/// Writes the class and the description, and for a parse error also the index. For [`Error::Success`],
-/// only the description is written.
+/// Writes the class and the description, and for a parse error also the index. Writes only the description for
+/// [`Error::Success`].
 ///
-/// Width, fill, alignment, sign and precision are ignored. Fails only if the formatter does.
+/// All options of the formatter, such as the width, are ignored. Returns an error if the formatter does.
 impl fmt::Display for Error {
     fn fmt(&self, f: &mut fmt::Formatter<'_>) -> fmt::Result {
         self.put_into(f)

@@ -124,18 +124,19 @@ PHRASES = [
     ("In plain Rust, `broken_rules(format)", "`broken_rules(format)"),
     ("`lexical-util` has no such function.", ""),
     ("`lexical-util` has no such function, since its word is part of the type.", ""),
-    ("This crate only defines the errors. The crates above it return them.", ""),
-    ("The tests of the rules, which are in `format_flags/rules.rt`, are re-exported.", ""),
+    ("This crate only defines the errors. The crates that depend on it return them.", ""),
+    ("This module re-exports the tests of the rules from `format_flags/rules.rt`.", ""),
     ("So does `build_or_panic` in plain Rust, which is for constants, where a `Result` cannot be unwrapped.",
      "So does [`build_or_panic`][Self::build_or_panic], which is for constants, where a `Result` cannot be unwrapped."),
-    ("A call with a `digit` of 36 or more is not proved. In plain Rust such a call returns some byte, or panics if"
-     " overflow is checked.",
-     "If `digit` is 36 or more, a call may panic if overflow is checked, and otherwise returns some byte."),
-    ("A call with a `digit` of 36 or more is not proved. In plain Rust such a call panics.",
+    ("The contract requires that `digit` is below 36. In plain Rust, the result for any other `digit` is unspecified,"
+     " and the call may panic if overflow checks are enabled.",
+     "If `digit` is 36 or more, the result is unspecified, and the call may panic if overflow checks are enabled."),
+    ("The contract requires that `digit` is below 36. In plain Rust, a call with any other `digit` panics.",
      "Panics if `digit` is 36 or more."),
-    ("A call with any other `shift` is not proved. In plain Rust such a call returns some number, or panics if overflow"
-     " is checked.",
-     "Panics if `shift` is not in that range and overflow is checked. Without that check, it returns some number."),
+    ("The contract requires that `shift` is in this range. In plain Rust, a call with any other `shift` panics if"
+     " overflow checks are enabled, and returns an unspecified number otherwise.",
+     "Panics if `shift` is not in this range and overflow checks are enabled. If they are disabled, the result is"
+     " unspecified."),
     ("The comment of a variant is the name of its setter.", "Each variant links to its setter."),
     ("Prints what [`SettingError::text`] returns.", "Prints what the setting takes, or why the text is not a setting."),
     ("Prints what [`Edit::text`] returns.",
@@ -282,8 +283,8 @@ class Comments:
         see = f"See the [setter][{path}{setter}]."
         if kind == "group":
             flags = self.group(setter)
-            is_mask = before.startswith("Mask")
-            return f"{f'Mask of all {flags}' if is_mask else f'Returns whether any of the {flags} is set'}. {see}"
+            is_mask = before.startswith("The mask")
+            return f"{f'The mask of all {flags}' if is_mask else f'Returns whether any of the {flags} is set'}. {see}"
         if before.startswith("Returns"):
             return self.getter(setter, path)
         condition, effect = self.flag(setter)

@@ -32,8 +32,7 @@ CUES = {"if and only if|the same error": "↔|OkIff", "[Nn]ever": "≢", "No oth
 # The words that each row of PHRASES adds, and texts that FOREIGN finds.
 ADDED = [
     "", "", "", "", "", "", "[`build_or_panic`][Self::build_or_panic],",
-    "If is more, may panic checked, and otherwise returns some byte.", "Panics if is more.",
-    "Panics if in that range and Without that check, it returns some number.",
+    "If 36 or more,", "Panics if 36 or more.", "Panics if not range and enabled. If they are disabled, the result is unspecified.",
     "Each links to", "the setting takes, or why the text is not a setting.",
     "`NAME=VALUE`, such as `mantissa_radix=16`, `no_special=true` or `digit_separator=none`.",
     "[`Rule`][crate::format_flags::Rule],",

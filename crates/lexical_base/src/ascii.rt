@@ -1,4 +1,4 @@
-//! Tests whether a byte, or every byte of a slice, is allowed ASCII or a letter.
+//! Functions that test whether bytes are ASCII that a number format may use, or ASCII letters.
 
 ghost use Rattle.std.specs.Prelude.{◌≡◌, ◌↔◌, ◌-◌, ◌≤◌, ◌&&◌, nat_le, IsTrue};
 ghost use Rattle.std.specs.List.{AllPass, list_all};
@@ -7,10 +7,11 @@ ghost use Rattle.lexical_base.specs.Private.{in_two_ranges, AreTwoRanges};
 
 use std::simd::prelude::*;
 
-/// Returns whether the byte `c` is ASCII that a number format may use.
+/// Returns whether the byte `c` is *allowed ASCII*: an ASCII byte that a number format may use.
 ///
-/// Allowed are the bytes 9 to 13 (tab, line feed, vertical tab, form feed, carriage return), the space, and
-/// the printable characters `!` to `~`. Every other byte is rejected, including 127 and all bytes from 128 up.
+/// The allowed bytes are the control characters 9 to 13 (tab, line feed, vertical tab, form feed, carriage return), the
+/// space, and the visible characters `!` to `~`. The result is `false` for every other byte, including 127 (delete) and
+/// all bytes above it.
 #[inline(always)]
 pub const fn is_valid_ascii(c: u8) -> bool
     ensures { IsTrue result ↔ IsTrue (allowed_ascii c) }
@@ -18,7 +19,8 @@ pub const fn is_valid_ascii(c: u8) -> bool
     (c >= 0x09 && c <= 0x0d) || (c >= 0x20 && c < 0x7f)
 }
 
-/// Returns whether [`is_valid_ascii`] is true of every byte of `slc`. For an empty slice, the result is `true`.
+/// Returns whether every byte of `slc` is allowed ASCII, as [`is_valid_ascii`] defines it. If `slc` is empty, the
+/// result is `true`.
 pub fn is_valid_ascii_slice(slc: &[u8]) -> bool
     ensures { IsTrue result ↔ AllPass allowed_ascii slc.now }
 {
@@ -33,17 +35,18 @@ pub const fn is_valid_letter(c: u8) -> bool
     (c >= b'A' && c <= b'Z') || (c >= b'a' && c <= b'z')
 }
 
-/// Returns whether [`is_valid_letter`] is true of every byte of `slc`. For an empty slice, the result is `true`.
+/// Returns whether every byte of `slc` is an ASCII letter, uppercase or lowercase. If `slc` is empty, the result is
+/// `true`.
 pub fn is_valid_letter_slice(slc: &[u8]) -> bool
     ensures { IsTrue result ↔ AllPass letters slc.now }
 {
     all_in_ranges(slc, 0xdf, (b'A', b'Z'), (b'A', b'Z'))
 }
 
-// Returns whether every byte of `bytes` is in one of two ranges after the bits that `mask` lacks are
-// cleared. Each range is given by its lowest and its highest byte.
+// Returns whether `byte & mask` is in one of two ranges for every `byte` of `bytes`. Each range is given by its
+// lowest and its highest byte.
 //
-// The function tests chunks of 32 bytes, then the remaining bytes, at most 31.
+// The function tests chunks of 32 bytes, then the remaining bytes. At most 31 bytes remain.
 #[inline(always)]
 fn all_in_ranges(bytes: &[u8], mask: u8, first: (u8, u8), second: (u8, u8)) -> bool
     requires { AreTwoRanges first second }
@@ -53,10 +56,10 @@ fn all_in_ranges(bytes: &[u8], mask: u8, first: (u8, u8), second: (u8, u8)) -> b
     chunks_in_ranges(chunks, mask, first, second) & rest_in_ranges(rest, mask, first, second)
 }
 
-// Returns whether every byte of `chunks` is in one of the two ranges.
+// Returns whether every byte of `chunks`, masked with `mask`, is in one of the two ranges.
 //
-// The function tests one block of 16 chunks after another, and stops at the first block that fails. A
-// test after each chunk would take as long as the rest of the work.
+// The function tests one block of 16 chunks after another, and stops at the first block that fails. A test after each
+// chunk would take as long as all other work.
 #[inline(always)]
 fn chunks_in_ranges(chunks: &[[u8; 32]], mask: u8, first: (u8, u8), second: (u8, u8)) -> bool
     requires { AreTwoRanges first second }
@@ -71,8 +74,8 @@ fn chunks_in_ranges(chunks: &[[u8; 32]], mask: u8, first: (u8, u8), second: (u8,
     block_in_ranges(rest, mask, first, second)
 }
 
-// Returns whether every byte of a few chunks of `N` bytes is in one of the two ranges. There is a single
-// test, after the last chunk.
+// Returns whether every byte of `block`, masked with `mask`, is in one of the two ranges. The block has a few chunks of
+// `N` bytes. The function tests only once, after the last chunk.
 #[inline(always)]
 fn block_in_ranges<const N: usize>(
     block: &[[u8; N]],
@@ -92,13 +95,12 @@ fn block_in_ranges<const N: usize>(
     !largest.simd_gt(Simd::splat(last)).any()
 }
 
-// Returns the larger of `largest` and the distance of the bytes in `lanes` from the two ranges, lane by
-// lane. A lane of the result is above `second.1 - second.0` if and only if one of its bytes so far was in
-// neither range.
+// Returns, for each lane, the larger of `largest` and the distance of the byte in `lanes` from the two ranges. A lane
+// of the result is above `second.1 - second.0` if and only if one of its bytes so far was in neither range.
 //
-// A byte is in a range if and only if its distance from the lowest byte, modulo 256, is at most the
-// distance of the highest byte. `longer` is added to the distance from the first range, so that one bound
-// serves both ranges: a byte is in a range if the smaller of its two distances is within that bound.
+// A byte is in a range if and only if its distance from the lowest byte, modulo 256, is at most the distance between
+// the lowest and the highest byte. `longer` is added to the distance from the first range, so that one bound serves
+// both ranges. A byte is in one of the ranges if the smaller of its two distances is within that bound.
 #[inline(always)]
 fn max_distance<const N: usize>(
     largest: Simd<u8, N>,
@@ -119,8 +121,8 @@ fn max_distance<const N: usize>(
     largest.simd_max(from_first.simd_min(from_second))
 }
 
-// Returns whether each of fewer than 32 bytes is in one of the two ranges. If there are at least 16 bytes, the
-// first 16 are tested at once. The others are tested one by one.
+// Returns whether every byte of `bytes`, masked with `mask`, is in one of the two ranges. There are fewer than 32
+// bytes. The function tests each 16 of them at once, and the others one by one.
 #[inline(always)]
 fn rest_in_ranges(bytes: &[u8], mask: u8, first: (u8, u8), second: (u8, u8)) -> bool
     requires { AreTwoRanges first second }
@@ -130,8 +132,8 @@ fn rest_in_ranges(bytes: &[u8], mask: u8, first: (u8, u8), second: (u8, u8)) -> 
     block_in_ranges(halves, mask, first, second) & bytes_in_ranges(rest, mask, first, second)
 }
 
-// Returns whether each of a few bytes is in one of the two ranges. The function reads all of them, and
-// tests once, after the last.
+// Returns whether every byte of `bytes`, masked with `mask`, is in one of the two ranges. There are only a few bytes.
+// The function reads all of them before it returns.
 #[inline(always)]
 fn bytes_in_ranges(bytes: &[u8], mask: u8, first: (u8, u8), second: (u8, u8)) -> bool
     ensures { result ≡ list_all (in_two_ranges mask first second) bytes.now }

@@ -1,18 +1,19 @@
-//! Conversions and tests of single digits. These functions do not process whole strings.
+//! Functions that convert and test single digits. They do not process whole strings.
 //!
-//! The digit characters are `0` to `9` and the letters `A` to `Z`, uppercase or lowercase, with the
-//! values 0 to 35. Every other byte has the value 255. A byte is a digit of a radix if its value is
-//! below the radix.
+//! The *digit characters* are `0` to `9`, with the values 0 to 9, and the letters of both cases, with the values 10
+//! (`A` and `a`) to 35 (`Z` and `z`). Every other byte has the value 255. A byte is a *digit* of a radix if its value
+//! is below the radix.
 //!
-//! The `_const` functions are for a radix that is known at compile time. Up to radix 10, they do not need a table.
+//! The functions whose names end in `_const` are for a radix that is known at compile time. If the radix is at most 10,
+//! they do not use a table.
 
 ghost use Rattle.std.specs.Prelude.{◌≡◌, ◌↔◌, ℕ, ◌+◌, ◌%◌, ◌<◌, ◌≤◌, ◌||◌, false, IsTrue, IsSome, IfSome, Some, nat_le, nat_lt, slice_get, if◌then◌else◌};
 ghost use Rattle.lexical_base.specs.Digits.{byte_value, digit_of, digit_characters, is_lowercase};
 
-// The digit characters. Each is at the index of its value.
+// The digit characters. Each of them is at the index that equals its value.
 const DIGIT_CHARACTERS: [u8; 36] = *b"0123456789ABCDEFGHIJKLMNOPQRSTUVWXYZ";
 
-// The values of all bytes. Each is at the index of its byte.
+// The values of all bytes. Each value is at the index that equals the byte.
 const VALUES: [u8; 256] = [
     255, 255, 255, 255, 255, 255, 255, 255, 255, 255, 255, 255, 255, 255, 255, 255, 255, 255, 255,
     255, 255, 255, 255, 255, 255, 255, 255, 255, 255, 255, 255, 255, 255, 255, 255, 255, 255, 255,
@@ -37,11 +38,11 @@ const fn byte_value(c: u8) -> u32
     VALUES[c as usize] as u32
 }
 
-/// Returns the value of the byte `c`, which must be a digit of `radix` for the result to be meaningful.
+/// Returns the value of the byte `c` as a digit of `radix`. The result is meaningful only if `c` is such a digit.
 ///
-/// Any `radix` is allowed. Up to radix 10, the result is `c.wrapping_sub(b'0')`. Above radix 10, it is the value of
-/// `c`, which is 255 unless `c` is a digit character. [`char_to_digit_const`] also tests whether `c` is a digit of
-/// `radix`.
+/// `radix` may be any number. If it is at most 10, the result is `c.wrapping_sub(b'0')`. If it is above 10, the result
+/// is at most 35 if `c` is one of `0` to `9` or a letter, and 255 otherwise. Call [`char_to_digit_const`] to
+/// test whether `c` is a digit of `radix`.
 #[inline(always)]
 pub const fn char_to_valid_digit_const(c: u8, radix: u32) -> u32
     ensures small { radix ≤ 10 → result ≡ (c + 208) % 256 }
@@ -56,8 +57,9 @@ pub const fn char_to_valid_digit_const(c: u8, radix: u32) -> u32
 
 /// Returns the value of the byte `c` as a digit of `radix`, or `None` if its value is not below `radix`.
 ///
-/// Any `radix` is allowed. In a radix from 36 to 255 all digit characters are digits. In a radix above
-/// 255, every other byte is a digit with the value 255.
+/// The digits `0` to `9` have the values 0 to 9, and the letters of either case have the values 10 to 35. `radix` may
+/// be any number. If it is at least 36, all these characters are digits. If it is above 255, every other byte is also a
+/// digit, and has the value 255.
 #[inline(always)]
 pub const fn char_to_digit_const(c: u8, radix: u32) -> Option<u32>
     ensures digit { result ≡ digit_of c radix }
@@ -77,15 +79,15 @@ pub const fn char_is_digit_const(c: u8, radix: u32) -> bool
     matches!(char_to_digit_const(c, radix), Some(_))
 }
 
-/// Returns the digit character of `digit` in `radix`: `0` to `9`, or an uppercase letter from 10 on.
+/// Returns the character that represents `digit` in `radix`: `0` to `9` for 0 to 9, and `A` to `Z` for 10 to 35.
 ///
-/// `digit` must be below 36, and should be below `radix`. Any `radix` is allowed. Up to radix 10, the result is `b'0' +
-/// digit`, which is not a digit character if `digit` is 10 or more.
+/// `digit` must be below 36, and should be below `radix`, which may be any number. If `radix` is at most 10, the result
+/// is `b'0' + digit`. That byte is not a digit character if `digit` is 10 or more.
 ///
 /// # Panics
 ///
-/// A call with a `digit` of 36 or more is not proved. In plain Rust such a call returns some byte, or
-/// panics if overflow is checked.
+/// The contract requires that `digit` is below 36. In plain Rust, the result for any other `digit` is unspecified, and
+/// the call may panic if overflow checks are enabled.
 #[inline(always)]
 #[tactic(auto, using(crate::proofs::ValueLemmas::values))]
 pub const fn digit_to_char_const(digit: u32, radix: u32) -> u8
@@ -106,7 +108,7 @@ pub const fn digit_to_char_const(digit: u32, radix: u32) -> u8
 
 /// Returns the value of the byte `c` as a digit of `radix`, or `None` if its value is not below `radix`.
 ///
-/// [`char_to_digit_const`] returns the same result. This function is for a radix known only at run time.
+/// [`char_to_digit_const`] returns the same result. Use `char_to_digit` for a radix that is known only at run time.
 #[inline(always)]
 pub const fn char_to_digit(c: u8, radix: u32) -> Option<u32>
     ensures digit { result ≡ digit_of c radix }
@@ -125,13 +127,13 @@ pub const fn char_is_digit(c: u8, radix: u32) -> bool
     matches!(char_to_digit(c, radix), Some(_))
 }
 
-/// Returns the digit character of `digit`: `0` to `9`, or an uppercase letter from 10 on.
+/// Returns the character that represents `digit`: `0` to `9` for 0 to 9, and `A` to `Z` for 10 to 35.
 ///
-/// `digit` must be below 36. The character has the value `digit` in every radix above `digit`.
+/// `digit` must be below 36. In every radix above `digit`, the character is a digit with the value `digit`.
 ///
 /// # Panics
 ///
-/// A call with a `digit` of 36 or more is not proved. In plain Rust such a call panics.
+/// The contract requires that `digit` is below 36. In plain Rust, a call with any other `digit` panics.
 #[inline(always)]
 pub const fn digit_to_char(digit: u32) -> u8
     requires { digit < 36 }

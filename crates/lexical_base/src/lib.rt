@@ -1,5 +1,5 @@
-//! Tests of bytes, conversions of digits, and the error type. The other crates depend on them. Nothing
-//! here allocates.
+//! This crate tests bytes, converts digits, and defines the error type. The other crates depend on it. Nothing here
+//! allocates memory.
 #![tactic(auto)]
 
 pub mod ascii;

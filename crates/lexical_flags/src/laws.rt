@@ -1,4 +1,4 @@
-//! Laws on the layout, the rules and the roles, stated as the clauses of functions with empty bodies.
+//! Theorems on the layout, the rules and the roles. Each is a clause of a function with an empty body.
 
 ghost use Rattle.std.specs.Prelude.{◌≡◌, ℕ, ◌*◌, ◌/◌, ◌^◌, ◌<◌, ◌↔◌, [], ◌∷◌, length, map, pos, bit_or, IsTrue, bit_and};
 ghost use Rattle.lexical_base.specs.declared.error.Error.{Error};
@@ -23,13 +23,14 @@ pub mod examples;
 
 /// States the value of every constant of `format_flags`, and how the constants are related.
 pub fn layout_facts()
-    // Each flag is a power of two, and twice the flag before it.
+    // Each flag is a power of two. Within the lower flags, and within the digit separator flags, each is twice the
+    // one before it.
     ensures flag { (f : Flag) → flag_constant f ≡ 2 ^ bit f }
     ensures base_flags { map flag_constant layout.base_flags ≡ doublings 1 (length layout.base_flags) }
     ensures separator_flags { map flag_constant layout.digit_separator_flags
         ≡ doublings (2 ^ 32) (length layout.digit_separator_flags) }
 
-    // Each byte takes the eight bits from its shift up.
+    // Each byte occupies the eight bits from its shift up.
     ensures shift { (b : Byte) → byte_shift b ≡ pos (shift b) }
     ensures mask { (b : Byte) → byte_constant b ≡ 255 * 2 ^ shift b }
     ensures shifted_mask { (b : Byte) → byte_constant b / 2 ^ shift b ≡ 255 }
@@ -57,20 +58,20 @@ pub fn layout_facts()
     ensures fraction { FRACTION_DIGIT_SEPARATOR_FLAG_MASK ≡ mask_of layout.fraction_digit_separator_flags }
     ensures exponent { EXPONENT_DIGIT_SEPARATOR_FLAG_MASK ≡ mask_of layout.exponent_digit_separator_flags }
 
-    // The digit separator flags consist of the separator flags of the integer, the fraction, the exponent and special
-    // values, which share no bit.
+    // The masks of the separator flags of the integer, the fraction, the exponent and special values share no bit.
+    // Together, they have the bits of all digit separator flags.
     ensures separators_share_no_bit { ArePairwise ShareNoBit (INTEGER_DIGIT_SEPARATOR_FLAG_MASK
         ∷ FRACTION_DIGIT_SEPARATOR_FLAG_MASK ∷ EXPONENT_DIGIT_SEPARATOR_FLAG_MASK ∷ SPECIAL_DIGIT_SEPARATOR ∷ []) }
     ensures separators_together { bit_or INTEGER_DIGIT_SEPARATOR_FLAG_MASK (bit_or FRACTION_DIGIT_SEPARATOR_FLAG_MASK
         (bit_or EXPONENT_DIGIT_SEPARATOR_FLAG_MASK SPECIAL_DIGIT_SEPARATOR)) ≡ DIGIT_SEPARATOR_FLAG_MASK }
 {}
 
-/// States which rules a word with the filled and trimmed fields of another word keeps, and that a word has
-/// at most one error.
+/// States how filling and trimming a word affect its error, that a word is lawful if and only if it keeps every rule,
+/// which bits decide whether a word keeps a rule, and that a word has at most one error.
 #[inline(always)]
 pub const fn rule_facts()
-    // If `word` is lawful, then so is `normal`, the clean word with its filled and trimmed fields. Both words have the
-    // same error if `word` is clean and trimming drops no separator.
+    // If `word` is lawful, then so is `normal`, the clean word whose fields are the filled and trimmed fields of
+    // `word`. If `word` is clean and trimming drops no separator, both words have the same error.
     ensures kept_lawful { (word normal : ℕ) → IsClean normal → raw normal ≡ trim (fill (raw word))
         → Lawful word → Lawful normal }
     ensures same_error { (word normal : ℕ) → IsClean normal → raw normal ≡ trim (fill (raw word))
@@ -80,7 +81,7 @@ pub const fn rule_facts()
     // A word is lawful if and only if it keeps every rule.
     ensures lawful { (word : ℕ) → Lawful word ↔ ((rule : Rule) → Holds rule word) }
 
-    // If two words agree in the bits that a rule reads, and one of them keeps the rule, then so does the other.
+    // If two words agree in the bits that a rule reads, and one of them keeps the rule, the other keeps it too.
     ensures depends { (rule : Rule) → (v w : ℕ) → bit_and v (mask_read rule) ≡ bit_and w (mask_read rule)
         → Holds rule v → Holds rule w }
 
@@ -89,7 +90,7 @@ pub const fn rule_facts()
         → error ≡ other }
 {}
 
-/// States which roles have a byte in common.
+/// States when two sets are disjoint, and that no byte plays two roles in a lawful format with accepted options.
 pub fn role_facts()
     // Two sets are disjoint if and only if no byte is in both.
     ensures disjoint { (A B : ByteSet)

@@ -1,4 +1,4 @@
-//! Number formats in a `u128`: the layout of flags and bytes, the functions that read them, and the
+//! Number formats as values of type `u128`: the layout of their flags and bytes, the functions that read them, and the
 //! rules that a lawful format keeps.
 #![tactic(auto)]
 

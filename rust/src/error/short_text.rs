@@ -1,38 +1,43 @@
 // Made by rust/tools/erase.py from crates/lexical_base/src/error/short_text.rt: change that file.
 
-//! Short texts that consist of a few pieces.
+//! The type [`ShortText`]: a short text that consists of a few pieces.
 
 use crate::error::Sink;
 use core::fmt;
 
-/// A piece of a short text.
+/// A piece of a [`ShortText`].
 #[derive(Clone, Copy)]
 #[doc(hidden)]
 pub enum Piece {
-    /// A text, unchanged.
+    /// A text, written unchanged.
     Words(&'static str),
-    /// A number in decimal.
+    /// A number, written in decimal.
     Number(usize),
-    /// `0x` and a number in hexadecimal, with uppercase letters and without leading zeros, such as `0x80000000`.
+    /// A number, written as `0x` and uppercase hexadecimal digits without leading zeros, such as `0x80000000`.
     Hexadecimal(u128),
-    /// The word `the`, a name, and the byte of that name in decimal.
+    /// A name and a byte, written as `the NAME BYTE` with the byte in decimal, such as `the mantissa radix 37`.
     NumberedByte(&'static str, u8),
-    /// The word `the`, a name, and the byte of that name. The byte is a character between quotes if that
-    /// character is visible and not a quote itself, and a decimal number otherwise.
+    /// A name and a byte, written as `the NAME 'CHARACTER'`, such as `the base prefix 'x'`. If the byte is a single
+    /// quote, or is not a visible ASCII character, it is written in decimal, as in [`Piece::NumberedByte`].
     QuotedByte(&'static str, u8),
 }
 
-/// The empty piece.
+/// A piece without text.
 #[doc(hidden)]
 pub const EMPTY_PIECE: Piece = Piece::Words("");
 
-/// A text of at most four pieces. Each `ShortText` that the library returns has fewer than 256 bytes.
+/// A text that consists of four pieces, each of which may be empty. Each `ShortText` that the library returns has fewer
+/// than 256 bytes.
 #[derive(Clone, Copy)]
 #[doc(hidden)]
 pub struct ShortText(pub Piece, pub Piece, pub Piece, pub Piece);
 
 impl ShortText {
-    /// Puts the text into a sink. Fails only if the sink does.
+    /// Puts the text into the sink `out`, piece by piece.
+    ///
+    /// # Errors
+    ///
+    /// Returns an error if [`Sink::put`] returns one.
     #[doc(hidden)]
     pub fn put_into<S: Sink>(&self, out: &mut S) -> Result<(), fmt::Error> {
         self.0.put_into(out)?;
@@ -42,7 +47,7 @@ impl ShortText {
     }
 }
 
-/// Writes the text and ignores all options of the formatter. Fails only if the formatter does.
+/// Writes the text and ignores all options of the formatter. Returns an error if the formatter does.
 impl fmt::Display for ShortText {
     fn fmt(&self, f: &mut fmt::Formatter<'_>) -> fmt::Result {
         self.put_into(f)
@@ -50,7 +55,7 @@ impl fmt::Display for ShortText {
 }
 
 impl Piece {
-    // Puts the piece into a sink.
+    // Puts the piece into the sink `out`.
     fn put_into<S: Sink>(self, out: &mut S) -> fmt::Result {
         match self {
             Piece::Words(words) => out.put(words),
@@ -74,12 +79,12 @@ impl Piece {
     }
 }
 
-// Returns whether a byte is a visible character and not the quote.
+// Returns whether `byte` is a visible ASCII character other than the single quote.
 const fn can_be_quoted(byte: u8) -> bool {
     byte.is_ascii_graphic() && byte != b'\''
 }
 
-// Puts a name and its byte, in decimal, into a sink.
+// Puts `the`, `name` and `byte` into the sink `out`, with spaces between them. The byte is in decimal.
 fn put_numbered<S: Sink>(out: &mut S, name: &str, byte: u8) -> fmt::Result {
     out.put("the ")?;
     out.put(name)?;
@@ -87,12 +92,12 @@ fn put_numbered<S: Sink>(out: &mut S, name: &str, byte: u8) -> fmt::Result {
     put_decimal(out, byte as usize)
 }
 
-// Puts `n`, in decimal, into a sink.
+// Puts `n` in decimal into the sink `out`.
 pub(crate) fn put_decimal<S: Sink>(out: &mut S, n: usize) -> fmt::Result {
     out.put(crate::decimal::Decimal::new(n).text())
 }
 
-// Puts `n`, in hexadecimal with uppercase letters, into a sink.
+// Puts `n` in hexadecimal, with uppercase letters, into the sink `out`.
 fn put_hexadecimal<S: Sink>(out: &mut S, n: u128) -> fmt::Result {
     let has_front = n >= 16;
     if has_front {
@@ -101,7 +106,7 @@ fn put_hexadecimal<S: Sink>(out: &mut S, n: u128) -> fmt::Result {
     out.put(digit_text((n % 16) as usize))
 }
 
-// Returns the digit character of `digit`, which is below 16. Letters are uppercase.
+// Returns the hexadecimal character that represents `digit`, which must be below 16. Letters are uppercase.
 #[inline(always)]
 const fn digit_text(digit: usize) -> &'static str {
     match digit {

@@ -1,13 +1,14 @@
 // Made by rust/tools/erase.py from crates/lexical_base/src/error/sink.rt: change that file.
 
-//! Sinks: the targets into which a text is put, piece by piece.
+//! The trait [`Sink`]: a target into which a text is put, piece by piece.
 
 use core::fmt;
 
 /// A target into which a text is put, piece by piece, such as a formatter or a buffer of your own.
 ///
-/// Each sink defines what a piece does to it. It also defines what counts as failure. So a function over any
-/// `Sink` knows that the sink has failed only right after a piece that failed, and not after the next piece.
+/// Each implementation defines how a piece changes the sink, and what it means for the sink to have failed. A caller
+/// knows that a sink has failed only after a call to [`Sink::put`] that returned an error, and only until the next
+/// call.
 #[doc(hidden)]
 pub trait Sink {
     /// Puts a piece into the sink.

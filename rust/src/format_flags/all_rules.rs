@@ -1,16 +1,17 @@
 // Made by rust/tools/erase.py from crates/lexical_flags/src/format_flags/all_rules.rt: change that file.
 
-//! The rules, as values.
+//! The type [`Rule`] of the rules for format words, and the list of the rules that a word breaks.
 
 use crate::error::Error;
 use crate::format_flags::rules::*;
 use crate::format_flags::*;
 
-/// A rule that a format word keeps or breaks. A word that breaks no rule is lawful.
+/// A rule that a format word keeps or breaks. A word that breaks no rule is *lawful*.
 ///
 /// The variants are in the order in which the rules are checked. The name of each variant states the condition that the
-/// rule imposes. *Punctuation* is any allowed ASCII byte except a sign or a digit of the mantissa or the exponent.
-/// `Rule` does not implement `Display`, since a `Reason` states why a word breaks a rule.
+/// rule imposes. *Punctuation* is a byte that [`is_valid_ascii`][crate::ascii::is_valid_ascii] accepts and that
+/// is neither a sign (`+` or `-`) nor a [digit][is_digit] of the format. An *absent* byte is 0. `Rule` does not
+/// implement `Display`: a `Reason` states in words why a word breaks a rule.
 #[derive(Debug, Clone, Copy, PartialEq, Eq, Hash, PartialOrd, Ord)]
 #[non_exhaustive]
 pub enum Rule {
@@ -26,29 +27,32 @@ pub enum Rule {
     BasePrefixIsPunctuation,
     /// The base suffix is absent or punctuation.
     BaseSuffixIsPunctuation,
-    /// No byte plays two of the roles digit separator, base prefix and base suffix.
+    /// The digit separator, the base prefix and the base suffix share no byte, as [`is_valid_punctuation`] tests.
     PunctuationDiffers,
     /// Exponents are not both forbidden and required.
     ExponentFlagsAgree,
-    /// The mantissa does not require a sign if it forbids `+`.
+    /// A sign before the mantissa is not required if `+` is forbidden there.
     MantissaSignFlagsAgree,
-    /// The exponent does not require a sign if it forbids `+`.
+    /// A sign in the exponent is not required if `+` is forbidden there.
     ExponentSignFlagsAgree,
     /// Special values are not both forbidden and case-sensitive.
     SpecialCaseFlagsAgree,
     /// Digit separators are allowed in special values only if special values are allowed.
     SpecialSeparatorFlagsAgree,
-    /// Consecutive digit separators are allowed in the integer only if internal, leading or trailing ones are.
+    /// Consecutive digit separators are allowed in the integer only if a digit separator is allowed between, before
+    /// or after its digits.
     IntegerConsecutiveIsAllowed,
-    /// Consecutive digit separators are allowed in the fraction only if internal, leading or trailing ones are.
+    /// Consecutive digit separators are allowed in the fraction only if a digit separator is allowed between, before
+    /// or after its digits.
     FractionConsecutiveIsAllowed,
-    /// Consecutive digit separators are allowed in the exponent only if internal, leading or trailing ones are.
+    /// Consecutive digit separators are allowed in the exponent only if a digit separator is allowed between, before
+    /// or after its digits.
     ExponentConsecutiveIsAllowed,
     /// All reserved bits are 0.
     ReservedBitsAreZero,
 }
 
-/// All rules, in their order.
+/// All rules, in the order in which they are checked.
 #[doc(hidden)]
 pub const RULES: [Rule; 16] = [
     Rule::MantissaRadixInRange,
@@ -69,11 +73,11 @@ pub const RULES: [Rule; 16] = [
     Rule::ReservedBitsAreZero,
 ];
 
-// Mask of the bytes that decide which bytes are digits.
+// The mask of the two fields that determine which characters are digits.
 const DIGIT_RADIXES: u128 = MANTISSA_RADIX | EXPONENT_RADIX;
 
 impl Rule {
-    /// Returns the error of a word that breaks this rule and no earlier rule.
+    /// Returns the error of each word for which this is the first rule that the word breaks.
     #[must_use]
     pub const fn error(self) -> Error {
         match self {
@@ -129,9 +133,9 @@ impl Rule {
         }
     }
 
-    /// Returns the bits of a word that this rule reads. For [`Rule::ReservedBitsAreZero`], these are the reserved bits.
-    /// For any other rule, they are the bits of certain fields. If two words agree in these bits, either both keep the
-    /// rule or both break it.
+    /// Returns the mask of the bits that this rule reads. For [`Rule::ReservedBitsAreZero`], these are the reserved
+    /// bits. For every other rule, they are the bits of the fields that the rule restricts. Two words that agree in
+    /// these bits both keep the rule or both break it.
     #[must_use]
     pub const fn mask(self) -> u128 {
         match self {
@@ -161,8 +165,8 @@ impl Rule {
     }
 }
 
-/// Returns the rules that the word `format` breaks. At the index of each rule in [`RULES`], the result has the
-/// rule if the word breaks it, and `None` otherwise.
+/// Returns the rules that the word `format` breaks. Each entry is `Some` of the rule at the same index in [`RULES`] if
+/// the word breaks that rule, and `None` otherwise.
 ///
 /// `broken_rules(format).into_iter().flatten()` iterates over the broken rules. The error of the first one is the
 /// result of [`format_error_impl`].

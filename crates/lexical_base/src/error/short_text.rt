@@ -1,4 +1,4 @@
-//! Short texts that consist of a few pieces.
+//! The type [`ShortText`]: a short text that consists of a few pieces.
 
 ghost use Rattle.std.specs.Prelude.{◌≡◌, ◌<◌, ◌∷◌, [], length, IsErr, OnOk, Some, true};
 ghost use Rattle.std.specs.Fmt.{WritesInCalls, decimal, digit_glyph, digits_onto};
@@ -8,26 +8,27 @@ use crate::error::Sink;
 use std::fmt;
 use std::marker::Model;
 
-/// A piece of a short text.
+/// A piece of a [`ShortText`].
 #[derive(Clone, Copy)]
 pub enum Piece {
-    /// A text, unchanged.
+    /// A text, written unchanged.
     Words(&'static str),
-    /// A number in decimal.
+    /// A number, written in decimal.
     Number(usize),
-    /// `0x` and a number in hexadecimal, with uppercase letters and without leading zeros, such as `0x80000000`.
+    /// A number, written as `0x` and uppercase hexadecimal digits without leading zeros, such as `0x80000000`.
     Hexadecimal(u128),
-    /// The word `the`, a name, and the byte of that name in decimal.
+    /// A name and a byte, written as `the NAME BYTE` with the byte in decimal, such as `the mantissa radix 37`.
     NumberedByte(&'static str, u8),
-    /// The word `the`, a name, and the byte of that name. The byte is a character between quotes if that
-    /// character is visible and not a quote itself, and a decimal number otherwise.
+    /// A name and a byte, written as `the NAME 'CHARACTER'`, such as `the base prefix 'x'`. If the byte is a single
+    /// quote, or is not a visible ASCII character, it is written in decimal, as in [`Piece::NumberedByte`].
     QuotedByte(&'static str, u8),
 }
 
-/// The empty piece.
+/// A piece without text.
 pub const EMPTY_PIECE: Piece = Piece::Words("");
 
-/// A text of at most four pieces. Each `ShortText` that the library returns has fewer than 256 bytes.
+/// A text that consists of four pieces, each of which may be empty. Each `ShortText` that the library returns has fewer
+/// than 256 bytes.
 #[derive(Drop)]
 pub struct ShortText(pub Piece, pub Piece, pub Piece, pub Piece);
 
@@ -44,7 +45,11 @@ impl Model for ShortText {
 }
 
 impl ShortText {
-    /// Puts the text into a sink. Fails only if the sink does.
+    /// Puts the text into the sink `out`, piece by piece.
+    ///
+    /// # Errors
+    ///
+    /// Returns an error if [`Sink::put`] returns one.
     pub fn put_into<S: Sink>(&self, out: &mut S) -> Result<(), fmt::Error>
         ensures text { OnOk result (WritesInCalls S.takes out.old self.now out.new) }
         ensures failed { IsErr result → S.has_failed out.new }
@@ -57,7 +62,7 @@ impl ShortText {
     }
 }
 
-/// Writes the text and ignores all options of the formatter. Fails only if the formatter does.
+/// Writes the text and ignores all options of the formatter. Returns an error if the formatter does.
 impl fmt::Display for ShortText {
     ghost output = { λ sentence. Some sentence };
 
@@ -69,7 +74,7 @@ impl fmt::Display for ShortText {
 }
 
 impl Piece {
-    // Puts the piece into a sink.
+    // Puts the piece into the sink `out`.
     fn put_into<S: Sink>(self, out: &mut S) -> fmt::Result
         ensures text { OnOk result (WritesInCalls S.takes out.old (piece_text self) out.new) }
         ensures failed { IsErr result → S.has_failed out.new }
@@ -96,14 +101,14 @@ impl Piece {
     }
 }
 
-// Returns whether a byte is a visible character and not the quote.
+// Returns whether `byte` is a visible ASCII character other than the single quote.
 const fn can_be_quoted(byte: u8) -> bool
     ensures { result ≡ can_be_quoted byte }
 {
     byte.is_ascii_graphic() && byte != b'\''
 }
 
-// Puts a name and its byte, in decimal, into a sink.
+// Puts `the`, `name` and `byte` into the sink `out`, with spaces between them. The byte is in decimal.
 fn put_numbered<S: Sink>(out: &mut S, name: &str, byte: u8) -> fmt::Result
     ensures text { OnOk result (WritesInCalls S.takes out.old (numbered_byte name.now byte) out.new) }
     ensures failed { IsErr result → S.has_failed out.new }
@@ -114,7 +119,7 @@ fn put_numbered<S: Sink>(out: &mut S, name: &str, byte: u8) -> fmt::Result
     put_decimal(out, byte as usize)
 }
 
-// Puts `n`, in decimal, into a sink.
+// Puts `n` in decimal into the sink `out`.
 pub(crate) fn put_decimal<S: Sink>(out: &mut S, n: usize) -> fmt::Result
     ensures text { OnOk result (WritesInCalls S.takes out.old (decimal n) out.new) }
     ensures failed { IsErr result → S.has_failed out.new }
@@ -126,7 +131,7 @@ pub(crate) fn put_decimal<S: Sink>(out: &mut S, n: usize) -> fmt::Result
     out.put(digit_text(n % 10))
 }
 
-// Puts `n`, in hexadecimal with uppercase letters, into a sink.
+// Puts `n` in hexadecimal, with uppercase letters, into the sink `out`.
 fn put_hexadecimal<S: Sink>(out: &mut S, n: u128) -> fmt::Result
     ensures text { OnOk result (WritesInCalls S.takes out.old (digits_onto 32 16 true n []) out.new) }
     ensures failed { IsErr result → S.has_failed out.new }
@@ -138,7 +143,7 @@ fn put_hexadecimal<S: Sink>(out: &mut S, n: u128) -> fmt::Result
     out.put(digit_text((n % 16) as usize))
 }
 
-// Returns the digit character of `digit`, which is below 16. Letters are uppercase.
+// Returns the hexadecimal character that represents `digit`, which must be below 16. Letters are uppercase.
 #[inline(always)]
 const fn digit_text(digit: usize) -> &'static str
     ensures { digit < 16 → result.now ≡ digit_glyph true digit ∷ [] }

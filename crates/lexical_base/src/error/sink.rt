@@ -1,4 +1,4 @@
-//! Sinks: the targets into which a text is put, piece by piece.
+//! The trait [`Sink`]: a target into which a text is put, piece by piece.
 
 ghost use Rattle.std.specs.Prelude.{ℕ, List, IsErr, OnOk, ⊤};
 ghost use Rattle.std.specs.Fmt.{HasWrittenStyled, IsFlush};
@@ -7,13 +7,14 @@ use std::fmt;
 
 /// A target into which a text is put, piece by piece, such as a formatter or a buffer of your own.
 ///
-/// Each sink defines what a piece does to it. It also defines what counts as failure. So a function over any
-/// `Sink` knows that the sink has failed only right after a piece that failed, and not after the next piece.
+/// Each implementation defines how a piece changes the sink, and what it means for the sink to have failed. A caller
+/// knows that a sink has failed only after a call to [`Sink::put`] that returned an error, and only until the next
+/// call.
 pub trait Sink {
-    // Relates the sink before a piece that succeeds, the bytes of the piece, and the sink after the piece.
+    // Relates the sink before a successful call to `put`, the bytes of the piece, and the sink after the call.
     ghost takes: { Self → List ℕ → Self → Type 0 };
 
-    // Holds after a piece that failed.
+    // Holds after a call to `put` that failed.
     ghost has_failed: { Self → Type 0 };
 
     /// Puts a piece into the sink.

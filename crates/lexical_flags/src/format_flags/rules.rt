@@ -1,6 +1,6 @@
-//! The tests of the rules, and the error of the first rule that a word breaks.
+//! The functions that test the rules, and the error of the first rule that a word breaks.
 //!
-//! A word that breaks no rule is *lawful*. The view of a word, as `lexical-util`, calls it valid.
+//! A word that breaks no rule is *lawful*. The view of a word calls it *valid*, as `lexical-util` does.
 #![tactic(auto, using(crate::proofs::FlagBits::flag_tests), unfolding(crate::specs::Rules::Holds, crate::specs::Rules::IsPunctuation))]
 
 ghost use Rattle.std.specs.Prelude.{◌≡◌, ◌≢◌, ◌↔◌, [], ◌∷◌, Err, IfErr, IsTrue, bit_or, max};
@@ -26,9 +26,9 @@ use lexical_base::laws::digit_facts;
 
 // BYTES
 
-// The entry of a byte, at its index, is the number of radixes in which the byte is absent or punctuation. These are
-// the radixes below the entry. A digit is punctuation in the radixes up to its value. The entry of 0 and of other
-// allowed ASCII is 256, all radixes. The entry of a sign or of any other byte is 0.
+// The entry at the index of a byte is the number of radixes in which the byte is absent or punctuation. These are the
+// radixes below the entry. A digit character is punctuation in the radixes up to its value. The entry of 0, and of
+// other allowed ASCII except the signs, is 256: all radixes. The entry of a sign, and of every other byte, is 0.
 const LIMITS: [u16; 256] = [
     256, 0, 0, 0, 0, 0, 0, 0, 0, 256, 256, 256, 256, 256, 0, 0, 0, 0, 0, 0, 0, 0, 0, 0, 0, 0, 0, 0,
     0, 0, 0, 0, 256, 256, 256, 256, 256, 256, 256, 256, 256, 256, 256, 0, 256, 0, 256, 256, 1, 2,
@@ -42,7 +42,7 @@ const LIMITS: [u16; 256] = [
     0, 0, 0, 0, 0, 0, 0, 0, 0, 0, 0, 0, 0,
 ];
 
-// Returns the larger of two radixes. A `const fn` cannot call `max`, since it is the method of a trait.
+// Returns the larger of two radixes. A `const fn` cannot call `max`, which is a trait method.
 #[inline(always)]
 const fn larger(a: u32, b: u32) -> u32
     ensures { result ≡ max a b }
@@ -50,11 +50,11 @@ const fn larger(a: u32, b: u32) -> u32
     if a < b { b } else { a }
 }
 
-/// Returns whether `byte` is a digit in this format: a digit of the mantissa radix or of the exponent radix. The case
-/// of a letter does not matter.
+/// Returns whether `byte` is a digit of the word `format`, that is, of its mantissa radix or of its exponent radix.
 ///
-/// If the exponent radix of the format is 0, the mantissa radix is used instead. The exponent base is ignored. Any
-/// word and any byte may be passed. `lexical-util` has no such function.
+/// Letters of either case are digits: in radix 16, both `f` and `F` are. If the exponent radix is 0, only the mantissa
+/// radix determines the result. The exponent base never does. `format` may be any word. `lexical-util` has no such
+/// function.
 #[inline(always)]
 pub const fn is_digit(format: u128, byte: u8) -> bool
     ensures { IsTrue result ↔ IsTrue (digits (raw format) byte) }
@@ -63,7 +63,7 @@ pub const fn is_digit(format: u128, byte: u8) -> bool
     char_is_digit(byte, larger(mantissa_radix(format), exponent_radix(format)))
 }
 
-// Returns whether a byte is absent or punctuation.
+// Returns whether `byte` is absent, that is, 0, or punctuation in the word `format`.
 #[inline(always)]
 #[tactic(auto)]
 const fn is_absent_or_punctuation(format: u128, byte: u8) -> bool
@@ -73,7 +73,7 @@ const fn is_absent_or_punctuation(format: u128, byte: u8) -> bool
     radix < LIMITS[byte as usize] as u32
 }
 
-// Returns whether a byte is punctuation: allowed ASCII that is neither a digit nor a sign.
+// Returns whether `byte` is punctuation in the word `format`: allowed ASCII that is neither a digit nor a sign.
 #[inline(always)]
 const fn is_punctuation(format: u128, byte: u8) -> bool
     ensures { IsTrue result ↔ IsPunctuation (raw format) byte }
@@ -90,8 +90,8 @@ const fn is_case_pair(a: u8, b: u8) -> bool
     a ^ 0x20 == b && is_valid_letter(a)
 }
 
-// Returns whether no byte plays both of two roles. If a role is not case-sensitive, both cases of its
-// letter play it. A byte of 0 is absent, and then no byte plays its role.
+// Returns whether no byte plays both the role of `a` and the role of `b`. If a role is not case-sensitive and its byte
+// is a letter, both cases of the letter play the role. If the byte is 0, which means absent, no byte plays it.
 #[inline(always)]
 #[tactic(auto, using(crate::proofs::CaseLemmas::same_clash, crate::proofs::CaseLemmas::differ_apart))]
 const fn roles_disjoint(a: u8, a_case_sensitive: bool, b: u8, b_case_sensitive: bool) -> bool
@@ -110,8 +110,8 @@ const fn roles_disjoint_fast(a: u8, a_case_sensitive: bool, b: u8, b_case_sensit
     (a | 0x20) != (b | 0x20) || roles_disjoint(a, a_case_sensitive, b, b_case_sensitive)
 }
 
-// Returns whether `a` is not absent and the two bytes agree in all bits except 0x20. If this is false, the roles
-// of the bytes are disjoint, whether they are case-sensitive or not.
+// Returns whether `a` is not absent and the two bytes agree in all bits except 0x20. If the result is `false`, the
+// roles of the bytes are disjoint, whether or not they are case-sensitive.
 #[inline(always)]
 const fn may_clash(a: u8, b: u8) -> bool
     ensures { IsTrue result ↔ ((a ≢ 0) × (bit_or a 32 ≡ bit_or b 32)) }
@@ -145,7 +145,7 @@ const fn exponent_is_case_sensitive(format: u128) -> bool
 
 // RADIXES
 
-/// Returns whether `radix` is between 2 and 36, so that numbers can be written in it.
+/// Returns whether `radix` is between 2 and 36, inclusive.
 #[inline(always)]
 pub const fn is_valid_radix(radix: u32) -> bool
     ensures { IsTrue result ↔ IsRadix radix }
@@ -179,11 +179,13 @@ pub(crate) const fn is_valid_exponent_radix(format: u128) -> bool
 
 // PUNCTUATION
 
-/// Returns whether the digit separator is 0, or allowed ASCII that is neither a sign nor a digit of the
-/// mantissa or of the exponent.
+/// Returns whether the digit separator of the word `format` is absent or punctuation.
 ///
-/// The raw byte is tested: a digit is rejected even if no flag allows a separator, and 0 is accepted
-/// even if a flag does.
+/// An absent byte is 0. *Punctuation* is a byte that [`is_valid_ascii`][lexical_base::ascii::is_valid_ascii]
+/// accepts and that is neither a sign (`+` or `-`) nor a [digit][is_digit] of `format`.
+///
+/// The flags do not affect the result: a digit is rejected even if no flag allows a separator, and 0 is accepted even
+/// if a flag allows one.
 #[inline(always)]
 pub const fn is_valid_digit_separator(format: u128) -> bool
     ensures { IsTrue result ↔ Holds rules.DigitSeparatorIsPunctuation format }
@@ -191,8 +193,10 @@ pub const fn is_valid_digit_separator(format: u128) -> bool
     is_absent_or_punctuation(format, digit_separator(format))
 }
 
-/// Returns whether the base prefix is 0, or allowed ASCII that is neither a sign nor a digit of the
-/// mantissa or of the exponent.
+/// Returns whether the base prefix of the word `format` is absent or punctuation.
+///
+/// An absent byte is 0. *Punctuation* is a byte that [`is_valid_ascii`][lexical_base::ascii::is_valid_ascii]
+/// accepts and that is neither a sign (`+` or `-`) nor a [digit][is_digit] of `format`.
 #[inline(always)]
 pub const fn is_valid_base_prefix(format: u128) -> bool
     ensures { IsTrue result ↔ Holds rules.BasePrefixIsPunctuation format }
@@ -200,8 +204,10 @@ pub const fn is_valid_base_prefix(format: u128) -> bool
     is_absent_or_punctuation(format, base_prefix(format))
 }
 
-/// Returns whether the base suffix is 0, or allowed ASCII that is neither a sign nor a digit of the
-/// mantissa or of the exponent.
+/// Returns whether the base suffix of the word `format` is absent or punctuation.
+///
+/// An absent byte is 0. *Punctuation* is a byte that [`is_valid_ascii`][lexical_base::ascii::is_valid_ascii]
+/// accepts and that is neither a sign (`+` or `-`) nor a [digit][is_digit] of `format`.
 #[inline(always)]
 pub const fn is_valid_base_suffix(format: u128) -> bool
     ensures { IsTrue result ↔ Holds rules.BaseSuffixIsPunctuation format }
@@ -209,13 +215,13 @@ pub const fn is_valid_base_suffix(format: u128) -> bool
     is_absent_or_punctuation(format, base_suffix(format))
 }
 
-/// Returns whether the digit separator, the base prefix and the base suffix differ from each other.
+/// Returns whether the digit separator, the base prefix and the base suffix of the word `format` share no byte.
 ///
-/// A byte of 0 is absent, and is not compared. A base prefix that is a letter matches both cases of that letter unless
-/// [`CASE_SENSITIVE_BASE_PREFIX`] is set. Likewise, a base suffix that is a letter matches both cases unless
-/// [`CASE_SENSITIVE_BASE_SUFFIX`] is set. So the prefix `h` and the suffix `H` clash unless both flags are set. The
-/// digit separator is always case-sensitive. `lexical-util` compares the raw bytes, so it accepts the prefix `h` and
-/// the suffix `H` with any flags.
+/// A byte that is 0 is absent and is not compared. A base prefix that is a letter matches both cases of that letter
+/// unless [`CASE_SENSITIVE_BASE_PREFIX`] is set. Likewise, a base suffix that is a letter matches both cases unless
+/// [`CASE_SENSITIVE_BASE_SUFFIX`] is set. So the prefix `h` and the suffix `H` share a byte unless both flags are set.
+/// The digit separator is always case-sensitive. `lexical-util` compares the raw bytes, so it always accepts the prefix
+/// `h` with the suffix `H`.
 #[inline(always)]
 pub const fn is_valid_punctuation(format: u128) -> bool
     ensures { IsTrue result ↔ Holds rules.PunctuationDiffers format }
@@ -234,8 +240,9 @@ pub const fn is_valid_punctuation(format: u128) -> bool
             && roles_disjoint(prefix, prefix_case, suffix, suffix_case))
 }
 
-/// Returns which of digit separator, base prefix and base suffix share a byte: separator and prefix,
-/// separator and suffix, prefix and suffix. These pairs are the ones that break [`Rule::PunctuationDiffers`].
+/// Returns, for each pair of the digit separator, the base prefix and the base suffix, whether the two share a byte.
+/// The pairs are, in this order, separator and prefix, separator and suffix, and prefix and suffix. A word breaks
+/// [`Rule::PunctuationDiffers`] if and only if some entry is `true`.
 #[tactic(auto, unfolding(crate::specs::Roles::Disjoint))]
 pub const fn clashes(format: u128) -> [bool; 3]
     ensures { result ≡ clashes (raw format) }
@@ -252,7 +259,8 @@ pub const fn clashes(format: u128) -> [bool; 3]
     ]
 }
 
-// Returns whether the role of a byte is disjoint from the roles of digit separator, base prefix and base suffix.
+// Returns whether the role of `byte` is disjoint from the roles of the digit separator, the base prefix and the base
+// suffix.
 #[inline(always)]
 const fn is_disjoint_from_format_roles(format: u128, byte: u8, case_sensitive: bool) -> bool
     ensures { IsTrue result ↔ AllByRecursion (Disjoint (cased case_sensitive byte)) (format_roles (raw format)) }
@@ -267,12 +275,12 @@ const fn is_disjoint_from_format_roles(format: u128, byte: u8, case_sensitive: b
 /// Returns whether `exponent` can be the exponent character and `decimal_point` the decimal point in
 /// numbers of this format.
 ///
-/// Both must be allowed ASCII that is neither a sign nor a digit of the mantissa or of the exponent, so neither may be
-/// 0. They must differ from each other and from the digit separator, the base prefix and the base suffix. If the
-/// exponent character is a letter, it matches both cases of that letter unless [`CASE_SENSITIVE_EXPONENT`] is set. The
-/// base prefix and the base suffix are compared as in [`is_valid_punctuation`]. The decimal point is always
-/// case-sensitive. In a lawful format, no byte then plays two roles. There is such a pair for every lawful format.
-/// `lexical-util` compares the raw bytes.
+/// Each must be a byte that [`is_valid_ascii`][lexical_base::ascii::is_valid_ascii] accepts and that is neither a sign
+/// (`+` or `-`) nor a [digit][is_digit] of the format. So neither may be 0. They may share a byte neither with each
+/// other nor with the digit separator, the base prefix or the base suffix. If the exponent character is a letter, it
+/// matches both cases of that letter unless [`CASE_SENSITIVE_EXPONENT`] is set. The base prefix and the base suffix are
+/// compared as in [`is_valid_punctuation`]. The decimal point is always case-sensitive. Every [lawful][Rule] format
+/// accepts at least one such pair, and then no byte plays two roles. `lexical-util` compares the raw bytes.
 ///
 /// In plain Rust:
 ///
@@ -287,7 +295,7 @@ const fn is_disjoint_from_format_roles(format: u128, byte: u8, case_sensitive: b
 #[tactic(auto)]
 pub const fn is_valid_options_punctuation(format: u128, exponent: u8, decimal_point: u8) -> bool
     ensures accepted { IsTrue result ↔ OptionsFit format exponent decimal_point }
-    // In a lawful format, the options are accepted if and only if each byte plays at most one role.
+    // In a lawful format, the options are accepted if and only if they are allowed ASCII and no byte plays two roles.
     ensures roles { Lawful format → (IsTrue result ↔ OptionsHaveOneRole format exponent decimal_point) }
     ensures exists { Lawful format → SomeOptionsFit format }
 {
@@ -299,12 +307,13 @@ pub const fn is_valid_options_punctuation(format: u128, exponent: u8, decimal_po
         && is_disjoint_from_format_roles(format, exponent, exponent_case)
 }
 
-/// Returns the error of an exponent character and a decimal point in numbers of this format, or `Success` if
-/// [`is_valid_options_punctuation`] accepts them.
+/// Returns the reason why [`is_valid_options_punctuation`] rejects an exponent character and a decimal point, or
+/// `Success` if it accepts them.
 ///
-/// 1. If the exponent character is a digit, a sign, or not allowed ASCII, the error is `InvalidExponentSymbol`.
-/// 2. Otherwise, if the decimal point is a digit, a sign, or not allowed ASCII, it is `InvalidDecimalPoint`.
-/// 3. Otherwise, if the two share a byte with each other or with another role, it is `InvalidPunctuation`.
+/// 1. If the exponent character is a digit, a sign, or not allowed ASCII, the result is `InvalidExponentSymbol`.
+/// 2. Otherwise, if the decimal point is a digit, a sign, or not allowed ASCII, the result is `InvalidDecimalPoint`.
+/// 3. Otherwise, if they share a byte with each other, the digit separator, the base prefix or the base suffix, the
+///    result is `InvalidPunctuation`.
 ///
 /// `lexical-util` has no such function.
 pub const fn options_error(format: u128, exponent: u8, decimal_point: u8) -> Error
@@ -315,7 +324,7 @@ pub const fn options_error(format: u128, exponent: u8, decimal_point: u8) -> Err
     first_options_error(format, exponent, decimal_point)
 }
 
-// Returns the error of the first demand that the options do not meet, or `Success`.
+// Returns the error of the first condition that the options do not satisfy, or `Success`.
 #[inline(always)]
 const fn first_options_error(format: u128, exponent: u8, decimal_point: u8) -> Error
     ensures { IsOptionsError format exponent decimal_point result }
@@ -333,7 +342,8 @@ const fn first_options_error(format: u128, exponent: u8, decimal_point: u8) -> E
 
 // FLAGS
 
-/// Returns whether [`NO_EXPONENT_NOTATION`] and [`REQUIRED_EXPONENT_NOTATION`] are not both set.
+/// Returns `false` if both [`NO_EXPONENT_NOTATION`] and [`REQUIRED_EXPONENT_NOTATION`] are set in the word
+/// `format`, and `true` otherwise.
 #[inline(always)]
 pub const fn is_valid_exponent_flags(format: u128) -> bool
     ensures { IsTrue result ↔ Holds rules.ExponentFlagsAgree format }
@@ -341,7 +351,7 @@ pub const fn is_valid_exponent_flags(format: u128) -> bool
     format & NO_EXPONENT_NOTATION == 0 || format & REQUIRED_EXPONENT_NOTATION == 0
 }
 
-// Returns whether NO_POSITIVE_MANTISSA_SIGN and REQUIRED_MANTISSA_SIGN are not both set.
+// Returns `false` if both NO_POSITIVE_MANTISSA_SIGN and REQUIRED_MANTISSA_SIGN are set, and `true` otherwise.
 #[inline(always)]
 pub(crate) const fn is_valid_mantissa_sign_flags(format: u128) -> bool
     ensures { IsTrue result ↔ Holds rules.MantissaSignFlagsAgree format }
@@ -349,7 +359,7 @@ pub(crate) const fn is_valid_mantissa_sign_flags(format: u128) -> bool
     format & NO_POSITIVE_MANTISSA_SIGN == 0 || format & REQUIRED_MANTISSA_SIGN == 0
 }
 
-// Returns whether NO_POSITIVE_EXPONENT_SIGN and REQUIRED_EXPONENT_SIGN are not both set.
+// Returns `false` if both NO_POSITIVE_EXPONENT_SIGN and REQUIRED_EXPONENT_SIGN are set, and `true` otherwise.
 #[inline(always)]
 pub(crate) const fn is_valid_exponent_sign_flags(format: u128) -> bool
     ensures { IsTrue result ↔ Holds rules.ExponentSignFlagsAgree format }
@@ -357,7 +367,7 @@ pub(crate) const fn is_valid_exponent_sign_flags(format: u128) -> bool
     format & NO_POSITIVE_EXPONENT_SIGN == 0 || format & REQUIRED_EXPONENT_SIGN == 0
 }
 
-// Returns whether NO_SPECIAL and CASE_SENSITIVE_SPECIAL are not both set.
+// Returns `false` if both NO_SPECIAL and CASE_SENSITIVE_SPECIAL are set, and `true` otherwise.
 #[inline(always)]
 pub(crate) const fn is_valid_special_case_flags(format: u128) -> bool
     ensures { IsTrue result ↔ Holds rules.SpecialCaseFlagsAgree format }
@@ -365,7 +375,7 @@ pub(crate) const fn is_valid_special_case_flags(format: u128) -> bool
     format & NO_SPECIAL == 0 || format & CASE_SENSITIVE_SPECIAL == 0
 }
 
-// Returns whether NO_SPECIAL and SPECIAL_DIGIT_SEPARATOR are not both set.
+// Returns `false` if both NO_SPECIAL and SPECIAL_DIGIT_SEPARATOR are set, and `true` otherwise.
 #[inline(always)]
 pub(crate) const fn is_valid_special_separator_flags(format: u128) -> bool
     ensures { IsTrue result ↔ Holds rules.SpecialSeparatorFlagsAgree format }
@@ -373,7 +383,8 @@ pub(crate) const fn is_valid_special_separator_flags(format: u128) -> bool
     format & NO_SPECIAL == 0 || format & SPECIAL_DIGIT_SEPARATOR == 0
 }
 
-// Returns whether INTEGER_CONSECUTIVE_DIGIT_SEPARATOR is not the only separator flag of the integer that is set.
+// Returns `false` if INTEGER_CONSECUTIVE_DIGIT_SEPARATOR is the only separator flag of the integer that is set, and
+// `true` otherwise.
 #[inline(always)]
 pub(crate) const fn is_valid_integer_consecutive_flags(format: u128) -> bool
     ensures { IsTrue result ↔ Holds rules.IntegerConsecutiveIsAllowed format }
@@ -381,7 +392,8 @@ pub(crate) const fn is_valid_integer_consecutive_flags(format: u128) -> bool
     format & INTEGER_DIGIT_SEPARATOR_FLAG_MASK != INTEGER_CONSECUTIVE_DIGIT_SEPARATOR
 }
 
-// Returns whether FRACTION_CONSECUTIVE_DIGIT_SEPARATOR is not the only separator flag of the fraction that is set.
+// Returns `false` if FRACTION_CONSECUTIVE_DIGIT_SEPARATOR is the only separator flag of the fraction that is set, and
+// `true` otherwise.
 #[inline(always)]
 pub(crate) const fn is_valid_fraction_consecutive_flags(format: u128) -> bool
     ensures { IsTrue result ↔ Holds rules.FractionConsecutiveIsAllowed format }
@@ -389,7 +401,8 @@ pub(crate) const fn is_valid_fraction_consecutive_flags(format: u128) -> bool
     format & FRACTION_DIGIT_SEPARATOR_FLAG_MASK != FRACTION_CONSECUTIVE_DIGIT_SEPARATOR
 }
 
-// Returns whether EXPONENT_CONSECUTIVE_DIGIT_SEPARATOR is not the only separator flag of the exponent that is set.
+// Returns `false` if EXPONENT_CONSECUTIVE_DIGIT_SEPARATOR is the only separator flag of the exponent that is set, and
+// `true` otherwise.
 #[inline(always)]
 pub(crate) const fn is_valid_exponent_consecutive_flags(format: u128) -> bool
     ensures { IsTrue result ↔ Holds rules.ExponentConsecutiveIsAllowed format }
@@ -397,7 +410,7 @@ pub(crate) const fn is_valid_exponent_consecutive_flags(format: u128) -> bool
     format & EXPONENT_DIGIT_SEPARATOR_FLAG_MASK != EXPONENT_CONSECUTIVE_DIGIT_SEPARATOR
 }
 
-/// Returns whether all reserved bits of `format` are 0. `lexical-util` has no such function.
+/// Returns whether all reserved bits of `format`, which belong to no field, are 0. `lexical-util` has no such function.
 #[inline(always)]
 pub const fn is_clean(format: u128) -> bool
     ensures { IsTrue result ↔ IsClean format }
@@ -405,7 +418,7 @@ pub const fn is_clean(format: u128) -> bool
     format & RESERVED_MASK == 0
 }
 
-/// Returns whether some flag of `format` allows a digit separator, in a number or in a special value.
+/// Returns whether any flag of `format` allows a digit separator, in a number or in a special value (NaN or infinity).
 /// `lexical-util` has no such function.
 #[inline(always)]
 #[tactic(auto, using(crate::proofs::FlagBits::separator_flag_set, crate::proofs::FlagBits::no_separator_flag_set))]
@@ -474,8 +487,8 @@ const fn first_broken_reserved(format: u128) -> Error
     }
 }
 
-// Returns the error of the first broken rule, or `Success`. The other clauses of `format_error_impl` follow
-// from its clause.
+// Returns the error of the first broken rule, or `Success`. The other clauses of `format_error_impl` follow from the
+// clause of this function.
 #[tactic(auto, unfolding(crate::specs::Rules::IsErrorOf))]
 const fn first_broken(format: u128) -> Error
     ensures { IsErrorOf format result }
@@ -495,10 +508,10 @@ const fn first_broken(format: u128) -> Error
     first_broken_reserved(format)
 }
 
-/// Returns the error of the first of mantissa radix, exponent base and exponent radix that is not
-/// between 2 and 36, or `Success` if all three are.
+/// Returns the error of the first radix of the word `format` that is not between 2 and 36, or `Success` if all are.
 ///
-/// If the exponent base or the exponent radix is 0, the mantissa radix is tested instead.
+/// The order is mantissa radix, exponent base, exponent radix. If the exponent base or the exponent radix is 0, the
+/// mantissa radix is tested instead.
 #[inline(always)]
 #[tactic(auto)]
 pub const fn radix_error_impl(format: u128) -> Error
@@ -516,31 +529,31 @@ pub const fn radix_error_impl(format: u128) -> Error
     }
 }
 
-/// Returns the error of the first rule that a format breaks, or `Success` if it breaks none, that
-/// is, if it is lawful.
+/// Returns the error of the first rule that the word `format` breaks, or `Success` if it is lawful, that is, if it
+/// breaks no rule.
 ///
-/// The rules are tried in this order. Each is followed by its error:
+/// The rules are checked in this order. Each rule is followed by its error:
 ///
 /// 1. The mantissa radix is between 2 and 36: `InvalidMantissaRadix`.
-/// 2. The effective exponent base, which is the mantissa radix if that byte is 0, is between 2 and 36:
-///    `InvalidExponentBase`.
-/// 3. The effective exponent radix, which is the mantissa radix if that byte is 0, is between 2 and 36:
+/// 2. The exponent base, or the mantissa radix if the exponent base is 0, is between 2 and 36: `InvalidExponentBase`.
+/// 3. The exponent radix, or the mantissa radix if the exponent radix is 0, is between 2 and 36:
 ///    `InvalidExponentRadix`.
 /// 4. The digit separator is valid ([`is_valid_digit_separator`]): `InvalidDigitSeparator`.
 /// 5. The base prefix is valid ([`is_valid_base_prefix`]): `InvalidBasePrefix`.
 /// 6. The base suffix is valid ([`is_valid_base_suffix`]): `InvalidBaseSuffix`.
-/// 7. These three differ ([`is_valid_punctuation`]): `InvalidPunctuation`.
+/// 7. The digit separator, the base prefix and the base suffix share no byte ([`is_valid_punctuation`]):
+///    `InvalidPunctuation`.
 /// 8. [`NO_EXPONENT_NOTATION`] and [`REQUIRED_EXPONENT_NOTATION`] are not both set: `InvalidExponentFlags`.
 /// 9. [`NO_POSITIVE_MANTISSA_SIGN`] and [`REQUIRED_MANTISSA_SIGN`] are not both set: `InvalidMantissaSign`.
 /// 10. [`NO_POSITIVE_EXPONENT_SIGN`] and [`REQUIRED_EXPONENT_SIGN`] are not both set: `InvalidExponentSign`.
 /// 11. [`NO_SPECIAL`] and [`CASE_SENSITIVE_SPECIAL`] are not both set: `InvalidSpecial`.
 /// 12. [`NO_SPECIAL`] and [`SPECIAL_DIGIT_SEPARATOR`] are not both set: `InvalidSpecial`.
-/// 13. [`INTEGER_CONSECUTIVE_DIGIT_SEPARATOR`] is set only with an internal, leading or trailing flag of the
-///     integer: `InvalidConsecutiveIntegerDigitSeparator`.
-/// 14. [`FRACTION_CONSECUTIVE_DIGIT_SEPARATOR`] is set only with an internal, leading or trailing flag of
-///     the fraction: `InvalidConsecutiveFractionDigitSeparator`.
-/// 15. [`EXPONENT_CONSECUTIVE_DIGIT_SEPARATOR`] is set only with an internal, leading or trailing flag of
-///     the exponent: `InvalidConsecutiveExponentDigitSeparator`.
+/// 13. [`INTEGER_CONSECUTIVE_DIGIT_SEPARATOR`] is set only if an internal, leading or trailing separator flag of the
+///     integer is set: `InvalidConsecutiveIntegerDigitSeparator`.
+/// 14. [`FRACTION_CONSECUTIVE_DIGIT_SEPARATOR`] is set only if an internal, leading or trailing separator flag of the
+///     fraction is set: `InvalidConsecutiveFractionDigitSeparator`.
+/// 15. [`EXPONENT_CONSECUTIVE_DIGIT_SEPARATOR`] is set only if an internal, leading or trailing separator flag of the
+///     exponent is set: `InvalidConsecutiveExponentDigitSeparator`.
 /// 16. All reserved bits are 0: `InvalidFlags`.
 ///
 /// `lexical-util` compares raw bytes in the seventh rule, and has no rule for reserved bits.
@@ -559,8 +572,8 @@ pub const fn format_error_impl(format: u128) -> Error
 ///
 /// # Errors
 ///
-/// If `format` is not lawful, returns the error of the first rule that it breaks ([`format_error_impl`]). This is never
-/// `Success`.
+/// Returns the error of the first rule that `format` breaks ([`format_error_impl`]) if `format` is not lawful. This
+/// error is never `Success`.
 #[inline(always)]
 pub const fn check(format: u128) -> Result<u128, Error>
     ensures lawful { OkIff result (Lawful format) format }

@@ -1,4 +1,5 @@
-//! Examples of each predicate that only one side of a public clause names: one that holds, and one that does not.
+//! Examples of the predicates that public clauses use on only one side: for each, one case that holds and one that does
+//! not.
 #![tactic(auto, unfolding(crate::specs::Literals::on_literals))]
 
 ghost use Rattle.std.specs.Prelude.{[], ◌∷◌, Some, None};
@@ -26,13 +27,14 @@ pub fn built_examples()
     ensures not_allowed { SeparatorAllowedOrAbsent (raw 0x00000A00_0000005F_00000000_0000000C) → ⊥ }
 {}
 
-/// States that options fit a word without prefix and suffix, and that no options fit a word in which both are `h`.
+/// States that some options fit a word without a prefix and a suffix, and that no options fit a word whose prefix and
+/// suffix are both `h`.
 pub fn room_examples()
     ensures room { SomeOptionsFit 0x0A0A0A00_00000000_00000000_0000000C }
     ensures no_room { SomeOptionsFit 0x00000A68_68000000_00000000_0000000C → ⊥ }
 {}
 
-/// States which rules a word breaks in which flags 4 and 5 are both set.
+/// States which of two rules a word breaks if its flags 4 and 5 are both set.
 pub fn broken_examples()
     ensures broken { AllZip (ReportsRule 0x0A0A0A00_00000000_00000000_0000003C)
         (rules.ExponentFlagsAgree ∷ rules.MantissaSignFlagsAgree ∷ []) (None ∷ Some rules.MantissaSignFlagsAgree ∷ []) }
