@@ -2,9 +2,10 @@
 
 //! The layout of a format word: the bits of each flag and byte, and the functions that read them.
 //!
-//! A format word is a `u128`. The flags start at bit 0 and at bit 32. Six bytes start at bit 64: the digit separator,
-//! base prefix, base suffix, mantissa radix, exponent base and exponent radix. The other bits are reserved: they hold
-//! no field, and are 0 in a lawful format.
+//! A format word is a `u128`. The flags start at bit 0 and at bit 32. Six bytes are in the upper 64 bits: the digit
+//! separator, base prefix, base suffix, mantissa radix, exponent base and exponent radix. A *field* is a flag or one of
+//! these bytes. The other bits are *reserved*: they belong to no field. A word is *lawful* if it keeps every [`Rule`].
+//! The reserved bits of a lawful word are 0.
 
 mod all_rules;
 mod rules;
@@ -35,7 +36,7 @@ pub const REQUIRED_EXPONENT_DIGITS: u128 = 0x4;
 /// [setter][crate::format_builder::NumberFormatBuilder::required_mantissa_digits].
 pub const REQUIRED_MANTISSA_DIGITS: u128 = 0x8;
 
-/// Mask of all flags that require digits. See the
+/// The mask of all flags that require digits. See the
 /// [setter][crate::format_builder::NumberFormatBuilder::required_digits].
 pub const REQUIRED_DIGITS: u128 = 0xF;
 
@@ -148,19 +149,19 @@ pub const FRACTION_CONSECUTIVE_DIGIT_SEPARATOR: u128 = 0x400_0000_0000;
 /// [setter][crate::format_builder::NumberFormatBuilder::exponent_consecutive_digit_separator].
 pub const EXPONENT_CONSECUTIVE_DIGIT_SEPARATOR: u128 = 0x800_0000_0000;
 
-/// Mask of all flags that allow a digit separator between digits. See the
+/// The mask of all flags that allow a digit separator between digits. See the
 /// [setter][crate::format_builder::NumberFormatBuilder::internal_digit_separator].
 pub const INTERNAL_DIGIT_SEPARATOR: u128 = 0x7_0000_0000;
 
-/// Mask of all flags that allow a digit separator before digits. See the
+/// The mask of all flags that allow a digit separator before digits. See the
 /// [setter][crate::format_builder::NumberFormatBuilder::leading_digit_separator].
 pub const LEADING_DIGIT_SEPARATOR: u128 = 0x38_0000_0000;
 
-/// Mask of all flags that allow a digit separator after digits. See the
+/// The mask of all flags that allow a digit separator after digits. See the
 /// [setter][crate::format_builder::NumberFormatBuilder::trailing_digit_separator].
 pub const TRAILING_DIGIT_SEPARATOR: u128 = 0x1C0_0000_0000;
 
-/// Mask of all flags that allow consecutive digit separators. See the
+/// The mask of all flags that allow consecutive digit separators. See the
 /// [setter][crate::format_builder::NumberFormatBuilder::consecutive_digit_separator].
 pub const CONSECUTIVE_DIGIT_SEPARATOR: u128 = 0xE00_0000_0000;
 
@@ -173,25 +174,25 @@ pub const SPECIAL_DIGIT_SEPARATOR: u128 = 0x1000_0000_0000;
 /// The lowest bit of the digit separator byte.
 pub const DIGIT_SEPARATOR_SHIFT: i32 = 64;
 
-/// Mask of the [digit separator][crate::format_builder::NumberFormatBuilder::digit_separator].
+/// The mask of the [digit separator][crate::format_builder::NumberFormatBuilder::digit_separator].
 pub const DIGIT_SEPARATOR: u128 = 0x00000000_000000FF_00000000_00000000;
 
 /// The lowest bit of the base prefix byte.
 pub const BASE_PREFIX_SHIFT: i32 = 88;
 
-/// Mask of the [base prefix][crate::format_builder::NumberFormatBuilder::base_prefix].
+/// The mask of the [base prefix][crate::format_builder::NumberFormatBuilder::base_prefix].
 pub const BASE_PREFIX: u128 = 0x00000000_FF000000_00000000_00000000;
 
 /// The lowest bit of the base suffix byte.
 pub const BASE_SUFFIX_SHIFT: i32 = 96;
 
-/// Mask of the [base suffix][crate::format_builder::NumberFormatBuilder::base_suffix].
+/// The mask of the [base suffix][crate::format_builder::NumberFormatBuilder::base_suffix].
 pub const BASE_SUFFIX: u128 = 0x000000FF_00000000_00000000_00000000;
 
 /// The lowest bit of the mantissa radix byte.
 pub const MANTISSA_RADIX_SHIFT: i32 = 104;
 
-/// Mask of the [mantissa radix][crate::format_builder::NumberFormatBuilder::mantissa_radix].
+/// The mask of the [mantissa radix][crate::format_builder::NumberFormatBuilder::mantissa_radix].
 pub const MANTISSA_RADIX: u128 = 0x0000FF00_00000000_00000000_00000000;
 
 /// Another name for [`MANTISSA_RADIX_SHIFT`].
@@ -203,85 +204,87 @@ pub const RADIX: u128 = 0x0000FF00_00000000_00000000_00000000;
 /// The lowest bit of the exponent base byte.
 pub const EXPONENT_BASE_SHIFT: i32 = 112;
 
-/// Mask of the [exponent base][crate::format_builder::NumberFormatBuilder::exponent_base].
+/// The mask of the [exponent base][crate::format_builder::NumberFormatBuilder::exponent_base].
 pub const EXPONENT_BASE: u128 = 0x00FF0000_00000000_00000000_00000000;
 
 /// The lowest bit of the exponent radix byte.
 pub const EXPONENT_RADIX_SHIFT: i32 = 120;
 
-/// Mask of the [exponent radix][crate::format_builder::NumberFormatBuilder::exponent_radix].
+/// The mask of the [exponent radix][crate::format_builder::NumberFormatBuilder::exponent_radix].
 pub const EXPONENT_RADIX: u128 = 0xFF000000_00000000_00000000_00000000;
 
-/// Mask of the mantissa radix and the exponent radix, without the exponent base.
+/// The mask of the mantissa radix and the exponent radix, but not of the exponent base.
 pub const RADIX_MASK: u128 = 0xFF00FF00_00000000_00000000_00000000;
 
 // FLAG MASKS
 
-/// Mask of all flags.
+/// The mask of all flags.
 pub const FLAG_MASK: u128 = 0x1FFF_0003_FFFF;
 
-/// Mask of the flags that a parser's front end handles: required digits, exponents (except the case of
-/// the exponent character), leading zeros of floats, and digit separators (except in special values).
+/// The mask of the interface flags: the flags for required digits, exponents, leading zeros of floats and digit
+/// separators, except [`CASE_SENSITIVE_EXPONENT`] and [`SPECIAL_DIGIT_SEPARATOR`].
 pub const INTERFACE_FLAG_MASK: u128 = 0xFFF_0000_63CF;
 
-/// Mask of all flags that allow digit separators. See the
+/// The mask of all flags that allow digit separators. See the
 /// [setter][crate::format_builder::NumberFormatBuilder::digit_separator_flags].
 pub const DIGIT_SEPARATOR_FLAG_MASK: u128 = 0x1FFF_0000_0000;
 
-/// Mask of the exponent flags, without [`CASE_SENSITIVE_EXPONENT`].
+/// The mask of all exponent flags except [`CASE_SENSITIVE_EXPONENT`].
 pub const EXPONENT_FLAG_MASK: u128 = 0x924_0000_43C4;
 
-/// Mask of all flags that allow digit separators in the integer part. See the
+/// The mask of all flags that allow digit separators in the integer part. See the
 /// [setter][crate::format_builder::NumberFormatBuilder::integer_digit_separator_flags].
 pub const INTEGER_DIGIT_SEPARATOR_FLAG_MASK: u128 = 0x249_0000_0000;
 
-/// Mask of all flags that allow digit separators in the fraction. See the
+/// The mask of all flags that allow digit separators in the fraction. See the
 /// [setter][crate::format_builder::NumberFormatBuilder::fraction_digit_separator_flags].
 pub const FRACTION_DIGIT_SEPARATOR_FLAG_MASK: u128 = 0x492_0000_0000;
 
-/// Mask of all flags that allow digit separators in the exponent. See the
+/// The mask of all flags that allow digit separators in the exponent. See the
 /// [setter][crate::format_builder::NumberFormatBuilder::exponent_digit_separator_flags].
 pub const EXPONENT_DIGIT_SEPARATOR_FLAG_MASK: u128 = 0x924_0000_0000;
 
-// Mask of the reserved bits: all bits except the flags, the digit separator, and the bits from the base
-// prefix up.
+// The mask of the reserved bits: all bits except the flags, the digit separator, and the bits from the lowest bit of
+// the base prefix up.
 const RESERVED_MASK: u128 = !(FLAG_MASK | DIGIT_SEPARATOR | !0 << BASE_PREFIX_SHIFT);
 
 // EXTRACTORS
 
-// Each function reads the exponent byte and the mantissa radix before it chooses one of them, so that the
-// compiler needs no branch.
+// `exponent_base` and `exponent_radix` read their byte and the mantissa radix before they choose one of them, so that
+// the compiler needs no branch.
 
-/// Returns the digit separator, even if no flag allows one, or 0 if it is absent.
+/// Returns the digit separator of the word `format`, or 0 if it is absent. The result is the same whether or not a flag
+/// allows a digit separator.
 #[must_use]
 #[inline(always)]
 pub const fn digit_separator(format: u128) -> u8 {
     ((format & DIGIT_SEPARATOR) >> DIGIT_SEPARATOR_SHIFT) as u8
 }
 
-/// Returns the base prefix, or 0 if it is absent.
+/// Returns the base prefix of the word `format`, or 0 if it is absent.
 #[must_use]
 #[inline(always)]
 pub const fn base_prefix(format: u128) -> u8 {
     ((format & BASE_PREFIX) >> BASE_PREFIX_SHIFT) as u8
 }
 
-/// Returns the base suffix, or 0 if it is absent.
+/// Returns the base suffix of the word `format`, or 0 if it is absent.
 #[must_use]
 #[inline(always)]
 pub const fn base_suffix(format: u128) -> u8 {
     ((format & BASE_SUFFIX) >> BASE_SUFFIX_SHIFT) as u8
 }
 
-/// Returns the mantissa radix. It is at most 255, and in a lawful format it is between 2 and 36.
+/// Returns the mantissa radix of the word `format`. It is at most 255. If `format` is [lawful][Rule], it is between
+/// 2 and 36.
 #[must_use]
 #[inline(always)]
 pub const fn mantissa_radix(format: u128) -> u32 {
     ((format & MANTISSA_RADIX) >> MANTISSA_RADIX_SHIFT) as u32
 }
 
-/// Returns the exponent base, or the mantissa radix if that byte is 0. In a lawful format, the result is
-/// between 2 and 36.
+/// Returns the exponent base of the word `format`, or the mantissa radix if the exponent base is 0. If `format` is
+/// [lawful][Rule], the result is between 2 and 36.
 #[must_use]
 #[inline(always)]
 pub const fn exponent_base(format: u128) -> u32 {
@@ -294,8 +297,8 @@ pub const fn exponent_base(format: u128) -> u32 {
     }
 }
 
-/// Returns the exponent radix, or the mantissa radix if that byte is 0. In a lawful format, the result is
-/// between 2 and 36.
+/// Returns the exponent radix of the word `format`, or the mantissa radix if the exponent radix is 0. If `format` is
+/// [lawful][Rule], the result is between 2 and 36.
 #[must_use]
 #[inline(always)]
 pub const fn exponent_radix(format: u128) -> u32 {
@@ -310,12 +313,13 @@ pub const fn exponent_radix(format: u128) -> u32 {
 
 /// Returns the low 32 bits of `(format & mask) >> shift`, or the mantissa radix if they are 0.
 ///
-/// With the mask and the shift of a byte, the result is the byte, or the mantissa radix if the byte is 0.
-/// `shift` must be between 0 and 127.
+/// If `mask` and `shift` belong to one byte, such as [`EXPONENT_BASE`] and [`EXPONENT_BASE_SHIFT`], the result is that
+/// byte, or the mantissa radix if that byte is 0. `shift` must be between 0 and 127.
 ///
 /// # Panics
 ///
-/// Panics if `shift` is not in that range and overflow is checked. Without that check, it returns some number.
+/// Panics if `shift` is not in this range and overflow checks are enabled. If they are disabled, the result is
+/// unspecified.
 #[must_use]
 #[inline(always)]
 pub const fn radix_from_flags(format: u128, mask: u128, shift: i32) -> u32 {
