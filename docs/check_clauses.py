@@ -1,10 +1,10 @@
 """Compares the clauses that PROVED.md names with the contracts in crates/*/src.
 
 A row of a table describes the functions that its first cell names in backquotes, as `name`, `Type::name` or `name` of `Type`,
-or by a name of CALLED; a paragraph that begins with a name in bold describes the functions that it names before its verb, and
-has their clauses in brackets. Each clause that it names is one of theirs, and each of theirs is named. Each named clause of a
-public function of the libraries is named somewhere. The page names the public functions of the libraries that have
-preconditions (`requires`).
+or by a name of CALLED. A row of two cells has their clauses in brackets. A paragraph that begins with a name in bold does, too:
+it describes the functions that it names before its verb. Each clause that it names is one of theirs, and each of theirs is
+named. Each named clause of a public function of the libraries is named somewhere. The page names the public functions of the
+libraries that have preconditions (`requires`).
 """
 import pathlib
 import re
@@ -26,6 +26,8 @@ CALLED = {
 PARTIAL = {
     "`laws::layout_facts`": "one clause a fact, all described together",
 }
+# Clauses in brackets.
+BRACKETS = r"\((`\w+`(?:, `\w+`)*)\)"
 LIBRARIES = ["lexical_base", "lexical_flags", "lexical_builder", "lexical_util"]
 # Functions with clauses in no row: examples, the method of a trait that callers implement, texts of private types.
 UNTOLD = re.compile(r"\w+::(\w+_examples|put)|(Described|Numbered)::fmt")
@@ -73,12 +75,14 @@ def rows(page):
     """Returns (section, cells) of each row of the page's tables with a column of clauses, and of each call in bold."""
     for section in re.split(r"^## ", (TOP / "docs" / page).read_text(), flags=re.M)[1:]:
         for call in re.split(r"^(?=\*\*`)", section, flags=re.M)[1:]:
+            call = call.partition("\n\n|")[0]
             head = re.match(r".*? (?=returns|changes)", call, re.S)[0]
-            yield "", [head, call, " ".join(re.findall(r"\((`\w+`(?:, `\w+`)*)\)", call))]
+            yield "", [head, call, " ".join(re.findall(BRACKETS, call))]
         for table in re.findall(r"^\| .*Clauses? \|.*\n\|[-|]*\|\n((?:\|.*\n)+)", section, re.M):
             for row in table.splitlines():
                 crate = re.match(r"Other calls of `(\w+)`", section)
-                yield crate[1] if crate else "", [cell.strip() for cell in row.strip("|").split(" |")]
+                cells = [cell.strip() for cell in row.strip("|").split(" |")]
+                yield crate[1] if crate else "", [*cells, " ".join(re.findall(BRACKETS, cells[1]))][:3]
 
 
 def named(cell, section, known):

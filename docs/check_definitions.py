@@ -30,6 +30,7 @@ CALLS = {
     "edit_word": ["edit_word"],
     "normal_form": ["normal_form"],
     "error": ["format_error", "check"],
+    "build_strict": ["build_strict"],
     "is_built": ["is_built"],
     "edits_of": ["edits_of"],
     "options": ["is_valid_options_punctuation", "options_error"],

@@ -71,8 +71,6 @@ KEPT = [
     ("crates/numfmt/src/explanation.rt", "a comment from its middle", "/// and the edits that mend", "a line within a sentence"),
     ("docs/C-AND-PYTHON.md", "two semicolons", "for (int i = 1; i < argc; i++)", "code"),
     ("docs/DECISIONS.md", "alone", "cargo alone can build it", "cargo alone"),
-    ("docs/PROVED.md", "two semicolons", "| the plain Rust does what", "a list"),
-    ("docs/PROVED.md", "two semicolons", "| the eraser |", "a list"),
     ("explorer/number.js", "is no X", "if there is no such radix", "there is no .."),
     ("rust/examples/settings.rs", "is no X", "if there is no problem", "there is no .."),
     ("rust/src/lawful.rs", "a comment from its middle", "/// and hashed by their words.", "a line within a sentence"),
