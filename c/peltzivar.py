@@ -517,7 +517,7 @@ class FormatView:
 
     @property
     def case_sensitive_special(self) -> bool:
-        """If true, a parser refuses `nan` when the spelling is `NaN`."""
+        """If true, a parser refuses `nan` when the spelling of NaN is `NaN`."""
         return self._flag(Setter.CASE_SENSITIVE_SPECIAL)
 
     @property

@@ -70,8 +70,8 @@ def limits():
 
 def texts():
     """Returns the sentence on the bytes in the texts of the tables."""
-    found = re.search(r"In these texts, [^`]*(`.`[^`.]*)+\.", check_format.PAGE)
-    return " ".join(found[0].split()) if found else sys.exit("docs/FORMAT.md: no sentence on the texts of the tables")
+    found = re.search(r"In these texts, [^`]*(`.`[^`.]*)+\.", " ".join(check_format.PAGE.split()))
+    return found[0] if found else sys.exit("docs/FORMAT.md: no sentence on the texts of the tables")
 
 
 def setting(call):

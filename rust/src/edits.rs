@@ -113,8 +113,8 @@ pub enum FlagSetter {
     /// Sets whether the format forbids all special values. If so, a parser refuses `NaN` and `inf`. See
     /// [`no_special`][crate::format_builder::NumberFormatBuilder::no_special].
     NoSpecial,
-    /// Sets whether special values are case-sensitive. If so, a parser refuses `nan` when the spelling is `NaN`. See
-    /// [`case_sensitive_special`][crate::format_builder::NumberFormatBuilder::case_sensitive_special].
+    /// Sets whether special values are case-sensitive. If so, a parser refuses `nan` when the spelling of NaN is
+    /// `NaN`. See [`case_sensitive_special`][crate::format_builder::NumberFormatBuilder::case_sensitive_special].
     CaseSensitiveSpecial,
     /// Sets whether the format forbids leading zeros in an integer. If so, a parser refuses the integer `01` but
     /// accepts `0`. See

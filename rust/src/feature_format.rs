@@ -178,8 +178,8 @@ fields! {
     /// True if the format forbids all special values. In that case, a parser refuses `NaN` and `inf`. See the
     /// [setter][NumberFormatBuilder::no_special].
     NO_SPECIAL no_special bool;
-    /// True if special values are case-sensitive. In that case, a parser refuses `nan` when the spelling is `NaN`. See
-    /// the [setter][NumberFormatBuilder::case_sensitive_special].
+    /// True if special values are case-sensitive. In that case, a parser refuses `nan` when the spelling of NaN is `NaN`.
+    /// See the [setter][NumberFormatBuilder::case_sensitive_special].
     CASE_SENSITIVE_SPECIAL case_sensitive_special bool;
     /// True if the format forbids leading zeros in an integer. In that case, a parser refuses the integer `01` but
     /// accepts `0`. See the [setter][NumberFormatBuilder::no_integer_leading_zeros].

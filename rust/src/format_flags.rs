@@ -68,8 +68,8 @@ pub const NO_EXPONENT_WITHOUT_FRACTION: u128 = 0x200;
 /// [setter][crate::format_builder::NumberFormatBuilder::no_special].
 pub const NO_SPECIAL: u128 = 0x400;
 
-/// The flag that makes special values case-sensitive. If it is set, a parser refuses `nan` when the spelling is `NaN`.
-/// See the [setter][crate::format_builder::NumberFormatBuilder::case_sensitive_special].
+/// The flag that makes special values case-sensitive. If it is set, a parser refuses `nan` when the spelling of NaN is
+/// `NaN`. See the [setter][crate::format_builder::NumberFormatBuilder::case_sensitive_special].
 pub const CASE_SENSITIVE_SPECIAL: u128 = 0x800;
 
 /// The flag that forbids leading zeros in an integer. If it is set, a parser refuses the integer `01` but accepts `0`.

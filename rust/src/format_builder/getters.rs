@@ -141,8 +141,8 @@ impl NumberFormatBuilder {
         self.has_flag(flags::NO_SPECIAL)
     }
 
-    /// Returns whether special values are case-sensitive. If so, a parser refuses `nan` when the spelling is `NaN`.
-    /// See the [setter][Self::case_sensitive_special].
+    /// Returns whether special values are case-sensitive. If so, a parser refuses `nan` when the spelling of NaN is
+    /// `NaN`. See the [setter][Self::case_sensitive_special].
     #[must_use]
     #[inline(always)]
     pub const fn get_case_sensitive_special(&self) -> bool {

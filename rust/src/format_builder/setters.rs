@@ -170,7 +170,7 @@ impl NumberFormatBuilder {
         self.with_flags(flags::NO_SPECIAL, flag)
     }
 
-    /// Sets whether special values are case-sensitive. If so, a parser refuses `nan` when the spelling is `NaN`.
+    /// Sets whether special values are case-sensitive. If so, a parser refuses `nan` when the spelling of NaN is `NaN`.
     /// Otherwise, it accepts any case.
     #[must_use]
     #[inline(always)]

@@ -104,8 +104,8 @@ impl FormatView {
         has_any!(self, NO_SPECIAL)
     }
 
-    /// Returns whether special values are case-sensitive. If so, a parser refuses `nan` when the spelling is `NaN`.
-    /// See the [setter][super::NumberFormatBuilder::case_sensitive_special].
+    /// Returns whether special values are case-sensitive. If so, a parser refuses `nan` when the spelling of NaN is
+    /// `NaN`. See the [setter][super::NumberFormatBuilder::case_sensitive_special].
     #[must_use]
     #[inline(always)]
     pub const fn case_sensitive_special(&self) -> bool {

@@ -193,7 +193,7 @@ impl NumberFormatBuilder {
         self.with_flags(flags::NO_SPECIAL, flag)
     }
 
-    /// Sets whether special values are case-sensitive. If so, a parser refuses `nan` when the spelling is `NaN`.
+    /// Sets whether special values are case-sensitive. If so, a parser refuses `nan` when the spelling of NaN is `NaN`.
     /// Otherwise, it accepts any case.
     #[inline(always)]
     pub const fn case_sensitive_special(self, flag: bool) -> Self
