@@ -73,8 +73,6 @@ KEPT = [
     ("docs/DECISIONS.md", "alone", "cargo alone can build it", "cargo alone"),
     ("explorer/number.js", "is no X", "if there is no such radix", "there is no .."),
     ("rust/examples/settings.rs", "is no X", "if there is no problem", "there is no .."),
-    ("rust/src/lawful.rs", "a comment from its middle", "/// and hashed by their words.", "a line within a sentence"),
-    ("rust/src/lib.rs", "a comment from its middle", "//! and `rustc`.", "a line within a sentence"),
     ("rust/tests/details.rs", "a comment from its middle", "//! and numbers of rules,", "a line within a sentence"),
 ]  # fmt: skip
 # The most lines that stay.

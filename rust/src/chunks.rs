@@ -1,11 +1,12 @@
-//! Slices of bytes as chunks of one length, as `ascii` uses them. Stable Rust has `as_chunks` from 1.88 on.
+//! Splits slices of bytes into chunks of a fixed length, for `ascii`. Stable Rust has `as_chunks` only since version
+//! 1.88.
 
-/// Chunks of `N` bytes, one after another.
+/// Consecutive chunks of `N` bytes.
 pub(crate) struct Chunks<'a, const N: usize>(&'a [u8]);
 
 /// Bytes that can be split into chunks.
 pub(crate) trait SplitChunks {
-    /// Returns as many chunks of `N` bytes as there are, and the rest.
+    /// Returns as many chunks of `N` bytes as possible, and the remaining bytes.
     fn split_chunks<const N: usize>(&self) -> (Chunks<'_, N>, &[u8]);
 }
 
@@ -18,7 +19,7 @@ impl SplitChunks for [u8] {
 }
 
 impl<'a, const N: usize> Chunks<'a, N> {
-    /// Returns as many blocks of `M` chunks as there are, and the rest.
+    /// Returns as many blocks of `M` chunks as possible, and the remaining chunks.
     #[inline(always)]
     pub(crate) fn split_chunks<const M: usize>(self) -> (impl Iterator<Item = Self>, Self) {
         let blocks = self.0.chunks_exact(N * M);
@@ -42,7 +43,7 @@ impl<'a, const N: usize> Iterator for Chunks<'a, N> {
 mod tests {
     use super::SplitChunks;
 
-    /// Bytes whose values are their indices are split as by `chunks_exact`.
+    /// Bytes whose values are their indices are split in the same way as by `chunks_exact`.
     #[test]
     fn each_chunk_and_each_block_is_met_in_order() {
         let bytes: [u8; 64] = core::array::from_fn(|index| index as u8);

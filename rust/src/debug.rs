@@ -1,5 +1,5 @@
-//! `Debug` of builders, views and formats prints the format word, each field that differs from a new builder's, and the
-//! reserved bits and broken rules, if there are any.
+//! `Debug` of builders, views and formats. It prints the format word, each field that differs from a new builder's, and
+//! any reserved bits and broken rules.
 
 use core::fmt;
 
@@ -10,7 +10,7 @@ use crate::format_flags::{Rule, DIGIT_SEPARATOR_SHIFT};
 use crate::lawful::Format;
 use crate::view::FormatView;
 
-/// A byte that is printed as its character if that is visible ASCII, and as a number otherwise.
+/// A byte that is printed as a character if it is visible ASCII, and as a number otherwise.
 struct Character(u8);
 
 impl fmt::Debug for Character {
@@ -27,12 +27,12 @@ fn character(byte: OptionU8) -> Character {
     Character(number(byte))
 }
 
-/// A byte as a number; an absent byte is 0.
+/// Returns a byte as a number. An absent byte is 0.
 fn number(byte: OptionU8) -> u8 {
     byte.map_or(0, |byte| byte.get())
 }
 
-/// Writes a struct with `word` and the fields of the word `fields`.
+/// Writes a struct with the word `word` and with the fields of the word `fields`.
 fn write(f: &mut fmt::Formatter<'_>, name: &str, word: u128, fields: u128) -> fmt::Result {
     let mut text = f.debug_struct(name);
     text.field("word", &format_args!("{word:#034X}"));
@@ -59,7 +59,7 @@ fn write(f: &mut fmt::Formatter<'_>, name: &str, word: u128, fields: u128) -> fm
     text.finish()
 }
 
-/// The rules that a word breaks, as a list.
+/// The rules that a word breaks, which are printed as a list.
 struct BrokenRules(FormatView);
 
 impl fmt::Debug for BrokenRules {
@@ -68,7 +68,8 @@ impl fmt::Debug for BrokenRules {
     }
 }
 
-/// Writes the word that the builder packs, and its fields, also a digit separator that it does not pack.
+/// Writes the word that the builder packs, each field of the builder that differs from a new builder's, and any broken
+/// rules. A digit separator that no flag allows is written, although the builder does not pack it.
 impl fmt::Debug for NumberFormatBuilder {
     fn fmt(&self, f: &mut fmt::Formatter<'_>) -> fmt::Result {
         let word = self.build_unchecked();
@@ -82,22 +83,21 @@ impl fmt::Debug for NumberFormatBuilder {
     }
 }
 
-/// Writes the word, each field that differs from a new builder's, and the reserved bits and broken rules, if there are
-/// any.
+/// Writes the word, each field that differs from a new builder's, and any reserved bits and broken rules.
 impl fmt::Debug for FormatView {
     fn fmt(&self, f: &mut fmt::Formatter<'_>) -> fmt::Result {
         write(f, "FormatView", self.word(), self.word())
     }
 }
 
-/// Writes the word, and each field that differs from a new builder's.
+/// Writes the word and each field that differs from a new builder's.
 impl fmt::Debug for Format {
     fn fmt(&self, f: &mut fmt::Formatter<'_>) -> fmt::Result {
         write(f, "Format", self.word(), self.word())
     }
 }
 
-/// Writes the word as [`FormatView`] does.
+/// Writes the word and its fields, as [`FormatView`] does.
 impl<const FORMAT: u128> fmt::Debug for NumberFormat<FORMAT> {
     fn fmt(&self, f: &mut fmt::Formatter<'_>) -> fmt::Result {
         write(f, "NumberFormat", FORMAT, FORMAT)

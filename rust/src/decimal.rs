@@ -1,11 +1,11 @@
-//! The decimal digits of a number as one text, which a sink takes by one call in place of one call for each digit.
+//! The decimal digits of a number as one text. A sink takes this text in one call, instead of one call for each digit.
 
 use core::str;
 
 /// The two digits of each number below 100.
 const PAIRS: [[u8; 2]; 100] = pairs();
 
-/// The decimal digits of a number. A `usize` has at most 20.
+/// The decimal digits of a number. A `usize` has at most 20 digits.
 pub(crate) struct Decimal {
     digits: [u8; 20],
     start: usize,
@@ -48,7 +48,7 @@ impl Decimal {
 mod tests {
     use super::Decimal;
 
-    /// The digits are parsed to the number, and the first of several is not 0.
+    /// The digits are parsed to the number, and they have no leading zeros.
     #[test]
     fn digits_are_parsed_to_the_number() {
         let powers = (0..20).map(|power| 10usize.saturating_pow(power));

@@ -1,14 +1,15 @@
 // Made by rust/tools/erase.py from crates/lexical_util/src/edits.rt: change that file.
 
-//! Edits of a format word: lists of setter calls, and the normal form of a word.
+//! Edits, which are setter calls as values, and the normal form of a format word.
 
 use crate::error::Error;
 use crate::format_builder::{NumberFormatBuilder, OptionU8};
 use crate::format_flags as flags;
 use crate::format_flags::{check, FLAG_MASK};
 
-// Calls `$rows!` with `$args`, a row for each flag, and a row for each group of flags. A row has the variant of
-// `FlagSetter`, the name of the setter, and the mask that the setter writes. Each flag's getter has the same name.
+// Calls `$rows!` with `$args`, a row for each flag, and a row for each flag group. A row has the variant of
+// `FlagSetter`, the name of the setter, and the mask that the setter writes. The getter and the setter that belong to a
+// flag have the same name.
 macro_rules! with_setters {
     ($rows:ident $args:tt) => {
         $rows! {
@@ -72,8 +73,8 @@ pub use numbers::{
 };
 pub use text::{byte_from_decimal, SettingError};
 
-/// A builder setter that takes a `bool`. There is one for each flag, and one for each of the nine groups of flags.
-/// Each variant links to its setter.
+/// A setter of [`NumberFormatBuilder`] that takes a `bool`: the setter of one flag, or the setter of one of the nine
+/// groups of flags. Each variant links to its setter.
 #[derive(Debug, Clone, Copy, PartialEq, Eq, Hash, PartialOrd, Ord)]
 #[non_exhaustive]
 pub enum FlagSetter {
@@ -212,28 +213,29 @@ pub enum FlagSetter {
     ExponentDigitSeparatorFlags,
 }
 
-/// A setter call of a builder, with its argument.
+/// An edit: a call of one setter of [`NumberFormatBuilder`], with its argument, as a value.
 #[derive(Debug, Clone, Copy, PartialEq, Eq, Hash, PartialOrd, Ord)]
 pub enum Edit {
-    /// Writes a flag, or every flag of a group.
+    /// Sets a flag, or every flag of a group, to the `bool`.
     Flag(FlagSetter, bool),
-    /// Writes the digit separator. `None` means that the format has no digit separator.
+    /// Sets the digit separator. `None` means that the format has no digit separator.
     DigitSeparator(OptionU8),
-    /// Writes the base prefix. `None` means that the format has no base prefix.
+    /// Sets the base prefix. `None` means that the format has no base prefix.
     BasePrefix(OptionU8),
-    /// Writes the base suffix. `None` means that the format has no base suffix.
+    /// Sets the base suffix. `None` means that the format has no base suffix.
     BaseSuffix(OptionU8),
-    /// Writes the mantissa radix, a number from 0 to 255. In a lawful format it is between 2 and 36.
+    /// Sets the mantissa radix. Any number from 0 to 255 is accepted, but only a number between 2 and 36 is lawful.
     MantissaRadix(u8),
-    /// Writes the mantissa radix too: the setter `radix` is another name for the setter `mantissa_radix`.
+    /// Sets the mantissa radix, as [`MantissaRadix`][Self::MantissaRadix] does. The setter `radix` is another name for
+    /// the setter `mantissa_radix`.
     Radix(u8),
-    /// Writes the exponent base. `None` means the mantissa radix.
+    /// Sets the exponent base. `None` means that the exponent base follows the mantissa radix.
     ExponentBase(OptionU8),
-    /// Writes the exponent radix. `None` means the mantissa radix.
+    /// Sets the exponent radix. `None` means that the exponent radix follows the mantissa radix.
     ExponentRadix(OptionU8),
 }
 
-// The variants as an array: the flags, then the groups.
+// Makes the array of all variants: first the flags, then the groups.
 macro_rules! variants {
     (() { $($Flag:ident $flag:ident $FLAG:ident;)* } { $($Group:ident $group:ident $GROUP:ident;)* }) => {
         [$(FlagSetter::$Flag,)* $(FlagSetter::$Group,)*]
@@ -242,15 +244,16 @@ macro_rules! variants {
 
 const FLAGS: usize = u128::count_ones(FLAG_MASK) as usize;
 
-/// The number of fields of a word: the flags and six bytes.
+/// The number of fields in a format word: 31 flags and six bytes.
 #[doc(hidden)]
 pub const FIELD_COUNT: usize = FLAGS + 6;
 
-/// All setters that take a `bool`, in the order of the variants: the flag setters, then the nine group setters.
+/// All setters that take a `bool`, in the order of the variants of [`FlagSetter`]: first the flag setters, then the
+/// nine group setters.
 #[doc(hidden)]
 pub const SETTERS: [FlagSetter; FLAGS + 9] = with_setters!(variants());
 
-/// Applies one edit: calls the setter that it names.
+/// Applies `edit` to `builder`: calls the setter of the edit with its argument, and returns the new builder.
 #[must_use]
 #[inline(always)]
 pub const fn apply(builder: NumberFormatBuilder, edit: Edit) -> NumberFormatBuilder {
@@ -266,7 +269,7 @@ pub const fn apply(builder: NumberFormatBuilder, edit: Edit) -> NumberFormatBuil
     }
 }
 
-// Calls a flag setter or a group setter.
+// Calls a flag setter or a group setter with `flag`.
 #[inline(always)]
 const fn apply_flag(
     builder: NumberFormatBuilder,
@@ -276,8 +279,8 @@ const fn apply_flag(
     builder.with_flags(mask_of(setter) as u128, flag)
 }
 
-// Returns the mask of the flags that a setter writes. All flags are in the lower 64 bits of a word, and the compiler
-// makes a table only of numbers with at most 64 bits.
+// Returns the mask of the flags that a setter writes. The mask is a `u64`, since all flags are in the lower 64 bits of
+// a word, and the compiler makes lookup tables only for numbers of at most 64 bits.
 #[inline(always)]
 const fn mask_of(setter: FlagSetter) -> u64 {
     macro_rules! masks {
@@ -292,18 +295,19 @@ const fn mask_of(setter: FlagSetter) -> u64 {
     with_setters!(masks(setter))
 }
 
-/// Applies `edits` to a builder in order, each as one setter call.
+/// Applies `edits` to `builder` in order, and returns the new builder.
 ///
-/// To build a format from settings, apply them to a new builder and pack it with `build_strict`. The exponent base and
-/// the exponent radix then follow the mantissa radix, unless a setting writes them.
+/// To build a new format, apply the edits to a new builder, and call
+/// [`build_strict`][NumberFormatBuilder::build_strict]. The exponent base and the exponent radix then follow the
+/// mantissa radix, unless an edit sets them.
 ///
 /// # Proved
 ///
 /// For all arguments:
 ///
-/// - The result has the builder's fields [`after`](crate::definitions#after) the writes of all edits
+/// - The result has the fields of the builder [`after`](crate::definitions#after) the writes of all edits
 ///   ([`all_writes`](crate::definitions#all_writes)).
-/// - Each value fits its field ([`IsLegal`](crate::definitions#islegal)).
+/// - Each value that an edit writes fits its field ([`IsLegal`](crate::definitions#islegal)).
 ///
 /// ```text
 /// ensures fields { result ≡ after builder (all_writes edits.now) }
@@ -320,25 +324,29 @@ pub const fn apply_all(mut builder: NumberFormatBuilder, edits: &[Edit]) -> Numb
     builder
 }
 
-/// Applies `edits` in order to a format word, lawful or not, and returns the new word.
+/// Applies `edits` in order to a format word, which need not be [lawful][flags::Rule], and returns the new word.
 ///
-/// Use this for a finished format. An edit of the mantissa radix does not change the exponent base and the exponent
-/// radix, even if they followed the old mantissa radix. To build a new format, use [`apply_all`].
+/// Use this function to change a finished format. An edit of the mantissa radix changes neither the exponent base nor
+/// the exponent radix, even if they followed the old mantissa radix. To build a new format, use [`apply_all`].
+///
+/// The new word is computed in four steps:
 ///
 /// 1. The fields of `format` are read.
 /// 2. An exponent base or exponent radix of 0 is replaced by the mantissa radix.
-/// 3. Each edit is applied. If several edits write the same field, the last one wins. An exponent byte that an edit
-///    sets to `None` stays 0.
-/// 4. The digit separator is set to 0 if no flag allows one, and the fields are packed. The reserved bits are 0.
+/// 3. Each edit is applied. If several edits set the same field, the last one wins. An exponent base or exponent radix
+///    that an edit sets to `None` stays 0.
+/// 4. The digit separator is set to 0 if no flag allows one, and the fields are packed. The reserved bits, which hold
+///    no field, are 0 in the new word.
 ///
-/// Pass all edits in one call. Two calls can give a different word than one call with both lists: the first call drops
-/// a digit separator whose flag is not set yet, and the second fills an exponent byte that the first set to `None`.
+/// Pass all edits in one call. If you split them between two calls, the result can be a different word, for two
+/// reasons. The first call drops a digit separator if no flag allows one yet. The second call replaces an exponent base
+/// or exponent radix that the first call set to `None` by the mantissa radix.
 ///
 /// ```
 /// use peltzivar::edits::{edit_word, Edit, FlagSetter};
 /// use peltzivar::format::STANDARD;
 ///
-/// // The exponent keeps base and radix 10, which are now written in the word.
+/// // The exponent base and the exponent radix stay 10. They are now stored in the word.
 /// let edits = [Edit::MantissaRadix(16), Edit::Flag(FlagSetter::NoSpecial, true)];
 /// assert_eq!(edit_word(STANDARD, &edits), 0x0A0A1000_00000000_00000000_0000040C);
 /// ```
@@ -347,17 +355,17 @@ pub const fn apply_all(mut builder: NumberFormatBuilder, edits: &[Edit]) -> Numb
 ///
 /// For all arguments:
 ///
-/// - The result is [`edited`](crate::definitions#edited) from the word and the writes of all edits
+/// - The result is the word as [`edited`](crate::definitions#edited) by the writes of all edits
 ///   ([`all_writes`](crate::definitions#all_writes)).
-/// - Its fields ([`raw`](crate::definitions#raw)) are those of the word, filled
+/// - The fields of the result ([`raw`](crate::definitions#raw)) are the fields of the word, filled
 ///   ([`fill`](crate::definitions#fill)), overwritten in order ([`after`](crate::definitions#after)), and trimmed
 ///   ([`trim`](crate::definitions#trim)).
-/// - Its reserved bits are 0 ([`IsClean`](crate::definitions#isclean)).
+/// - The reserved bits of the result are 0 ([`IsClean`](crate::definitions#isclean)).
 /// - No other word whose reserved bits are 0 has these fields.
-/// - Legal writes ([`IsLegal`](crate::definitions#islegal)) that give each field the same last value
-///   ([`SameWrites`](crate::definitions#samewrites)) give the same result. So edits of different fields can be in
-///   any order, and a group edit equals the edits of its flags in any order.
-/// - Each value fits its field ([`IsLegal`](crate::definitions#islegal)).
+/// - Any legal writes ([`IsLegal`](crate::definitions#islegal)) that give each field the same last value
+///   ([`SameWrites`](crate::definitions#samewrites)) have the same result. So edits of different fields can be in
+///   any order, and a group edit is equivalent to the edits of its flags in any order.
+/// - Each value that an edit writes fits its field ([`IsLegal`](crate::definitions#islegal)).
 ///
 /// ```text
 /// ensures word { result ≡ edited format (all_writes edits.now) }
@@ -368,8 +376,8 @@ pub const fn apply_all(mut builder: NumberFormatBuilder, edits: &[Edit]) -> Numb
 /// ensures unique { (other : ℕ) → other < 2 ^ 128 → IsClean other
 ///     → raw other ≡ trim (after (fill (raw format)) (all_writes edits.now)) → other ≡ result }
 ///
-/// // Only the last write to each field matters. So edits of different fields can be in any order, and a group edit
-/// // equals the edits of its flags in any order.
+/// // Only the last write to each field matters. So edits of different fields can be in any order, and a group edit is
+/// // equivalent to the edits of its flags in any order.
 /// ensures same_writes { (writes : List Write) → All IsLegal writes
 ///     → SameWrites writes (all_writes edits.now) → edited format writes ≡ result }
 ///
@@ -381,32 +389,35 @@ pub const fn edit_word(format: u128, edits: &[Edit]) -> u128 {
     apply_all(NumberFormatBuilder::rebuild(format), edits).build_unchecked()
 }
 
-/// Returns the normal form of a word, lawful or not: the canonical word among all equivalent words.
+/// Returns the normal form of `format`, which need not be [lawful][flags::Rule]. The normal form is the canonical word
+/// among all equivalent words.
 ///
-/// In the normal form, each exponent byte is its effective value, the digit separator is absent unless a flag allows
-/// one, and the reserved bits are 0.
+/// In the normal form, an exponent base or exponent radix of 0 is replaced by the mantissa radix. The digit separator
+/// is 0 if no flag allows one, and the reserved bits, which hold no field, are 0. All other fields are those of
+/// `format`. Two words are equivalent if they have the same normal form.
 ///
 /// # Proved
 ///
 /// For all arguments:
 ///
-/// - The result is the word edited by no writes ([`normal_form_of`](crate::definitions#normal_form_of)).
-/// - Its fields ([`raw`](crate::definitions#raw)) are those of the word, filled
+/// - The result is the word as edited by an empty list of writes
+///   ([`normal_form_of`](crate::definitions#normal_form_of)).
+/// - The fields of the result ([`raw`](crate::definitions#raw)) are the fields of the word, filled
 ///   ([`fill`](crate::definitions#fill)) and trimmed ([`trim`](crate::definitions#trim)).
-/// - Its reserved bits are 0 ([`IsClean`](crate::definitions#isclean)).
+/// - The reserved bits of the result are 0 ([`IsClean`](crate::definitions#isclean)).
 /// - No other word whose reserved bits are 0 has these fields.
-/// - The normal form of a normal form is itself.
+/// - The normal form of a normal form is the word itself.
 /// - A word is its own normal form if and only if it is normal ([`IsNormal`](crate::definitions#isnormal)).
 /// - The word and its normal form are equivalent ([`SameFormat`](crate::definitions#sameformat)).
-/// - For each list of flags, both words have one of the flags set, or neither word has
+/// - For each list of flags, both words have at least one of the flags set, or neither has
 ///   ([`any_flag`](crate::definitions#any_flag)).
-/// - For each list of flags, both words have the same bits ([`bits_of`](crate::definitions#bits_of)).
+/// - For each list of flags, both words have the same bits set ([`bits_of`](crate::definitions#bits_of)).
 /// - The normal form of a [`Lawful`](crate::definitions#lawful) word is lawful.
 /// - If neither a reserved bit nor a separator is dropped ([`IsClean`](crate::definitions#isclean),
 ///   [`SeparatorAllowedOrAbsent`](crate::definitions#separatorallowedorabsent)), both words have the same error
 ///   ([`IsErrorOf`](crate::definitions#iserrorof)).
-/// - If no separator is dropped, both words give the same word when they are
-///   [`edited`](crate::definitions#edited).
+/// - If no separator is dropped, both words, when [`edited`](crate::definitions#edited) by the same legal writes,
+///   become the same word.
 /// - The result is normal ([`IsNormal`](crate::definitions#isnormal)).
 ///
 /// ```text
@@ -418,12 +429,12 @@ pub const fn edit_word(format: u128, edits: &[Edit]) -> u128 {
 /// ensures unique { (other : ℕ) → other < 2 ^ 128 → IsClean other
 ///     → raw other ≡ trim (fill (raw format)) → other ≡ result }
 ///
-/// // A normal form is its own normal form.
+/// // The normal form of a normal form is the word itself.
 /// ensures idempotent { normal_form_of result ≡ result }
 /// ensures unchanged { (result ≡ format) ↔ IsNormal format }
 ///
-/// // Both words are equivalent: their effective fields are equal, except for a separator that no flag allows, and so
-/// // are their flags in each list of flags.
+/// // The word and its normal form are equivalent. Their effective fields are equal, except for a separator that no
+/// // flag allows. For each list of flags, both have the same bits.
 /// ensures same { SameFormat (raw format) (raw result) }
 /// ensures groups { (fs : List Flag) → any_flag format fs ≡ any_flag result fs }
 /// ensures flags { (fs : List Flag) → bits_of format fs ≡ bits_of result fs }
@@ -434,7 +445,7 @@ pub const fn edit_word(format: u128, edits: &[Edit]) -> u128 {
 /// ensures error { IsClean format → SeparatorAllowedOrAbsent (raw format)
 ///     → (error : Error) → IsErrorOf format error ↔ IsErrorOf result error }
 ///
-/// // If no separator is dropped, both words give the same word when they are edited.
+/// // If no separator is dropped, the same writes turn both words into the same word.
 /// ensures edits { SeparatorAllowedOrAbsent (raw format) → (writes : List Write) → All IsLegal writes
 ///     → edited result writes ≡ edited format writes }
 /// ensures normal { IsNormal result }
@@ -445,21 +456,21 @@ pub const fn normal_form(format: u128) -> u128 {
     NumberFormatBuilder::rebuild(format).build_unchecked()
 }
 
-/// Returns the normal form of `format` if the normal form is lawful.
+/// Returns the [normal form][normal_form] of `format` if that form is [lawful][flags::Rule].
 ///
-/// Use this for words that were stored by `lexical-util`, or by this crate before its rules changed. Reserved bits,
-/// absent exponent bytes and a digit separator that no flag allows are not errors, since the normal form has none of
-/// them.
+/// Use this function for words that `lexical-util` stored, or that this crate stored before its rules changed. A word
+/// with reserved bits or with a digit separator that no flag allows is accepted, since its normal form has neither.
 ///
 /// # Errors
 ///
-/// If the normal form is not lawful, returns the error of the first rule that it breaks. This is never `Success` or
-/// `InvalidFlags`.
+/// If the normal form is not lawful, returns the error of the first rule that it breaks. The error is never `Success`
+/// or `InvalidFlags`.
 ///
 /// ```
 /// use peltzivar::{edits::migrate, error::Error};
 ///
-/// // The reserved bit 31 is cleared, and the exponent bytes are filled; flags 4 and 5 exclude each other.
+/// // Bit 31 is reserved and is cleared. The exponent base and the exponent radix become 10.
+/// // Flags 4 and 5 cannot both be set.
 /// assert_eq!(migrate(0x00000A00_00000000_00000000_8000000C), Ok(0x0A0A0A00_00000000_00000000_0000000C));
 /// assert_eq!(migrate(0x00000A00_00000000_00000000_0000003C), Err(Error::InvalidMantissaSign));
 /// ```
@@ -468,16 +479,16 @@ pub const fn normal_form(format: u128) -> u128 {
 ///
 /// For all arguments:
 ///
-/// - The result is `Ok` of the normal form ([`normal_form_of`](crate::definitions#normal_form_of)) if and only if
-///   that is [`Lawful`](crate::definitions#lawful).
-/// - Its fields ([`raw`](crate::definitions#raw)) are those of the word, filled
+/// - The result is `Ok` if and only if the normal form ([`normal_form_of`](crate::definitions#normal_form_of)) is
+///   [`Lawful`](crate::definitions#lawful). An `Ok` holds the normal form.
+/// - A returned word has the fields ([`raw`](crate::definitions#raw)) of the given word, filled
 ///   ([`fill`](crate::definitions#fill)) and trimmed ([`trim`](crate::definitions#trim)).
 /// - A returned word is normal ([`IsNormal`](crate::definitions#isnormal)).
 /// - A returned word is equivalent to the given word ([`SameFormat`](crate::definitions#sameformat)).
-/// - An `Err` has the error of the first rule that the normal form breaks
+/// - An `Err` holds the error of the first rule that the normal form breaks
 ///   ([`IsErrorOf`](crate::definitions#iserrorof)).
-/// - It is never `Err(Success)`.
-/// - It is never `Err(InvalidFlags)`, since reserved bits are dropped.
+/// - The result is never `Err(Success)`.
+/// - The result is never `Err(InvalidFlags)`, since reserved bits are dropped.
 ///
 /// ```text
 /// ensures lawful { OkIff result (Lawful (normal_form_of format)) (normal_form_of format) }
@@ -492,7 +503,7 @@ pub const fn migrate(format: u128) -> Result<u128, Error> {
     check(normal_form(format))
 }
 
-/// Returns whether two words are equivalent, that is, whether they have the same normal form.
+/// Returns whether two words are equivalent, that is, whether they have the same [normal form][normal_form].
 ///
 /// # Proved
 ///
@@ -500,7 +511,7 @@ pub const fn migrate(format: u128) -> Result<u128, Error> {
 ///
 /// - The result is true if and only if the words have the same normal form
 ///   ([`normal_form_of`](crate::definitions#normal_form_of)).
-/// - This holds if and only if the words' fields ([`raw`](crate::definitions#raw)) are equivalent
+/// - The result is true if and only if the fields of the words ([`raw`](crate::definitions#raw)) are equivalent
 ///   ([`SameFormat`](crate::definitions#sameformat)).
 ///
 /// ```text

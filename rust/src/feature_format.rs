@@ -1,5 +1,5 @@
-//! A view of a format word that is known at compile time. As in `lexical-util`, the word is a const argument of the
-//! type, and each field is available as a constant and as a method.
+//! A view of a format word that is known at compile time. As in `lexical-util`, the word is a const generic argument of
+//! the type. Each field is available as a constant and as a method.
 //!
 //! ```
 //! use peltzivar::feature_format::NumberFormat;
@@ -14,9 +14,10 @@ use crate::error::Error;
 use crate::format_builder::NumberFormatBuilder;
 use crate::view::FormatView;
 
-/// A view of a format word that is known at compile time, which reads the fields of the word and checks it.
+/// A view of a format word that is known at compile time. It reads the fields of the word, and checks the word.
 ///
-/// Any word is allowed, lawful or not. [`FormatView`] has the same methods for a word that is known only at run time.
+/// Any word is allowed, whether or not it is [lawful][crate::Rule]. [`FormatView`] has the same methods for a word that
+/// is known only at run time.
 #[derive(Clone, Copy, PartialEq, Eq, Hash)]
 pub struct NumberFormat<const FORMAT: u128>;
 
@@ -30,22 +31,22 @@ impl<const FORMAT: u128> NumberFormat<FORMAT> {
         NumberFormat
     }
 
-    /// Returns the view of the word as a [`FormatView`], the type that also serves for words that are known only at run
-    /// time.
+    /// Returns the view as a [`FormatView`], a type that can also hold a word that is known only at run time.
     #[must_use]
     #[inline(always)]
     pub const fn view(&self) -> FormatView {
         Self::VIEW
     }
 
-    /// Returns whether `byte` is a digit of the mantissa radix or of the exponent radix.
+    /// Returns whether `byte` is a digit in the mantissa radix or in the exponent radix. A letter of either case can be
+    /// a digit.
     #[must_use]
     #[inline(always)]
     pub const fn is_digit(&self, byte: u8) -> bool {
         Self::VIEW.is_digit(byte)
     }
 
-    /// Returns whether `byte` is the base prefix. If the base prefix is a letter, both cases of it match unless
+    /// Returns whether `byte` is the base prefix. A base prefix that is a letter matches both cases unless
     /// `case_sensitive_base_prefix` is set.
     #[must_use]
     #[inline(always)]
@@ -53,7 +54,7 @@ impl<const FORMAT: u128> NumberFormat<FORMAT> {
         Self::VIEW.is_base_prefix(byte)
     }
 
-    /// Returns whether `byte` is the base suffix. If the base suffix is a letter, both cases of it match unless
+    /// Returns whether `byte` is the base suffix. A base suffix that is a letter matches both cases unless
     /// `case_sensitive_base_suffix` is set.
     #[must_use]
     #[inline(always)]
@@ -61,7 +62,7 @@ impl<const FORMAT: u128> NumberFormat<FORMAT> {
         Self::VIEW.is_base_suffix(byte)
     }
 
-    /// Returns a new builder, which does not depend on the word.
+    /// Returns a new builder. It does not depend on the word.
     #[must_use]
     #[inline(always)]
     pub const fn builder() -> NumberFormatBuilder {
@@ -105,7 +106,7 @@ impl From<u128> for FormatView {
     }
 }
 
-/// Fields that are constants and methods. Each row has the sentence, both names and the type of a field.
+/// Defines each field as a constant and as a method. A row has the documentation, both names and the type of a field.
 macro_rules! fields {
     ($($(#[$doc:meta])* $CONST:ident $get:ident $Type:ty;)*) => {
         impl<const FORMAT: u128> NumberFormat<FORMAT> {
@@ -126,7 +127,7 @@ macro_rules! fields {
     };
 }
 
-/// Methods without a constant. Each row has the sentence, the name and the type of a method.
+/// Defines methods that have no constant. A row has the documentation, the name and the type of a method.
 macro_rules! methods {
     ($($(#[$doc:meta])* $get:ident $Type:ty;)*) => {
         impl<const FORMAT: u128> NumberFormat<FORMAT> {
@@ -253,7 +254,8 @@ fields! {
     /// True if the format allows digit separators in special values. In that case, a parser accepts `N__a_N_` as `NaN`.
     /// See the [setter][NumberFormatBuilder::special_digit_separator].
     SPECIAL_DIGIT_SEPARATOR special_digit_separator bool;
-    /// The [digit separator][NumberFormatBuilder::digit_separator], even if no flag allows it, or 0 if it is absent.
+    /// The [digit separator][NumberFormatBuilder::digit_separator], or 0 if it is absent. It has this value even if no
+    /// flag allows digit separators.
     DIGIT_SEPARATOR digit_separator u8;
     /// The [base prefix][NumberFormatBuilder::base_prefix], or 0 if it is absent.
     BASE_PREFIX base_prefix u8;
@@ -261,7 +263,7 @@ fields! {
     BASE_SUFFIX base_suffix u8;
     /// The [mantissa radix][NumberFormatBuilder::mantissa_radix], a number from 0 to 255.
     MANTISSA_RADIX mantissa_radix u32;
-    /// The mantissa radix. This is another name for [`MANTISSA_RADIX`][Self::MANTISSA_RADIX].
+    /// The mantissa radix, which is also available as [`MANTISSA_RADIX`][Self::MANTISSA_RADIX].
     RADIX radix u32;
     /// The [exponent base][NumberFormatBuilder::exponent_base], or the mantissa radix if that byte is 0.
     EXPONENT_BASE exponent_base u32;
@@ -270,12 +272,13 @@ fields! {
 }
 
 methods! {
-    /// Returns whether the word is lawful, that is, whether it keeps all rules that [`error`][Self::error] checks.
+    /// Returns whether the word is lawful, that is, whether it keeps all the rules that [`error`][Self::error] checks.
     is_valid bool;
     /// Returns the error of the first rule that the word breaks, in the order of [`Rule`][crate::format_flags::Rule],
     /// or `Success` if it is lawful.
     error Error;
-    /// Returns whether the mantissa radix, the exponent base and the exponent radix are all between 2 and 36.
+    /// Returns whether the mantissa radix, the exponent base and the exponent radix are all between 2 and 36. An
+    /// exponent base or exponent radix of 0 means the mantissa radix.
     is_valid_radix bool;
     /// Checks the mantissa radix, the exponent base and the exponent radix, in this order. Returns the error of the
     /// first one that is not between 2 and 36, or `Success` if all three are.
@@ -286,26 +289,25 @@ methods! {
     has_base_prefix bool;
     /// Returns whether the base suffix byte is not 0.
     has_base_suffix bool;
-    /// Returns the second power of the mantissa radix.
+    /// Returns the square of the mantissa radix.
     radix2 u32;
     /// Returns the fourth power of the mantissa radix.
     radix4 u32;
-    /// Returns the eighth power of the mantissa radix modulo 2^32.
+    /// Returns the eighth power of the mantissa radix modulo 2^32. The result is exact up to radix 15, and it is 0 for
+    /// radix 16.
     radix8 u32;
-    /// Returns the flags of the word, with all other bits 0.
+    /// Returns the flags of the word. All other bits of the result are 0.
     flags u128;
-    /// Returns the bits of the word under [`INTERFACE_FLAG_MASK`][crate::format_flags::INTERFACE_FLAG_MASK], with all
-    /// other bits 0.
+    /// Returns the bitwise AND of the word and [`INTERFACE_FLAG_MASK`][crate::format_flags::INTERFACE_FLAG_MASK].
     interface_flags u128;
-    /// Returns the digit separator flags of the word, with all other bits 0.
+    /// Returns the digit separator flags of the word. All other bits of the result are 0.
     digit_separator_flags u128;
-    /// Returns the bits of the word under [`EXPONENT_FLAG_MASK`][crate::format_flags::EXPONENT_FLAG_MASK], with all
-    /// other bits 0.
+    /// Returns the bitwise AND of the word and [`EXPONENT_FLAG_MASK`][crate::format_flags::EXPONENT_FLAG_MASK].
     exponent_flags u128;
-    /// Returns the digit separator flags of the integer, with all other bits 0.
+    /// Returns the flags that allow digit separators in the integer. All other bits of the result are 0.
     integer_digit_separator_flags u128;
-    /// Returns the digit separator flags of the fraction, with all other bits 0.
+    /// Returns the flags that allow digit separators in the fraction. All other bits of the result are 0.
     fraction_digit_separator_flags u128;
-    /// Returns the digit separator flags of the exponent, with all other bits 0.
+    /// Returns the flags that allow digit separators in the exponent. All other bits of the result are 0.
     exponent_digit_separator_flags u128;
 }

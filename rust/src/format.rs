@@ -1,8 +1,9 @@
-//! All names related to number formats in one module, as in `lexical-util`: the names of
-//! [`format_builder`][crate::format_builder] and [`format_flags`][crate::format_flags], and the types that read a word.
+//! All names related to number formats in one module, as in `lexical-util`. These are the names of
+//! [`format_builder`][crate::format_builder] and [`format_flags`][crate::format_flags], and the types that read a
+//! format word.
 //!
-//! For a word that is known only at run time, use [`FormatView`], or [`Format`] if it has to be lawful. The ready-made
-//! formats of `lexical-util` are not here; `examples/recipes.rs` has some to copy.
+//! For a word that is known only at run time, use [`FormatView`], or [`Format`] if the word must be lawful. The
+//! prebuilt formats of `lexical-util` are not included. To copy one, see `examples/recipes.rs`.
 
 #[doc(no_inline)]
 pub use crate::feature_format::NumberFormat;
@@ -22,14 +23,15 @@ pub use crate::word::STANDARD;
 use crate::error::Error;
 use crate::refusal::Refusal;
 
-/// Returns whether the format is lawful, that is, whether [`format_error`] returns `Success`.
+/// Returns whether the format word `FORMAT` is lawful, that is, whether [`format_error`] returns `Success` for it.
 #[must_use]
 #[inline(always)]
 pub const fn format_is_valid<const FORMAT: u128>() -> bool {
     NumberFormat::<FORMAT>::new().is_valid()
 }
 
-/// Returns the error of the first rule that the format breaks, or [`Error::Success`] if it is lawful.
+/// Returns the error of the first [rule][Rule] that the format word `FORMAT` breaks, or [`Error::Success`] if it breaks
+/// none.
 #[must_use]
 #[inline(always)]
 pub const fn format_error<const FORMAT: u128>() -> Error {
@@ -37,7 +39,8 @@ pub const fn format_error<const FORMAT: u128>() -> Error {
 }
 
 impl NumberFormatBuilder {
-    /// Packs the fields into a format word. In a constant, a format that is not lawful does not compile.
+    /// Packs the fields into a format word. If this method is called in a constant and the word is not [lawful][Rule],
+    /// the program does not compile.
     ///
     /// ```
     /// use core::num::NonZeroU8;
@@ -50,9 +53,8 @@ impl NumberFormatBuilder {
     /// assert_eq!(FORMAT, 0x00000A00_0000005F_00000007_0000000C);
     /// ```
     ///
-    /// The compiler's error contains the description of the first broken rule and the first reason. Here, it is
-    /// `'invalid digit separator: must be ASCII and not a digit or a `+/-` sign': the digit separator '5' is a digit in
-    /// radix 10`:
+    /// The compile-time error contains the error description of the first broken rule, and the reason why the rule is
+    /// broken. In this example, the reason is `the digit separator '5' is a digit in radix 10`:
     ///
     /// ```compile_fail,E0080
     /// use core::num::NonZeroU8;
@@ -67,7 +69,7 @@ impl NumberFormatBuilder {
     ///
     /// # Panics
     ///
-    /// Panics if the format is not lawful. To get a `Result`, call [`build_strict`][Self::build_strict] or
+    /// Panics if the word is not lawful. To get a `Result` instead, call [`build_strict`][Self::build_strict] or
     /// [`build_format`][Self::build_format].
     #[must_use]
     #[track_caller]

@@ -12,19 +12,19 @@ mod setters;
 
 pub use core::num::NonZeroU8;
 
-// The bit at which the digit separator flags of a builder start. In a format word they start at bit 32.
+// The bit at which the digit separator flags of a builder start. In a format word, they start at bit 32.
 const FIRST_SEPARATOR: u32 = u128::count_ones(flags::FLAG_MASK % (1 << 32));
 
-// Masks of the flags below the digit separator flags, which have the same bits in a format word, and of the digit
-// separator flags.
+// The masks of a builder's flags: first the flags below the digit separator flags, whose bits are the same in a format
+// word, and then the digit separator flags.
 const LOW_FLAGS: u32 = (1 << FIRST_SEPARATOR) - 1;
 
 const SEPARATOR_FLAGS: u32 = (flags::DIGIT_SEPARATOR_FLAG_MASK >> (32 - FIRST_SEPARATOR)) as u32;
 
-// Mask of the flags of a new builder, at the bits of a format word.
+// The flags that are set in a new builder, at their bits in a format word.
 const NEW_FLAGS: u128 = 0xC;
 
-// The format word that has 1 as mantissa radix, exponent base and exponent radix.
+// The word whose mantissa radix, exponent base and exponent radix are 1, and whose other bits are 0.
 const ONE_IN_EACH_RADIX: u128 = 0x01010100_00000000_00000000_00000000;
 
 // The index of each byte in a builder.
@@ -40,7 +40,7 @@ const EXPONENT_BASE: usize = 4;
 
 const EXPONENT_RADIX: usize = 5;
 
-// The lowest bit of each byte, except the separator, in the upper half of a format word.
+// The lowest bit of each byte in the upper half of a format word. The digit separator starts at bit 0.
 const PREFIX_SHIFT: i32 = flags::BASE_PREFIX_SHIFT - 64;
 
 const SUFFIX_SHIFT: i32 = flags::BASE_SUFFIX_SHIFT - 64;
@@ -51,22 +51,22 @@ const BASE_SHIFT: i32 = flags::EXPONENT_BASE_SHIFT - 64;
 
 const RADIX_SHIFT: i32 = flags::EXPONENT_RADIX_SHIFT - 64;
 
-// The bits of base prefix, base suffix and mantissa radix in the upper half of a format word.
+// The bits of the base prefix, the base suffix and the mantissa radix in the upper half of a format word.
 const WITHOUT_SEPARATOR: u64 = 0x0000_FFFF_FF00_0000;
 
-// These bits and the bits of the digit separator.
+// The bits in `WITHOUT_SEPARATOR`, and the bits of the digit separator.
 const WITH_SEPARATOR: u64 = 0x0000_FFFF_FF00_00FF;
 
 /// A byte that may be absent.
 pub type OptionU8 = Option<NonZeroU8>;
 
-/// The fields of a number format, which are set one by one and packed into a format word.
+/// A builder for number formats. It sets the fields of a format one by one, and packs them into a `u128`, the *format
+/// word*.
 ///
-/// A builder has the flags, the mantissa radix, and five bytes that may be absent: digit
-/// separator, base prefix, base suffix, exponent base and exponent radix. A setter takes the
-/// builder and returns it with one field, or the flags of one group, changed. Every other field
-/// keeps its value. So setters of different fields can be called in any order. If several calls set one
-/// field, the last one wins.
+/// A builder has 31 flags, the mantissa radix, and five bytes that may be absent: the digit separator, the base prefix,
+/// the base suffix, the exponent base and the exponent radix. Each setter takes the builder, sets one field or all
+/// flags of one group, and returns the builder. It leaves every other field as it is. Setters of different fields can
+/// therefore be called in any order. If several calls set the same field, the last one wins.
 ///
 /// ```
 /// use peltzivar::format_builder::{NonZeroU8, NumberFormatBuilder};
@@ -77,7 +77,7 @@ pub type OptionU8 = Option<NonZeroU8>;
 #[derive(Clone, Copy, PartialEq, Eq, Hash)]
 pub struct NumberFormatBuilder {
     flags: u32,
-    // A byte that is absent is 0.
+    // An absent byte is 0.
     bytes: [u8; 6],
 }
 
@@ -91,7 +91,7 @@ impl Default for NumberFormatBuilder {
 impl NumberFormatBuilder {
     // CONSTRUCTORS
 
-    /// Returns a builder with the default fields.
+    /// Returns a builder in which every field has its default value.
     ///
     /// The mantissa radix is 10, and all other bytes are absent. The flags `required_exponent_digits` and
     /// `required_mantissa_digits` are true, and all other flags are false.
@@ -104,37 +104,38 @@ impl NumberFormatBuilder {
         }
     }
 
-    /// Returns the format of binary numbers: `from_radix(2)`.
+    /// Returns the format word for binary numbers, which is [`from_radix(2)`][Self::from_radix].
     #[must_use]
     #[inline(always)]
     pub const fn binary() -> u128 {
         Self::from_radix(2)
     }
 
-    /// Returns the format of octal numbers: `from_radix(8)`.
+    /// Returns the format word for octal numbers, which is [`from_radix(8)`][Self::from_radix].
     #[must_use]
     #[inline(always)]
     pub const fn octal() -> u128 {
         Self::from_radix(8)
     }
 
-    /// Returns the format of decimal numbers: `from_radix(10)`.
+    /// Returns the format word for decimal numbers, which is [`from_radix(10)`][Self::from_radix].
     #[must_use]
     #[inline(always)]
     pub const fn decimal() -> u128 {
         Self::from_radix(10)
     }
 
-    /// Returns the format of hexadecimal numbers: `from_radix(16)`.
+    /// Returns the format word for hexadecimal numbers, which is [`from_radix(16)`][Self::from_radix].
     #[must_use]
     #[inline(always)]
     pub const fn hexadecimal() -> u128 {
         Self::from_radix(16)
     }
 
-    /// Returns the format of a new builder with `radix` as mantissa radix, exponent base and exponent radix.
+    /// Returns the format word of a new builder whose mantissa radix, exponent base and exponent radix are set to
+    /// `radix`.
     ///
-    /// The radix is not checked. The format is lawful if and only if `radix` is between 2 and 36.
+    /// The radix is not checked. The word is [lawful][flags::Rule] if and only if `radix` is between 2 and 36.
     #[must_use]
     #[inline(always)]
     pub const fn from_radix(radix: u8) -> u128 {
@@ -145,22 +146,23 @@ impl NumberFormatBuilder {
 impl NumberFormatBuilder {
     // BUILDERS
 
-    /// Packs the fields into a format word, lawful or not.
+    /// Packs the fields into a format word without checking whether the word is [lawful][flags::Rule].
     ///
-    /// Every field is packed unchanged, except the digit separator. It is packed if one of the digit separator
-    /// flags, including `special_digit_separator`, is set, and is 0 otherwise.
+    /// If no flag allows digit separators, the digit separator is dropped: its byte in the word is 0. These flags
+    /// include `special_digit_separator`. All other fields are packed as they are.
     ///
     /// # Proved
     ///
     /// For all arguments:
     ///
     /// - The result is the packed word ([`pack`](crate::definitions#pack)) of the builder's fields.
-    /// - Its fields ([`raw`](crate::definitions#raw)) are those of the builder, without a separator that no flag
-    ///   allows ([`trim`](crate::definitions#trim)).
-    /// - Its reserved bits are 0 ([`IsClean`](crate::definitions#isclean)).
+    /// - The fields of the result ([`raw`](crate::definitions#raw)) are those of the builder, without a separator
+    ///   that no flag allows ([`trim`](crate::definitions#trim)).
+    /// - The reserved bits of the result are 0 ([`IsClean`](crate::definitions#isclean)).
     /// - Each byte of the builder is between 0 and 255 ([`HasBytes`](crate::definitions#hasbytes)).
-    /// - Any fields ([`HasBytes`](crate::definitions#hasbytes)) pack into the same word if and only if they are equal
-    ///   to the builder's fields after both are trimmed ([`trim`](crate::definitions#trim)).
+    /// - Another record of fields whose bytes are between 0 and 255 ([`HasBytes`](crate::definitions#hasbytes)) packs
+    ///   into the same word if and only if it equals the record of the builder after both are trimmed
+    ///   ([`trim`](crate::definitions#trim)).
     ///
     /// ```text
     /// ensures word { result ≡ pack self.now }
@@ -168,7 +170,7 @@ impl NumberFormatBuilder {
     /// ensures clean { IsClean result }
     /// ensures bytes { HasBytes self.now }
     ///
-    /// // Another builder packs into the same word if and only if it has the same fields. A separator that no flag
+    /// // Two builders pack into the same word if and only if they have the same fields. A separator that no flag
     /// // allows is ignored.
     /// ensures alike { (s : Record) → HasBytes s → (pack s ≡ result) ↔ (trim s ≡ trim self.now) }
     /// ```
@@ -187,26 +189,28 @@ impl NumberFormatBuilder {
         flags | (upper as u128) << 64
     }
 
-    /// Packs the fields into a format word, and returns the word if it is lawful. The builder is not changed.
+    /// Packs the fields into a format word, and returns the word if it is [lawful][flags::Rule].
     ///
-    /// In `lexical-util` this call panics with the description of the error. So does
-    /// [`build_or_panic`][Self::build_or_panic], which is for constants, where a `Result` cannot be unwrapped.
+    /// In `lexical-util`, this method panics instead of returning an error. [`build_or_panic`][Self::build_or_panic]
+    /// panics too. Call it in constants, where a `Result` cannot be unwrapped.
     ///
     /// # Errors
     ///
-    /// If the word is not lawful, returns the error of the first rule that it breaks. This is never `Success`.
+    /// If the word is not lawful, returns the error of the first rule that the word breaks. The error is never
+    /// `Success`.
     ///
     /// # Proved
     ///
     /// For all arguments:
     ///
-    /// - The result is `Ok` of the packed word ([`pack`](crate::definitions#pack)) if and only if that word is
-    ///   [`Lawful`](crate::definitions#lawful).
-    /// - The fields ([`raw`](crate::definitions#raw)) of that word are those of the builder after
-    ///   [`trim`](crate::definitions#trim).
-    /// - An `Err` has the error of the first rule that the word breaks ([`IsErrorOf`](crate::definitions#iserrorof)).
-    /// - It is never `Err(Success)`.
-    /// - It is never `Err(InvalidFlags)`, since the builder sets no reserved bit.
+    /// - The result is `Ok` if and only if the packed word ([`pack`](crate::definitions#pack)) is
+    ///   [`Lawful`](crate::definitions#lawful). An `Ok` holds this word.
+    /// - A returned word has the fields ([`raw`](crate::definitions#raw)) of the builder, without a separator that no
+    ///   flag allows ([`trim`](crate::definitions#trim)).
+    /// - An `Err` holds the error of the first rule that the word breaks
+    ///   ([`IsErrorOf`](crate::definitions#iserrorof)).
+    /// - The result is never `Err(Success)`.
+    /// - The result is never `Err(InvalidFlags)`, since the builder sets no reserved bit.
     ///
     /// ```text
     /// ensures lawful { OkIff result (Lawful (pack self.now)) (pack self.now) }
@@ -222,7 +226,8 @@ impl NumberFormatBuilder {
         check(self.build_unchecked())
     }
 
-    /// Packs the fields into a format word, as `build_unchecked` does. In `lexical-util`, `build` is deprecated.
+    /// Packs the fields into a format word, as [`build_unchecked`][Self::build_unchecked] does. In `lexical-util`,
+    /// `build` is deprecated.
     ///
     /// # Proved
     ///
@@ -239,16 +244,16 @@ impl NumberFormatBuilder {
         self.build_unchecked()
     }
 
-    /// Returns a builder with the fields of a format word, unchanged.
+    /// Returns a builder with exactly the fields of a format word.
     ///
-    /// An exponent base or exponent radix of 0 stays absent, so it follows later changes to the mantissa radix.
-    /// [`rebuild`][Self::rebuild] replaces it by the mantissa radix. The digit separator is read even if no flag allows
-    /// one. The reserved bits are dropped.
+    /// An exponent base or exponent radix of 0 stays absent, so it follows later changes of the mantissa radix. To set
+    /// it to the mantissa radix instead, call [`rebuild`][Self::rebuild]. The digit separator is kept even if no flag
+    /// allows one. The reserved bits, which hold no field, are dropped.
     ///
     /// ```
     /// use peltzivar::format_builder::NumberFormatBuilder;
     ///
-    /// // Digits in hexadecimal, and the exponent bytes absent.
+    /// // The mantissa radix is 16. The exponent base and the exponent radix are absent.
     /// let hexadecimal = 0x00001000_00000000_00000000_0000000C;
     /// let octal = NumberFormatBuilder::from_word(hexadecimal).mantissa_radix(8).build_unchecked();
     /// assert_eq!(octal, 0x00000800_00000000_00000000_0000000C);
@@ -258,7 +263,7 @@ impl NumberFormatBuilder {
     ///
     /// For all arguments:
     ///
-    /// - The result has the fields of the word ([`raw`](crate::definitions#raw)).
+    /// - The fields of the result are those of the word ([`raw`](crate::definitions#raw)).
     ///
     /// ```text
     /// ensures { result ≡ raw word }
@@ -280,18 +285,19 @@ impl NumberFormatBuilder {
         }
     }
 
-    /// Returns a builder with the fields of a format word, so that they can be changed and packed again.
+    /// Returns a builder with the fields of a format word. An exponent base or exponent radix of 0 is set to the
+    /// mantissa radix.
     ///
-    /// An exponent base or exponent radix of 0 becomes the mantissa radix, so that a later change of the
-    /// mantissa radix does not change it. If the mantissa radix is also 0, the byte stays 0. The digit separator
-    /// is read even if no flag allows one. The reserved bits are dropped.
+    /// The exponent base and the exponent radix are therefore not affected by later changes of the mantissa radix. If
+    /// the mantissa radix is 0 too, an exponent base or exponent radix of 0 stays 0. The digit separator is kept even
+    /// if no flag allows one. The reserved bits, which hold no field, are dropped.
     ///
     /// # Proved
     ///
     /// For all arguments:
     ///
-    /// - The result has the fields of the word ([`raw`](crate::definitions#raw)), with exponent bytes that are filled
-    ///   ([`fill`](crate::definitions#fill)).
+    /// - The fields of the result are those of the word ([`raw`](crate::definitions#raw)), with absent exponent bytes
+    ///   replaced by the mantissa radix ([`fill`](crate::definitions#fill)).
     ///
     /// ```text
     /// ensures { result ≡ fill (raw format) }
@@ -318,9 +324,10 @@ impl NumberFormatBuilder {
 
     // PARTS
 
-    /// Returns a builder with these flags and bytes, which are those that [`to_parts`][Self::to_parts] returns.
+    /// Returns a builder with the given flags and bytes, in the form in which [`to_parts`][Self::to_parts] returns
+    /// them.
     ///
-    /// The bits above the flags are ignored.
+    /// Bits of `flags` above the last flag are ignored.
     #[must_use]
     #[inline(always)]
     #[doc(hidden)]
@@ -333,8 +340,8 @@ impl NumberFormatBuilder {
 
     /// Returns the flags and the bytes of the builder.
     ///
-    /// The first flag is at bit 0. The bytes are digit separator, base prefix, base suffix, mantissa radix,
-    /// exponent base and exponent radix. A byte that is absent is 0.
+    /// The first flag is at bit 0. The bytes are, in this order, the digit separator, the base prefix, the base suffix,
+    /// the mantissa radix, the exponent base and the exponent radix. An absent byte is 0.
     #[must_use]
     #[inline(always)]
     #[doc(hidden)]
@@ -342,7 +349,7 @@ impl NumberFormatBuilder {
         (self.flags, self.bytes)
     }
 
-    /// Sets all flags in `mask`, a mask of a format word, to `value`. Its other bits have no effect.
+    /// Sets each flag whose bit in a format word is set in `mask` to `value`. The other bits of `mask` have no effect.
     #[must_use]
     #[inline(always)]
     #[doc(hidden)]
@@ -365,8 +372,8 @@ impl NumberFormatBuilder {
     }
 }
 
-// Returns an exponent byte of a format word, or the mantissa radix if the byte is 0. Both have 64 bits, as the upper
-// half has: a choice between narrower numbers is slower.
+// Returns an exponent byte of a format word, or the mantissa radix if the byte is 0. Both are 64 bits wide, like the
+// upper half of a word, since a choice between narrower numbers is slower.
 #[inline(always)]
 const fn byte_or_radix(byte: u64, mantissa_radix: u64) -> u64 {
     if byte == 0 {
@@ -376,7 +383,7 @@ const fn byte_or_radix(byte: u64, mantissa_radix: u64) -> u64 {
     }
 }
 
-// Returns the flags of a format word, at the bits of a builder.
+// Returns the flags of a format word, each at its bit in a builder.
 #[inline(always)]
 const fn builder_flags(format: u128) -> u32 {
     let low = (format & (LOW_FLAGS as u128)) as u32;
@@ -384,7 +391,7 @@ const fn builder_flags(format: u128) -> u32 {
     low | separators << FIRST_SEPARATOR
 }
 
-// Returns the flags of a builder, at the bits of a format word.
+// Returns the flags of a builder, each at its bit in a format word.
 #[inline(always)]
 const fn word_flags(flags: u32) -> u128 {
     (flags & LOW_FLAGS) as u128
@@ -407,7 +414,7 @@ const fn bits_if(condition: bool, bits: u32) -> u32 {
     }
 }
 
-// Returns `WITH_SEPARATOR` if one of these flags of a format word allows a digit separator, and
+// Returns `WITH_SEPARATOR` if any of `flags`, the flags of a format word, allows a digit separator, and
 // `WITHOUT_SEPARATOR` otherwise.
 #[inline(always)]
 const fn kept_bytes(flags: u128) -> u64 {

@@ -1,5 +1,5 @@
-//! Lanes of bytes: the part of `std::simd` that `ascii` uses, which stable Rust lacks. The compiler turns these loops
-//! of constant length into vector instructions.
+//! Lanes of bytes. This is the part of `std::simd` that `ascii` uses. Stable Rust does not have `std::simd`. The
+//! compiler turns these loops of constant length into vector instructions.
 
 use core::array;
 use core::ops::{BitAnd, Sub};
@@ -12,7 +12,7 @@ pub(crate) struct Simd<T, const N: usize>([T; N]);
 pub(crate) struct Mask<const N: usize>([bool; N]);
 
 impl<const N: usize> Simd<u8, N> {
-    /// Returns lanes that all have this value.
+    /// Returns lanes that all have the value `value`.
     #[inline(always)]
     pub(crate) fn splat(value: u8) -> Self {
         Simd([value; N])
@@ -33,25 +33,25 @@ impl<const N: usize> Simd<u8, N> {
         self
     }
 
-    /// Adds lane by lane; a sum above 255 is 255.
+    /// Adds lane by lane. A sum above 255 becomes 255.
     #[inline(always)]
     pub(crate) fn saturating_add(self, other: Self) -> Self {
         self.zip(other, u8::saturating_add)
     }
 
-    /// Returns the larger of each two lanes.
+    /// Returns the larger of the two values in each lane.
     #[inline(always)]
     pub(crate) fn simd_max(self, other: Self) -> Self {
         self.zip(other, u8::max)
     }
 
-    /// Returns the smaller of each two lanes.
+    /// Returns the smaller of the two values in each lane.
     #[inline(always)]
     pub(crate) fn simd_min(self, other: Self) -> Self {
         self.zip(other, u8::min)
     }
 
-    /// Returns for each lane whether it is above the lane of `other`.
+    /// Returns, for each lane, whether it is greater than the same lane of `other`.
     #[inline(always)]
     pub(crate) fn simd_gt(self, other: Self) -> Mask<N> {
         Mask(array::from_fn(|index| self.0[index] > other.0[index]))
@@ -81,7 +81,7 @@ impl<const N: usize> Mask<N> {
     /// Returns whether any lane is true.
     #[inline(always)]
     pub(crate) fn any(self) -> bool {
-        // All lanes are read, since a test after each would be slower.
+        // All lanes are read, since a test after each lane would be slower.
         self.0.into_iter().fold(false, |any, lane| any | lane)
     }
 }
@@ -90,7 +90,8 @@ impl<const N: usize> Mask<N> {
 mod tests {
     use super::Simd;
 
-    /// Each operation on each pair of bytes, in the last of three lanes, is compared with that on numbers.
+    /// Each operation on each pair of bytes, in the last of three lanes, is compared with the same operation on
+    /// numbers.
     #[test]
     fn each_pair_of_bytes() {
         for a in 0..=255u8 {

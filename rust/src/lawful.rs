@@ -1,4 +1,4 @@
-//! A format word that was checked, and the calls that check one.
+//! Format words that have been checked, and the calls that check a word.
 
 use core::ops::Deref;
 
@@ -11,12 +11,12 @@ use crate::refusal::Refusal;
 use crate::view::FormatView;
 use crate::word::STANDARD;
 
-/// A lawful format: a format word that breaks no rule. Take it as an argument where a number is parsed, written or
-/// checked.
+/// A lawful format, which is a format word that breaks no [rule][crate::Rule]. A function that parses, writes or checks
+/// numbers can take a `Format` as an argument.
 ///
-/// It dereferences to its [`FormatView`]. In a `const fn`, call [`view`][Self::view] first. Formats are compared
-/// and hashed by their words. To find out whether two formats are equivalent, compare their
-/// [normal forms][Self::normal_form].
+/// A `Format` dereferences to its [`FormatView`]. In a `const fn`, call [`view`][Self::view] instead. Formats are
+/// compared and hashed by their words. To find out whether two formats are equivalent, compare their [normal
+/// forms][Self::normal_form].
 ///
 /// ```
 /// use peltzivar::{Error, Format, FormatView};
@@ -31,29 +31,31 @@ use crate::word::STANDARD;
 ///
 /// # Proved
 ///
-/// [`Format::new`] makes each `Format`, and tests all [rules][crate::Rule]. So what is proved of words that are
-/// [`Lawful`](crate::definitions#lawful) holds for the word of each `Format`:
+/// Every `Format` comes from [`Format::new`], which checks all [rules][crate::Rule]. So everything that is proved for
+/// [`Lawful`](crate::definitions#lawful) words holds for the word of every `Format`:
 ///
 /// - The mantissa radix, the exponent base and the exponent radix are between 2 and 36.
-/// - The digit separator, the base prefix and the base suffix are absent or punctuation, and no byte plays two of the
-///   roles digit, sign, separator, prefix and suffix. This also holds with the exponent character and the decimal point
-///   that [`check_options`][Self::check_options] accepts. It accepts some pair for each format
-///   ([`SomeOptionsFit`](crate::definitions#someoptionsfit)).
+/// - The digit separator, the base prefix and the base suffix are absent or punctuation. No byte plays two of these
+///   roles: digit, sign, separator, prefix, suffix.
+/// - No byte plays two roles either if an exponent character and a decimal point that
+///   [`check_options`][Self::check_options] accepts are added. For every format, `check_options` accepts at least one
+///   such pair ([`SomeOptionsFit`](crate::definitions#someoptionsfit)).
 /// - No two flags contradict each other, and all reserved bits are 0.
-/// - Its [normal form][Self::normal_form] is a `Format` too.
+/// - The [normal form][Self::normal_form] is a `Format` too.
 #[derive(Clone, Copy, PartialEq, Eq, PartialOrd, Ord, Hash)]
 pub struct Format {
     view: FormatView,
 }
 
 impl Format {
-    /// Returns the format of a word.
+    /// Returns `word` as a format if it is lawful.
     ///
     /// # Errors
     ///
-    /// Returns the error of the first rule that the word breaks. This is never [`Error::Success`].
+    /// If the word is not lawful, returns the error of the first rule that it breaks. The error is never
+    /// [`Error::Success`].
     pub const fn new(word: u128) -> Result<Self, Error> {
-        // All other ways to a format call this one.
+        // All other functions that return a format call this one.
         match check(word) {
             Ok(word) => Ok(Format {
                 view: FormatView::new(word),
@@ -62,7 +64,8 @@ impl Format {
         }
     }
 
-    /// Returns the format of a word that is known at compile time. A word that is not lawful does not compile.
+    /// Returns the format of a word that is known at compile time. If the word is not lawful, the call does not
+    /// compile.
     ///
     /// ```compile_fail,E0080
     /// const FORMAT: peltzivar::Format = peltzivar::Format::of::<0>();
@@ -92,7 +95,8 @@ impl Format {
         self.view
     }
 
-    /// Returns the [normal form][normal_form]: the canonical word among all equivalent words. It is lawful too.
+    /// Returns the [normal form][normal_form] of the format, which is the canonical word among all equivalent words.
+    /// The normal form is lawful too.
     #[must_use]
     pub const fn normal_form(&self) -> Self {
         match Format::new(normal_form(self.word())) {
@@ -105,8 +109,9 @@ impl Format {
     ///
     /// # Errors
     ///
-    /// Returns [`Error::InvalidExponentSymbol`] or [`Error::InvalidDecimalPoint`] if that byte is a sign, a digit or
-    /// not allowed ASCII. Returns [`Error::InvalidPunctuation`] if a byte would play two roles.
+    /// Returns [`Error::InvalidExponentSymbol`] if the exponent character is a sign, a digit or not allowed ASCII, and
+    /// [`Error::InvalidDecimalPoint`] if the decimal point is. Returns [`Error::InvalidPunctuation`] if one byte would
+    /// play two roles.
     pub const fn check_options(&self, exponent: u8, decimal_point: u8) -> Result<(), Error> {
         match options_error(self.word(), exponent, decimal_point) {
             Error::Success => Ok(()),
@@ -115,7 +120,7 @@ impl Format {
     }
 }
 
-/// A format has all methods of its view.
+/// Gives a format all methods of its view.
 impl Deref for Format {
     type Target = FormatView;
 
@@ -132,7 +137,7 @@ impl Default for Format {
     }
 }
 
-/// A word that is not lawful does not compile.
+/// Converts a view to a format. If the word is not lawful, the conversion does not compile.
 impl<const FORMAT: u128> From<NumberFormat<FORMAT>> for Format {
     #[inline(always)]
     fn from(_: NumberFormat<FORMAT>) -> Self {
@@ -163,7 +168,7 @@ impl From<Format> for FormatView {
 }
 
 impl From<Format> for NumberFormatBuilder {
-    /// Returns a builder with the fields of the word, unchanged ([`from_word`][NumberFormatBuilder::from_word]).
+    /// Returns a builder with exactly the fields of the word, as [`from_word`][NumberFormatBuilder::from_word] does.
     #[inline(always)]
     fn from(format: Format) -> Self {
         NumberFormatBuilder::from_word(format.word())
@@ -171,7 +176,7 @@ impl From<Format> for NumberFormatBuilder {
 }
 
 impl FormatView {
-    /// Returns the format if the word is lawful.
+    /// Returns the word as a [`Format`] if it is lawful.
     ///
     /// # Errors
     ///
@@ -182,17 +187,17 @@ impl FormatView {
 }
 
 impl NumberFormatBuilder {
-    /// Returns the view of the word that the builder packs, lawful or not.
+    /// Returns the view of the word that the builder packs, whether or not the word is [lawful][crate::Rule].
     #[must_use]
     pub const fn view(&self) -> FormatView {
         FormatView::new(self.build_unchecked())
     }
 
-    /// Packs the fields into a format.
+    /// Packs the fields into a word, and returns it as a [`Format`] if it is lawful.
     ///
     /// # Errors
     ///
-    /// Returns the error of the first rule that the fields break.
+    /// If the word is not lawful, returns the error of the first rule that it breaks.
     pub const fn build_format(&self) -> Result<Format, Error> {
         Format::new(self.build_unchecked())
     }

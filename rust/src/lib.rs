@@ -1,10 +1,10 @@
-//! A number format states how numbers may be written: radix, prefix, signs, digit separators. Here it is a `u128` of 31
-//! flags and six bytes. This crate builds, reads, checks and edits formats, and explains what is wrong with one, for
-//! authors of number parsers, writers and checkers. It does not parse.
+//! A number format states how numbers may be written: their radix, prefix, signs and digit separators. Here, a format
+//! is a `u128` with 31 flags and six bytes. This crate is for authors of number parsers, writers and checkers. It
+//! builds, reads, checks and edits formats, and explains why a format is not lawful. It does not parse numbers.
 //!
-//! The [`u128`] is the *format word*, so a format can be a const argument. It is *lawful* if it keeps every [`Rule`]:
-//! each radix is between 2 and 36, no two flags contradict each other, each byte is ASCII with one meaning, and the
-//! *reserved* bits, which hold no field, are 0.
+//! The [`u128`] is called the *format word*. It can be a const generic argument. The word is *lawful* if it keeps every
+//! [`Rule`]: each radix is between 2 and 36, no two flags contradict each other, each character is ASCII and has only
+//! one role, and the *reserved* bits, which hold no field, are 0.
 //!
 //! ```
 //! use core::num::NonZeroU8;
@@ -35,9 +35,9 @@
 //! |---|---|
 //! | write a format as a constant | [`NumberFormatBuilder`] and its [`build_or_panic`][NumberFormatBuilder::build_or_panic] |
 //! | take a checked format as an argument | [`Format`], or `impl Into<Format>` |
-//! | read the fields of any word, lawful or not | [`FormatView`]; [`NumberFormat`] for a word that is known when the program is compiled |
-//! | parse settings | [`Edit`], by `str::parse`; [`collect`][Iterator::collect] makes a builder of edits, and [`build_format`][NumberFormatBuilder::build_format] checks it |
-//! | report each problem of a word, and what mends it | [`FormatView::reasons`], [`Reason::mask`], [`FormatView::mends`], [`FormatView::notes`] |
+//! | read the fields of any word, lawful or not | [`FormatView`]; [`NumberFormat`] for a word that is known at compile time |
+//! | parse settings | `str::parse` for each [`Edit`], [`collect`][Iterator::collect] to turn edits into a builder, and [`build_format`][NumberFormatBuilder::build_format] to check it |
+//! | report each problem of a word, and the edits that mend it | [`FormatView::reasons`], [`Reason::mask`], [`FormatView::mends`], [`FormatView::notes`] |
 //! | derive a format from another | [`NumberFormatBuilder::from`], or [`edits::edit_word`] |
 //! | compare two formats | [`Format::normal_form`], [`edits::same_format`] |
 //! | store words as text | `Display` and `FromStr` of [`Format`] and [`FormatView`] |
@@ -45,26 +45,27 @@
 //!
 //! # From `lexical-util`
 //!
-//! Modules, types and methods have the same names as in `lexical-util` 1.0.7. To move a program, change the name of the
-//! crate in its `use` lines. Alternatively, depend on the package `lexical-util` of the repository, which provides this
-//! crate under that name. The differences are:
+//! Modules, types and methods have the same names as in `lexical-util` 1.0.7. To migrate a program, change the name of
+//! the crate in its `use` lines. Alternatively, depend on the package `lexical-util` in the repository, which provides
+//! this crate under that name. The differences are:
 //!
-//! - `build_strict` returns a `Result`; in a constant, call `build_or_panic`.
+//! - `build_strict` returns a `Result`. In a constant, call `build_or_panic` instead.
 //! - A base prefix, base suffix or exponent character that is a letter matches both cases, unless a flag makes it
-//!   case-sensitive. A reserved bit makes a word unlawful.
-//! - The slice tests of [`ascii`] are not `const`, and `build` is not deprecated.
-//! - The ready-made formats of `lexical-util`, such as `JSON`, are not here: copy one from `examples/recipes.rs`.
+//!   case-sensitive. A word with a reserved bit is not lawful.
+//! - The functions of [`ascii`] that test whole slices are not `const`, and `build` is not deprecated.
+//! - The prebuilt formats of `lexical-util`, such as `JSON`, are not included. To copy one, see `examples/recipes.rs`.
 //!
 //! [`Format`], [`FormatView`], [`edits`], [`reasons`] and [`source`] are new.
 //!
 //! # What is proved
 //!
-//! The library is written in Rattle, which is Rust with contracts, and a prover accepted every function. From these
-//! sources, a program of the repository generated the files that begin with `Made by`. The sections `Proved` state
-//! contracts, and [`definitions`] defines their terms. [`Format`], [`Mend`], [`NumberFormat`], the iterators and
-//! conversions, `Display`, `FromStr` and `Debug` of words, `build_or_panic`, decimal digits, and lanes and chunks of
-//! bytes are written by hand. A build of this crate proves nothing: you trust that program, what is written by hand,
-//! and `rustc`.
+//! The library is written in Rattle, which is Rust with contracts. A prover accepted every function with its contract.
+//! A program in the repository generated the files that begin with `Made by` from these sources. In the documentation,
+//! the sections named `Proved` state contracts, and [`definitions`] defines their terms.
+//!
+//! The following parts are written by hand: [`Format`], [`Mend`], [`NumberFormat`], the iterators and conversions,
+//! `Display`, `FromStr` and `Debug` of words, `build_or_panic`, decimal digits, and lanes and chunks of bytes. A build
+//! of this crate proves nothing. You trust the program that generated the files, the handwritten parts, and `rustc`.
 #![no_std]
 #![forbid(unsafe_code)]
 

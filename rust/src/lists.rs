@@ -1,4 +1,4 @@
-//! Lists of rules, reasons, notes and edits as iterators, and builders of lists of edits.
+//! Iterators over rules, reasons, notes and edits, and conversions of edits to a builder.
 
 use crate::edits::{apply, edits_of, Edit, FlagSetter, SETTERS, SETTER_NAMES};
 use crate::format_builder::NumberFormatBuilder;
@@ -7,16 +7,16 @@ use crate::reasons::{notes, notes_of_fields, reasons, Note, Reason};
 use crate::view::FormatView;
 
 impl FormatView {
-    /// Returns the rules that the word breaks, in order.
+    /// Returns the rules that the word breaks, in the order in which rules are checked.
     pub fn broken_rules(&self) -> impl Iterator<Item = Rule> + Clone {
         broken_rules(self.word()).into_iter().flatten()
     }
 
-    /// Returns the reasons why the word is not lawful, in the order of the rules. It is empty if and only if the word
-    /// is lawful.
+    /// Returns the reasons why the word is not lawful, in the order of the rules that they break. The iterator is empty
+    /// if and only if the word is lawful.
     ///
-    /// Each cause is one reason. An absent exponent base or exponent radix follows the mantissa radix, and is never a
-    /// reason itself.
+    /// A reason that breaks several rules is returned once. An absent exponent base or exponent radix follows the
+    /// mantissa radix, so it is never a reason itself.
     ///
     /// ```
     /// let view = peltzivar::FormatView::new(0x00002500_00000000_00000000_0000003C);
@@ -32,14 +32,14 @@ impl FormatView {
 
     /// Returns notes on the fields that are set but have no effect on any number. A lawful word may have notes.
     ///
-    /// When a builder packs a word, it drops a digit separator that no flag allows. So only the notes of the builder
-    /// report it. The notes of the packed word do not.
+    /// A builder does not pack a digit separator that no flag allows. To find such a separator in a builder, call
+    /// [`NumberFormatBuilder::notes`] before the word is packed.
     pub fn notes(&self) -> impl Iterator<Item = Note> + Clone {
         notes(self.word()).into_iter().flatten()
     }
 
-    /// Returns the setter calls that give a new builder the fields of the word: one edit for each field that differs,
-    /// as [`edits_of`] lists them.
+    /// Returns the edits that give a new builder the fields of the word. There is one edit for each field in which the
+    /// word differs from a new builder, in the order of [`edits_of`].
     pub fn edits(&self) -> impl Iterator<Item = Edit> + Clone {
         let (edits, count) = edits_of(self.word());
         edits.into_iter().take(count)
@@ -48,7 +48,7 @@ impl FormatView {
 
 impl NumberFormatBuilder {
     /// Returns notes on the fields that are set but have no effect on any number. A digit separator that no flag allows
-    /// has a note, although it is dropped when the word is packed.
+    /// has a note, although the builder does not pack it.
     pub fn notes(&self) -> impl Iterator<Item = Note> + Clone {
         notes_of_fields(self).into_iter().flatten()
     }
@@ -92,16 +92,17 @@ impl<'a> Extend<&'a Edit> for NumberFormatBuilder {
 }
 
 impl Rule {
-    /// All rules, in their order.
+    /// All rules, in the order in which they are checked.
     pub const ALL: &'static [Rule] = &RULES;
 }
 
 impl FlagSetter {
-    /// All flag setters in the order of their bits, and then the group setters.
+    /// All setters that take a `bool`: first the flag setters in the order of the flags' bits, and then the group
+    /// setters.
     pub const ALL: &'static [FlagSetter] = &SETTERS;
 }
 
 impl Edit {
-    /// The names of all setters, which are the names of all settings.
+    /// The names of all setters. In a setting `NAME=VALUE`, the name is one of these.
     pub const NAMES: &'static [&'static str] = &SETTER_NAMES;
 }

@@ -1,4 +1,4 @@
-//! Mends: edits of a field that a reason blames.
+//! Mends, which are edits of a field that a reason blames.
 
 use core::fmt;
 
@@ -6,7 +6,7 @@ use crate::edits::{field_edits_of, Edit};
 use crate::reasons::{mend, Reason, MAX_MENDING_EDITS};
 use crate::view::FormatView;
 
-/// One to three edits that mend one field of a word, as returned by [`FormatView::mends`].
+/// One to three edits that mend one field of a format word. [`FormatView::mends`] returns them.
 #[derive(Debug, Clone, Copy, PartialEq, Eq, Hash)]
 pub struct Mend {
     edits: [Edit; MAX_MENDING_EDITS],
@@ -14,7 +14,7 @@ pub struct Mend {
 }
 
 impl Mend {
-    /// Returns the edits, which [`edit_word`][crate::edits::edit_word] applies in one call.
+    /// Returns the edits. Pass all of them to [`edit_word`][crate::edits::edit_word] in one call.
     #[must_use]
     pub const fn edits(&self) -> &[Edit] {
         self.edits.split_at(self.count).0
@@ -32,16 +32,17 @@ impl fmt::Display for Mend {
 }
 
 impl FormatView {
-    /// Returns the mends for one of the [reasons][Self::reasons] of the word: at most one [`Mend`] for each field that
-    /// the reason blames. A mend clears a flag or a byte, or sets the mantissa radix to 10.
+    /// Returns the mends for one of the [reasons][Self::reasons] why the word is not lawful. There is at most one
+    /// [`Mend`] for each field that the reason blames. A mend clears a flag or a byte, or sets the mantissa radix to
+    /// 10.
     ///
-    /// After [`edit_word`][crate::edits::edit_word] with the edits of one mend, the word keeps each rule that it kept
-    /// before, and each rule that only this reason broke.
+    /// After [`edit_word`][crate::edits::edit_word] applies the edits of one mend, the word keeps each rule that it
+    /// kept before, and each rule that only this reason broke.
     ///
     /// ```
     /// use peltzivar::{edits::edit_word, Format, FormatView};
     ///
-    /// // Radix 16 and the base prefix `b`.
+    /// // The mantissa radix is 16, and the base prefix is `b`.
     /// let view = FormatView::new(0x00001000_62000000_00000000_0000000C);
     /// let reason = view.reasons().next().expect("a reason");
     /// let mends: Vec<_> = view.mends(reason).collect();

@@ -1,4 +1,4 @@
-//! The text of the compiler's error for a constant that is not lawful.
+//! The text of the compile-time error for a format word that is not lawful.
 
 use crate::digit::digit_to_char;
 use crate::error::{Piece, ShortText};
@@ -18,14 +18,15 @@ const fn first_reason(word: u128) -> Option<Reason> {
     None
 }
 
-/// The error of a word and its first reason, as a text of at most 512 bytes that a `const fn` can build.
+/// A text of at most 512 bytes that a `const fn` can build: the error of a word, and the first reason for it.
 pub(crate) struct Refusal {
     bytes: [u8; 512],
     length: usize,
 }
 
 impl Refusal {
-    /// Returns `'DESCRIPTION': REASON`. The reason is the sentence of the first of [`FormatView::reasons`].
+    /// Returns `'DESCRIPTION': REASON`. The reason is the first one that [`FormatView::reasons`] returns, as a
+    /// sentence.
     ///
     /// [`FormatView::reasons`]: crate::view::FormatView::reasons
     pub(crate) const fn of(word: u128) -> Self {

@@ -1,16 +1,16 @@
 // Made by rust/tools/erase.py from crates/lexical_util/src/source.rt: change that file.
 
-//! Format words as Rust code.
+//! Prints format words as Rust code.
 
 use crate::edits::{edits_of, Argument, Edit};
 use crate::error::{Piece, ShortText, Sink, EMPTY_PIECE};
 use core::fmt;
 
-/// The builder expression of a format word, as Rust code: a new builder, a setter call for each field in which the word
-/// differs from it, and the call that packs the word.
+/// A format word that is printed as Rust code: an expression that builds the word.
 ///
-/// Any word may be passed. The expression builds this very word if and only if [`is_built`][crate::edits::is_built]
-/// returns `true` for it.
+/// The expression creates a new builder, calls a setter for each field in which the word differs from this builder, and
+/// packs the fields. Any word can be printed. The value of the expression is the word if and only if
+/// [`is_built`][crate::edits::is_built] returns `true` for the word.
 ///
 /// ```
 /// use peltzivar::source::BuilderExpression;
@@ -22,7 +22,8 @@ use core::fmt;
 pub struct BuilderExpression(pub u128);
 
 impl BuilderExpression {
-    /// Puts the expression, which has fewer than 2048 bytes, into a sink. Fails only if the sink fails.
+    /// Puts the expression into a sink. The expression has fewer than 2048 bytes. The call fails only if the sink
+    /// fails.
     #[doc(hidden)]
     pub fn put_into<S: Sink>(&self, out: &mut S) -> Result<(), fmt::Error> {
         let (edits, count) = edits_of(self.0);
@@ -34,14 +35,14 @@ impl BuilderExpression {
     }
 }
 
-/// Writes the expression and ignores the options of the formatter. Fails only if the formatter fails.
+/// Writes the expression. The options of the formatter, such as a width, are ignored.
 impl fmt::Display for BuilderExpression {
     fn fmt(&self, f: &mut fmt::Formatter<'_>) -> fmt::Result {
         self.put_into(f)
     }
 }
 
-// Puts the setter call of an edit.
+// Puts the setter call of an edit into a sink.
 fn put_call<S: Sink>(edit: &Edit, out: &mut S) -> fmt::Result {
     out.put(".")?;
     out.put(edit.name())?;

@@ -1,4 +1,4 @@
-//! Words, edits and setters as text, and errors as errors of the standard library.
+//! Conversions of words, edits and setters from and to text, and the trait `core::error::Error` for errors.
 
 use core::fmt;
 use core::str::FromStr;
@@ -16,9 +16,10 @@ impl core::error::Error for SettingError {}
 
 impl core::error::Error for Reason {}
 
-/// Parses a word, lawful or not: `0x` and 1 to 32 hexadecimal digits.
+/// Parses a format word, whether or not it is [lawful][crate::Rule]: `0x` followed by 1 to 32 hexadecimal digits.
 ///
-/// The error is [`Error::Empty`], [`Error::InvalidDigit`] or [`Error::Overflow`], with the index of the offending byte.
+/// The error is [`Error::Empty`], [`Error::InvalidDigit`] or [`Error::Overflow`]. It holds the index at which the
+/// parser stopped.
 impl FromStr for FormatView {
     type Err = Error;
 
@@ -27,9 +28,10 @@ impl FromStr for FormatView {
     }
 }
 
-/// Parses a lawful word: `0x` and 1 to 32 hexadecimal digits.
+/// Parses a lawful format word: `0x` followed by 1 to 32 hexadecimal digits.
 ///
-/// The error is a parse error, as for [`FormatView`], or the error of the first rule that the word breaks.
+/// If the text is not a word, the error is the same as for [`FormatView`]. If the word is not lawful, the error is that
+/// of the first rule that the word breaks.
 impl FromStr for Format {
     type Err = Error;
 
@@ -38,14 +40,14 @@ impl FromStr for Format {
     }
 }
 
-/// Prints the word: `0x` and 32 hexadecimal digits, which [`FromStr`] parses.
+/// Prints the word as `0x` followed by 32 hexadecimal digits. [`FromStr`] parses this text to the same word.
 impl fmt::Display for FormatView {
     fn fmt(&self, f: &mut fmt::Formatter<'_>) -> fmt::Result {
         f.pad(core::str::from_utf8(&word_text(self.word())).unwrap_or_default())
     }
 }
 
-/// Prints the word: `0x` and 32 hexadecimal digits, which [`FromStr`] parses.
+/// Prints the word as `0x` followed by 32 hexadecimal digits. [`FromStr`] parses this text to the same word.
 impl fmt::Display for Format {
     fn fmt(&self, f: &mut fmt::Formatter<'_>) -> fmt::Result {
         fmt::Display::fmt(&self.view(), f)
@@ -72,8 +74,8 @@ hexadecimal! {
     UpperHex Format;
 }
 
-/// Parses `NAME=VALUE`, split at the first `=`. The name and the value are parsed as in [`Edit::from_setting`].
-/// `Display` prints a text that parses to the same edit.
+/// Parses `NAME=VALUE`, split at the first `=`. The name and the value are parsed as in [`Edit::from_setting`]. The
+/// text that `Display` prints is parsed to the same edit.
 impl FromStr for Edit {
     type Err = SettingError;
 

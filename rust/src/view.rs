@@ -1,6 +1,6 @@
 // Made by rust/tools/erase.py from crates/lexical_util/src/feature_format.rt: change that file.
 
-//! The view of a format word: reads each field, and checks the word.
+//! The view of a format word, which reads the fields of the word and checks it.
 
 use crate::error::Error;
 use crate::format_builder::NumberFormatBuilder;
@@ -8,7 +8,7 @@ use crate::format_flags as flags;
 use crate::format_flags::{format_error_impl, radix_error_impl};
 use crate::word::STANDARD;
 
-// Is true if the word of a view has a bit of a mask.
+// Is true if any bit of the mask is set in the word of the view.
 macro_rules! has_any {
     ($view:ident, $MASK:ident) => {
         $view.format & flags::$MASK != 0
@@ -17,19 +17,19 @@ macro_rules! has_any {
 
 mod getters;
 
-/// A view of a format word, which reads the fields of the word and checks it.
+/// A view of a format word. It reads the fields of the word, and checks the word.
 ///
-/// Every getter works on any word, lawful or not. The word may be known only when the program runs. For a word that is
-/// known when it is compiled, [`NumberFormat`][crate::feature_format::NumberFormat] has each field also as a constant.
-/// Equality, order and hash are those of the word; [`same_format`][crate::edits::same_format] returns whether two
-/// words are equivalent.
+/// Every method works on any word, whether or not the word is [lawful][flags::Rule]. The word may be known only at run
+/// time. For a word that is known at compile time, [`NumberFormat`][crate::feature_format::NumberFormat] also has each
+/// field as a constant. Views are compared, ordered and hashed by their words.
+/// [`same_format`][crate::edits::same_format] returns whether two words are equivalent.
 #[derive(Clone, Copy, PartialEq, Eq, Hash, PartialOrd, Ord)]
 pub struct FormatView {
     format: u128,
 }
 
 impl Default for FormatView {
-    /// Returns the view of the standard format, the word into which a new builder packs.
+    /// Returns the view of the [standard format][STANDARD], which is the format word of a new builder.
     #[inline(always)]
     fn default() -> Self {
         FormatView { format: STANDARD }
@@ -39,14 +39,14 @@ impl Default for FormatView {
 impl FormatView {
     // CONSTRUCTORS
 
-    /// Returns the view of `format`, which may be any word.
+    /// Returns a view of `format`, which may be any word.
     #[must_use]
     #[inline(always)]
     pub const fn new(format: u128) -> Self {
         FormatView { format }
     }
 
-    /// Returns the word.
+    /// Returns the format word.
     #[must_use]
     #[inline(always)]
     pub const fn word(&self) -> u128 {
@@ -55,7 +55,7 @@ impl FormatView {
 
     // CHECKS
 
-    /// Returns whether the word is lawful, that is, whether it keeps all rules that [`error`][Self::error] checks.
+    /// Returns whether the word is lawful, that is, whether it keeps all the rules that [`error`][Self::error] checks.
     #[must_use]
     #[inline(always)]
     pub const fn is_valid(&self) -> bool {
@@ -71,8 +71,8 @@ impl FormatView {
     ///
     /// - The result is the error of the first rule that the word breaks, or `Success`
     ///   ([`IsErrorOf`](crate::definitions#iserrorof)).
-    /// - It is `Success` if and only if the word is [`Lawful`](crate::definitions#lawful).
-    /// - No other error is the error of the word ([`IsErrorOf`](crate::definitions#iserrorof)).
+    /// - The result is `Success` if and only if the word is [`Lawful`](crate::definitions#lawful).
+    /// - No other error satisfies [`IsErrorOf`](crate::definitions#iserrorof).
     ///
     /// ```text
     /// ensures first { IsErrorOf self.now result }
@@ -86,7 +86,7 @@ impl FormatView {
     }
 
     /// Returns whether the mantissa radix, the exponent base and the exponent radix are all between 2 and 36. An
-    /// exponent byte of 0 means the mantissa radix.
+    /// exponent base or exponent radix of 0 means the mantissa radix.
     #[must_use]
     #[inline(always)]
     pub const fn is_valid_radix(&self) -> bool {
@@ -103,8 +103,8 @@ impl FormatView {
 
     // BYTES
 
-    /// Returns the [digit separator][NumberFormatBuilder::digit_separator], even if no flag allows it, or 0 if it is
-    /// absent.
+    /// Returns the [digit separator][NumberFormatBuilder::digit_separator], or 0 if it is absent. The byte is returned
+    /// even if no flag allows digit separators.
     #[must_use]
     #[inline(always)]
     pub const fn digit_separator(&self) -> u8 {
@@ -148,8 +148,8 @@ impl FormatView {
 
     // RADIXES
 
-    /// Returns the [mantissa radix][NumberFormatBuilder::mantissa_radix], a number from 0 to 255. In a lawful word, it is
-    /// between 2 and 36.
+    /// Returns the [mantissa radix][NumberFormatBuilder::mantissa_radix], a number from 0 to 255. In a
+    /// [lawful][flags::Rule] word, it is between 2 and 36.
     #[must_use]
     #[inline(always)]
     pub const fn mantissa_radix(&self) -> u32 {
@@ -163,7 +163,7 @@ impl FormatView {
         self.mantissa_radix()
     }
 
-    /// Returns the second power of the mantissa radix.
+    /// Returns the square of the mantissa radix.
     #[must_use]
     #[inline(always)]
     pub const fn radix2(&self) -> u32 {
@@ -179,7 +179,8 @@ impl FormatView {
         square * square
     }
 
-    /// Returns the eighth power of the mantissa radix modulo 2^32. It is exact up to radix 15, and 0 for radix 16.
+    /// Returns the eighth power of the mantissa radix modulo 2^32. The result is exact up to radix 15, and it is 0 for
+    /// radix 16.
     #[must_use]
     #[inline(always)]
     pub const fn radix8(&self) -> u32 {
@@ -188,7 +189,7 @@ impl FormatView {
     }
 
     /// Returns the [exponent base][NumberFormatBuilder::exponent_base], or the mantissa radix if that byte is 0. In a
-    /// lawful word it is between 2 and 36.
+    /// [lawful][flags::Rule] word, the result is between 2 and 36.
     #[must_use]
     #[inline(always)]
     pub const fn exponent_base(&self) -> u32 {
@@ -196,7 +197,7 @@ impl FormatView {
     }
 
     /// Returns the [exponent radix][NumberFormatBuilder::exponent_radix], or the mantissa radix if that byte is 0. In a
-    /// lawful word it is between 2 and 36.
+    /// [lawful][flags::Rule] word, the result is between 2 and 36.
     #[must_use]
     #[inline(always)]
     pub const fn exponent_radix(&self) -> u32 {
@@ -205,15 +206,15 @@ impl FormatView {
 
     // ROLES OF BYTES
 
-    /// Returns whether `byte` is a digit of the mantissa radix or of the exponent radix. The case of a letter does not
-    /// matter.
+    /// Returns whether `byte` is a digit in the mantissa radix or in the exponent radix. A letter of either case can be
+    /// a digit.
     #[must_use]
     #[inline(always)]
     pub const fn is_digit(&self, byte: u8) -> bool {
         flags::is_digit(self.format, byte)
     }
 
-    /// Returns whether `byte` is the base prefix. If the base prefix is a letter, both cases of it match unless
+    /// Returns whether `byte` is the base prefix. A base prefix that is a letter matches both cases unless
     /// `case_sensitive_base_prefix` is set.
     #[must_use]
     #[inline(always)]
@@ -221,7 +222,7 @@ impl FormatView {
         is_byte(self.base_prefix(), self.case_sensitive_base_prefix(), byte)
     }
 
-    /// Returns whether `byte` is the base suffix. If the base suffix is a letter, both cases of it match unless
+    /// Returns whether `byte` is the base suffix. A base suffix that is a letter matches both cases unless
     /// `case_sensitive_base_suffix` is set.
     #[must_use]
     #[inline(always)]
@@ -231,7 +232,7 @@ impl FormatView {
 
     // BUILDERS
 
-    /// Returns a new builder, which does not depend on the word.
+    /// Returns a new builder. It does not depend on the word.
     #[must_use]
     #[inline(always)]
     pub const fn builder() -> NumberFormatBuilder {
@@ -245,8 +246,8 @@ impl FormatView {
     ///
     /// For all arguments:
     ///
-    /// - The result has the fields of the word ([`raw`](crate::definitions#raw)), with exponent bytes that are filled
-    ///   ([`fill`](crate::definitions#fill)).
+    /// - The fields of the result are those of the word ([`raw`](crate::definitions#raw)), with absent exponent bytes
+    ///   replaced by the mantissa radix ([`fill`](crate::definitions#fill)).
     ///
     /// ```text
     /// ensures { result ≡ fill (raw self.now) }
@@ -258,8 +259,8 @@ impl FormatView {
     }
 }
 
-// Returns whether `byte` is `own` or, if `case_sensitive` is false, the same letter in the other case. If `own` is 0,
-// which means absent, the result is `false`.
+// Returns whether `byte` is `own` or, if `case_sensitive` is false, the same letter in the other case. Returns `false`
+// if `own` is 0, which means absent.
 #[inline(always)]
 const fn is_byte(own: u8, case_sensitive: bool, byte: u8) -> bool {
     own != 0 && (byte == own || !case_sensitive && byte.eq_ignore_ascii_case(&own))

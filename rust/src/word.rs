@@ -32,8 +32,10 @@ pub use crate::format_flags::{
 };
 pub use crate::view::FormatView;
 
-/// The standard format: the radix is 10, and digits are required in the mantissa and in an exponent. A new builder
-/// packs into this word. Its exponent base and exponent radix are absent, so they follow the mantissa radix.
+/// The standard format, which is the format word of a new builder.
+///
+/// The mantissa radix is 10. Digits are required in the mantissa and in an exponent. The exponent base and the exponent
+/// radix are absent, so they follow the mantissa radix.
 pub const STANDARD: u128 = 0x00000A00_00000000_00000000_0000000C;
 
 /// Returns whether `format` is lawful, as [`FormatView::is_valid`] does.

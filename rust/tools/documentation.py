@@ -19,22 +19,27 @@ PROVED = {
     "format_builder.rt": {
         "build_unchecked": {
             "word": "The result is the packed word (`pack`) of the builder's fields.",
-            "fields": "Its fields (`raw`) are those of the builder, without a separator that no flag allows (`trim`).",
-            "clean": "Its reserved bits are 0 (`IsClean`).",
+            "fields": "The fields of the result (`raw`) are those of the builder, without a separator that no flag"
+            " allows (`trim`).",
+            "clean": "The reserved bits of the result are 0 (`IsClean`).",
             "bytes": "Each byte of the builder is between 0 and 255 (`HasBytes`).",
-            "alike": "Any fields (`HasBytes`) pack into the same word if and only if they are equal to the builder's"
-            " fields after both are trimmed (`trim`).",
+            "alike": "Another record of fields whose bytes are between 0 and 255 (`HasBytes`) packs into the same word"
+            " if and only if it equals the record of the builder after both are trimmed (`trim`).",
         },
         "build_strict": {
-            "lawful": "The result is `Ok` of the packed word (`pack`) if and only if that word is `Lawful`.",
-            "fields": "The fields (`raw`) of that word are those of the builder after `trim`.",
-            "error": "An `Err` has the error of the first rule that the word breaks (`IsErrorOf`).",
-            "not_success": "It is never `Err(Success)`.",
-            "not_flags": "It is never `Err(InvalidFlags)`, since the builder sets no reserved bit.",
+            "lawful": "The result is `Ok` if and only if the packed word (`pack`) is `Lawful`. An `Ok` holds this word.",
+            "fields": "A returned word has the fields (`raw`) of the builder, without a separator that no flag allows"
+            " (`trim`).",
+            "error": "An `Err` holds the error of the first rule that the word breaks (`IsErrorOf`).",
+            "not_success": "The result is never `Err(Success)`.",
+            "not_flags": "The result is never `Err(InvalidFlags)`, since the builder sets no reserved bit.",
         },
         "build": {"": "The result is the packed word (`pack`) of the builder's fields."},
-        "from_word": {"": "The result has the fields of the word (`raw`)."},
-        "rebuild": {"": "The result has the fields of the word (`raw`), with exponent bytes that are filled (`fill`)."},
+        "from_word": {"": "The fields of the result are those of the word (`raw`)."},
+        "rebuild": {
+            "": "The fields of the result are those of the word (`raw`), with absent exponent bytes replaced by the"
+            " mantissa radix (`fill`)."
+        },
     },
     "format_flags/rules.rt": {
         "is_valid_options_punctuation": {
@@ -48,73 +53,83 @@ PROVED = {
         "is_built": {
             "rule": "The result is true if and only if the reserved bits are 0, and the digit separator is absent or a"
             " flag allows one (`IsBuilt`).",
-            "image": "This holds if and only if setter calls on a new builder can make the word (`IsBuiltByWrites`).",
+            "image": "The result is true if and only if setter calls on a new builder can build the word"
+            " (`IsBuiltByWrites`).",
         },
         "edits_of": {
-            "list": "The list has an edit for each write (`IsEditOf`): first for the writes that the word needs"
-            " (`needed_writes`), then for the others (`other_writes`).",
+            "list": "The array has one edit for each write (`IsEditOf`). First come the writes that the word needs"
+            " (`needed_writes`), and then the others (`other_writes`).",
             "number": "The returned number is the number of writes that the word needs (`needed_writes`).",
-            "legal": "Each value fits its field (`IsLegal`).",
-            "first": "The first part, applied to a new builder (`after`, `new_record`), gives the fields (`raw`) of the"
-            " word.",
-            "whole": "The whole list also gives the fields (`raw`) of the word.",
-            "builds": "These fields pack (`pack`) into the word if and only if a builder can make it (`IsBuilt`).",
-            "fewest": "No shorter list of legal writes (`IsLegal`) packs into the word.",
+            "legal": "Each value that an edit writes fits its field (`IsLegal`).",
+            "first": "The needed writes, applied to a new builder (`after`, `new_record`), give the fields (`raw`) of"
+            " the word.",
+            "whole": "All writes, applied to a new builder, also give the fields (`raw`) of the word.",
+            "builds": "These fields pack (`pack`) into the word if and only if a builder can build the word"
+            " (`IsBuilt`).",
+            "fewest": "No shorter list of legal writes (`IsLegal`) to a new builder builds the word.",
         },
     },
     "edits.rt": {
         "apply_all": {
-            "fields": "The result has the builder's fields `after` the writes of all edits (`all_writes`).",
-            "legal": "Each value fits its field (`IsLegal`).",
+            "fields": "The result has the fields of the builder `after` the writes of all edits (`all_writes`).",
+            "legal": "Each value that an edit writes fits its field (`IsLegal`).",
         },
         "edit_word": {
-            "word": "The result is `edited` from the word and the writes of all edits (`all_writes`).",
-            "fields": "Its fields (`raw`) are those of the word, filled (`fill`), overwritten in order (`after`), and"
-            " trimmed (`trim`).",
-            "clean": "Its reserved bits are 0 (`IsClean`).",
+            "word": "The result is the word as `edited` by the writes of all edits (`all_writes`).",
+            "fields": "The fields of the result (`raw`) are the fields of the word, filled (`fill`), overwritten in"
+            " order (`after`), and trimmed (`trim`).",
+            "clean": "The reserved bits of the result are 0 (`IsClean`).",
             "unique": "No other word whose reserved bits are 0 has these fields.",
-            "same_writes": "Legal writes (`IsLegal`) that give each field the same last value (`SameWrites`) give the"
-            " same result. So edits of different fields can be in any order, and a group edit equals the edits of its"
-            " flags in any order.",
-            "legal": "Each value fits its field (`IsLegal`).",
+            "same_writes": "Any legal writes (`IsLegal`) that give each field the same last value (`SameWrites`) have"
+            " the same result. So edits of different fields can be in any order, and a group edit is equivalent to the"
+            " edits of its flags in any order.",
+            "legal": "Each value that an edit writes fits its field (`IsLegal`).",
         },
         "normal_form": {
-            "word": "The result is the word edited by no writes (`normal_form_of`).",
-            "fields": "Its fields (`raw`) are those of the word, filled (`fill`) and trimmed (`trim`).",
-            "clean": "Its reserved bits are 0 (`IsClean`).",
+            "word": "The result is the word as edited by an empty list of writes (`normal_form_of`).",
+            "fields": "The fields of the result (`raw`) are the fields of the word, filled (`fill`) and trimmed"
+            " (`trim`).",
+            "clean": "The reserved bits of the result are 0 (`IsClean`).",
             "unique": "No other word whose reserved bits are 0 has these fields.",
-            "idempotent": "The normal form of a normal form is itself.",
+            "idempotent": "The normal form of a normal form is the word itself.",
             "unchanged": "A word is its own normal form if and only if it is normal (`IsNormal`).",
             "same": "The word and its normal form are equivalent (`SameFormat`).",
-            "groups": "For each list of flags, both words have one of the flags set, or neither word has (`any_flag`).",
-            "flags": "For each list of flags, both words have the same bits (`bits_of`).",
+            "groups": "For each list of flags, both words have at least one of the flags set, or neither has"
+            " (`any_flag`).",
+            "flags": "For each list of flags, both words have the same bits set (`bits_of`).",
             "lawful": "The normal form of a `Lawful` word is lawful.",
             "error": "If neither a reserved bit nor a separator is dropped (`IsClean`, `SeparatorAllowedOrAbsent`),"
             " both words have the same error (`IsErrorOf`).",
-            "edits": "If no separator is dropped, both words give the same word when they are `edited`.",
+            "edits": "If no separator is dropped, both words, when `edited` by the same legal writes, become the same"
+            " word.",
             "normal": "The result is normal (`IsNormal`).",
         },
         "migrate": {
-            "lawful": "The result is `Ok` of the normal form (`normal_form_of`) if and only if that is `Lawful`.",
-            "fields": "Its fields (`raw`) are those of the word, filled (`fill`) and trimmed (`trim`).",
+            "lawful": "The result is `Ok` if and only if the normal form (`normal_form_of`) is `Lawful`. An `Ok` holds the"
+            " normal form.",
+            "fields": "A returned word has the fields (`raw`) of the given word, filled (`fill`) and trimmed (`trim`).",
             "normal": "A returned word is normal (`IsNormal`).",
             "same": "A returned word is equivalent to the given word (`SameFormat`).",
-            "error": "An `Err` has the error of the first rule that the normal form breaks (`IsErrorOf`).",
-            "not_success": "It is never `Err(Success)`.",
-            "not_flags": "It is never `Err(InvalidFlags)`, since reserved bits are dropped.",
+            "error": "An `Err` holds the error of the first rule that the normal form breaks (`IsErrorOf`).",
+            "not_success": "The result is never `Err(Success)`.",
+            "not_flags": "The result is never `Err(InvalidFlags)`, since reserved bits are dropped.",
         },
         "same_format": {
             "normal_forms": "The result is true if and only if the words have the same normal form (`normal_form_of`).",
-            "fields": "This holds if and only if the words' fields (`raw`) are equivalent (`SameFormat`).",
+            "fields": "The result is true if and only if the fields of the words (`raw`) are equivalent"
+            " (`SameFormat`).",
         },
     },
     "feature_format.rt": {
         "error": {
             "first": "The result is the error of the first rule that the word breaks, or `Success` (`IsErrorOf`).",
-            "lawful": "It is `Success` if and only if the word is `Lawful`.",
-            "unique": "No other error is the error of the word (`IsErrorOf`).",
+            "lawful": "The result is `Success` if and only if the word is `Lawful`.",
+            "unique": "No other error satisfies `IsErrorOf`.",
         },
-        "rebuild": {"": "The result has the fields of the word (`raw`), with exponent bytes that are filled (`fill`)."},
+        "rebuild": {
+            "": "The fields of the result are those of the word (`raw`), with absent exponent bytes replaced by the"
+            " mantissa radix (`fill`)."
+        },
     },
 }
 
@@ -126,8 +141,7 @@ PHRASES = [
     ("`lexical-util` has no such function, since its word is part of the type.", ""),
     ("This crate only defines the errors. The crates that depend on it return them.", ""),
     ("This module re-exports the tests of the rules from `format_flags/rules.rt`.", ""),
-    ("So does `build_or_panic` in plain Rust, which is for constants, where a `Result` cannot be unwrapped.",
-     "So does [`build_or_panic`][Self::build_or_panic], which is for constants, where a `Result` cannot be unwrapped."),
+    ("In plain Rust, `build_or_panic` panics too.", "[`build_or_panic`][Self::build_or_panic] panics too."),
     ("The contract requires that `digit` is below 36. In plain Rust, the result for any other `digit` is unspecified,"
      " and the call may panic if overflow checks are enabled.",
      "If `digit` is 36 or more, the result is unspecified, and the call may panic if overflow checks are enabled."),
@@ -138,16 +152,18 @@ PHRASES = [
      "Panics if `shift` is not in this range and overflow checks are enabled. If they are disabled, the result is"
      " unspecified."),
     ("The comment of a variant is the name of its setter.", "Each variant links to its setter."),
-    ("Prints what [`SettingError::text`] returns.", "Prints what the setting takes, or why the text is not a setting."),
+    ("Prints what [`SettingError::text`] returns.",
+     "Prints which values the setter takes, or why the text is not a setting."),
     ("Prints what [`Edit::text`] returns.",
-     "Prints `NAME=VALUE`, such as `mantissa_radix=16`, `no_special=true` or `digit_separator=none`."),
+     "Prints the edit as `NAME=VALUE`, such as `mantissa_radix=16`, `no_special=true` or `digit_separator=none`."),
     ("[`format_error_impl`], or `Success` if it is lawful.",
      "[`Rule`][crate::format_flags::Rule], or `Success` if it is lawful."),
-    ("The word is a value, which may be known only when the program runs; in `lexical-util` it is a const generic"
-     " argument of the type, and each field is also an associated constant.",
-     "The word may be known only when the program runs. For a word that is known when it is compiled,"
-     " [`NumberFormat`][crate::feature_format::NumberFormat] has each field also as a constant. Equality, order and hash"
-     " are those of the word; [`same_format`][crate::edits::same_format] returns whether two words are equivalent."),
+    ("The word is a value, which may be known only at run time. In `lexical-util`, the word is a const generic argument"
+     " of the type instead, and each field is also an associated constant.",
+     "The word may be known only at run time. For a word that is known at compile time,"
+     " [`NumberFormat`][crate::feature_format::NumberFormat] also has each field as a constant. Views are compared,"
+     " ordered and hashed by their words. [`same_format`][crate::edits::same_format] returns whether two words are"
+     " equivalent."),
 ]
 
 # No documentation of the library may match this. The module `word` is hidden.

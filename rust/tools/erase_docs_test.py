@@ -31,14 +31,14 @@ CUES = {"if and only if|the same error": "↔|OkIff", "[Nn]ever": "≢", "No oth
 
 # The words that each row of PHRASES adds, and texts that FOREIGN finds.
 ADDED = [
-    "", "", "", "", "", "", "[`build_or_panic`][Self::build_or_panic],",
+    "", "", "", "", "", "", "[`build_or_panic`][Self::build_or_panic]",
     "If 36 or more,", "Panics if 36 or more.", "Panics if not range and enabled. If they are disabled, the result is unspecified.",
-    "Each links to", "the setting takes, or why the text is not a setting.",
-    "`NAME=VALUE`, such as `mantissa_radix=16`, `no_special=true` or `digit_separator=none`.",
+    "Each links to", "which values the setter takes, or why the text is not a setting.",
+    "the edit as `NAME=VALUE`, such as `mantissa_radix=16`, `no_special=true` or `digit_separator=none`.",
     "[`Rule`][crate::format_flags::Rule],",
-    "runs. For a word that is known when compiled, [`NumberFormat`][crate::feature_format::NumberFormat] has each field"
-    " also as constant. Equality, order and hash are those word; [`same_format`][crate::edits::same_format] returns"
-    " whether two words are equivalent.",
+    "For a that known at compile time, [`NumberFormat`][crate::feature_format::NumberFormat] also has as a Views are"
+    " compared, ordered and hashed by their words. [`same_format`][crate::edits::same_format] returns whether two"
+    " words are equivalent.",
 ]  # fmt: skip
 STRANGE = ["a.rt", "a.antt", "In plain Rust", "in plain Rust", "the crate below", "crates above", "is not proved",
            "has no such function", "Search", "the search", "word::STANDARD"]  # fmt: skip

@@ -1,4 +1,4 @@
-//! Builds number formats: sets the fields of a format by name, and packs them into a format word.
+//! Builds number formats: each field of a format is set by name, and all fields are packed into a format word.
 #![tactic(auto)]
 
 pub mod format_builder;

@@ -1,4 +1,4 @@
-//! Edits of a format word: lists of setter calls, and the normal form of a word.
+//! Edits, which are setter calls as values, and the normal form of a format word.
 
 ghost use Rattle.std.specs.Prelude.{◌≡◌, ◌≢◌, ℕ, IfErr, IfOk, ◌<◌, ◌^◌, ◌↔◌, IsTrue, Bool, List, All};
 ghost use Rattle.std.specs.Result.{OkIff};
@@ -20,8 +20,9 @@ use lexical_flags::format_flags as flags;
 use lexical_flags::format_flags::{FLAG_MASK, check};
 use lexical_flags::laws::rule_facts;
 
-// Calls `$rows!` with `$args`, a row for each flag, and a row for each group of flags. A row has the variant of
-// `FlagSetter`, the name of the setter, and the mask that the setter writes. Each flag's getter has the same name.
+// Calls `$rows!` with `$args`, a row for each flag, and a row for each flag group. A row has the variant of
+// `FlagSetter`, the name of the setter, and the mask that the setter writes. The getter and the setter that belong to a
+// flag have the same name.
 macro_rules! with_setters {
     ($rows:ident $args:tt) => {
         $rows! {
@@ -85,8 +86,8 @@ pub use numbers::{
 };
 pub use text::{SettingError, byte_from_decimal};
 
-/// A builder setter that takes a `bool`. There is one for each flag, and one for each of the nine groups of flags. The
-/// comment of a variant is the name of its setter.
+/// A setter of [`NumberFormatBuilder`] that takes a `bool`: the setter of one flag, or the setter of one of the nine
+/// groups of flags. The comment of a variant is the name of its setter.
 #[derive(Debug, Clone, Copy, PartialEq, Eq, Hash)]
 pub enum FlagSetter {
     /// `required_integer_digits`
@@ -171,28 +172,29 @@ pub enum FlagSetter {
     ExponentDigitSeparatorFlags,
 }
 
-/// A setter call of a builder, with its argument.
+/// An edit: a call of one setter of [`NumberFormatBuilder`], with its argument, as a value.
 #[derive(Debug, Clone, Copy, PartialEq, Eq, Hash)]
 pub enum Edit {
-    /// Writes a flag, or every flag of a group.
+    /// Sets a flag, or every flag of a group, to the `bool`.
     Flag(FlagSetter, bool),
-    /// Writes the digit separator. `None` means that the format has no digit separator.
+    /// Sets the digit separator. `None` means that the format has no digit separator.
     DigitSeparator(OptionU8),
-    /// Writes the base prefix. `None` means that the format has no base prefix.
+    /// Sets the base prefix. `None` means that the format has no base prefix.
     BasePrefix(OptionU8),
-    /// Writes the base suffix. `None` means that the format has no base suffix.
+    /// Sets the base suffix. `None` means that the format has no base suffix.
     BaseSuffix(OptionU8),
-    /// Writes the mantissa radix, a number from 0 to 255. In a lawful format it is between 2 and 36.
+    /// Sets the mantissa radix. Any number from 0 to 255 is accepted, but only a number between 2 and 36 is lawful.
     MantissaRadix(u8),
-    /// Writes the mantissa radix too: the setter `radix` is another name for the setter `mantissa_radix`.
+    /// Sets the mantissa radix, as [`MantissaRadix`][Self::MantissaRadix] does. The setter `radix` is another name for
+    /// the setter `mantissa_radix`.
     Radix(u8),
-    /// Writes the exponent base. `None` means the mantissa radix.
+    /// Sets the exponent base. `None` means that the exponent base follows the mantissa radix.
     ExponentBase(OptionU8),
-    /// Writes the exponent radix. `None` means the mantissa radix.
+    /// Sets the exponent radix. `None` means that the exponent radix follows the mantissa radix.
     ExponentRadix(OptionU8),
 }
 
-// The variants as an array: the flags, then the groups.
+// Makes the array of all variants: first the flags, then the groups.
 macro_rules! variants {
     (() { $($Flag:ident $flag:ident $FLAG:ident;)* } { $($Group:ident $group:ident $GROUP:ident;)* }) => {
         [$(FlagSetter::$Flag,)* $(FlagSetter::$Group,)*]
@@ -201,13 +203,14 @@ macro_rules! variants {
 
 const FLAGS: usize = u128::count_ones(FLAG_MASK) as usize;
 
-/// The number of fields of a word: the flags and six bytes.
+/// The number of fields in a format word: 31 flags and six bytes.
 pub const FIELD_COUNT: usize = FLAGS + 6;
 
-/// All setters that take a `bool`, in the order of the variants: the flag setters, then the nine group setters.
+/// All setters that take a `bool`, in the order of the variants of [`FlagSetter`]: first the flag setters, then the
+/// nine group setters.
 pub const SETTERS: [FlagSetter; FLAGS + 9] = with_setters!(variants());
 
-/// Applies one edit: calls the setter that it names.
+/// Applies `edit` to `builder`: calls the setter of the edit with its argument, and returns the new builder.
 #[inline(always)]
 pub const fn apply(builder: NumberFormatBuilder, edit: Edit) -> NumberFormatBuilder
     ensures fields { result ≡ after builder (writes_of edit) }
@@ -225,7 +228,7 @@ pub const fn apply(builder: NumberFormatBuilder, edit: Edit) -> NumberFormatBuil
     }
 }
 
-// Calls a flag setter or a group setter.
+// Calls a flag setter or a group setter with `flag`.
 #[inline(always)]
 const fn apply_flag(
     builder: NumberFormatBuilder,
@@ -237,8 +240,8 @@ const fn apply_flag(
     builder.with_flags(mask_of(setter) as u128, flag)
 }
 
-// Returns the mask of the flags that a setter writes. All flags are in the lower 64 bits of a word, and the compiler
-// makes a table only of numbers with at most 64 bits.
+// Returns the mask of the flags that a setter writes. The mask is a `u64`, since all flags are in the lower 64 bits of
+// a word, and the compiler makes lookup tables only for numbers of at most 64 bits.
 #[inline(always)]
 const fn mask_of(setter: FlagSetter) -> u64
     ensures flags { flags_with result ≡ flags_of setter }
@@ -256,10 +259,11 @@ const fn mask_of(setter: FlagSetter) -> u64
     with_setters!(masks(setter))
 }
 
-/// Applies `edits` to a builder in order, each as one setter call.
+/// Applies `edits` to `builder` in order, and returns the new builder.
 ///
-/// To build a format from settings, apply them to a new builder and pack it with `build_strict`. The exponent base and
-/// the exponent radix then follow the mantissa radix, unless a setting writes them.
+/// To build a new format, apply the edits to a new builder, and call
+/// [`build_strict`][NumberFormatBuilder::build_strict]. The exponent base and the exponent radix then follow the
+/// mantissa radix, unless an edit sets them.
 #[inline(always)]
 pub const fn apply_all(mut builder: NumberFormatBuilder, edits: &[Edit]) -> NumberFormatBuilder
     ensures fields { result ≡ after builder (all_writes edits.now) }
@@ -273,19 +277,23 @@ pub const fn apply_all(mut builder: NumberFormatBuilder, edits: &[Edit]) -> Numb
     builder
 }
 
-/// Applies `edits` in order to a format word, lawful or not, and returns the new word.
+/// Applies `edits` in order to a format word, which need not be [lawful][flags::Rule], and returns the new word.
 ///
-/// Use this for a finished format. An edit of the mantissa radix does not change the exponent base and the exponent
-/// radix, even if they followed the old mantissa radix. To build a new format, use [`apply_all`].
+/// Use this function to change a finished format. An edit of the mantissa radix changes neither the exponent base nor
+/// the exponent radix, even if they followed the old mantissa radix. To build a new format, use [`apply_all`].
+///
+/// The new word is computed in four steps:
 ///
 /// 1. The fields of `format` are read.
 /// 2. An exponent base or exponent radix of 0 is replaced by the mantissa radix.
-/// 3. Each edit is applied. If several edits write the same field, the last one wins. An exponent byte that an edit
-///    sets to `None` stays 0.
-/// 4. The digit separator is set to 0 if no flag allows one, and the fields are packed. The reserved bits are 0.
+/// 3. Each edit is applied. If several edits set the same field, the last one wins. An exponent base or exponent radix
+///    that an edit sets to `None` stays 0.
+/// 4. The digit separator is set to 0 if no flag allows one, and the fields are packed. The reserved bits, which hold
+///    no field, are 0 in the new word.
 ///
-/// Pass all edits in one call. Two calls can give a different word than one call with both lists: the first call drops
-/// a digit separator whose flag is not set yet, and the second fills an exponent byte that the first set to `None`.
+/// Pass all edits in one call. If you split them between two calls, the result can be a different word, for two
+/// reasons. The first call drops a digit separator if no flag allows one yet. The second call replaces an exponent base
+/// or exponent radix that the first call set to `None` by the mantissa radix.
 ///
 /// In plain Rust:
 ///
@@ -293,7 +301,7 @@ pub const fn apply_all(mut builder: NumberFormatBuilder, edits: &[Edit]) -> Numb
 /// use peltzivar::edits::{edit_word, Edit, FlagSetter};
 /// use peltzivar::format::STANDARD;
 ///
-/// // The exponent keeps base and radix 10, which are now written in the word.
+/// // The exponent base and the exponent radix stay 10. They are now stored in the word.
 /// let edits = [Edit::MantissaRadix(16), Edit::Flag(FlagSetter::NoSpecial, true)];
 /// assert_eq!(edit_word(STANDARD, &edits), 0x0A0A1000_00000000_00000000_0000040C);
 /// ```
@@ -307,8 +315,8 @@ pub const fn edit_word(format: u128, edits: &[Edit]) -> u128
     ensures unique { (other : ℕ) → other < 2 ^ 128 → IsClean other
         → raw other ≡ trim (after (fill (raw format)) (all_writes edits.now)) → other ≡ result }
 
-    // Only the last write to each field matters. So edits of different fields can be in any order, and a group edit
-    // equals the edits of its flags in any order.
+    // Only the last write to each field matters. So edits of different fields can be in any order, and a group edit is
+    // equivalent to the edits of its flags in any order.
     ensures same_writes { (writes : List Write) → All IsLegal writes
         → SameWrites writes (all_writes edits.now) → edited format writes ≡ result }
 
@@ -317,10 +325,12 @@ pub const fn edit_word(format: u128, edits: &[Edit]) -> u128
     apply_all(NumberFormatBuilder::rebuild(format), edits).build_unchecked()
 }
 
-/// Returns the normal form of a word, lawful or not: the canonical word among all equivalent words.
+/// Returns the normal form of `format`, which need not be [lawful][flags::Rule]. The normal form is the canonical word
+/// among all equivalent words.
 ///
-/// In the normal form, each exponent byte is its effective value, the digit separator is absent unless a flag allows
-/// one, and the reserved bits are 0.
+/// In the normal form, an exponent base or exponent radix of 0 is replaced by the mantissa radix. The digit separator
+/// is 0 if no flag allows one, and the reserved bits, which hold no field, are 0. All other fields are those of
+/// `format`. Two words are equivalent if they have the same normal form.
 #[inline(always)]
 pub const fn normal_form(format: u128) -> u128
     ensures word { result ≡ normal_form_of format }
@@ -331,12 +341,12 @@ pub const fn normal_form(format: u128) -> u128
     ensures unique { (other : ℕ) → other < 2 ^ 128 → IsClean other
         → raw other ≡ trim (fill (raw format)) → other ≡ result }
 
-    // A normal form is its own normal form.
+    // The normal form of a normal form is the word itself.
     ensures idempotent { normal_form_of result ≡ result }
     ensures unchanged { (result ≡ format) ↔ IsNormal format }
 
-    // Both words are equivalent: their effective fields are equal, except for a separator that no flag allows, and so
-    // are their flags in each list of flags.
+    // The word and its normal form are equivalent. Their effective fields are equal, except for a separator that no
+    // flag allows. For each list of flags, both have the same bits.
     ensures same { SameFormat (raw format) (raw result) }
     ensures groups { (fs : List Flag) → any_flag format fs ≡ any_flag result fs }
     ensures flags { (fs : List Flag) → bits_of format fs ≡ bits_of result fs }
@@ -347,7 +357,7 @@ pub const fn normal_form(format: u128) -> u128
     ensures error { IsClean format → SeparatorAllowedOrAbsent (raw format)
         → (error : Error) → IsErrorOf format error ↔ IsErrorOf result error }
 
-    // If no separator is dropped, both words give the same word when they are edited.
+    // If no separator is dropped, the same writes turn both words into the same word.
     ensures edits { SeparatorAllowedOrAbsent (raw format) → (writes : List Write) → All IsLegal writes
         → edited result writes ≡ edited format writes }
     ensures normal { IsNormal result }
@@ -356,23 +366,23 @@ pub const fn normal_form(format: u128) -> u128
     NumberFormatBuilder::rebuild(format).build_unchecked()
 }
 
-/// Returns the normal form of `format` if the normal form is lawful.
+/// Returns the [normal form][normal_form] of `format` if that form is [lawful][flags::Rule].
 ///
-/// Use this for words that were stored by `lexical-util`, or by this crate before its rules changed. Reserved bits,
-/// absent exponent bytes and a digit separator that no flag allows are not errors, since the normal form has none of
-/// them.
+/// Use this function for words that `lexical-util` stored, or that this crate stored before its rules changed. A word
+/// with reserved bits or with a digit separator that no flag allows is accepted, since its normal form has neither.
 ///
 /// # Errors
 ///
-/// If the normal form is not lawful, returns the error of the first rule that it breaks. This is never `Success` or
-/// `InvalidFlags`.
+/// If the normal form is not lawful, returns the error of the first rule that it breaks. The error is never `Success`
+/// or `InvalidFlags`.
 ///
 /// In plain Rust:
 ///
 /// ```
 /// use peltzivar::{edits::migrate, error::Error};
 ///
-/// // The reserved bit 31 is cleared, and the exponent bytes are filled; flags 4 and 5 exclude each other.
+/// // Bit 31 is reserved and is cleared. The exponent base and the exponent radix become 10.
+/// // Flags 4 and 5 cannot both be set.
 /// assert_eq!(migrate(0x00000A00_00000000_00000000_8000000C), Ok(0x0A0A0A00_00000000_00000000_0000000C));
 /// assert_eq!(migrate(0x00000A00_00000000_00000000_0000003C), Err(Error::InvalidMantissaSign));
 /// ```
@@ -388,7 +398,7 @@ pub const fn migrate(format: u128) -> Result<u128, Error>
     check(normal_form(format))
 }
 
-/// Returns whether two words are equivalent, that is, whether they have the same normal form.
+/// Returns whether two words are equivalent, that is, whether they have the same [normal form][normal_form].
 pub const fn same_format(a: u128, b: u128) -> bool
     ensures normal_forms { IsTrue result ↔ (normal_form_of a ≡ normal_form_of b) }
     ensures fields { IsTrue result ↔ SameFormat (raw a) (raw b) }

@@ -1,4 +1,4 @@
-//! The view of a format word: reads each field, and checks the word.
+//! The view of a format word, which reads the fields of the word and checks it.
 #![tactic(auto, using(crate::proofs::ViewLemmas::masks_and_powers))]
 
 ghost use Rattle.std.specs.Prelude.{◌≡◌, ◌≢◌, ℕ, ◌↔◌, ◌%◌, ◌^◌, IsTrue};
@@ -15,7 +15,7 @@ use lexical_flags::format_flags as flags;
 use lexical_flags::format_flags::{format_error_impl, radix_error_impl};
 use std::marker::Model;
 
-// Is true if the word of a view has a bit of a mask.
+// Is true if any bit of the mask is set in the word of the view.
 macro_rules! has_any {
     ($view:ident, $MASK:ident) => {
         $view.format & flags::$MASK != 0
@@ -24,11 +24,11 @@ macro_rules! has_any {
 
 mod getters;
 
-/// A view of a format word, which reads the fields of the word and checks it.
+/// A view of a format word. It reads the fields of the word, and checks the word.
 ///
-/// Every getter works on any word, lawful or not. The word is a value, which may be known only when the
-/// program runs; in `lexical-util` it is a const generic argument of the type, and each field is also an
-/// associated constant.
+/// Every method works on any word, whether or not the word is [lawful][flags::Rule]. The word is a value, which may be
+/// known only at run time. In `lexical-util`, the word is a const generic argument of the type instead, and each field
+/// is also an associated constant.
 #[derive(Clone, Copy)]
 pub struct NumberFormat {
     format: u128,
@@ -52,7 +52,7 @@ impl Default for NumberFormat {
 
     ghost is_default = { λ view. view ≡ STANDARD };
 
-    /// Returns the view of the standard format, the word into which a new builder packs.
+    /// Returns the view of the [standard format][STANDARD], which is the format word of a new builder.
     #[inline(always)]
     #[tactic(auto, unfolding(crate::specs::Unfoldable::on_literals))]
     fn default() -> Self
@@ -60,7 +60,7 @@ impl Default for NumberFormat {
         ensures packed { result ≡ pack new_record }
         ensures lawful { Lawful result }
 
-        // Its normal form is the format of decimal numbers.
+        // The normal form of the standard format is the format of decimal numbers.
         ensures normal { normal_form_of result ≡ 0x0A0A0A00_00000000_00000000_0000000C }
     {
         NumberFormat { format: STANDARD }
@@ -70,7 +70,7 @@ impl Default for NumberFormat {
 impl NumberFormat {
     // CONSTRUCTORS
 
-    /// Returns the view of `format`, which may be any word.
+    /// Returns a view of `format`, which may be any word.
     #[inline(always)]
     pub const fn new(format: u128) -> Self
         ensures { result ≡ format }
@@ -78,7 +78,7 @@ impl NumberFormat {
         NumberFormat { format }
     }
 
-    /// Returns the word. `lexical-util` has no such function, since its word is part of the type.
+    /// Returns the format word. `lexical-util` has no such function, since its word is part of the type.
     #[inline(always)]
     pub const fn word(&self) -> u128
         ensures { result ≡ self.now }
@@ -88,7 +88,7 @@ impl NumberFormat {
 
     // CHECKS
 
-    /// Returns whether the word is lawful, that is, whether it keeps all rules that [`error`][Self::error] checks.
+    /// Returns whether the word is lawful, that is, whether it keeps all the rules that [`error`][Self::error] checks.
     #[inline(always)]
     pub const fn is_valid(&self) -> bool
         ensures { IsTrue result ↔ Lawful self.now }
@@ -108,7 +108,7 @@ impl NumberFormat {
     }
 
     /// Returns whether the mantissa radix, the exponent base and the exponent radix are all between 2 and 36. An
-    /// exponent byte of 0 means the mantissa radix.
+    /// exponent base or exponent radix of 0 means the mantissa radix.
     #[inline(always)]
     pub const fn is_valid_radix(&self) -> bool
         ensures { IsTrue result ↔ IsFirstError radix_rules self.now Error.Success }
@@ -128,8 +128,8 @@ impl NumberFormat {
 
     // BYTES
 
-    /// Returns the [digit separator][NumberFormatBuilder::digit_separator], even if no flag allows it, or 0 if it is
-    /// absent.
+    /// Returns the [digit separator][NumberFormatBuilder::digit_separator], or 0 if it is absent. The byte is returned
+    /// even if no flag allows digit separators.
     #[inline(always)]
     pub const fn digit_separator(&self) -> u8
         ensures { result ≡ (raw self.now).byte layout.digit_separator }
@@ -179,8 +179,8 @@ impl NumberFormat {
 
     // RADIXES
 
-    /// Returns the [mantissa radix][NumberFormatBuilder::mantissa_radix], a number from 0 to 255. In a lawful word, it is
-    /// between 2 and 36.
+    /// Returns the [mantissa radix][NumberFormatBuilder::mantissa_radix], a number from 0 to 255. In a
+    /// [lawful][flags::Rule] word, it is between 2 and 36.
     #[inline(always)]
     pub const fn mantissa_radix(&self) -> u32
         ensures value { result ≡ (raw self.now).byte layout.mantissa_radix }
@@ -198,7 +198,7 @@ impl NumberFormat {
         self.mantissa_radix()
     }
 
-    /// Returns the second power of the mantissa radix.
+    /// Returns the square of the mantissa radix.
     #[inline(always)]
     pub const fn radix2(&self) -> u32
         ensures { result ≡ (raw self.now).byte layout.mantissa_radix ^ 2 }
@@ -216,7 +216,8 @@ impl NumberFormat {
         square * square
     }
 
-    /// Returns the eighth power of the mantissa radix modulo 2^32. It is exact up to radix 15, and 0 for radix 16.
+    /// Returns the eighth power of the mantissa radix modulo 2^32. The result is exact up to radix 15, and it is 0 for
+    /// radix 16.
     #[inline(always)]
     pub const fn radix8(&self) -> u32
         ensures { result ≡ (raw self.now).byte layout.mantissa_radix ^ 8 % 2 ^ 32 }
@@ -226,7 +227,7 @@ impl NumberFormat {
     }
 
     /// Returns the [exponent base][NumberFormatBuilder::exponent_base], or the mantissa radix if that byte is 0. In a
-    /// lawful word it is between 2 and 36.
+    /// [lawful][flags::Rule] word, the result is between 2 and 36.
     #[inline(always)]
     pub const fn exponent_base(&self) -> u32
         ensures value { result ≡ effective_exponent_base (raw self.now) }
@@ -236,7 +237,7 @@ impl NumberFormat {
     }
 
     /// Returns the [exponent radix][NumberFormatBuilder::exponent_radix], or the mantissa radix if that byte is 0. In a
-    /// lawful word it is between 2 and 36.
+    /// [lawful][flags::Rule] word, the result is between 2 and 36.
     #[inline(always)]
     pub const fn exponent_radix(&self) -> u32
         ensures value { result ≡ effective_exponent_radix (raw self.now) }
@@ -247,8 +248,8 @@ impl NumberFormat {
 
     // ROLES OF BYTES
 
-    /// Returns whether `byte` is a digit of the mantissa radix or of the exponent radix. The case of a letter does not
-    /// matter.
+    /// Returns whether `byte` is a digit in the mantissa radix or in the exponent radix. A letter of either case can be
+    /// a digit.
     #[inline(always)]
     pub const fn is_digit(&self, byte: u8) -> bool
         ensures { IsTrue result ↔ IsTrue (digits (raw self.now) byte) }
@@ -256,7 +257,7 @@ impl NumberFormat {
         flags::is_digit(self.format, byte)
     }
 
-    /// Returns whether `byte` is the base prefix. If the base prefix is a letter, both cases of it match unless
+    /// Returns whether `byte` is the base prefix. A base prefix that is a letter matches both cases unless
     /// `case_sensitive_base_prefix` is set.
     #[inline(always)]
     pub const fn is_base_prefix(&self, byte: u8) -> bool
@@ -265,7 +266,7 @@ impl NumberFormat {
         is_byte(self.base_prefix(), self.case_sensitive_base_prefix(), byte)
     }
 
-    /// Returns whether `byte` is the base suffix. If the base suffix is a letter, both cases of it match unless
+    /// Returns whether `byte` is the base suffix. A base suffix that is a letter matches both cases unless
     /// `case_sensitive_base_suffix` is set.
     #[inline(always)]
     pub const fn is_base_suffix(&self, byte: u8) -> bool
@@ -276,7 +277,7 @@ impl NumberFormat {
 
     // BUILDERS
 
-    /// Returns a new builder, which does not depend on the word.
+    /// Returns a new builder. It does not depend on the word.
     #[inline(always)]
     pub const fn builder() -> NumberFormatBuilder
         ensures { result ≡ new_record }
@@ -294,8 +295,8 @@ impl NumberFormat {
     }
 }
 
-// Returns whether `byte` is `own` or, if `case_sensitive` is false, the same letter in the other case. If `own` is 0,
-// which means absent, the result is `false`.
+// Returns whether `byte` is `own` or, if `case_sensitive` is false, the same letter in the other case. Returns `false`
+// if `own` is 0, which means absent.
 #[inline(always)]
 #[tactic(auto, unfolding(lexical_flags::specs::Roles::cased))]
 const fn is_byte(own: u8, case_sensitive: bool, byte: u8) -> bool

@@ -1,4 +1,4 @@
-//! Laws. Each is a clause of a function with an empty body. To use a law, call its function.
+//! Laws: public functions with an empty body, whose clauses are theorems. To use a law, call its function.
 
 ghost use Rattle.std.specs.Prelude.{◌≡◌, ◌↔◌, ◌+◌, ℕ, List, [], ◌++◌};
 ghost use Rattle.lexical_flags.specs.Record.{Record, raw};
@@ -12,21 +12,22 @@ pub mod examples;
 pub use lexical_base::laws as base;
 pub use lexical_flags::laws as flags;
 
-/// States that an empty list of writes changes nothing, and that two lists in turn are equivalent to both in one list.
+/// States that an empty list of writes changes nothing, and that applying two lists in turn is equivalent to applying
+/// both as one list.
 pub fn write_facts()
     ensures none { (r : Record) → after r [] ≡ r }
     ensures append { (r : Record) → (first second : List Write)
         → after (after r first) second ≡ after r (first ++ second) }
 {}
 
-/// States when two words have the same normal form, and when it is lawful.
+/// States when two words have the same normal form, and when a normal form is lawful.
 #[inline(always)]
 pub const fn normal_form_facts()
-    // The normal form of a word is equivalent to it, and two words have the same one if and only if they are equivalent.
+    // A word is equivalent to its normal form. Two words have the same normal form if and only if they are equivalent.
     ensures same { (word : ℕ) → SameFormat (raw word) (raw (normal_form_of word)) }
     ensures equal { (a b : ℕ) → (normal_form_of a ≡ normal_form_of b) ↔ SameFormat (raw a) (raw b) }
 
-    // The normal form of a word is lawful if any equivalent word is.
+    // The normal form of a word is lawful if any equivalent word is lawful.
     ensures lawful_same { (word other : ℕ) → SameFormat (raw word) (raw other) → Lawful other
         → Lawful (normal_form_of word) }
 {

@@ -1,4 +1,4 @@
-//! The reasons why a format word breaks rules, and notes on fields that change no number.
+//! The reasons why a format word breaks rules, and notes on fields that have no effect on any number.
 
 ghost use Rattle.std.specs.Prelude.{◌≡◌, ◌≢◌, ◌↔◌, ◌==◌, ℕ, [], if◌then◌else◌, None, Some, map};
 ghost use Rattle.std.specs.Bool.{then_some};
@@ -35,48 +35,55 @@ mod text;
 pub use mending::{MAX_MENDING_EDITS, mend};
 pub use note::{MAX_NOTES, Note, notes, notes_of_fields};
 
-/// The maximum number of reasons why a word breaks one rule.
+/// The maximum number of reasons why a format word can break a single rule.
 pub const MAX_REASONS: usize = 3;
 
-/// The number of candidates for the reasons of a word, which is the number of slots that [`reasons`] returns.
+/// The number of slots in the array that [`reasons`] returns. There is one slot for each reason that a format word can
+/// have.
 pub const CANDIDATE_COUNT: usize = 24;
 
-/// One cause of broken rules in a format word. A byte is given as the edit that writes it.
+/// A reason why a format word breaks one or more rules. Each variant identifies a byte by an [`Edit`] that sets it to
+/// its value in the word.
 #[derive(Debug, Clone, Copy, PartialEq, Eq)]
 pub enum Reason {
     /// The mantissa radix is not between 2 and 36. The first `bool` is `true` if the exponent base is absent, and the
-    /// second if the exponent radix is absent: they follow the mantissa radix, so it breaks their rules too.
+    /// second `bool` is `true` if the exponent radix is absent. An absent exponent base or exponent radix follows the
+    /// mantissa radix, so its rule is broken too.
     MantissaRadixOutOfRange(u8, bool, bool),
-    /// An exponent base or exponent radix is present and not between 2 and 36.
+    /// The exponent base or the exponent radix is present, but it is not between 2 and 36.
     OutOfRange(Edit),
-    /// A byte is present and not allowed ASCII.
+    /// A byte is present, but it is not an allowed ASCII byte. The bytes from 9 to 13 and from 32 to 126 are allowed.
     NotText(Edit),
-    /// A byte is `+` or `-`.
+    /// A byte is a sign: `+` or `-`.
     IsSign(Edit),
-    /// A byte is a digit in a radix: the mantissa radix, or the exponent radix if the byte is a digit only there.
+    /// The byte of the first edit is a digit in the radix of the second edit. The second edit sets the exponent radix
+    /// if the byte is a digit only in that radix, and otherwise the mantissa radix.
     IsDigit(Edit, Edit),
-    /// Two bytes are the same, or they are the two cases of a letter. In the second case the flag is the one that would
-    /// have to be set: with it, the base prefix or base suffix is case-sensitive.
+    /// Two bytes are equal, or they are the two cases of one letter. If they are equal, the flag is `None`. Otherwise,
+    /// they clash as long as the flag is not set, which makes the base prefix or the base suffix case-sensitive.
     Clash(Edit, Edit, Option<FlagSetter>),
-    /// Two flags are set that cannot both be set.
+    /// Two flags are both set, but they contradict each other.
     Contradict(FlagSetter, FlagSetter),
-    /// A flag allows consecutive digit separators in a part of the number where no flag allows a digit separator.
+    /// The flag allows consecutive digit separators in a part of the number, but no flag allows internal, leading or
+    /// trailing ones in that part.
     NeedsPosition(FlagSetter),
-    /// These reserved bits are set.
+    /// These reserved bits are set, although they hold no field.
     ReservedBits(u128),
 }
 
-/// Returns the reasons why a word breaks rules, each in its own slot. Each cause is listed once, in the order of the
-/// first rule that it breaks. All slots are `None` if and only if the word is lawful.
+/// Returns the reasons why a format word breaks rules. Each reason that a word can have has its own slot, which is
+/// `None` if the word does not have this reason. The slots are in the order of the first rule that each reason breaks.
+/// All of them are `None` if and only if the word is lawful.
 ///
-/// An absent exponent base or exponent radix follows the mantissa radix and is never a reason itself. Use
-/// [`Reason::breaks`] to find out which rules a reason breaks, and [`Reason::mask`] for the bits that it blames.
+/// An absent exponent base or exponent radix follows the mantissa radix, so it is never a reason itself.
+/// [`Reason::breaks`] returns whether a reason breaks a rule, and [`Reason::mask`] returns the bits that a reason
+/// blames.
 #[tactic(auto, using(crate::proofs::AllReasons::distinct))]
 pub const fn reasons(format: u128) -> [Option<Reason>; CANDIDATE_COUNT]
     ensures each { result ≡ map if_applicable (candidates format) }
     ensures lawful { Lawful format ↔ (all_reasons format ≡ []) }
 
-    // Each reason why the word breaks a rule is in a slot, and this reason breaks the rule.
+    // Each reason why the word breaks a rule is in a slot, and breaks this rule.
     ensures by_rule { (rule : Rule)
         → AllByRecursion (λ reason. IsAmong (all_reasons format) reason × Breaks reason rule) (reasons_of rule format) }
 
@@ -85,7 +92,8 @@ pub const fn reasons(format: u128) -> [Option<Reason>; CANDIDATE_COUNT]
         → AllByRecursion (λ reason. Breaks reason rule → Holds rule format → ⊥) (all_reasons format) }
     ensures distinct { ArePairwise (λ a b. a ≢ b) (all_reasons format) }
 
-    // A reason is true of each word that has the same bits under its mask, and this word breaks its first rule.
+    // Each word that has the same bits as this word under the mask of a reason has this reason too, and breaks the
+    // first rule of the reason.
     ensures blame { (other : ℕ) → AllByRecursion (Blames format other) (all_reasons format) }
 {
     rule_facts();
@@ -121,10 +129,11 @@ pub const fn reasons(format: u128) -> [Option<Reason>; CANDIDATE_COUNT]
     ]
 }
 
-/// Returns the reasons why a word breaks a rule. All entries are `None` if and only if the word keeps the rule.
+/// Returns the reasons why a format word breaks `rule`. All entries are `None` if and only if the word keeps the rule.
 ///
-/// A byte that is present and not punctuation has one of three reasons. [`Rule::PunctuationDiffers`] has a reason for
-/// each two bytes that clash. Each other rule has at most one.
+/// A byte that is present but not punctuation has one of three reasons: it is not allowed ASCII, it is a sign, or it is
+/// a digit. [`Rule::PunctuationDiffers`] has one reason for each pair of bytes that clash. Every other rule has at most
+/// one reason.
 #[tactic(auto, using(crate::proofs::ReasonLemmas::kept_without_reason))]
 pub const fn reasons_of(rule: Rule, format: u128) -> [Option<Reason>; MAX_REASONS]
     ensures each { result ≡ in_three_slots (candidates_of rule format) }
@@ -168,7 +177,8 @@ pub const fn reasons_of(rule: Rule, format: u128) -> [Option<Reason>; MAX_REASON
     }
 }
 
-// Returns the reason of a mantissa radix that is not between 2 and 36, or `None` if it is.
+// Returns the reason for a mantissa radix that is not between 2 and 36, or `None` if the mantissa radix is in this
+// range.
 const fn mantissa_reason(format: u128) -> Option<Reason>
     ensures { result ≡ if_applicable (mantissa_candidate (raw format)) }
 {
@@ -181,8 +191,8 @@ const fn mantissa_reason(format: u128) -> Option<Reason>
     )
 }
 
-// Returns the reason of an exponent byte, written by `edit`, that is not between 2 and 36, or the reason of the
-// mantissa radix if the byte is absent.
+// Returns the reason for an exponent byte that is not between 2 and 36. `edit` is the edit that writes the byte. If the
+// byte is absent, returns the reason for the mantissa radix instead.
 const fn exponent_reasons(format: u128, byte: u8, edit: &Edit) -> [Option<Reason>; MAX_REASONS]
     ensures { result ≡ in_three_slots (exponent_candidates (raw format) byte edit.now) }
 {
@@ -200,7 +210,7 @@ const fn exponent_reasons(format: u128, byte: u8, edit: &Edit) -> [Option<Reason
     }
 }
 
-// Returns the reasons why a byte, written by `edit`, is present and not punctuation.
+// Returns the reasons why a byte is present but not punctuation. `edit` is the edit that writes the byte.
 const fn punctuation_reasons(format: u128, byte: u8, edit: &Edit) -> [Option<Reason>; MAX_REASONS]
     ensures { result ≡ in_three_slots (punctuation_candidates (raw format) byte edit.now) }
 {
@@ -247,7 +257,7 @@ const fn clash_reasons(format: u128) -> [Option<Reason>; MAX_REASONS]
     ]
 }
 
-// Returns the reason of two bytes that clash, with the flag to blame if they differ.
+// Returns the reason for two bytes that clash. If the bytes differ, the reason has the flag.
 const fn clash(a: &Edit, b: &Edit, flag: FlagSetter) -> Reason
     ensures { result ≡ reasons.Clash a.now b.now
         (if argument_byte b.now == argument_byte a.now then None else Some flag) }
@@ -270,7 +280,7 @@ const fn case_flag(format: u128) -> FlagSetter
     }
 }
 
-// Returns the reason with the flags that break this rule.
+// Returns the reason with the flags that break a rule on flags.
 const fn flag_reason(rule: Rule) -> Reason
     ensures { result ≡ flag_reason rule }
 {
@@ -302,8 +312,8 @@ const fn flag_reason(rule: Rule) -> Reason
     Reason::Contradict(a, b)
 }
 
-// Returns the edit of a radix in which a byte is a digit: the mantissa radix if it is a digit there, and otherwise the
-// exponent radix.
+// Returns the edit of the radix in which a byte is a digit. If the byte is a digit in both radixes, this is the edit of
+// the mantissa radix.
 const fn radix_of_digit(format: u128, byte: u8) -> Edit
     ensures { result ≡ radix_of_digit (raw format) byte }
 {

@@ -1,4 +1,4 @@
-//! Format words as Rust code.
+//! Prints format words as Rust code.
 
 ghost use Rattle.std.specs.Prelude.{◌≡◌, ◌<◌, IsErr, OnOk, Some, length};
 ghost use Rattle.std.specs.Fmt.{WritesInCalls};
@@ -8,11 +8,11 @@ use crate::edits::{Argument, Edit, edits_of};
 use lexical_base::error::{EMPTY_PIECE, Piece, ShortText, Sink};
 use std::fmt;
 
-/// The builder expression of a format word, as Rust code: a new builder, a setter call for each field in which the word
-/// differs from it, and the call that packs the word.
+/// A format word that is printed as Rust code: an expression that builds the word.
 ///
-/// Any word may be passed. The expression builds this very word if and only if [`is_built`][crate::edits::is_built]
-/// returns `true` for it.
+/// The expression creates a new builder, calls a setter for each field in which the word differs from this builder, and
+/// packs the fields. Any word can be printed. The value of the expression is the word if and only if
+/// [`is_built`][crate::edits::is_built] returns `true` for the word.
 ///
 /// In plain Rust:
 ///
@@ -26,7 +26,8 @@ use std::fmt;
 pub struct BuilderExpression(pub u128);
 
 impl BuilderExpression {
-    /// Puts the expression, which has fewer than 2048 bytes, into a sink. Fails only if the sink fails.
+    /// Puts the expression into a sink. The expression has fewer than 2048 bytes. The call fails only if the sink
+    /// fails.
     pub fn put_into<S: Sink>(&self, out: &mut S) -> Result<(), fmt::Error>
         ensures text { OnOk result (WritesInCalls S.takes out.old (source_text self.now.0) out.new) }
         ensures failed { IsErr result → S.has_failed out.new }
@@ -41,7 +42,7 @@ impl BuilderExpression {
     }
 }
 
-/// Writes the expression and ignores the options of the formatter. Fails only if the formatter fails.
+/// Writes the expression. The options of the formatter, such as a width, are ignored.
 impl fmt::Display for BuilderExpression {
     ghost output = { λ expression. Some (source_text expression.0) };
 
@@ -52,7 +53,7 @@ impl fmt::Display for BuilderExpression {
     }
 }
 
-// Puts the setter call of an edit.
+// Puts the setter call of an edit into a sink.
 fn put_call<S: Sink>(edit: &Edit, out: &mut S) -> fmt::Result
     ensures text { OnOk result (WritesInCalls S.takes out.old (call_text edit.now) out.new) }
     ensures failed { IsErr result → S.has_failed out.new }

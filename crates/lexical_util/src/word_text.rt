@@ -1,4 +1,4 @@
-//! Format words as text: `0x` and hexadecimal digits.
+//! Parses and prints format words as text: `0x` followed by hexadecimal digits.
 
 ghost use Rattle.std.specs.Prelude.{◌≡◌, ℕ, List, Ok, slice_get};
 ghost use Rattle.std.specs.Option.{SomeIff};
@@ -11,13 +11,13 @@ use crate::numeral::read_numeral;
 use lexical_base::digit::{char_is_digit, digit_to_char};
 use lexical_base::error::Error;
 
-/// Parses `text` as a format word: `0x` and 1 to 32 hexadecimal digits of either case.
+/// Parses `text` as a format word: `0x` followed by 1 to 32 hexadecimal digits of either case.
 ///
 /// # Errors
 ///
-/// Returns the error of the first byte that does not fit, with its index: [`Error::Overflow`] for a 33rd digit, always
-/// at index 34, and [`Error::InvalidDigit`] for any other byte, also if `0` or `x` is expected there. If no digit is
-/// reached, since the text ends, returns [`Error::Empty`] with the length of the text: 0, 1 for `0`, or 2 for `0x`.
+/// The error holds the index of the first byte that does not fit. It is [`Error::Overflow`] if this byte is a 33rd
+/// digit, and [`Error::InvalidDigit`] if it is any other byte. If every byte fits but the text ends before the first
+/// digit, the error is [`Error::Empty`] with the length of the text.
 ///
 /// In plain Rust:
 ///
@@ -41,8 +41,8 @@ pub fn parse_word(text: &str) -> Result<u128, Error>
     Err(misfit_error(text, first_misfit(text)))
 }
 
-/// Returns the text of `word` as it is printed: `0x` and 32 hexadecimal digits with uppercase letters.
-/// [`parse_word`] parses it to the same word.
+/// Returns `word` as text: `0x` followed by 32 hexadecimal digits with uppercase letters. [`parse_word`] parses this
+/// text to the same word.
 pub fn word_text(word: u128) -> [u8; 34]
     ensures text { result ≡ printed word }
     ensures form { IsPrintedForm result }
@@ -96,7 +96,7 @@ fn byte_fits(index: usize, byte: u8) -> bool
     }
 }
 
-// Returns the error of a text whose first misfit is at `index`, or that ends there.
+// Returns the error of a text in which the first byte that does not fit is at `index`, or that ends there.
 fn misfit_error(text: &[u8], index: usize) -> Error
     ensures { result ≡ misfit_error index (slice_get text.now index) }
 {

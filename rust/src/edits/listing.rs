@@ -1,14 +1,14 @@
 // Made by rust/tools/erase.py from crates/lexical_util/src/edits/listing.rt: change that file.
 
-//! The setter calls that build a word, and the test whether a builder packs it.
+//! The edits that build a word, and the test whether a builder can pack it.
 
 use crate::edits::{Edit, FlagSetter, FIELD_COUNT};
 use crate::format_builder::NonZeroU8;
 use crate::format_flags as flags;
 use crate::view::FormatView;
 
-/// Returns whether `build_unchecked` can return `format`. This is the case if the reserved bits are 0, and the digit
-/// separator is absent unless a flag allows one.
+/// Returns whether a builder can pack its fields into `format`. This is possible if and only if the reserved bits,
+/// which hold no field, are 0, and the digit separator is absent or a flag allows one.
 ///
 /// # Proved
 ///
@@ -16,13 +16,13 @@ use crate::view::FormatView;
 ///
 /// - The result is true if and only if the reserved bits are 0, and the digit separator is absent or a flag
 ///   allows one ([`IsBuilt`](crate::definitions#isbuilt)).
-/// - This holds if and only if setter calls on a new builder can make the word
+/// - The result is true if and only if setter calls on a new builder can build the word
 ///   ([`IsBuiltByWrites`](crate::definitions#isbuiltbywrites)).
 ///
 /// ```text
 /// ensures rule { IsTrue result ↔ IsBuilt format }
 ///
-/// // The result is true if and only if setter calls on a new builder give this word.
+/// // The result is true if and only if setter calls on a new builder can build the word.
 /// ensures image { IsTrue result ↔ IsBuiltByWrites format }
 /// ```
 #[must_use]
@@ -30,25 +30,25 @@ pub const fn is_built(format: u128) -> bool {
     flags::is_clean(format) && is_separator_allowed_or_absent(format)
 }
 
-// Returns whether the digit separator is absent, or a flag allows one.
+// Returns whether the digit separator is absent or a flag allows one.
 const fn is_separator_allowed_or_absent(format: u128) -> bool {
     flags::digit_separator(format) == 0 || flags::is_separator_allowed(format)
 }
 
-/// Returns the setter calls that build `format` from a new builder, and the number of calls that are needed.
+/// Returns edits that give a new builder the fields of `format`, and the number of edits that are needed for this.
 ///
-/// The list has one edit for each field, with the field's value in `format`. The edits that change a new builder come
-/// first, and the returned number is the number of these edits. The other edits follow. Both parts are in the order of
-/// the fields' bits.
+/// The array has one edit for each field, which sets the field to its value in `format`. The edits that change a new
+/// builder come first. The returned number is the number of these edits. The other edits follow. In both parts, the
+/// edits are in the order of the bits that they write.
 ///
-/// The first part by itself gives a builder with exactly the fields of `format`, and so does the whole list. If
-/// [`is_built`] returns `true`, then `build_unchecked` of this builder returns `format`, and no shorter list of
-/// single-field setter calls gives `format`.
+/// If a new builder is given the edits of the first part, or all edits, it has exactly the fields of `format`. If
+/// [`is_built`] returns `true` for `format`, this builder packs its fields into `format`. Then no shorter list of
+/// single-field edits builds `format`.
 ///
 /// ```
 /// use peltzivar::edits::{edits_of, Edit, FlagSetter};
 ///
-/// // Radix 16, and no digits required after an exponent character.
+/// // The mantissa radix is 16, and no digits are required after an exponent character.
 /// let (edits, count) = edits_of(0x00001000_00000000_00000000_00000008);
 /// let needed = [Edit::Flag(FlagSetter::RequiredExponentDigits, false), Edit::MantissaRadix(16)];
 /// assert_eq!(edits[..count], needed);
@@ -58,26 +58,26 @@ const fn is_separator_allowed_or_absent(format: u128) -> bool {
 ///
 /// For all arguments:
 ///
-/// - The list has an edit for each write ([`IsEditOf`](crate::definitions#iseditof)): first for the writes that
-///   the word needs ([`needed_writes`](crate::definitions#needed_writes)), then for the others
+/// - The array has one edit for each write ([`IsEditOf`](crate::definitions#iseditof)). First come the writes
+///   that the word needs ([`needed_writes`](crate::definitions#needed_writes)), and then the others
 ///   ([`other_writes`](crate::definitions#other_writes)).
 /// - The returned number is the number of writes that the word needs
 ///   ([`needed_writes`](crate::definitions#needed_writes)).
-/// - Each value fits its field ([`IsLegal`](crate::definitions#islegal)).
-/// - The first part, applied to a new builder ([`after`](crate::definitions#after),
-///   [`new_record`](crate::definitions#new_record)), gives the fields ([`raw`](crate::definitions#raw)) of the
+/// - Each value that an edit writes fits its field ([`IsLegal`](crate::definitions#islegal)).
+/// - The needed writes, applied to a new builder ([`after`](crate::definitions#after),
+///   [`new_record`](crate::definitions#new_record)), give the fields ([`raw`](crate::definitions#raw)) of the
 ///   word.
-/// - The whole list also gives the fields ([`raw`](crate::definitions#raw)) of the word.
-/// - These fields pack ([`pack`](crate::definitions#pack)) into the word if and only if a builder can make it
-///   ([`IsBuilt`](crate::definitions#isbuilt)).
-/// - No shorter list of legal writes ([`IsLegal`](crate::definitions#islegal)) packs into the word.
+/// - All writes, applied to a new builder, also give the fields ([`raw`](crate::definitions#raw)) of the word.
+/// - These fields pack ([`pack`](crate::definitions#pack)) into the word if and only if a builder can build the
+///   word ([`IsBuilt`](crate::definitions#isbuilt)).
+/// - No shorter list of legal writes ([`IsLegal`](crate::definitions#islegal)) to a new builder builds the word.
 ///
 /// ```text
 /// ensures list { AllZip IsEditOf (needed_writes (raw format) ++ other_writes (raw format)) result.0 }
 /// ensures number { result.1 ≡ length (needed_writes (raw format)) }
 /// ensures legal { All IsLegal (all_writes result.0) }
 ///
-/// // The first part gives the fields of the word, and so does the whole list.
+/// // The edits of the first part give the fields of the word, and so do all edits.
 /// ensures first { after new_record (all_writes (take result.1 result.0)) ≡ raw format }
 /// ensures whole { after new_record (all_writes result.0) ≡ raw format }
 /// ensures builds { (pack (raw format) ≡ format) ↔ IsBuilt format }
@@ -86,7 +86,7 @@ const fn is_separator_allowed_or_absent(format: u128) -> bool {
 /// ```
 #[must_use]
 pub fn edits_of(format: u128) -> ([Edit; FIELD_COUNT], usize) {
-    // The first array has the needed edits in front, and then the other edits are copied from the second.
+    // In the first array, the needed edits are moved to the front. The other edits are copied from the second array.
     let mut edits = field_edits_of(format);
     let mut others = field_edits_of(format);
     let count = move_to_front(&mut edits, true);
@@ -96,7 +96,8 @@ pub fn edits_of(format: u128) -> ([Edit; FIELD_COUNT], usize) {
     (edits, count)
 }
 
-/// Returns the edits that write all fields of `format` with their values, in the order of their bits.
+/// Returns one edit for each field, which sets the field to its value in `format`. The edits are in the order of the
+/// bits that they write.
 #[must_use]
 #[doc(hidden)]
 pub const fn field_edits_of(format: u128) -> [Edit; FIELD_COUNT] {
@@ -120,13 +121,13 @@ pub const fn field_edits_of(format: u128) -> [Edit; FIELD_COUNT] {
     with_setters!(edits_of_fields(view, base, radix))
 }
 
-// Returns the exponent base in the word, or 0 if it is absent.
+// Returns the exponent base that the word stores, or 0 if it is absent.
 #[inline(always)]
 pub(crate) const fn raw_exponent_base(format: u128) -> u8 {
     ((format & flags::EXPONENT_BASE) >> flags::EXPONENT_BASE_SHIFT) as u8
 }
 
-// Returns the exponent radix in the word, or 0 if it is absent.
+// Returns the exponent radix that the word stores, or 0 if it is absent.
 #[inline(always)]
 pub(crate) const fn raw_exponent_radix(format: u128) -> u8 {
     ((format & flags::EXPONENT_RADIX) >> flags::EXPONENT_RADIX_SHIFT) as u8
@@ -149,8 +150,8 @@ const fn differs_from_new(edit: Edit) -> bool {
     }
 }
 
-// Moves the edits that change a new builder, or if `changed` is false the other edits, to the front in their order, and
-// returns their number.
+// Moves some edits to the front without changing their order, and returns their number. If `changed` is true, these are
+// the edits that change a new builder. If it is false, they are the other edits.
 fn move_to_front(edits: &mut [Edit], changed: bool) -> usize {
     let mut count = 0;
     for index in 0..edits.len() {

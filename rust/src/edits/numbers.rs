@@ -1,6 +1,6 @@
 // Made by rust/tools/erase.py from crates/lexical_util/src/edits/numbers.rt: change that file.
 
-//! The names and numbers of setters, and edits as a setter number and an argument.
+//! Names and numbers of setters, and the arguments of edits.
 
 use crate::edits::{mask_of, Edit, FlagSetter, SETTERS};
 use crate::format_builder::{NonZeroU8, OptionU8};
@@ -40,8 +40,8 @@ macro_rules! names {
     };
 }
 
-/// The names of all setters, each at the index of its setter number: first the setters of [`SETTERS`] in their order,
-/// then the seven byte setters.
+/// The names of all setters. The index of a name is the number of its setter. The names of the setters in [`SETTERS`]
+/// come first, in the same order, and then the names of the seven byte setters.
 #[doc(hidden)]
 pub const SETTER_NAMES: [&str; SETTERS.len() + 7] = with_setters!(names());
 
@@ -49,9 +49,9 @@ pub const SETTER_NAMES: [&str; SETTERS.len() + 7] = with_setters!(names());
 #[derive(Debug, Clone, Copy, PartialEq, Eq, Hash)]
 #[doc(hidden)]
 pub enum Argument {
-    /// The value of a flag, or of every flag of a group.
+    /// The value of a flag, or of every flag in a group.
     Flag(bool),
-    /// A byte that cannot be absent: the mantissa radix.
+    /// A byte that cannot be absent, which is a mantissa radix.
     Byte(u8),
     /// A byte that may be absent.
     OptionalByte(OptionU8),
@@ -61,16 +61,17 @@ pub enum Argument {
 #[derive(Debug, Clone, Copy, PartialEq, Eq, Hash)]
 #[doc(hidden)]
 pub enum ArgumentKind {
-    /// `true` or `false`.
+    /// The setter takes a `bool`.
     Flag,
-    /// A byte that cannot be absent.
+    /// The setter takes a byte that cannot be absent.
     Byte,
-    /// A byte that may be absent.
+    /// The setter takes a byte that may be absent.
     OptionalByte,
 }
 
 impl Argument {
-    /// Returns the argument as a byte: 1 for `true`, and 0 for `false` or an absent byte.
+    /// Returns the argument as a byte. This is 1 for `true`, 0 for `false` or an absent byte, and otherwise the byte
+    /// itself.
     #[must_use]
     #[doc(hidden)]
     pub const fn byte(self) -> u8 {
@@ -128,8 +129,8 @@ impl FlagSetter {
 }
 
 impl Edit {
-    /// Returns the edit of the setter with this number and `argument`, or `None` if no setter has the number or the
-    /// setter takes another kind of argument.
+    /// Returns the edit that calls the setter with this number and passes `argument`. Returns `None` if no setter has
+    /// the number, or if the setter takes another kind of argument.
     #[must_use]
     #[doc(hidden)]
     pub const fn new(number: u8, argument: Argument) -> Option<Edit> {
@@ -154,7 +155,8 @@ impl Edit {
         }
     }
 
-    /// Returns the setter number of the edit: the index of the setter in [`SETTER_NAMES`].
+    /// Returns the number of the setter that the edit calls, which is the index of the setter's name in
+    /// [`SETTER_NAMES`].
     #[must_use]
     #[doc(hidden)]
     pub const fn setter_number(self) -> u8 {
@@ -191,30 +193,30 @@ impl Edit {
         }
     }
 
-    /// Returns the argument as a byte, as [`Argument::byte`] does.
+    /// Returns the argument of the edit as a byte, as [`Argument::byte`] does.
     #[must_use]
     #[doc(hidden)]
     pub const fn argument_byte(self) -> u8 {
         self.argument().byte()
     }
 
-    /// Returns the edit of the setter with this number and the argument that `byte` represents, as described at
-    /// [`ArgumentKind::argument_of_byte`], or `None` if no setter has the number.
+    /// Returns the edit that calls the setter with this number, or `None` if no setter has the number.
+    /// [`ArgumentKind::argument_of_byte`] converts `byte` to the argument.
     #[must_use]
     #[doc(hidden)]
     pub const fn from_number(number: u8, byte: u8) -> Option<Edit> {
         Edit::new(number, ArgumentKind::of(number).argument_of_byte(byte))
     }
 
-    /// Returns the edit of the setter with this name and the argument that `byte` represents, as [`Edit::from_number`]
-    /// does, or `None` if no setter has the name.
+    /// Returns the edit that calls the setter with this name, or `None` if no setter has the name.
+    /// [`ArgumentKind::argument_of_byte`] converts `byte` to the argument.
     #[must_use]
     #[doc(hidden)]
     pub fn from_name(name: &str, byte: u8) -> Option<Edit> {
         Edit::from_number(setter_number_of_name(name.as_bytes())?, byte)
     }
 
-    /// Returns the bits of a word that the edit writes.
+    /// Returns the mask of the bits that the edit writes in a format word.
     #[must_use]
     pub const fn mask(self) -> u128 {
         match self {
@@ -229,7 +231,7 @@ impl Edit {
     }
 }
 
-/// Returns the name of the setter with this number, or `None` if no setter has it.
+/// Returns the name of the setter with this number, or `None` if no setter has the number.
 #[must_use]
 #[doc(hidden)]
 pub const fn setter_name_of_number(number: u8) -> Option<&'static str> {
@@ -240,7 +242,7 @@ pub const fn setter_name_of_number(number: u8) -> Option<&'static str> {
     }
 }
 
-/// Returns the number of the setter with this name, or `None` if no setter has it.
+/// Returns the number of the setter with this name, or `None` if no setter has the name.
 #[must_use]
 #[doc(hidden)]
 pub fn setter_number_of_name(name: &[u8]) -> Option<u8> {

@@ -1,6 +1,6 @@
 // Made by rust/tools/erase.py from crates/lexical_util/src/edits/text.rt: change that file.
 
-//! Settings as text: `NAME=VALUE`.
+//! Settings, which are edits as text: `NAME=VALUE`.
 
 use crate::digit::char_to_digit;
 use crate::edits::numbers::{DIGIT_SEPARATOR, EXPONENT_BASE, MANTISSA_RADIX};
@@ -10,9 +10,10 @@ use crate::format_builder::{NonZeroU8, OptionU8};
 use crate::numeral::read_numeral;
 use core::fmt;
 
-/// The reason why a text is not a setting.
+/// The reason why a text is not a setting. A setting has the form `NAME=VALUE`: a setter has the name and takes the
+/// value.
 ///
-/// Its text never repeats a part of that text, which may come from a file that is not trusted.
+/// The error message never repeats any part of the text, since the text may come from an untrusted file.
 #[derive(Debug, Clone, Copy, PartialEq, Eq, Hash)]
 pub enum SettingError {
     /// The text has no `=`.
@@ -24,14 +25,14 @@ pub enum SettingError {
     /// The setter with this number does not take the value.
     #[doc(hidden)]
     BadValue(u8),
-    /// The setter with this number takes a byte, but the value is a number that is above 255 or has too many digits.
+    /// The setter with this number takes a byte, but the value is a number above 255 or a number with too many digits.
     #[doc(hidden)]
     OutOfRange(u8),
 }
 
 impl SettingError {
-    /// Returns the name of the setter that does not take the value, or `None` if the text has no `=` or no setter has
-    /// the name.
+    /// Returns the name of the setter that does not take the value. Returns `None` if the text has no `=`, or if no
+    /// setter has the name.
     #[must_use]
     pub const fn name(&self) -> Option<&'static str> {
         match self {
@@ -42,7 +43,7 @@ impl SettingError {
         }
     }
 
-    /// Returns a sentence with the reason, such as ``no_special takes `true` or `false` `` or `unknown setting name`.
+    /// Returns the error message, such as ``no_special takes `true` or `false` `` or `unknown setting name`.
     #[must_use]
     #[doc(hidden)]
     pub const fn text(&self) -> ShortText {
@@ -54,14 +55,14 @@ impl SettingError {
     }
 }
 
-/// Prints what the setting takes, or why the text is not a setting.
+/// Prints which values the setter takes, or why the text is not a setting.
 impl fmt::Display for SettingError {
     fn fmt(&self, f: &mut fmt::Formatter<'_>) -> fmt::Result {
         fmt::Display::fmt(&self.text(), f)
     }
 }
 
-// Returns a sentence of one piece.
+// Returns a text with one piece.
 const fn sentence(words: &'static str) -> ShortText {
     ShortText(EMPTY_PIECE, EMPTY_PIECE, EMPTY_PIECE, Piece::Words(words))
 }
@@ -96,9 +97,14 @@ const fn name_piece(setter: u8) -> Piece {
 impl Edit {
     /// Parses `value` as the argument of the setter `name`.
     ///
-    /// A flag setter or group setter takes `true` or `false`. A byte setter takes a byte: one ASCII character between
-    /// two `'`, or `0x` and 1 or 2 hexadecimal digits, or 1 to 3 decimal digits with a value of at most 255. Except for
-    /// `mantissa_radix` and `radix`, it also takes `none`, which is the same as 0. Blanks are not skipped.
+    /// A flag setter or group setter takes `true` or `false`. A byte setter takes a byte in one of three forms:
+    ///
+    /// - an ASCII character in single quotes, such as `'_'`
+    /// - `0x` followed by one or two hexadecimal digits
+    /// - one to three decimal digits with a value of at most 255
+    ///
+    /// Every byte setter except `mantissa_radix` and `radix` also takes `none`, which is the same as 0. Spaces are not
+    /// ignored.
     ///
     /// # Errors
     ///
@@ -131,7 +137,7 @@ impl Edit {
 }
 
 impl Edit {
-    /// Returns `NAME=VALUE`, such as `mantissa_radix=16`, `no_special=true` or `digit_separator=none`.
+    /// Returns the edit as `NAME=VALUE`, such as `mantissa_radix=16`, `no_special=true` or `digit_separator=none`.
     #[must_use]
     #[doc(hidden)]
     pub const fn text(&self) -> ShortText {
@@ -144,7 +150,7 @@ impl Edit {
     }
 }
 
-/// Prints `NAME=VALUE`, such as `mantissa_radix=16`, `no_special=true` or `digit_separator=none`.
+/// Prints the edit as `NAME=VALUE`, such as `mantissa_radix=16`, `no_special=true` or `digit_separator=none`.
 impl fmt::Display for Edit {
     fn fmt(&self, f: &mut fmt::Formatter<'_>) -> fmt::Result {
         fmt::Display::fmt(&self.text(), f)
@@ -162,8 +168,8 @@ const fn value(argument: Argument) -> Piece {
     }
 }
 
-// Returns the edit of the setter with this number and the argument in `value`, or `None` if the setter does not take
-// it.
+// Returns the edit that calls the setter with this number and the argument in `value`, or `None` if the setter does not
+// take the value.
 fn edit_with_text(setter: u8, value: &str) -> Option<Edit> {
     match argument_from_text(ArgumentKind::of(setter), value) {
         Some(argument) => Edit::new(setter, argument),
@@ -171,7 +177,7 @@ fn edit_with_text(setter: u8, value: &str) -> Option<Edit> {
     }
 }
 
-// Returns why the setter with this number does not take `value`.
+// Returns the error for a `value` that the setter with this number does not take.
 fn value_error(setter: u8, value: &str) -> SettingError {
     if setter >= DIGIT_SEPARATOR && is_number(value.as_bytes()) {
         SettingError::OutOfRange(setter)
@@ -206,7 +212,7 @@ fn optional_byte_from_text(text: &str) -> Option<OptionU8> {
     }
 }
 
-// Parses a byte: a character between quotes, `0x` and hexadecimal digits, or decimal digits.
+// Parses a byte: a character in single quotes, `0x` followed by hexadecimal digits, or decimal digits.
 fn byte_from_text(text: &str) -> Option<u8> {
     match text.as_bytes() {
         [b'\'', byte, b'\''] => Some(*byte),
@@ -215,19 +221,19 @@ fn byte_from_text(text: &str) -> Option<u8> {
     }
 }
 
-/// Parses `text`, 1 to 3 decimal digits, as a number of at most 255, and returns `None` for any other text.
+/// Parses one to three decimal digits as a number of at most 255. Returns `None` for any other text.
 #[must_use]
 #[doc(hidden)]
 pub fn byte_from_decimal(text: &str) -> Option<u8> {
     byte_from_digits(text.as_bytes(), 10, 3)
 }
 
-// Parses 1 to `most` digits of a radix as a number of at most 255.
+// Parses one to `most` digits in `radix` as a number of at most 255.
 fn byte_from_digits(digits: &[u8], radix: u32, most: usize) -> Option<u8> {
     u8::try_from(read_numeral(digits, radix, most)?).ok()
 }
 
-// Returns whether a text is a number of any length: decimal digits, or `0x` and hexadecimal digits.
+// Returns whether a text is a number with any number of digits: decimal digits, or `0x` followed by hexadecimal digits.
 fn is_number(text: &[u8]) -> bool {
     match text {
         [b'0', b'x', digits @ ..] => are_digits(digits, 16),
@@ -235,7 +241,7 @@ fn is_number(text: &[u8]) -> bool {
     }
 }
 
-// Returns whether `digits` are one or more digits of a radix.
+// Returns whether `digits` has at least one digit, and only digits in `radix`.
 fn are_digits(digits: &[u8], radix: u32) -> bool {
     if digits.is_empty() {
         return false;

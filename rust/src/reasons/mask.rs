@@ -1,6 +1,6 @@
 // Made by rust/tools/erase.py from crates/lexical_util/src/reasons/mask.rt: change that file.
 
-//! The rules that a reason breaks, and the bits that it blames.
+//! The rules that a reason breaks, and the bits that the reason blames.
 
 use crate::edits::{Edit, FlagSetter};
 use crate::format_flags as flags;
@@ -24,7 +24,7 @@ impl Reason {
         }
     }
 
-    /// Returns the rules that the reason breaks, each in its own slot, in the order of the rules.
+    /// Returns the rules that the reason breaks, in the order of the rules. A slot without a rule is `None`.
     #[must_use]
     #[doc(hidden)]
     pub const fn rules(&self) -> [Option<Rule>; 3] {
@@ -45,8 +45,8 @@ impl Reason {
         }
     }
 
-    /// Returns whether the reason breaks `rule`. A mantissa radix that is out of range also breaks the rule of each
-    /// absent exponent byte. Any other reason breaks one rule.
+    /// Returns whether the reason breaks `rule`. A mantissa radix that is out of range also breaks the rule for the
+    /// exponent base or the exponent radix if that byte is absent. Every other reason breaks only one rule.
     #[must_use]
     pub const fn breaks(&self, rule: Rule) -> bool {
         match self {
@@ -66,11 +66,13 @@ impl Reason {
         }
     }
 
-    /// Returns the bits of a word that the reason blames. The reason applies to each word that has the same bits there.
+    /// Returns the mask of the bits that the reason blames. The reason applies to every word that agrees with this one
+    /// in these bits.
     ///
-    /// These are the bits of each byte and flag that the variant holds. For a flag that needs a position, these are the
-    /// bits of all separator flags of its part of the number. A setting is to blame if its [`Edit::mask`] has one of
-    /// these bits that no later setting overrides.
+    /// The mask has the bits of every byte and every flag in the variant. For [`Reason::NeedsPosition`], it has the
+    /// bits of all flags that allow digit separators in that part of the number. If the word was built from a list of
+    /// settings, a setting is to blame if its [`Edit::mask`] shares a bit with this mask, and if this bit is not
+    /// overridden by a later setting.
     #[must_use]
     pub const fn mask(&self) -> u128 {
         match self {
@@ -91,7 +93,7 @@ const fn is_rule(a: Rule, b: Rule) -> bool {
     a as u8 == b as u8
 }
 
-// Returns the rule of the exponent byte that an edit writes.
+// Returns the radix rule for the exponent byte that an edit writes.
 const fn radix_rule(edit: Edit) -> Rule {
     match edit {
         Edit::ExponentBase(_) => Rule::ExponentBaseInRange,
@@ -108,7 +110,7 @@ const fn punctuation_rule(edit: Edit) -> Rule {
     }
 }
 
-// Returns the rule of two flags that cannot both be set.
+// Returns the rule that two flags break if both are set.
 const fn rule_of_flags(a: FlagSetter, b: FlagSetter) -> Rule {
     match (a, b) {
         (FlagSetter::NoExponentNotation, _) => Rule::ExponentFlagsAgree,
@@ -119,7 +121,7 @@ const fn rule_of_flags(a: FlagSetter, b: FlagSetter) -> Rule {
     }
 }
 
-// Returns the rule of a setter for consecutive digit separators.
+// Returns the rule for a flag that allows consecutive digit separators.
 const fn position_rule(flag: FlagSetter) -> Rule {
     match flag {
         FlagSetter::IntegerConsecutiveDigitSeparator => Rule::IntegerConsecutiveIsAllowed,

@@ -1,6 +1,6 @@
 // Made by rust/tools/erase.py from crates/lexical_util/src/reasons/mending.rt: change that file.
 
-//! Edits that mend the fields that a reason blames.
+//! Edits that mend a field that a reason blames.
 
 use crate::edits::{apply_all, edit_word, raw_exponent_base, raw_exponent_radix, Edit};
 use crate::format_builder::NumberFormatBuilder;
@@ -11,13 +11,15 @@ use crate::reasons::{reasons_of, Reason};
 #[doc(hidden)]
 pub const MAX_MENDING_EDITS: usize = 3;
 
-/// Returns an array that begins with the edits that mend one field of a word for a reason, and the number of these
-/// edits. The number is 0 if no such edits mend the field. The other elements have no meaning.
+/// Returns the edits that mend one field of a format word, and their number. The edits remove a reason why the word
+/// breaks a rule. They are at the start of the array, and the other elements have no meaning. The number is 0 if no
+/// edits of the field remove the reason.
 ///
-/// `field` is the edit that writes the field with its value in the word. The edits clear a flag or an optional byte, or
-/// set the mantissa radix to 10 unless it is 10 already. If they set it, an absent exponent byte stays absent. After
-/// [`edit_word`] with these edits, the word keeps each rule that only this reason broke, and each rule that it kept.
-/// [`edit_word`] also drops a digit separator that no flag allows, but this by itself does not mend the separator.
+/// `field` is the edit that sets the field to its value in the word. The returned edits clear a flag or an optional
+/// byte, or they set the mantissa radix to 10 unless it is 10 already. If they set the mantissa radix, an absent
+/// exponent base or exponent radix stays absent. After [`edit_word`] with these edits, the word keeps each rule that
+/// only this reason broke, and each rule that it kept before. [`edit_word`] also drops a digit separator that no flag
+/// allows, but the separator does not count as mended if that is all that happens.
 #[must_use]
 #[doc(hidden)]
 pub fn mend(format: u128, reason: &Reason, field: &Edit) -> ([Edit; MAX_MENDING_EDITS], usize) {
@@ -29,14 +31,14 @@ pub fn mend(format: u128, reason: &Reason, field: &Edit) -> ([Edit; MAX_MENDING_
     }
 }
 
-// Returns whether edits mend a reason.
+// Returns whether edits mend the word for a reason.
 fn are_mending(format: u128, reason: &Reason, edits: &[Edit]) -> bool {
     let mended = edit_word(format, edits);
     all_kept(&RULES, format, mended, reason.mask()) & remove_reason(format, reason, edits)
 }
 
-// Returns whether the word keeps the first rule of the reason after the edits and with a flag that allows the digit
-// separator, or has a reason for this rule that blames other bits.
+// Returns whether the edited word keeps the first rule of the reason, or the word has a reason for this rule that
+// blames other bits. The edited word gets a flag that allows the digit separator, so that the separator is not dropped.
 fn remove_reason(format: u128, reason: &Reason, edits: &[Edit]) -> bool {
     let builder = apply_all(NumberFormatBuilder::rebuild(format), edits);
     let with_separator = builder.integer_internal_digit_separator(true);
@@ -63,7 +65,8 @@ fn edits_for(format: u128, field: &Edit) -> ([Edit; MAX_MENDING_EDITS], usize) {
     ([edit; MAX_MENDING_EDITS], 1)
 }
 
-// Returns an array that begins with the edits that set a mantissa radix to 10 unless it is 10, and their number.
+// Returns an array that begins with the edits that set a mantissa radix to 10, and their number. The number is 0 if the
+// radix is already 10.
 fn radix_edits(format: u128, radix: u8) -> ([Edit; MAX_MENDING_EDITS], usize) {
     if radix == 10 {
         return ([Edit::Radix(10); MAX_MENDING_EDITS], 0);
@@ -102,7 +105,8 @@ fn radix_edits(format: u128, radix: u8) -> ([Edit; MAX_MENDING_EDITS], usize) {
     }
 }
 
-// Returns whether the mended word keeps each of these rules that has no reason in the word that blames other bits.
+// Returns whether the mended word keeps each of these rules, except for rules for which the word has a reason that
+// blames other bits.
 fn all_kept(rules: &[Rule], format: u128, mended: u128, mask: u128) -> bool {
     match rules {
         [] => true,
@@ -117,7 +121,7 @@ fn is_kept_or_other(rule: Rule, format: u128, mended: u128, mask: u128) -> bool 
     has_other(&reasons_of(rule, format), mask) | rule.is_kept(mended)
 }
 
-// Returns whether one of these reasons blames other bits.
+// Returns whether the mask of one of these reasons differs from `mask`.
 fn has_other(reasons: &[Option<Reason>], mask: u128) -> bool {
     match reasons {
         [] => false,

@@ -1,6 +1,6 @@
 // Made by rust/tools/erase.py from crates/lexical_util/src/reasons/note.rt: change that file.
 
-//! Notes on fields that are set and change no number that can be written.
+//! Notes on fields that are set but have no effect on any number.
 
 use crate::edits::{Edit, FlagSetter};
 use crate::format_builder::{NonZeroU8, NumberFormatBuilder};
@@ -9,28 +9,30 @@ use crate::reasons::mask::mask_of_setter;
 use crate::reasons::{prefix_edit, reasons, suffix_edit, Reason};
 use crate::view::FormatView;
 
-/// The maximum number of notes on a word.
+/// The maximum number of notes on a format word.
 #[doc(hidden)]
 pub const MAX_NOTES: usize = 3;
 
-/// A field that is set and changes no number that can be written. Rules and options may read it.
+/// A note on a field that is set but has no effect on any number. The rules may still read the field.
 ///
-/// These are all kinds of notes. For example, exponent flags have no note if exponents are forbidden.
+/// Only the fields of these variants have notes. For example, an exponent flag has no note, even if the format forbids
+/// exponents.
 #[derive(Debug, Clone, Copy, PartialEq, Eq, Hash)]
 #[non_exhaustive]
 pub enum Note {
-    /// A digit separator that no flag allows. It is dropped when a builder packs a word, and in the normal form.
+    /// The digit separator is set, but no flag allows one. A builder does not pack it, and the normal form does not
+    /// have it.
     SeparatorWithoutFlag(Edit),
-    /// Flags allow a digit separator, but it is absent.
+    /// One or more flags allow digit separators, but the digit separator is absent.
     FlagsWithoutSeparator,
-    /// A case flag is set, but its base prefix or base suffix is absent.
+    /// A case-sensitivity flag is set, but the base prefix or base suffix to which it applies is absent.
     CaseFlagWithoutByte(FlagSetter, Edit),
-    /// A case flag is set, but its base prefix or base suffix is not a letter.
+    /// A case-sensitivity flag is set, but the base prefix or base suffix to which it applies is not a letter.
     CaseFlagOfNonLetter(FlagSetter, Edit),
 }
 
 impl Note {
-    /// Returns the bits of a word that the note describes.
+    /// Returns the mask of the bits of a format word that the note describes.
     #[must_use]
     pub const fn mask(&self) -> u128 {
         match self {
@@ -45,18 +47,18 @@ impl Note {
     }
 }
 
-/// Returns the notes on a word, each in its own slot. A slot without a note is `None`.
+/// Returns the notes on a format word, each in its own slot. A slot without a note is `None`.
 ///
-/// A note is not an error: a lawful word may have notes. A field that a reason blames has no note.
+/// A note is not an error, so a lawful word may have notes. A field that a [`Reason`] blames has no note.
 #[must_use]
 #[doc(hidden)]
 pub const fn notes(format: u128) -> [Option<Note>; MAX_NOTES] {
     notes_beside(format, flags::digit_separator(format))
 }
 
-/// Returns the notes on the fields of a builder, as [`notes`] does of a word.
+/// Returns the notes on the fields of a builder, as [`notes`] does for a format word.
 ///
-/// A digit separator that no flag allows has a note, although the packed word does not have it.
+/// A digit separator that no flag allows has a note, although the builder does not pack it.
 #[must_use]
 #[doc(hidden)]
 pub const fn notes_of_fields(builder: &NumberFormatBuilder) -> [Option<Note>; MAX_NOTES] {
@@ -87,7 +89,7 @@ const fn notes_beside(format: u128, separator: u8) -> [Option<Note>; MAX_NOTES] 
     ]
 }
 
-// Returns the note on a digit separator and its flags, if there is one.
+// Returns the note on a digit separator and its flags, if any.
 const fn separator_note(format: u128, separator: u8) -> Option<Note> {
     if flags::is_separator_allowed(format) {
         unless_blamed(format, separator == 0, Note::FlagsWithoutSeparator)
@@ -97,7 +99,7 @@ const fn separator_note(format: u128, separator: u8) -> Option<Note> {
     }
 }
 
-// Returns the note on a case flag and the byte of an edit, if there is one.
+// Returns the note on a case flag and the byte of an edit, if any.
 const fn case_note(format: u128, is_set: bool, flag: FlagSetter, edit: &Edit) -> Option<Note> {
     let byte = edit.argument_byte();
     if byte == 0 {

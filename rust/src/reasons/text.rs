@@ -1,6 +1,6 @@
 // Made by rust/tools/erase.py from crates/lexical_util/src/reasons/text.rt: change that file.
 
-//! The sentences of reasons and notes.
+//! Prints reasons and notes as sentences.
 
 use crate::edits::{Edit, FlagSetter};
 use crate::error::{Piece, ShortText, EMPTY_PIECE};
@@ -8,7 +8,7 @@ use crate::reasons::{Note, Reason};
 use core::fmt;
 
 impl Reason {
-    /// Returns one sentence without a full stop, such as `the base prefix 'b' is a digit in radix 16`.
+    /// Returns the reason as a sentence without a full stop, such as `the base prefix 'b' is a digit in radix 16`.
     #[must_use]
     #[doc(hidden)]
     pub const fn text(&self) -> ShortText {
@@ -56,8 +56,8 @@ impl Reason {
 }
 
 impl Note {
-    /// Returns one sentence without a full stop, such as
-    /// `no number can have the digit separator '_': no flag allows one`.
+    /// Returns the note as a sentence without a full stop, such as `no number can have the digit separator '_': no flag
+    /// allows one`.
     #[must_use]
     #[doc(hidden)]
     pub const fn text(&self) -> ShortText {
@@ -100,12 +100,12 @@ impl fmt::Display for Note {
     }
 }
 
-// Returns the sentence of a radix or a base that is not in range.
+// Returns the sentence for a radix or a base that is out of range.
 const fn not_in_range(piece: Piece) -> ShortText {
     followed(piece, " is not between 2 and 36")
 }
 
-// Returns the text of a piece and the words that follow it.
+// Returns a text that has a piece and the words that follow it.
 const fn followed(piece: Piece, end: &'static str) -> ShortText {
     ShortText(EMPTY_PIECE, EMPTY_PIECE, piece, Piece::Words(end))
 }
@@ -120,7 +120,7 @@ const fn named(flag: FlagSetter) -> Piece {
     Piece::Words(flag.name())
 }
 
-// Returns the end of the sentence of two bytes that clash.
+// Returns the end of the sentence for two bytes that clash.
 const fn clash_text(a: Edit, b: Edit, flag: Option<FlagSetter>) -> &'static str {
     match (a, b, flag) {
         (_, _, None) => " are the same",
@@ -134,7 +134,7 @@ const fn clash_text(a: Edit, b: Edit, flag: Option<FlagSetter>) -> &'static str 
     }
 }
 
-// Returns the name of the field of an edit, as sentences have it.
+// Returns the name of the field of an edit, as it appears in sentences.
 const fn label(edit: Edit) -> &'static str {
     match edit {
         Edit::Flag(_, _) => "flag",

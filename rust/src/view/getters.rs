@@ -1,6 +1,6 @@
 // Made by rust/tools/erase.py from crates/lexical_util/src/feature_format/getters.rt: change that file.
 
-//! The flags of a viewed word, one by one and in groups.
+//! Getters for the flags of a viewed word, one by one and in groups.
 
 use super::FormatView;
 use crate::format_flags as flags;
@@ -303,49 +303,49 @@ impl FormatView {
 
     // FLAG GROUPS
 
-    /// Returns the flags of the word, with all other bits 0.
+    /// Returns the flags of the word. All other bits of the result are 0.
     #[must_use]
     #[inline(always)]
     pub const fn flags(&self) -> u128 {
         self.format & flags::FLAG_MASK
     }
 
-    /// Returns the bits of the word under [`INTERFACE_FLAG_MASK`][flags::INTERFACE_FLAG_MASK], with all other bits 0.
+    /// Returns the bitwise AND of the word and [`INTERFACE_FLAG_MASK`][flags::INTERFACE_FLAG_MASK].
     #[must_use]
     #[inline(always)]
     pub const fn interface_flags(&self) -> u128 {
         self.format & flags::INTERFACE_FLAG_MASK
     }
 
-    /// Returns the digit separator flags of the word, with all other bits 0.
+    /// Returns the digit separator flags of the word. All other bits of the result are 0.
     #[must_use]
     #[inline(always)]
     pub const fn digit_separator_flags(&self) -> u128 {
         self.format & flags::DIGIT_SEPARATOR_FLAG_MASK
     }
 
-    /// Returns the bits of the word under [`EXPONENT_FLAG_MASK`][flags::EXPONENT_FLAG_MASK], with all other bits 0.
+    /// Returns the bitwise AND of the word and [`EXPONENT_FLAG_MASK`][flags::EXPONENT_FLAG_MASK].
     #[must_use]
     #[inline(always)]
     pub const fn exponent_flags(&self) -> u128 {
         self.format & flags::EXPONENT_FLAG_MASK
     }
 
-    /// Returns the digit separator flags of the integer, with all other bits 0.
+    /// Returns the flags that allow digit separators in the integer. All other bits of the result are 0.
     #[must_use]
     #[inline(always)]
     pub const fn integer_digit_separator_flags(&self) -> u128 {
         self.format & flags::INTEGER_DIGIT_SEPARATOR_FLAG_MASK
     }
 
-    /// Returns the digit separator flags of the fraction, with all other bits 0.
+    /// Returns the flags that allow digit separators in the fraction. All other bits of the result are 0.
     #[must_use]
     #[inline(always)]
     pub const fn fraction_digit_separator_flags(&self) -> u128 {
         self.format & flags::FRACTION_DIGIT_SEPARATOR_FLAG_MASK
     }
 
-    /// Returns the digit separator flags of the exponent, with all other bits 0.
+    /// Returns the flags that allow digit separators in the exponent. All other bits of the result are 0.
     #[must_use]
     #[inline(always)]
     pub const fn exponent_digit_separator_flags(&self) -> u128 {

@@ -5,7 +5,7 @@ ghost use Rattle.lexical_builder.specs.OptionByte.{option_of_byte};
 
 use std::marker::Model;
 
-/// A nonzero byte. In a format word, a byte of 0 is absent.
+/// A byte that is not 0. In a format word, a byte field of 0 is absent.
 #[derive(Debug, Clone, Copy, PartialEq, Eq, PartialOrd, Ord, Hash)]
 pub struct NonZeroU8 {
     value: u8,
@@ -22,7 +22,7 @@ impl Model for NonZeroU8 {
 }
 
 impl NonZeroU8 {
-    /// Returns the byte, or `None` if `value` is 0.
+    /// Returns `value` as a nonzero byte, or `None` if it is 0.
     #[inline(always)]
     pub const fn new(value: u8) -> Option<NonZeroU8>
         ensures value { result ≡ option_of_byte value }

@@ -1,4 +1,4 @@
-//! The names and numbers of setters, and edits as a setter number and an argument.
+//! Names and numbers of setters, and the arguments of edits.
 
 ghost use Rattle.std.specs.Prelude.{◌≡◌, ◌<◌, Some};
 ghost use Rattle.std.specs.Option.{option_map};
@@ -47,16 +47,16 @@ macro_rules! names {
     };
 }
 
-/// The names of all setters, each at the index of its setter number: first the setters of [`SETTERS`] in their order,
-/// then the seven byte setters.
+/// The names of all setters. The index of a name is the number of its setter. The names of the setters in [`SETTERS`]
+/// come first, in the same order, and then the names of the seven byte setters.
 pub const SETTER_NAMES: [&str; SETTERS.len() + 7] = with_setters!(names());
 
 /// The argument of an edit.
 #[derive(Debug, Clone, Copy, PartialEq, Eq, Hash)]
 pub enum Argument {
-    /// The value of a flag, or of every flag of a group.
+    /// The value of a flag, or of every flag in a group.
     Flag(bool),
-    /// A byte that cannot be absent: the mantissa radix.
+    /// A byte that cannot be absent, which is a mantissa radix.
     Byte(u8),
     /// A byte that may be absent.
     OptionalByte(OptionU8),
@@ -65,16 +65,17 @@ pub enum Argument {
 /// The kind of argument that a setter takes: a variant of [`Argument`].
 #[derive(Debug, Clone, Copy, PartialEq, Eq, Hash)]
 pub enum ArgumentKind {
-    /// `true` or `false`.
+    /// The setter takes a `bool`.
     Flag,
-    /// A byte that cannot be absent.
+    /// The setter takes a byte that cannot be absent.
     Byte,
-    /// A byte that may be absent.
+    /// The setter takes a byte that may be absent.
     OptionalByte,
 }
 
 impl Argument {
-    /// Returns the argument as a byte: 1 for `true`, and 0 for `false` or an absent byte.
+    /// Returns the argument as a byte. This is 1 for `true`, 0 for `false` or an absent byte, and otherwise the byte
+    /// itself.
     pub const fn byte(self) -> u8
         ensures { result ≡ byte_of_argument self }
     {
@@ -134,8 +135,8 @@ impl FlagSetter {
 }
 
 impl Edit {
-    /// Returns the edit of the setter with this number and `argument`, or `None` if no setter has the number or the
-    /// setter takes another kind of argument.
+    /// Returns the edit that calls the setter with this number and passes `argument`. Returns `None` if no setter has
+    /// the number, or if the setter takes another kind of argument.
     pub const fn new(number: u8, argument: Argument) -> Option<Edit>
         ensures { result ≡ edit_with number argument }
     {
@@ -160,7 +161,8 @@ impl Edit {
         }
     }
 
-    /// Returns the setter number of the edit: the index of the setter in [`SETTER_NAMES`].
+    /// Returns the number of the setter that the edit calls, which is the index of the setter's name in
+    /// [`SETTER_NAMES`].
     pub const fn setter_number(self) -> u8
         ensures number { result ≡ setter_number self }
         ensures setter { result < setter_count }
@@ -191,7 +193,8 @@ impl Edit {
     pub const fn argument(self) -> Argument
         ensures argument { result ≡ argument_of self }
 
-        // The setter number and the argument, or the byte of the argument, give the edit again.
+        // The setter number and the argument determine the edit, and so do the setter number and the byte of the
+        // argument.
         ensures read_back { edit_with (setter_number self) result ≡ Some self }
         ensures byte { HasByte self }
     {
@@ -206,33 +209,33 @@ impl Edit {
         }
     }
 
-    /// Returns the argument as a byte, as [`Argument::byte`] does.
+    /// Returns the argument of the edit as a byte, as [`Argument::byte`] does.
     pub const fn argument_byte(self) -> u8
         ensures byte { result ≡ argument_byte self }
 
-        // The setter number and this byte give the edit again.
+        // The setter number and this byte determine the edit.
         ensures read_back { edit_of_number (setter_number self) result ≡ Some self }
     {
         self.argument().byte()
     }
 
-    /// Returns the edit of the setter with this number and the argument that `byte` represents, as described at
-    /// [`ArgumentKind::argument_of_byte`], or `None` if no setter has the number.
+    /// Returns the edit that calls the setter with this number, or `None` if no setter has the number.
+    /// [`ArgumentKind::argument_of_byte`] converts `byte` to the argument.
     pub const fn from_number(number: u8, byte: u8) -> Option<Edit>
         ensures { result ≡ edit_of_number number byte }
     {
         Edit::new(number, ArgumentKind::of(number).argument_of_byte(byte))
     }
 
-    /// Returns the edit of the setter with this name and the argument that `byte` represents, as [`Edit::from_number`]
-    /// does, or `None` if no setter has the name.
+    /// Returns the edit that calls the setter with this name, or `None` if no setter has the name.
+    /// [`ArgumentKind::argument_of_byte`] converts `byte` to the argument.
     pub fn from_name(name: &str, byte: u8) -> Option<Edit>
         ensures { result ≡ edit_of_name name.now byte }
     {
         Edit::from_number(setter_number_of_name(name.as_bytes())?, byte)
     }
 
-    /// Returns the bits of a word that the edit writes.
+    /// Returns the mask of the bits that the edit writes in a format word.
     pub const fn mask(self) -> u128
         ensures { result ≡ mask_of_edit self }
     {
@@ -248,7 +251,7 @@ impl Edit {
     }
 }
 
-/// Returns the name of the setter with this number, or `None` if no setter has it.
+/// Returns the name of the setter with this number, or `None` if no setter has the number.
 pub const fn setter_name_of_number(number: u8) -> Option<&'static str>
     ensures { option_map (λ name. name.now) result ≡ setter_name_of_number number }
 {
@@ -259,7 +262,7 @@ pub const fn setter_name_of_number(number: u8) -> Option<&'static str>
     }
 }
 
-/// Returns the number of the setter with this name, or `None` if no setter has it.
+/// Returns the number of the setter with this name, or `None` if no setter has the name.
 pub fn setter_number_of_name(name: &[u8]) -> Option<u8>
     ensures { result ≡ setter_number_of_name name.now }
 {

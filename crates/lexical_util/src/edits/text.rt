@@ -1,4 +1,4 @@
-//! Settings as text: `NAME=VALUE`.
+//! Settings, which are edits as text: `NAME=VALUE`.
 
 ghost use Rattle.std.specs.Prelude.{◌≡◌, ◌<◌, ◌≤◌, [], Some, Ok, length};
 ghost use Rattle.std.specs.Option.{option_map, option_and_then, unwrap_or};
@@ -19,9 +19,10 @@ use lexical_base::error::{EMPTY_PIECE, Piece, ShortText};
 use lexical_builder::format_builder::{NonZeroU8, OptionU8};
 use std::fmt;
 
-/// The reason why a text is not a setting.
+/// The reason why a text is not a setting. A setting has the form `NAME=VALUE`: a setter has the name and takes the
+/// value.
 ///
-/// Its text never repeats a part of that text, which may come from a file that is not trusted.
+/// The error message never repeats any part of the text, since the text may come from an untrusted file.
 #[derive(Debug, Clone, Copy, PartialEq, Eq)]
 pub enum SettingError {
     /// The text has no `=`.
@@ -30,13 +31,13 @@ pub enum SettingError {
     UnknownName,
     /// The setter with this number does not take the value.
     BadValue(u8),
-    /// The setter with this number takes a byte, but the value is a number that is above 255 or has too many digits.
+    /// The setter with this number takes a byte, but the value is a number above 255 or a number with too many digits.
     OutOfRange(u8),
 }
 
 impl SettingError {
-    /// Returns the name of the setter that does not take the value, or `None` if the text has no `=` or no setter has
-    /// the name.
+    /// Returns the name of the setter that does not take the value. Returns `None` if the text has no `=`, or if no
+    /// setter has the name.
     pub const fn name(&self) -> Option<&'static str>
         ensures { option_map (λ name. name.now) result ≡ name_of_error self.now }
     {
@@ -48,7 +49,7 @@ impl SettingError {
         }
     }
 
-    /// Returns a sentence with the reason, such as ``no_special takes `true` or `false` `` or `unknown setting name`.
+    /// Returns the error message, such as ``no_special takes `true` or `false` `` or `unknown setting name`.
     pub const fn text(&self) -> ShortText
         ensures { result ≡ error_text self.now }
     {
@@ -69,7 +70,7 @@ impl fmt::Display for SettingError {
     }
 }
 
-// Returns a sentence of one piece.
+// Returns a text with one piece.
 const fn sentence(words: &'static str) -> ShortText
     requires { length words.now < 256 }
     ensures { result ≡ words.now }
@@ -112,9 +113,14 @@ const fn name_piece(setter: u8) -> Piece
 impl Edit {
     /// Parses `value` as the argument of the setter `name`.
     ///
-    /// A flag setter or group setter takes `true` or `false`. A byte setter takes a byte: one ASCII character between
-    /// two `'`, or `0x` and 1 or 2 hexadecimal digits, or 1 to 3 decimal digits with a value of at most 255. Except for
-    /// `mantissa_radix` and `radix`, it also takes `none`, which is the same as 0. Blanks are not skipped.
+    /// A flag setter or group setter takes `true` or `false`. A byte setter takes a byte in one of three forms:
+    ///
+    /// - an ASCII character in single quotes, such as `'_'`
+    /// - `0x` followed by one or two hexadecimal digits
+    /// - one to three decimal digits with a value of at most 255
+    ///
+    /// Every byte setter except `mantissa_radix` and `radix` also takes `none`, which is the same as 0. Spaces are not
+    /// ignored.
     ///
     /// # Errors
     ///
@@ -150,12 +156,12 @@ impl Edit {
 }
 
 impl Edit {
-    /// Returns `NAME=VALUE`, such as `mantissa_radix=16`, `no_special=true` or `digit_separator=none`.
+    /// Returns the edit as `NAME=VALUE`, such as `mantissa_radix=16`, `no_special=true` or `digit_separator=none`.
     #[tactic(auto, using(crate::proofs::ReasonTextLemmas::short_name))]
     pub const fn text(&self) -> ShortText
         ensures text { result ≡ setting_text self.now }
 
-        // The text is parsed to the same edit.
+        // Parsing the text gives the same edit.
         ensures read_back { edit_from_text result ≡ Ok self.now }
     {
         ShortText(
@@ -190,8 +196,8 @@ const fn value(argument: Argument) -> Piece
     }
 }
 
-// Returns the edit of the setter with this number and the argument in `value`, or `None` if the setter does not take
-// it.
+// Returns the edit that calls the setter with this number and the argument in `value`, or `None` if the setter does not
+// take the value.
 fn edit_with_text(setter: u8, value: &str) -> Option<Edit>
     ensures { result ≡ option_and_then (edit_with setter) (argument_from_text (kind_of_number setter) value.now) }
 {
@@ -201,7 +207,7 @@ fn edit_with_text(setter: u8, value: &str) -> Option<Edit>
     }
 }
 
-// Returns why the setter with this number does not take `value`.
+// Returns the error for a `value` that the setter with this number does not take.
 fn value_error(setter: u8, value: &str) -> SettingError
     ensures { result ≡ value_error setter value.now }
 {
@@ -244,7 +250,7 @@ fn optional_byte_from_text(text: &str) -> Option<OptionU8>
     }
 }
 
-// Parses a byte: a character between quotes, `0x` and hexadecimal digits, or decimal digits.
+// Parses a byte: a character in single quotes, `0x` followed by hexadecimal digits, or decimal digits.
 fn byte_from_text(text: &str) -> Option<u8>
     ensures { result ≡ byte_from_text text.now }
 {
@@ -255,14 +261,14 @@ fn byte_from_text(text: &str) -> Option<u8>
     }
 }
 
-/// Parses `text`, 1 to 3 decimal digits, as a number of at most 255, and returns `None` for any other text.
+/// Parses one to three decimal digits as a number of at most 255. Returns `None` for any other text.
 pub fn byte_from_decimal(text: &str) -> Option<u8>
     ensures { result ≡ byte_from_digits 10 3 text.now }
 {
     byte_from_digits(text.as_bytes(), 10, 3)
 }
 
-// Parses 1 to `most` digits of a radix as a number of at most 255.
+// Parses one to `most` digits in `radix` as a number of at most 255.
 fn byte_from_digits(digits: &[u8], radix: u32, most: usize) -> Option<u8>
     requires radix { radix ≤ 16 }
     requires most { most ≤ 32 }
@@ -271,7 +277,7 @@ fn byte_from_digits(digits: &[u8], radix: u32, most: usize) -> Option<u8>
     u8::try_from(read_numeral(digits, radix, most)?).ok()
 }
 
-// Returns whether a text is a number of any length: decimal digits, or `0x` and hexadecimal digits.
+// Returns whether a text is a number with any number of digits: decimal digits, or `0x` followed by hexadecimal digits.
 fn is_number(text: &[u8]) -> bool
     ensures { result ≡ is_number text.now }
 {
@@ -281,7 +287,7 @@ fn is_number(text: &[u8]) -> bool
     }
 }
 
-// Returns whether `digits` are one or more digits of a radix.
+// Returns whether `digits` has at least one digit, and only digits in `radix`.
 fn are_digits(digits: &[u8], radix: u32) -> bool
     ensures { result ≡ is_numeral radix (length digits.now) digits.now }
 {

@@ -1,4 +1,4 @@
-//! The flags of a viewed word, one by one and in groups.
+//! Getters for the flags of a viewed word, one by one and in groups.
 #![tactic(auto, using(crate::proofs::ViewLemmas::masks_and_powers))]
 
 ghost use Rattle.std.specs.Prelude.{◌≡◌, ◌≢◌, ◌↔◌, IsTrue};
@@ -312,7 +312,7 @@ impl NumberFormat {
 
     // FLAG GROUPS
 
-    /// Returns the flags of the word, with all other bits 0.
+    /// Returns the flags of the word. All other bits of the result are 0.
     #[inline(always)]
     pub const fn flags(&self) -> u128
         ensures bits { result ≡ bits_of self.now layout.flags }
@@ -321,7 +321,7 @@ impl NumberFormat {
         self.format & flags::FLAG_MASK
     }
 
-    /// Returns the bits of the word under [`INTERFACE_FLAG_MASK`][flags::INTERFACE_FLAG_MASK], with all other bits 0.
+    /// Returns the bitwise AND of the word and [`INTERFACE_FLAG_MASK`][flags::INTERFACE_FLAG_MASK].
     #[inline(always)]
     pub const fn interface_flags(&self) -> u128
         ensures bits { result ≡ bits_of self.now masks.interface_flags }
@@ -330,7 +330,7 @@ impl NumberFormat {
         self.format & flags::INTERFACE_FLAG_MASK
     }
 
-    /// Returns the digit separator flags of the word, with all other bits 0.
+    /// Returns the digit separator flags of the word. All other bits of the result are 0.
     #[inline(always)]
     pub const fn digit_separator_flags(&self) -> u128
         ensures bits { result ≡ bits_of self.now layout.digit_separator_flags }
@@ -339,7 +339,7 @@ impl NumberFormat {
         self.format & flags::DIGIT_SEPARATOR_FLAG_MASK
     }
 
-    /// Returns the bits of the word under [`EXPONENT_FLAG_MASK`][flags::EXPONENT_FLAG_MASK], with all other bits 0.
+    /// Returns the bitwise AND of the word and [`EXPONENT_FLAG_MASK`][flags::EXPONENT_FLAG_MASK].
     #[inline(always)]
     pub const fn exponent_flags(&self) -> u128
         ensures bits { result ≡ bits_of self.now masks.exponent_flags }
@@ -348,7 +348,7 @@ impl NumberFormat {
         self.format & flags::EXPONENT_FLAG_MASK
     }
 
-    /// Returns the digit separator flags of the integer, with all other bits 0.
+    /// Returns the flags that allow digit separators in the integer. All other bits of the result are 0.
     #[inline(always)]
     pub const fn integer_digit_separator_flags(&self) -> u128
         ensures bits { result ≡ bits_of self.now layout.integer_digit_separator_flags }
@@ -357,7 +357,7 @@ impl NumberFormat {
         self.format & flags::INTEGER_DIGIT_SEPARATOR_FLAG_MASK
     }
 
-    /// Returns the digit separator flags of the fraction, with all other bits 0.
+    /// Returns the flags that allow digit separators in the fraction. All other bits of the result are 0.
     #[inline(always)]
     pub const fn fraction_digit_separator_flags(&self) -> u128
         ensures bits { result ≡ bits_of self.now layout.fraction_digit_separator_flags }
@@ -366,7 +366,7 @@ impl NumberFormat {
         self.format & flags::FRACTION_DIGIT_SEPARATOR_FLAG_MASK
     }
 
-    /// Returns the digit separator flags of the exponent, with all other bits 0.
+    /// Returns the flags that allow digit separators in the exponent. All other bits of the result are 0.
     #[inline(always)]
     pub const fn exponent_digit_separator_flags(&self) -> u128
         ensures bits { result ≡ bits_of self.now layout.exponent_digit_separator_flags }

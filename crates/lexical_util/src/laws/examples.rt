@@ -1,4 +1,5 @@
-//! Each predicate that only one side of a public clause names has an example here that holds and one that does not.
+//! Examples of predicates. Each predicate that only one side of a public clause names has an example that holds, and an
+//! example that does not hold.
 
 ghost use Rattle.std.specs.Prelude.{◌≡◌, [], ◌∷◌, true, false, Some, None, Ok};
 ghost use Rattle.lexical_flags.specs.Layout as layout;
@@ -13,7 +14,7 @@ ghost use Rattle.lexical_util.specs.declared.edits.Edit.TheVariants as edits;
 ghost use Rattle.lexical_util.specs.declared.edits.FlagSetter.TheVariants as setters;
 ghost use Rattle.lexical_util.specs.declared.reasons.Reason.TheVariants as reasons;
 
-/// States that some lists of writes have the same last values, and that others have different last values.
+/// States that two lists of writes have the same last values, and that two other lists do not.
 pub fn write_examples()
     // The order of writes to different fields does not matter.
     ensures order { SameWrites
@@ -26,8 +27,8 @@ pub fn write_examples()
         (write_byte layout.mantissa_radix 16 ∷ write_byte layout.mantissa_radix 8 ∷ []) → ⊥ }
 {}
 
-/// States that an edit of a flag makes a single write and an edit of a group does not, and that a mantissa radix of 16
-/// is a byte and one of 256 is not.
+/// States that an edit of a flag makes a single write, and that an edit of a group does not. States that a mantissa
+/// radix of 16 is a byte, and that one of 256 is not.
 pub fn edit_examples()
     ensures flag { IsEditOf (write_flag layout.required_integer_digits true)
         (edits.Flag setters.RequiredIntegerDigits true) }

@@ -1,4 +1,4 @@
-//! Edits that mend the fields that a reason blames.
+//! Edits that mend a field that a reason blames.
 
 ghost use Rattle.std.specs.Prelude.{◌≡◌, ◌≢◌, ◌≤◌, ◌==◌, ◌||◌, not, length, take};
 ghost use Rattle.std.specs.List.{filter_map, list_all, list_any};
@@ -15,13 +15,15 @@ use lexical_flags::format_flags::{RULES, Rule};
 /// The maximum number of edits that [`mend`] returns.
 pub const MAX_MENDING_EDITS: usize = 3;
 
-/// Returns an array that begins with the edits that mend one field of a word for a reason, and the number of these
-/// edits. The number is 0 if no such edits mend the field. The other elements have no meaning.
+/// Returns the edits that mend one field of a format word, and their number. The edits remove a reason why the word
+/// breaks a rule. They are at the start of the array, and the other elements have no meaning. The number is 0 if no
+/// edits of the field remove the reason.
 ///
-/// `field` is the edit that writes the field with its value in the word. The edits clear a flag or an optional byte, or
-/// set the mantissa radix to 10 unless it is 10 already. If they set it, an absent exponent byte stays absent. After
-/// [`edit_word`] with these edits, the word keeps each rule that only this reason broke, and each rule that it kept.
-/// [`edit_word`] also drops a digit separator that no flag allows, but this by itself does not mend the separator.
+/// `field` is the edit that sets the field to its value in the word. The returned edits clear a flag or an optional
+/// byte, or they set the mantissa radix to 10 unless it is 10 already. If they set the mantissa radix, an absent
+/// exponent base or exponent radix stays absent. After [`edit_word`] with these edits, the word keeps each rule that
+/// only this reason broke, and each rule that it kept before. [`edit_word`] also drops a digit separator that no flag
+/// allows, but the separator does not count as mended if that is all that happens.
 pub fn mend(format: u128, reason: &Reason, field: &Edit) -> ([Edit; MAX_MENDING_EDITS], usize)
     ensures edits { take result.1 result.0 ≡ mend_of format reason.now field.now }
     ensures mends { result.1 ≢ 0 → Mends format reason.now (take result.1 result.0) }
@@ -35,7 +37,7 @@ pub fn mend(format: u128, reason: &Reason, field: &Edit) -> ([Edit; MAX_MENDING_
     }
 }
 
-// Returns whether edits mend a reason.
+// Returns whether edits mend the word for a reason.
 fn are_mending(format: u128, reason: &Reason, edits: &[Edit]) -> bool
     ensures { result ≡ are_mending format reason.now edits.now }
 {
@@ -43,8 +45,8 @@ fn are_mending(format: u128, reason: &Reason, edits: &[Edit]) -> bool
     all_kept(&RULES, format, mended, reason.mask()) & remove_reason(format, reason, edits)
 }
 
-// Returns whether the word keeps the first rule of the reason after the edits and with a flag that allows the digit
-// separator, or has a reason for this rule that blames other bits.
+// Returns whether the edited word keeps the first rule of the reason, or the word has a reason for this rule that
+// blames other bits. The edited word gets a flag that allows the digit separator, so that the separator is not dropped.
 fn remove_reason(format: u128, reason: &Reason, edits: &[Edit]) -> bool
     ensures { result ≡ remove_reason format reason.now edits.now }
 {
@@ -76,7 +78,8 @@ fn edits_for(format: u128, field: &Edit) -> ([Edit; MAX_MENDING_EDITS], usize)
     ([edit; MAX_MENDING_EDITS], 1)
 }
 
-// Returns an array that begins with the edits that set a mantissa radix to 10 unless it is 10, and their number.
+// Returns an array that begins with the edits that set a mantissa radix to 10, and their number. The number is 0 if the
+// radix is already 10.
 fn radix_edits(format: u128, radix: u8) -> ([Edit; MAX_MENDING_EDITS], usize)
     ensures edits { take result.1 result.0 ≡ edits_for (raw format) (edits.MantissaRadix radix) }
     ensures count { result.1 ≤ 3 }
@@ -118,7 +121,8 @@ fn radix_edits(format: u128, radix: u8) -> ([Edit; MAX_MENDING_EDITS], usize)
     }
 }
 
-// Returns whether the mended word keeps each of these rules that has no reason in the word that blames other bits.
+// Returns whether the mended word keeps each of these rules, except for rules for which the word has a reason that
+// blames other bits.
 fn all_kept(rules: &[Rule], format: u128, mended: u128, mask: u128) -> bool
     ensures { result ≡ list_all (λ rule. list_any (λ other. not (mask_of_reason other == mask)) (reasons_of rule format)
         || (length (reasons_of rule mended) == 0)) rules.now }
@@ -139,7 +143,7 @@ fn is_kept_or_other(rule: Rule, format: u128, mended: u128, mask: u128) -> bool
     has_other(&reasons_of(rule, format), mask) | rule.is_kept(mended)
 }
 
-// Returns whether one of these reasons blames other bits.
+// Returns whether the mask of one of these reasons differs from `mask`.
 fn has_other(reasons: &[Option<Reason>], mask: u128) -> bool
     ensures { result
         ≡ list_any (λ other. not (mask_of_reason other == mask)) (filter_map (λ reason. reason) reasons.now) }

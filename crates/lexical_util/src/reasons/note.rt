@@ -1,4 +1,4 @@
-//! Notes on fields that are set and change no number that can be written.
+//! Notes on fields that are set but have no effect on any number.
 
 ghost use Rattle.std.specs.Prelude.{◌≡◌, ◌==◌, ◌&&◌, not, if◌then◌else◌, ℕ, false, [], ◌∷◌, map, bit_and};
 ghost use Rattle.std.specs.List.{filter_map, list_any};
@@ -21,26 +21,28 @@ use crate::reasons::{Reason, prefix_edit, reasons, suffix_edit};
 use lexical_builder::format_builder::{NonZeroU8, NumberFormatBuilder};
 use lexical_flags::format_flags as flags;
 
-/// The maximum number of notes on a word.
+/// The maximum number of notes on a format word.
 pub const MAX_NOTES: usize = 3;
 
-/// A field that is set and changes no number that can be written. Rules and options may read it.
+/// A note on a field that is set but has no effect on any number. The rules may still read the field.
 ///
-/// These are all kinds of notes. For example, exponent flags have no note if exponents are forbidden.
+/// Only the fields of these variants have notes. For example, an exponent flag has no note, even if the format forbids
+/// exponents.
 #[derive(Debug, Clone, Copy, PartialEq, Eq)]
 pub enum Note {
-    /// A digit separator that no flag allows. It is dropped when a builder packs a word, and in the normal form.
+    /// The digit separator is set, but no flag allows one. A builder does not pack it, and the normal form does not
+    /// have it.
     SeparatorWithoutFlag(Edit),
-    /// Flags allow a digit separator, but it is absent.
+    /// One or more flags allow digit separators, but the digit separator is absent.
     FlagsWithoutSeparator,
-    /// A case flag is set, but its base prefix or base suffix is absent.
+    /// A case-sensitivity flag is set, but the base prefix or base suffix to which it applies is absent.
     CaseFlagWithoutByte(FlagSetter, Edit),
-    /// A case flag is set, but its base prefix or base suffix is not a letter.
+    /// A case-sensitivity flag is set, but the base prefix or base suffix to which it applies is not a letter.
     CaseFlagOfNonLetter(FlagSetter, Edit),
 }
 
 impl Note {
-    /// Returns the bits of a word that the note describes.
+    /// Returns the mask of the bits of a format word that the note describes.
     pub const fn mask(&self) -> u128
         ensures { result ≡ mask_of_note self.now }
     {
@@ -56,9 +58,9 @@ impl Note {
     }
 }
 
-/// Returns the notes on a word, each in its own slot. A slot without a note is `None`.
+/// Returns the notes on a format word, each in its own slot. A slot without a note is `None`.
 ///
-/// A note is not an error: a lawful word may have notes. A field that a reason blames has no note.
+/// A note is not an error, so a lawful word may have notes. A field that a [`Reason`] blames has no note.
 pub const fn notes(format: u128) -> [Option<Note>; MAX_NOTES]
     ensures each { result ≡ map if_applicable (notes_beside format (raw format)) }
 
@@ -73,7 +75,7 @@ pub const fn notes(format: u128) -> [Option<Note>; MAX_NOTES]
         → ReplacesFields (set_flags (raw format) digit_separator_flags false) format other
         → SameOtherRules format other }
 
-    // If a byte is absent or not a letter, then clearing its case flag changes no rule, no option and no role.
+    // If a byte is absent or not a letter, then clearing its case flag does not change any rule, option or role.
     ensures prefix_case { other_case ((raw format).byte layout.base_prefix) ≡ (raw format).byte layout.base_prefix
         → (other : ℕ)
         → ReplacesFields (set_flags (raw format) (layout.case_sensitive_base_prefix ∷ []) false) format other
@@ -86,9 +88,9 @@ pub const fn notes(format: u128) -> [Option<Note>; MAX_NOTES]
     notes_beside(format, flags::digit_separator(format))
 }
 
-/// Returns the notes on the fields of a builder, as [`notes`] does of a word.
+/// Returns the notes on the fields of a builder, as [`notes`] does for a format word.
 ///
-/// A digit separator that no flag allows has a note, although the packed word does not have it.
+/// A digit separator that no flag allows has a note, although the builder does not pack it.
 pub const fn notes_of_fields(builder: &NumberFormatBuilder) -> [Option<Note>; MAX_NOTES]
     ensures { result ≡ map if_applicable (notes_beside (pack builder.now) builder.now) }
 {
@@ -122,7 +124,7 @@ const fn notes_beside(format: u128, separator: u8) -> [Option<Note>; MAX_NOTES]
     ]
 }
 
-// Returns the note on a digit separator and its flags, if there is one.
+// Returns the note on a digit separator and its flags, if any.
 const fn separator_note(format: u128, separator: u8) -> Option<Note>
     ensures { result
         ≡ if_applicable (unblamed format (separator_candidate (set_byte (raw format) layout.digit_separator separator))) }
@@ -135,7 +137,7 @@ const fn separator_note(format: u128, separator: u8) -> Option<Note>
     }
 }
 
-// Returns the note on a case flag and the byte of an edit, if there is one.
+// Returns the note on a case flag and the byte of an edit, if any.
 const fn case_note(format: u128, is_set: bool, flag: FlagSetter, edit: &Edit) -> Option<Note>
     ensures { result ≡ if_applicable (unblamed format (case_candidate is_set (argument_byte edit.now) flag edit.now)) }
 {

@@ -1,4 +1,4 @@
-//! The sentences of reasons and notes.
+//! Prints reasons and notes as sentences.
 
 ghost use Rattle.std.specs.Prelude.{◌≡◌, ◌<◌, ◌≤◌, ◌+◌, ◌++◌, codes, length, Some};
 ghost use Rattle.lexical_base.specs.Additions.ShortTexts.{piece_text};
@@ -12,7 +12,7 @@ use lexical_base::error::{EMPTY_PIECE, Piece, ShortText};
 use std::fmt;
 
 impl Reason {
-    /// Returns one sentence without a full stop, such as `the base prefix 'b' is a digit in radix 16`.
+    /// Returns the reason as a sentence without a full stop, such as `the base prefix 'b' is a digit in radix 16`.
     pub const fn text(&self) -> ShortText
         ensures { result ≡ reason_text self.now }
     {
@@ -60,8 +60,8 @@ impl Reason {
 }
 
 impl Note {
-    /// Returns one sentence without a full stop, such as
-    /// `no number can have the digit separator '_': no flag allows one`.
+    /// Returns the note as a sentence without a full stop, such as `no number can have the digit separator '_': no flag
+    /// allows one`.
     pub const fn text(&self) -> ShortText
         ensures { result ≡ note_text self.now }
     {
@@ -108,7 +108,7 @@ impl fmt::Display for Note {
     }
 }
 
-// Returns the sentence of a radix or a base that is not in range.
+// Returns the sentence for a radix or a base that is out of range.
 const fn not_in_range(piece: Piece) -> ShortText
     requires { max_length piece < 200 }
     ensures { result ≡ piece_text piece ++ codes " is not between 2 and 36" }
@@ -116,7 +116,7 @@ const fn not_in_range(piece: Piece) -> ShortText
     followed(piece, " is not between 2 and 36")
 }
 
-// Returns the text of a piece and the words that follow it.
+// Returns a text that has a piece and the words that follow it.
 const fn followed(piece: Piece, end: &'static str) -> ShortText
     requires { max_length piece + length end.now < 256 }
     ensures { result ≡ piece_text piece ++ end.now }
@@ -141,7 +141,7 @@ const fn named(flag: FlagSetter) -> Piece
     Piece::Words(flag.name())
 }
 
-// Returns the end of the sentence of two bytes that clash.
+// Returns the end of the sentence for two bytes that clash.
 const fn clash_text(a: Edit, b: Edit, flag: Option<FlagSetter>) -> &'static str
     ensures text { result.now ≡ clash_text a b flag }
     ensures short { length result.now ≤ 67 }
@@ -158,7 +158,7 @@ const fn clash_text(a: Edit, b: Edit, flag: Option<FlagSetter>) -> &'static str
     }
 }
 
-// Returns the name of the field of an edit, as sentences have it.
+// Returns the name of the field of an edit, as it appears in sentences.
 const fn label(edit: Edit) -> &'static str
     ensures text { result.now ≡ label_of edit }
     ensures short { length result.now ≤ 15 }
