@@ -126,50 +126,56 @@ def ranges(bits):
 def phrases():
     """Returns the texts in which a comment may have a number."""
     flags = [int(bit) for bit, _, _ in check_format.FLAGS]
-    ends = [f"the {name.replace('_', ' ')} ({first})" for first, _, name, _ in check_format.BYTES]
+    separators = [int(bit) for bit, name, _ in check_format.FLAGS if name.endswith("_digit_separator")]
+    ends = [f"the {name.replace('_', ' ')} (bits {low} to {high})" for low, high, name, _ in check_format.BYTES]
     ranks = {name: number for name, number in check_header.outcomes()}
     parse, formats = ranks["PELTZIVAR_INVALID_NEGATIVE_SIGN"], ranks["PELTZIVAR_INVALID_FLAGS"]
     last = max(ranks.values())
     count = {6: "six"}[len(BYTES)]
     return [
-        "128-bit words",
-        f"{len(flags)} flags (bits {ranges(flags)}) and {count} bytes. The bytes, with their lowest bits, are "
-        f"{', '.join(ends[:-1])} and {ends[-1]}.",
-        f"the {len(rules())} rules below",
-        "eight bits for each part",
-        "as two halves",
-        f"the flags and {count} bytes",
-        f"one of {last} errors: 1 to {parse} are parse errors, {parse + 1} to {formats} format errors, "
-        f"{formats + 1} to {last} option errors",
+        "a 128-bit word",
+        f"{len(flags)} flags (bits {ranges(flags)}) and {count} bytes: {', '.join(ends[:-1])} and {ends[-1]}.",
+        f"The flags in bits {ranges(separators)} are the digit separator flags",
+        f"all of the {len(rules())} rules below",
+        "(major << 16) | (minor << 8) | patch",
+        "bits 0 to 63 are in `low`, and bits 64 to 127 are in `high`",
+        "has mantissa radix 10",
+        f"which has {len(flags)} flags and {count} bytes",
+        f"one of {last} errors: 1 to {parse} are parse errors, {parse + 1} to {formats} are format errors, "
+        f"and {formats + 1} to {last} are option errors",
         "Two rules share PELTZIVAR_INVALID_SPECIAL",
         "numbers the rules from 1, so its rule n is rule n - 1 here",
-        "(the bytes 9 to 13 and 32 to 126)",
+        "the bytes 9 to 13 and 32 to 126",
         "is between 2 and 36",
         "No two of",
-        "So two calls do not",
+        "two calls do not always",
         "whether two words",
-        "the first of the three radix rules",
-        "Returns the low 32 bits of (format & mask) >> shift, or the mantissa radix if they are 0",
+        "the first three rules, which are the radix rules",
+        "Returns the low 32 bits of (format & mask) >> shift, or the mantissa radix of the word if these bits are 0",
         "shift is 128 or more",
-        "allowed ASCII: 9 to 13 or 32 to 126.",
-        "Letters of either case have the values 10 to 35",
-        "Any other byte has the value 255, so in a radix above 255 it counts as a digit",
-        "a number below 36, with letters in uppercase",
-        "PELTZIVAR_NO_CHAR if the number is 36 or more",
+        "allowed ASCII byte, that is, 9 to 13 or 32 to 126.",
+        "`0` to `9` have the values 0 to 9, and letters of either case have the values 10 to 35",
+        "Every other byte has the value 255, so it is a digit in any radix above 255",
+        "`0` to `9` or an uppercase letter",
+        "PELTZIVAR_NO_CHAR if the digit is 36 or more",
         "'b' is a digit in radix 16",
-        "0 to PELTZIVAR_MAX_REASONS - 1",
-        "0 to PELTZIVAR_CANDIDATE_COUNT - 1",
-        "0 to PELTZIVAR_MAX_NOTES - 1",
-        "0 to PELTZIVAR_FIELD_COUNT - 1",
+        "between 0 and PELTZIVAR_MAX_REASONS - 1",
+        "between 0 and PELTZIVAR_CANDIDATE_COUNT - 1",
+        "between 0 and PELTZIVAR_MAX_NOTES - 1",
+        "from 0 to PELTZIVAR_FIELD_COUNT - 1",
         f"then the {count} bytes",
         "the mantissa radix to 10",
-        "and the three parse errors of peltzivar_word_of_text",
+        "and the three parse errors that peltzivar_word_of_text returns",
         "32 uppercase hexadecimal digits",
         "1 to 32 hexadecimal digits of either case",
-        "a 33rd digit",
-        "a number above 255 or with",
-        "character between two `'`, or `0x` and one or two hexadecimal digits, or one to three decimal digits",
+        "at least 33 hexadecimal digits",
+        "a number that is above 255 or has",
+        "character between two `'`, or `0x` followed by one or two hexadecimal digits, or one to three decimal digits",
         "UTF-8",
+        "No two slots",
+        "one of the two clashes",
+        "Two characters clash",
+        "at index 7",
     ]
 
 
@@ -190,7 +196,7 @@ def python_faults():
 
 def outputs():
     """Returns the calls with an output whose comment does not state that it stays unchanged."""
-    for comment, call in re.findall(r"/\*((?:(?!\*/).)*)\*/\n[^;]*?(peltzivar_\w+)\([^;]*\*out\);", HEADER, re.S):
+    for comment, call in re.findall(r"/\*((?:(?!\*/).)*)\*/\n[^;/]*?(peltzivar_\w+)\([^;/]*\*out\);", HEADER, re.S):
         if "leaves *out unchanged" not in re.sub(r"\s+\*?\s*", " ", comment.replace("*out", "@")).replace("@", "*out"):
             yield f"the comment of {call} does not have: leaves *out unchanged"
 
@@ -207,19 +213,20 @@ def rule_comment(rule):
     """Returns the comment that a rule must have, except for PunctuationDiffers."""
     name = re.sub(r"(?<=[a-z])(?=[A-Z])", "_", rule).lower()
     if field := name.removesuffix("_in_range") if name.endswith("_in_range") else "":
-        return f"{field} is between 2 and 36"
+        return f"{field} is between 2 and 36."
     if name.endswith("_is_punctuation"):
-        return f"{name.removesuffix('_is_punctuation')} is 0 or punctuation"
+        return f"{name.removesuffix('_is_punctuation')} is 0 or punctuation."
     if name.endswith("_consecutive_is_allowed"):
         part = name.removesuffix("_consecutive_is_allowed")
-        return f"{part}_consecutive_digit_separator is set only with an internal, leading or trailing flag of the {part}"
+        flags = [f"{part}_{position}_digit_separator" for position in ("internal", "leading", "trailing")]
+        return f"{part}_consecutive_digit_separator is set only if {flags[0]}, {flags[1]} or {flags[2]} is set."
     if name == "reserved_bits_are_zero":
-        return "all reserved bits are 0"
+        return "All reserved bits are 0."
     # The flags are the flags of the smallest word that breaks the rule.
     number = rules().index(rule)
     word = int(check_format.RULES[number][3], 16)
     both = [flag for bit, flag, _ in check_format.FLAGS if word >> int(bit) & 1]
-    return f"{both[0]} and {both[1]} are not both set" if len(both) == 2 else None
+    return f"{both[0]} and {both[1]} are not both set." if len(both) == 2 else None
 
 
 def wrong_comments():
@@ -249,7 +256,7 @@ def wrong_comments():
     lines = HEADER[HEADER.index("PELTZIVAR_RULE_") :]
     for rule in rules():
         if wanted := rule_comment(rule):
-            name, told = re.escape(constant(f"RULE_{rule}")), re.escape(wanted)
+            name, told = re.escape(constant(f"RULE_{rule}")), r"(?: |\n +\* )".join(map(re.escape, wanted.split()))
             if not re.search(rf"{name}(?: = 0)?,? /\* {told} \*/\n|/\* {told} \*/\n +{name},", lines):
                 yield f"{constant(f'RULE_{rule}')} does not have the comment: {wanted}"
 
