@@ -434,7 +434,7 @@
 //!
 //! ## `new_record`
 //!
-//! `new_record` is the record of a new builder: mantissa radix 10, and digits required in mantissa and exponent.
+//! `new_record` is the record of a new builder: it has radix 10 and requires digits in mantissa and exponent.
 //!
 //! ```text
 //! new_record : Record
@@ -469,7 +469,7 @@
 //!
 //! ## `Write`
 //!
-//! `Write` is the type of writes: a field and its new value.
+//! `Write` is the type of writes. A write has a field and the new value of the field.
 //!
 //! ```text
 //! data Write : Type 0 where
@@ -518,7 +518,7 @@
 //!
 //! ## `last_flag`
 //!
-//! `last_flag writes f` is the last value that `writes` write to the flag `f`, or `None` if they do not write it.
+//! `last_flag writes f` is the last value that `writes` write to the flag `f`, or `None` if they do not write to `f`.
 //!
 //! ```text
 //! last_flag : List Write → Flag → Option Bool
@@ -527,7 +527,7 @@
 //!
 //! ## `last_byte`
 //!
-//! `last_byte writes b` is the last value that `writes` write to the byte `b`, or `None` if they do not write it.
+//! `last_byte writes b` is the last value that `writes` write to the byte `b`, or `None` if they do not write to `b`.
 //!
 //! ```text
 //! last_byte : List Write → Byte → Option ℕ
@@ -536,7 +536,7 @@
 //!
 //! ## `after`
 //!
-//! `after r writes` is `r` with new values: each field that `writes` write has the value of the last write to it.
+//! `after r writes` is `r` after `writes`: each field to which they write has the last value that they write to it.
 //!
 //! ```text
 //! after : Record → List Write → Record
@@ -608,7 +608,7 @@
 //!
 //! ## `edited`
 //!
-//! `edited word writes` is the word that results if the fields of `word` are filled, `writes` are applied to them in order, and the record is packed.
+//! `edited word writes` is the word that results if the fields of `word` are filled, `writes` are applied to them in order, and the fields are packed.
 //!
 //! ```text
 //! edited : ℕ → List Write → ℕ
@@ -635,7 +635,7 @@
 //!
 //! ## `field_writes`
 //!
-//! `field_writes r` lists a write for each field of `r`, with its value in `r`, in the order of the bits.
+//! `field_writes r` lists the writes of all fields of `r` with their values in `r`, in the order of the fields' bits.
 //!
 //! ```text
 //! field_writes : Record → List Write
@@ -1096,7 +1096,7 @@
 //!
 //! ## `normal_form_of`
 //!
-//! `normal_form_of word` is `word` edited by no writes.
+//! `normal_form_of word` is the word that results if `word` is edited by an empty list of writes.
 //!
 //! ```text
 //! normal_form_of : ℕ → ℕ
@@ -1105,7 +1105,7 @@
 //!
 //! ## `SameFormat`
 //!
-//! `SameFormat r s` holds if `r` and `s` are equivalent: their flags, prefix, suffix, mantissa radix and effective exponent bytes are equal, and so are their separators if a flag of `r` allows one.
+//! `SameFormat r s` holds if `r` and `s` are equivalent: they have equal flags, an equal prefix, suffix and mantissa radix, and equal effective exponent bytes. If a flag of `r` allows a separator, their separators are equal too.
 //!
 //! ```text
 //! record SameFormat (r s : Record) : Type 0 where
@@ -1120,7 +1120,7 @@
 //!
 //! ## `IsNormal`
 //!
-//! `IsNormal word` holds if the reserved bits of `word` are 0, its separator is absent unless a flag allows one, and its exponent bytes are not 0 unless the mantissa radix is 0 too.
+//! `IsNormal word` holds if the reserved bits of `word` are 0, its separator is absent or a flag allows one, and its exponent bytes are not 0 unless the mantissa radix is 0 too.
 //!
 //! ```text
 //! record IsNormal (word : ℕ) : Type 0 where

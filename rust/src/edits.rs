@@ -213,7 +213,7 @@ pub enum FlagSetter {
     ExponentDigitSeparatorFlags,
 }
 
-/// An edit: a call of one setter of [`NumberFormatBuilder`], with its argument, as a value.
+/// A call of a [`NumberFormatBuilder`] setter, stored as a value. An edit holds the setter and its argument.
 #[derive(Debug, Clone, Copy, PartialEq, Eq, Hash, PartialOrd, Ord)]
 pub enum Edit {
     /// Sets a flag, or every flag of a group, to the `bool`.
@@ -253,7 +253,7 @@ pub const FIELD_COUNT: usize = FLAGS + 6;
 #[doc(hidden)]
 pub const SETTERS: [FlagSetter; FLAGS + 9] = with_setters!(variants());
 
-/// Applies `edit` to `builder`: calls the setter of the edit with its argument, and returns the new builder.
+/// Calls the setter of `edit` on `builder`, and returns the new builder.
 #[must_use]
 #[inline(always)]
 pub const fn apply(builder: NumberFormatBuilder, edit: Edit) -> NumberFormatBuilder {
@@ -332,15 +332,15 @@ pub const fn apply_all(mut builder: NumberFormatBuilder, edits: &[Edit]) -> Numb
 /// The new word is computed in four steps:
 ///
 /// 1. The fields of `format` are read.
-/// 2. An exponent base or exponent radix of 0 is replaced by the mantissa radix.
+/// 2. An exponent base or exponent radix of 0 is set to the mantissa radix.
 /// 3. Each edit is applied. If several edits set the same field, the last one wins. An exponent base or exponent radix
 ///    that an edit sets to `None` stays 0.
 /// 4. The digit separator is set to 0 if no flag allows one, and the fields are packed. The reserved bits, which hold
 ///    no field, are 0 in the new word.
 ///
 /// Pass all edits in one call. If you split them between two calls, the result can be a different word, for two
-/// reasons. The first call drops a digit separator if no flag allows one yet. The second call replaces an exponent base
-/// or exponent radix that the first call set to `None` by the mantissa radix.
+/// reasons. The first call drops a digit separator if no flag allows one yet. The second call sets an exponent base or
+/// exponent radix to the mantissa radix if the first call set it to `None`.
 ///
 /// ```
 /// use peltzivar::edits::{edit_word, Edit, FlagSetter};
@@ -389,12 +389,12 @@ pub const fn edit_word(format: u128, edits: &[Edit]) -> u128 {
     apply_all(NumberFormatBuilder::rebuild(format), edits).build_unchecked()
 }
 
-/// Returns the normal form of `format`, which need not be [lawful][flags::Rule]. The normal form is the canonical word
-/// among all equivalent words.
+/// Returns the normal form of a format word, whether or not the word is [lawful][flags::Rule]. The normal form is the
+/// canonical word among all equivalent words.
 ///
-/// In the normal form, an exponent base or exponent radix of 0 is replaced by the mantissa radix. The digit separator
-/// is 0 if no flag allows one, and the reserved bits, which hold no field, are 0. All other fields are those of
-/// `format`. Two words are equivalent if they have the same normal form.
+/// In the normal form, an exponent base or exponent radix of 0 is set to the mantissa radix. The digit separator is 0
+/// if no flag allows one, and the reserved bits, which hold no field, are 0. All other fields are unchanged. Two words
+/// are equivalent if they have the same normal form.
 ///
 /// # Proved
 ///
@@ -406,7 +406,7 @@ pub const fn edit_word(format: u128, edits: &[Edit]) -> u128 {
 ///   ([`fill`](crate::definitions#fill)) and trimmed ([`trim`](crate::definitions#trim)).
 /// - The reserved bits of the result are 0 ([`IsClean`](crate::definitions#isclean)).
 /// - No other word whose reserved bits are 0 has these fields.
-/// - The normal form of a normal form is the word itself.
+/// - The normal form of the result is the result itself.
 /// - A word is its own normal form if and only if it is normal ([`IsNormal`](crate::definitions#isnormal)).
 /// - The word and its normal form are equivalent ([`SameFormat`](crate::definitions#sameformat)).
 /// - For each list of flags, both words have at least one of the flags set, or neither has
@@ -416,8 +416,8 @@ pub const fn edit_word(format: u128, edits: &[Edit]) -> u128 {
 /// - If neither a reserved bit nor a separator is dropped ([`IsClean`](crate::definitions#isclean),
 ///   [`SeparatorAllowedOrAbsent`](crate::definitions#separatorallowedorabsent)), both words have the same error
 ///   ([`IsErrorOf`](crate::definitions#iserrorof)).
-/// - If no separator is dropped, both words, when [`edited`](crate::definitions#edited) by the same legal writes,
-///   become the same word.
+/// - If no separator is dropped, the same legal writes turn both words into the same word
+///   ([`edited`](crate::definitions#edited)).
 /// - The result is normal ([`IsNormal`](crate::definitions#isnormal)).
 ///
 /// ```text

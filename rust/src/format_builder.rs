@@ -93,8 +93,9 @@ impl NumberFormatBuilder {
 
     /// Returns a builder in which every field has its default value.
     ///
-    /// The mantissa radix is 10, and all other bytes are absent. The flags `required_exponent_digits` and
-    /// `required_mantissa_digits` are true, and all other flags are false.
+    /// The mantissa radix is 10. The digit separator, the base prefix, the base suffix, the exponent base and the
+    /// exponent radix are absent. The flags `required_exponent_digits` and `required_mantissa_digits` are true, and all
+    /// other flags are false.
     #[must_use]
     #[inline(always)]
     pub const fn new() -> Self {
@@ -155,7 +156,7 @@ impl NumberFormatBuilder {
     ///
     /// For all arguments:
     ///
-    /// - The result is the packed word ([`pack`](crate::definitions#pack)) of the builder's fields.
+    /// - The result is the word into which the builder's fields are packed ([`pack`](crate::definitions#pack)).
     /// - The fields of the result ([`raw`](crate::definitions#raw)) are those of the builder, without a separator
     ///   that no flag allows ([`trim`](crate::definitions#trim)).
     /// - The reserved bits of the result are 0 ([`IsClean`](crate::definitions#isclean)).
@@ -233,7 +234,7 @@ impl NumberFormatBuilder {
     ///
     /// For all arguments:
     ///
-    /// - The result is the packed word ([`pack`](crate::definitions#pack)) of the builder's fields.
+    /// - The result is the word into which the builder's fields are packed ([`pack`](crate::definitions#pack)).
     ///
     /// ```text
     /// ensures { result ≡ pack self.now }

@@ -37,9 +37,9 @@ use crate::word::STANDARD;
 /// - The mantissa radix, the exponent base and the exponent radix are between 2 and 36.
 /// - The digit separator, the base prefix and the base suffix are absent or punctuation. No byte plays two of these
 ///   roles: digit, sign, separator, prefix, suffix.
-/// - No byte plays two roles either if an exponent character and a decimal point that
-///   [`check_options`][Self::check_options] accepts are added. For every format, `check_options` accepts at least one
-///   such pair ([`SomeOptionsFit`](crate::definitions#someoptionsfit)).
+/// - If [`check_options`][Self::check_options] accepts an exponent character and a decimal point, each of them plays
+///   only one role too. For every format, it accepts at least one such pair
+///   ([`SomeOptionsFit`](crate::definitions#someoptionsfit)).
 /// - No two flags contradict each other, and all reserved bits are 0.
 /// - The [normal form][Self::normal_form] is a `Format` too.
 #[derive(Clone, Copy, PartialEq, Eq, PartialOrd, Ord, Hash)]
@@ -81,14 +81,14 @@ impl Format {
         }
     }
 
-    /// Returns the word.
+    /// Returns the format word.
     #[must_use]
     #[inline(always)]
     pub const fn word(&self) -> u128 {
         self.view.word()
     }
 
-    /// Returns the view of the word.
+    /// Returns the view of the format word.
     #[must_use]
     #[inline(always)]
     pub const fn view(&self) -> FormatView {
@@ -109,9 +109,11 @@ impl Format {
     ///
     /// # Errors
     ///
-    /// Returns [`Error::InvalidExponentSymbol`] if the exponent character is a sign, a digit or not allowed ASCII, and
-    /// [`Error::InvalidDecimalPoint`] if the decimal point is. Returns [`Error::InvalidPunctuation`] if one byte would
-    /// play two roles.
+    /// Returns [`Error::InvalidExponentSymbol`] if the exponent character is a sign, a digit or not [allowed ASCII].
+    /// Returns [`Error::InvalidDecimalPoint`] if the decimal point is a sign, a digit or not allowed ASCII. Returns
+    /// [`Error::InvalidPunctuation`] if one byte would play two roles.
+    ///
+    /// [allowed ASCII]: crate::ascii::is_valid_ascii
     pub const fn check_options(&self, exponent: u8, decimal_point: u8) -> Result<(), Error> {
         match options_error(self.word(), exponent, decimal_point) {
             Error::Success => Ok(()),
@@ -193,7 +195,7 @@ impl NumberFormatBuilder {
         FormatView::new(self.build_unchecked())
     }
 
-    /// Packs the fields into a word, and returns it as a [`Format`] if it is lawful.
+    /// Packs the fields into a word, and returns the word as a [`Format`] if it is lawful.
     ///
     /// # Errors
     ///

@@ -15,8 +15,8 @@ impl FormatView {
     /// Returns the reasons why the word is not lawful, in the order of the rules that they break. The iterator is empty
     /// if and only if the word is lawful.
     ///
-    /// A reason that breaks several rules is returned once. An absent exponent base or exponent radix follows the
-    /// mantissa radix, so it is never a reason itself.
+    /// A reason why several rules are broken is returned only once. An absent exponent base or exponent radix follows
+    /// the mantissa radix, so it is never a reason itself.
     ///
     /// ```
     /// let view = peltzivar::FormatView::new(0x00002500_00000000_00000000_0000003C);
@@ -77,14 +77,14 @@ impl<'a> FromIterator<&'a Edit> for NumberFormatBuilder {
     }
 }
 
-/// Applies the edits, in order.
+/// Applies the edits to the builder, in order.
 impl Extend<Edit> for NumberFormatBuilder {
     fn extend<I: IntoIterator<Item = Edit>>(&mut self, edits: I) {
         *self = edits.into_iter().fold(*self, apply);
     }
 }
 
-/// Applies the edits, in order.
+/// Applies the edits to the builder, in order.
 impl<'a> Extend<&'a Edit> for NumberFormatBuilder {
     fn extend<I: IntoIterator<Item = &'a Edit>>(&mut self, edits: I) {
         self.extend(edits.into_iter().copied());

@@ -32,9 +32,9 @@ impl fmt::Display for Mend {
 }
 
 impl FormatView {
-    /// Returns the mends for one of the [reasons][Self::reasons] why the word is not lawful. There is at most one
-    /// [`Mend`] for each field that the reason blames. A mend clears a flag or a byte, or sets the mantissa radix to
-    /// 10.
+    /// Returns edits that mend the word for one of the [reasons][Self::reasons] why it is not lawful. There is at most
+    /// one [`Mend`] for each field that the reason blames. A mend clears a flag or a byte, or sets the mantissa radix
+    /// to 10.
     ///
     /// After [`edit_word`][crate::edits::edit_word] applies the edits of one mend, the word keeps each rule that it
     /// kept before, and each rule that only this reason broke.

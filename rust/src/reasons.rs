@@ -27,8 +27,8 @@ pub const MAX_REASONS: usize = 3;
 #[doc(hidden)]
 pub const CANDIDATE_COUNT: usize = 24;
 
-/// A reason why a format word breaks one or more rules. Each variant identifies a byte by an [`Edit`] that sets it to
-/// its value in the word.
+/// A reason why a format word breaks one or more rules. A byte is identified by the [`Edit`] that sets it to its value
+/// in the word.
 #[derive(Debug, Clone, Copy, PartialEq, Eq, Hash)]
 #[non_exhaustive]
 pub enum Reason {
@@ -46,7 +46,7 @@ pub enum Reason {
     /// if the byte is a digit only in that radix, and otherwise the mantissa radix.
     IsDigit(Edit, Edit),
     /// Two bytes are equal, or they are the two cases of one letter. If they are equal, the flag is `None`. Otherwise,
-    /// they clash as long as the flag is not set, which makes the base prefix or the base suffix case-sensitive.
+    /// they clash as long as the flag is not set. Setting it makes the base prefix or the base suffix case-sensitive.
     Clash(Edit, Edit, Option<FlagSetter>),
     /// Two flags are both set, but they contradict each other.
     Contradict(FlagSetter, FlagSetter),
@@ -58,12 +58,12 @@ pub enum Reason {
 }
 
 /// Returns the reasons why a format word breaks rules. Each reason that a word can have has its own slot, which is
-/// `None` if the word does not have this reason. The slots are in the order of the first rule that each reason breaks.
-/// All of them are `None` if and only if the word is lawful.
+/// `None` if the word does not have this reason. The slots are in the order of the first rule that is broken for each
+/// reason. All slots are `None` if and only if the word is lawful.
 ///
 /// An absent exponent base or exponent radix follows the mantissa radix, so it is never a reason itself.
-/// [`Reason::breaks`] returns whether a reason breaks a rule, and [`Reason::mask`] returns the bits that a reason
-/// blames.
+/// [`Reason::breaks`] returns whether a rule is broken for a reason, and [`Reason::mask`] returns the bits that a
+/// reason blames.
 #[must_use]
 #[doc(hidden)]
 pub const fn reasons(format: u128) -> [Option<Reason>; CANDIDATE_COUNT] {

@@ -30,8 +30,7 @@ impl FromStr for FormatView {
 
 /// Parses a lawful format word: `0x` followed by 1 to 32 hexadecimal digits.
 ///
-/// If the text is not a word, the error is the same as for [`FormatView`]. If the word is not lawful, the error is that
-/// of the first rule that the word breaks.
+/// The error is a parse error, as for [`FormatView`], or the error of the first rule that the word breaks.
 impl FromStr for Format {
     type Err = Error;
 

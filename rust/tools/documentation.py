@@ -18,7 +18,7 @@ import definitions as model
 PROVED = {
     "format_builder.rt": {
         "build_unchecked": {
-            "word": "The result is the packed word (`pack`) of the builder's fields.",
+            "word": "The result is the word into which the builder's fields are packed (`pack`).",
             "fields": "The fields of the result (`raw`) are those of the builder, without a separator that no flag"
             " allows (`trim`).",
             "clean": "The reserved bits of the result are 0 (`IsClean`).",
@@ -34,7 +34,7 @@ PROVED = {
             "not_success": "The result is never `Err(Success)`.",
             "not_flags": "The result is never `Err(InvalidFlags)`, since the builder sets no reserved bit.",
         },
-        "build": {"": "The result is the packed word (`pack`) of the builder's fields."},
+        "build": {"": "The result is the word into which the builder's fields are packed (`pack`)."},
         "from_word": {"": "The fields of the result are those of the word (`raw`)."},
         "rebuild": {
             "": "The fields of the result are those of the word (`raw`), with absent exponent bytes replaced by the"
@@ -91,7 +91,7 @@ PROVED = {
             " (`trim`).",
             "clean": "The reserved bits of the result are 0 (`IsClean`).",
             "unique": "No other word whose reserved bits are 0 has these fields.",
-            "idempotent": "The normal form of a normal form is the word itself.",
+            "idempotent": "The normal form of the result is the result itself.",
             "unchanged": "A word is its own normal form if and only if it is normal (`IsNormal`).",
             "same": "The word and its normal form are equivalent (`SameFormat`).",
             "groups": "For each list of flags, both words have at least one of the flags set, or neither has"
@@ -100,8 +100,7 @@ PROVED = {
             "lawful": "The normal form of a `Lawful` word is lawful.",
             "error": "If neither a reserved bit nor a separator is dropped (`IsClean`, `SeparatorAllowedOrAbsent`),"
             " both words have the same error (`IsErrorOf`).",
-            "edits": "If no separator is dropped, both words, when `edited` by the same legal writes, become the same"
-            " word.",
+            "edits": "If no separator is dropped, the same legal writes turn both words into the same word (`edited`).",
             "normal": "The result is normal (`IsNormal`).",
         },
         "migrate": {

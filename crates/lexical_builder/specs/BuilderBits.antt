@@ -29,6 +29,6 @@ builder_record_of_parts flags bytes =
 abbrev pub builder_record : Inside → Record
 builder_record inside = builder_record_of_parts inside.flags inside.bytes
 
--- `flags_with mask` lists the flags whose bits are 1 in `mask`, a mask of a format word.
+-- `flags_with mask` lists the flags whose bits in a format word are 1 in `mask`.
 abbrev pub flags_with : ℕ → List Flag
 flags_with mask = filter (λ f. part mask (bit f) 1 == 1) flags

@@ -4,7 +4,7 @@ use Rattle.lexical_flags.specs.Layout.{bit, shift}
 use Rattle.lexical_flags.specs.Layout as layout
 use Rattle.lexical_flags.specs.Record.{Record, set_byte}
 
--- `new_record` is the record of a new builder: mantissa radix 10, and digits required in mantissa and exponent.
+-- `new_record` is the record of a new builder: it has radix 10 and requires digits in mantissa and exponent.
 abbrev pub new_record : Record
 new_record = record {
   flag = λ f. bit f == bit layout.required_exponent_digits || bit f == bit layout.required_mantissa_digits;

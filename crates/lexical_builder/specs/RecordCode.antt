@@ -7,7 +7,7 @@ use Rattle.lexical_flags.specs.Layout as layout
 use Rattle.lexical_flags.specs.Record.{Record}
 use Rattle.lexical_builder.specs.BuilderBits.{builder_bit, byte_index}
 
--- `to_lists r` is the list of the flags of `r` and the list of its bytes.
+-- `to_lists r` is the pair of the list of the flags of `r` and the list of its bytes.
 abbrev to_lists : Record → List Bool × List ℕ
 to_lists r = (map r.flag flags, map r.byte bytes)
 

@@ -129,8 +129,9 @@ impl NumberFormatBuilder {
 
     /// Returns a builder in which every field has its default value.
     ///
-    /// The mantissa radix is 10, and all other bytes are absent. The flags `required_exponent_digits` and
-    /// `required_mantissa_digits` are true, and all other flags are false.
+    /// The mantissa radix is 10. The digit separator, the base prefix, the base suffix, the exponent base and the
+    /// exponent radix are absent. The flags `required_exponent_digits` and `required_mantissa_digits` are true, and all
+    /// other flags are false.
     #[inline(always)]
     #[tactic(auto, using(crate::proofs::WriteLemmas::new_parts), unfolding(lexical_flags::specs::Literals::on_literals))]
     pub const fn new() -> Self

@@ -69,6 +69,6 @@ abbrev pub all_writes : List Edit → List Write
 all_writes list = flat_map writes_of list
 
 -- `edited word writes` is the word that results if the fields of `word` are filled, `writes` are applied to them in
--- order, and the record is packed.
+-- order, and the fields are packed.
 abbrev pub edited : ℕ → List Write → ℕ
 edited word writes = pack (after (fill (raw word)) writes)

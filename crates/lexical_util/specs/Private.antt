@@ -6,7 +6,7 @@ use Rattle.lexical_util.specs.Edits.{writes_of}
 use Rattle.lexical_util.specs.Additions.WordText.{byte_tests}
 use Rattle.lexical_util.specs.declared.edits.Edit.{Edit}
 
--- `differs_from_new edit` is true if `edit` writes a value that differs from the value in a new builder.
+-- `differs_from_new edit` is true if `edit` writes a value that differs from the value of the field in a new builder.
 abbrev pub differs_from_new : Edit → Bool
 differs_from_new edit = list_any (changes new_record) (writes_of edit)
 

@@ -10,8 +10,8 @@ unfoldable pub use Rattle.lexical_flags.specs.Roles.{Disjoint, cased}
 unfoldable pub use Rattle.lexical_flags.specs.Rules.{IsPunctuation, Holds, IsErrorOf, Lawful}
 unfoldable pub use Rattle.lexical_builder.specs.Writes.{after}
 
--- `on_literals` unfolds all that a proof needs to compute on literals: fields of a word, its error, digits, groups of
--- flags, packed and edited words, normal forms.
+-- `on_literals` unfolds everything that a proof needs to compute with literals: the fields of a word, its error,
+-- digits, flag groups, packed and edited words, and normal forms.
 unfoldable pub on_literals : ⊤
 unfolding flags_on_literals after any_flag bits_of
 on_literals = tt

@@ -172,7 +172,7 @@ pub enum FlagSetter {
     ExponentDigitSeparatorFlags,
 }
 
-/// An edit: a call of one setter of [`NumberFormatBuilder`], with its argument, as a value.
+/// A call of a [`NumberFormatBuilder`] setter, stored as a value. An edit holds the setter and its argument.
 #[derive(Debug, Clone, Copy, PartialEq, Eq, Hash)]
 pub enum Edit {
     /// Sets a flag, or every flag of a group, to the `bool`.
@@ -210,7 +210,7 @@ pub const FIELD_COUNT: usize = FLAGS + 6;
 /// nine group setters.
 pub const SETTERS: [FlagSetter; FLAGS + 9] = with_setters!(variants());
 
-/// Applies `edit` to `builder`: calls the setter of the edit with its argument, and returns the new builder.
+/// Calls the setter of `edit` on `builder`, and returns the new builder.
 #[inline(always)]
 pub const fn apply(builder: NumberFormatBuilder, edit: Edit) -> NumberFormatBuilder
     ensures fields { result ≡ after builder (writes_of edit) }
@@ -285,15 +285,15 @@ pub const fn apply_all(mut builder: NumberFormatBuilder, edits: &[Edit]) -> Numb
 /// The new word is computed in four steps:
 ///
 /// 1. The fields of `format` are read.
-/// 2. An exponent base or exponent radix of 0 is replaced by the mantissa radix.
+/// 2. An exponent base or exponent radix of 0 is set to the mantissa radix.
 /// 3. Each edit is applied. If several edits set the same field, the last one wins. An exponent base or exponent radix
 ///    that an edit sets to `None` stays 0.
 /// 4. The digit separator is set to 0 if no flag allows one, and the fields are packed. The reserved bits, which hold
 ///    no field, are 0 in the new word.
 ///
 /// Pass all edits in one call. If you split them between two calls, the result can be a different word, for two
-/// reasons. The first call drops a digit separator if no flag allows one yet. The second call replaces an exponent base
-/// or exponent radix that the first call set to `None` by the mantissa radix.
+/// reasons. The first call drops a digit separator if no flag allows one yet. The second call sets an exponent base or
+/// exponent radix to the mantissa radix if the first call set it to `None`.
 ///
 /// In plain Rust:
 ///
@@ -325,12 +325,12 @@ pub const fn edit_word(format: u128, edits: &[Edit]) -> u128
     apply_all(NumberFormatBuilder::rebuild(format), edits).build_unchecked()
 }
 
-/// Returns the normal form of `format`, which need not be [lawful][flags::Rule]. The normal form is the canonical word
-/// among all equivalent words.
+/// Returns the normal form of a format word, whether or not the word is [lawful][flags::Rule]. The normal form is the
+/// canonical word among all equivalent words.
 ///
-/// In the normal form, an exponent base or exponent radix of 0 is replaced by the mantissa radix. The digit separator
-/// is 0 if no flag allows one, and the reserved bits, which hold no field, are 0. All other fields are those of
-/// `format`. Two words are equivalent if they have the same normal form.
+/// In the normal form, an exponent base or exponent radix of 0 is set to the mantissa radix. The digit separator is 0
+/// if no flag allows one, and the reserved bits, which hold no field, are 0. All other fields are unchanged. Two words
+/// are equivalent if they have the same normal form.
 #[inline(always)]
 pub const fn normal_form(format: u128) -> u128
     ensures word { result ≡ normal_form_of format }

@@ -42,8 +42,8 @@ pub const MAX_REASONS: usize = 3;
 /// have.
 pub const CANDIDATE_COUNT: usize = 24;
 
-/// A reason why a format word breaks one or more rules. Each variant identifies a byte by an [`Edit`] that sets it to
-/// its value in the word.
+/// A reason why a format word breaks one or more rules. A byte is identified by the [`Edit`] that sets it to its value
+/// in the word.
 #[derive(Debug, Clone, Copy, PartialEq, Eq)]
 pub enum Reason {
     /// The mantissa radix is not between 2 and 36. The first `bool` is `true` if the exponent base is absent, and the
@@ -60,7 +60,7 @@ pub enum Reason {
     /// if the byte is a digit only in that radix, and otherwise the mantissa radix.
     IsDigit(Edit, Edit),
     /// Two bytes are equal, or they are the two cases of one letter. If they are equal, the flag is `None`. Otherwise,
-    /// they clash as long as the flag is not set, which makes the base prefix or the base suffix case-sensitive.
+    /// they clash as long as the flag is not set. Setting it makes the base prefix or the base suffix case-sensitive.
     Clash(Edit, Edit, Option<FlagSetter>),
     /// Two flags are both set, but they contradict each other.
     Contradict(FlagSetter, FlagSetter),
@@ -72,12 +72,12 @@ pub enum Reason {
 }
 
 /// Returns the reasons why a format word breaks rules. Each reason that a word can have has its own slot, which is
-/// `None` if the word does not have this reason. The slots are in the order of the first rule that each reason breaks.
-/// All of them are `None` if and only if the word is lawful.
+/// `None` if the word does not have this reason. The slots are in the order of the first rule that is broken for each
+/// reason. All slots are `None` if and only if the word is lawful.
 ///
 /// An absent exponent base or exponent radix follows the mantissa radix, so it is never a reason itself.
-/// [`Reason::breaks`] returns whether a reason breaks a rule, and [`Reason::mask`] returns the bits that a reason
-/// blames.
+/// [`Reason::breaks`] returns whether a rule is broken for a reason, and [`Reason::mask`] returns the bits that a
+/// reason blames.
 #[tactic(auto, using(crate::proofs::AllReasons::distinct))]
 pub const fn reasons(format: u128) -> [Option<Reason>; CANDIDATE_COUNT]
     ensures each { result ≡ map if_applicable (candidates format) }

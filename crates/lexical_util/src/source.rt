@@ -11,7 +11,7 @@ use std::fmt;
 /// A format word that is printed as Rust code: an expression that builds the word.
 ///
 /// The expression creates a new builder, calls a setter for each field in which the word differs from this builder, and
-/// packs the fields. Any word can be printed. The value of the expression is the word if and only if
+/// packs the fields. Any word can be printed. The expression evaluates to the word if and only if
 /// [`is_built`][crate::edits::is_built] returns `true` for the word.
 ///
 /// In plain Rust:

@@ -38,12 +38,12 @@ const fn is_separator_allowed_or_absent(format: u128) -> bool {
 /// Returns edits that give a new builder the fields of `format`, and the number of edits that are needed for this.
 ///
 /// The array has one edit for each field, which sets the field to its value in `format`. The edits that change a new
-/// builder come first. The returned number is the number of these edits. The other edits follow. In both parts, the
+/// builder come first, and the returned number is the number of these edits. The other edits follow. In both parts, the
 /// edits are in the order of the bits that they write.
 ///
-/// If a new builder is given the edits of the first part, or all edits, it has exactly the fields of `format`. If
-/// [`is_built`] returns `true` for `format`, this builder packs its fields into `format`. Then no shorter list of
-/// single-field edits builds `format`.
+/// A new builder to which the edits of the first part are applied has exactly the fields of `format`. This is also true
+/// if all edits are applied. If [`is_built`] returns `true` for `format`, this builder packs its fields into `format`.
+/// In this case, no shorter list of single-field edits builds `format`.
 ///
 /// ```
 /// use peltzivar::edits::{edits_of, Edit, FlagSetter};

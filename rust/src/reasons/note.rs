@@ -15,13 +15,12 @@ pub const MAX_NOTES: usize = 3;
 
 /// A note on a field that is set but has no effect on any number. The rules may still read the field.
 ///
-/// Only the fields of these variants have notes. For example, an exponent flag has no note, even if the format forbids
-/// exponents.
+/// Other fields have no notes. For example, an exponent flag has no note, even if the format forbids exponents.
 #[derive(Debug, Clone, Copy, PartialEq, Eq, Hash)]
 #[non_exhaustive]
 pub enum Note {
-    /// The digit separator is set, but no flag allows one. A builder does not pack it, and the normal form does not
-    /// have it.
+    /// The digit separator is set, but no flag allows one. A builder drops it when it packs the fields, and the normal
+    /// form does not have it.
     SeparatorWithoutFlag(Edit),
     /// One or more flags allow digit separators, but the digit separator is absent.
     FlagsWithoutSeparator,

@@ -18,7 +18,7 @@ use Rattle.lexical_util.specs.declared.edits.Edit.TheVariants as edits
 abbrev pub setter_of : Flag → FlagSetter
 setter_of f = unwrap_or (find (λ setter. bytes_eq (map bit (flags_of setter)) (bit f ∷ [])) SETTERS) setters.NoSpecial
 
--- `edit_of_write write` is the single-field edit that does `write`.
+-- `edit_of_write write` is the single-field edit whose only write is `write`.
 abbrev pub edit_of_write : Write → Edit
 edit_of_write (write_flag f value) = edits.Flag (setter_of f) value
 edit_of_write (write_byte layout.digit_separator value) = edits.DigitSeparator (option_of_byte value)
@@ -28,7 +28,7 @@ edit_of_write (write_byte layout.mantissa_radix value) = edits.MantissaRadix val
 edit_of_write (write_byte layout.exponent_base value) = edits.ExponentBase (option_of_byte value)
 edit_of_write (write_byte layout.exponent_radix value) = edits.ExponentRadix (option_of_byte value)
 
--- `field_edits r` lists the edits that write all fields of `r`, in the order of the bits.
+-- `field_edits r` lists the edits that write all fields of `r` with their values, in the order of the fields' bits.
 abbrev pub field_edits : Record → List Edit
 field_edits r = map edit_of_write (field_writes r)
 

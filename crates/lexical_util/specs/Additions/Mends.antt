@@ -50,8 +50,8 @@ abbrev pub edited_with_separator : ℕ → List Edit → ℕ
 edited_with_separator word list = pack (after
     (after (fill (raw word)) (all_writes list)) (write_flag layout.integer_internal_digit_separator true ∷ []))
 
--- `keep_rules word reason list` is true if, after the edits in `list`, `word` keeps every rule except for those that
--- `word` broke for a reason other than `reason`.
+-- `keep_rules word reason list` is true if, after the edits in `list`, `word` keeps every rule. Rules that `word` broke
+-- for a reason other than `reason` are excepted.
 abbrev pub keep_rules : ℕ → Reason → List Edit → Bool
 keep_rules word reason list =
     list_all (λ rule. has_other_reason word reason rule || is_kept (edited word (all_writes list)) rule) rules_in_order
@@ -64,7 +64,7 @@ remove_reason word reason list =
     || is_kept (edited_with_separator word list) (rule_of_reason reason)
 
 -- `are_mending word reason list` is true if the edits in `list` mend `word` for `reason`: they pass the tests
--- `keep_rules` and `remove_reason`. So edits that only make packing drop a digit separator do not mend it.
+-- `keep_rules` and `remove_reason`. So edits that only cause a digit separator to be dropped do not mend it.
 abbrev pub are_mending : ℕ → Reason → List Edit → Bool
 are_mending word reason list = keep_rules word reason list && remove_reason word reason list
 
@@ -75,7 +75,7 @@ mend_of word reason field =
     let list = edits_for (raw word) field in if are_mending word reason list then list else []
 
 -- `Mends word reason list` holds if, after the edits in `list`, `word` keeps each rule that it kept before, and each
--- rule that only `reason` broke: its first rule also with the digit separator.
+-- rule that it broke only for `reason`. It keeps the first rule of `reason` even with the digit separator.
 pub record Mends (word : ℕ) (reason : Reason) (list : List Edit) : Type 0 where
   pub rules : (rule : Rule) → Holds rule word ⊎ (reasons_of rule word ≡ reason ∷ [])
       → Holds rule (edited word (all_writes list))

@@ -27,13 +27,13 @@ mask_of_note notes.FlagsWithoutSeparator = bit_or (mask_of digit_separator_flags
 mask_of_note (notes.CaseFlagWithoutByte flag edit) = bit_or (mask_of_setter flag) (mask_of_edit edit)
 mask_of_note (notes.CaseFlagOfNonLetter flag edit) = bit_or (mask_of_setter flag) (mask_of_edit edit)
 
--- `separator_candidate r` is the candidate of a separator that no flag allows, or of flags that allow an absent one.
+-- `separator_candidate r` is the candidate for a separator that no flag allows, or for flags that allow an absent one.
 abbrev pub separator_candidate : Record → Candidate Note
 separator_candidate r =
     if separator_allowed r then (r.byte layout.digit_separator == 0, notes.FlagsWithoutSeparator)
     else (not (r.byte layout.digit_separator == 0), notes.SeparatorWithoutFlag (separator_edit r))
 
--- `case_candidate is_set byte flag edit` is the candidate of the case flag `flag` of `byte`, which `edit` writes. It
+-- `case_candidate is_set byte flag edit` is the candidate for the case flag `flag` of `byte`, which `edit` writes. It
 -- applies if the flag is set and `byte` is absent or not a letter.
 abbrev pub case_candidate : Bool → ℕ → FlagSetter → Edit → Candidate Note
 case_candidate is_set byte flag edit = (
@@ -41,13 +41,13 @@ case_candidate is_set byte flag edit = (
   if byte == 0 then notes.CaseFlagWithoutByte flag edit else notes.CaseFlagOfNonLetter flag edit,
 )
 
--- `prefix_candidate r` is the candidate of the case flag of the base prefix of `r`.
+-- `prefix_candidate r` is the candidate for the case flag of the base prefix of `r`.
 abbrev pub prefix_candidate : Record → Candidate Note
 prefix_candidate r =
     let edit = prefix_edit r in
     case_candidate (r.flag layout.case_sensitive_base_prefix) (argument_byte edit) setters.CaseSensitiveBasePrefix edit
 
--- `suffix_candidate r` is the candidate of the case flag of the base suffix of `r`.
+-- `suffix_candidate r` is the candidate for the case flag of the base suffix of `r`.
 abbrev pub suffix_candidate : Record → Candidate Note
 suffix_candidate r =
     let edit = suffix_edit r in

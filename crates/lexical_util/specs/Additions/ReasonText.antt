@@ -10,7 +10,7 @@ use Rattle.lexical_util.specs.declared.reasons.Reason.TheVariants as reasons
 use Rattle.lexical_util.specs.declared.reasons.note.Note.{Note}
 use Rattle.lexical_util.specs.declared.reasons.note.Note.TheVariants as notes
 
--- `label_of edit` is the name by which sentences call the field of `edit`.
+-- `label_of edit` is the name of the field of `edit` in sentences.
 abbrev pub label_of : Edit → List ℕ
 label_of (edits.Flag setter value) = codes "flag"
 label_of (edits.DigitSeparator byte) = codes "digit separator"

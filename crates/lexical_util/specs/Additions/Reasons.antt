@@ -78,7 +78,7 @@ punctuation_rule (edits.DigitSeparator byte) = rules.DigitSeparatorIsPunctuation
 punctuation_rule (edits.BasePrefix byte) = rules.BasePrefixIsPunctuation
 punctuation_rule _ = rules.BaseSuffixIsPunctuation
 
--- `rule_of_flags a b` is the flag rule that the flags `a` and `b` break if both are set.
+-- `rule_of_flags a b` is the flag rule that is broken if both `a` and `b` are set.
 abbrev pub rule_of_flags : FlagSetter → FlagSetter → Rule
 rule_of_flags setters.NoExponentNotation b = rules.ExponentFlagsAgree
 rule_of_flags setters.NoPositiveMantissaSign b = rules.MantissaSignFlagsAgree
@@ -86,13 +86,13 @@ rule_of_flags setters.NoPositiveExponentSign b = rules.ExponentSignFlagsAgree
 rule_of_flags a setters.CaseSensitiveSpecial = rules.SpecialCaseFlagsAgree
 rule_of_flags a b = rules.SpecialSeparatorFlagsAgree
 
--- `position_rule flag` is the rule that the flag for consecutive separators `flag` breaks if no position is allowed.
+-- `position_rule flag` is the rule that is broken if `flag` allows consecutive separators and no position is allowed.
 abbrev pub position_rule : FlagSetter → Rule
 position_rule setters.IntegerConsecutiveDigitSeparator = rules.IntegerConsecutiveIsAllowed
 position_rule setters.FractionConsecutiveDigitSeparator = rules.FractionConsecutiveIsAllowed
 position_rule _ = rules.ExponentConsecutiveIsAllowed
 
--- `rule_of_reason reason` is the first rule that `reason` breaks.
+-- `rule_of_reason reason` is the first rule that is broken for `reason`.
 abbrev pub rule_of_reason : Reason → Rule
 rule_of_reason (reasons.MantissaRadixOutOfRange radix base exponent) = rules.MantissaRadixInRange
 rule_of_reason (reasons.OutOfRange edit) = radix_rule edit
@@ -104,14 +104,14 @@ rule_of_reason (reasons.Contradict a b) = rule_of_flags a b
 rule_of_reason (reasons.NeedsPosition flag) = position_rule flag
 rule_of_reason (reasons.ReservedBits bits) = rules.ReservedBitsAreZero
 
--- `Breaks reason rule` holds if `reason` breaks `rule`. A mantissa radix also breaks the rules of absent exponent
--- bytes.
+-- `Breaks reason rule` holds if a word that has `reason` breaks `rule` for this reason. A mantissa radix that is out of
+-- range also breaks the rule of each absent exponent byte.
 abbrev pub Breaks : Reason → Rule → Type 0
 Breaks (reasons.MantissaRadixOutOfRange radix base exponent) rules.ExponentBaseInRange = IsTrue base
 Breaks (reasons.MantissaRadixOutOfRange radix base exponent) rules.ExponentRadixInRange = IsTrue exponent
 Breaks reason rule = rule ≡ rule_of_reason reason
 
--- `rules_of_reason reason` lists the rules that `reason` breaks, in three slots.
+-- `rules_of_reason reason` lists the rules that are broken for `reason`, in three slots.
 abbrev pub rules_of_reason : Reason → List (Option Rule)
 rules_of_reason (reasons.MantissaRadixOutOfRange radix base exponent) =
     Some rules.MantissaRadixInRange ∷ then_some base rules.ExponentBaseInRange
@@ -123,7 +123,7 @@ abbrev pub mask_of_setter : FlagSetter → ℕ
 mask_of_setter setter = mask_of (flags_of setter)
 
 -- `mask_of_reason reason` is the number with 1 in the bits that `reason` blames. If `reason` is true of a word, it is
--- true of each word with equal bits there.
+-- true of each word that has the same values in these bits.
 abbrev pub mask_of_reason : Reason → ℕ
 mask_of_reason (reasons.MantissaRadixOutOfRange radix base exponent) = byte_mask layout.mantissa_radix
 mask_of_reason (reasons.OutOfRange edit) = mask_of_edit edit
@@ -162,7 +162,8 @@ prefix_edit r = edits.BasePrefix (option_of_byte (r.byte layout.base_prefix))
 abbrev pub suffix_edit : Record → Edit
 suffix_edit r = edits.BaseSuffix (option_of_byte (r.byte layout.base_suffix))
 
--- `mantissa_candidate r` is the candidate of the mantissa radix of `r`. It applies if the radix is below 2 or above 36.
+-- `mantissa_candidate r` is the candidate for the mantissa radix of `r`. It applies if the radix is below 2 or above
+-- 36.
 abbrev pub mantissa_candidate : Record → Candidate Reason
 mantissa_candidate r = (
   not (between 2 36 (r.byte layout.mantissa_radix)),
@@ -170,8 +171,9 @@ mantissa_candidate r = (
       (r.byte layout.exponent_radix == 0),
 )
 
--- `exponent_candidates r byte edit` lists the candidates of the exponent byte `byte` of `r`, which `edit` writes: the
--- mantissa radix applies only if `byte` is absent, and `byte` itself only if it is not.
+-- `exponent_candidates r byte edit` lists the candidates for the exponent byte `byte` of `r`, which `edit` writes. The
+-- candidate for the mantissa radix applies only if `byte` is absent, and the candidate for `byte` only if it is
+-- present.
 abbrev pub exponent_candidates : Record → ℕ → Edit → List (Candidate Reason)
 exponent_candidates r byte edit =
     ((byte == 0) && (mantissa_candidate r).0, (mantissa_candidate r).1)
@@ -185,7 +187,7 @@ radix_of_digit r byte =
     if digits_of (r.byte layout.mantissa_radix) byte then edits.MantissaRadix (r.byte layout.mantissa_radix)
     else edits.ExponentRadix (option_of_byte (r.byte layout.exponent_radix))
 
--- `punctuation_candidates r byte edit` lists the candidates of the byte `byte` of `r`, which `edit` writes. None of
+-- `punctuation_candidates r byte edit` lists the candidates for the byte `byte` of `r`, which `edit` writes. None of
 -- them applies if `byte` is absent or punctuation.
 abbrev pub punctuation_candidates : Record → ℕ → Edit → List (Candidate Reason)
 punctuation_candidates r byte edit =
@@ -194,7 +196,7 @@ punctuation_candidates r byte edit =
     ∷ (digits r byte, reasons.IsDigit edit (radix_of_digit r byte))
     ∷ []
 
--- `clash_candidate A B a b flag` is the candidate of the roles `A` and `B`, whose bytes `a` and `b` write. It applies
+-- `clash_candidate A B a b flag` is the candidate for the roles `A` and `B`, whose bytes `a` and `b` write. It applies
 -- if the roles share a byte. If the two bytes differ, the reason names the case flag `flag`, which is not set.
 abbrev pub clash_candidate : ByteSet → ByteSet → Edit → Edit → FlagSetter → Candidate Reason
 clash_candidate A B a b flag =
@@ -248,8 +250,8 @@ candidates_of rule word = (contradict rule (raw word), flag_reason rule) ∷ []
 abbrev pub reasons_of : Rule → ℕ → List Reason
 reasons_of rule word = filter_map if_applicable (candidates_of rule word)
 
--- `candidates word` lists the candidates of all rules for `word`. The mantissa radix is listed only once, and not again
--- for the exponent bytes.
+-- `candidates word` lists the candidates for all rules and `word`. The mantissa radix is listed only once, and not
+-- again for the exponent bytes.
 abbrev pub candidates : ℕ → List (Candidate Reason)
 candidates word =
     candidates_of rules.MantissaRadixInRange word
@@ -257,7 +259,8 @@ candidates word =
     ++ drop 1 (candidates_of rules.ExponentRadixInRange word)
     ++ flat_map (λ rule. candidates_of rule word) (punctuation_rules ++ flag_rules ++ rules.ReservedBitsAreZero ∷ [])
 
--- `all_reasons word` lists all reasons why `word` breaks rules, in the order of the first rule that each breaks.
+-- `all_reasons word` lists all reasons why `word` breaks rules, in the order of the first rule that is broken for each
+-- reason.
 abbrev pub all_reasons : ℕ → List Reason
 all_reasons word = filter_map if_applicable (candidates word)
 

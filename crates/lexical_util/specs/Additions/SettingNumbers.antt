@@ -126,8 +126,8 @@ argument_byte edit = byte_of_argument (argument_of edit)
 abbrev pub edit_of_number : ℕ → ℕ → Option Edit
 edit_of_number number byte = edit_with number (argument_of_byte (kind_of_number number) byte)
 
--- `HasByte edit` holds if the argument of `edit` as a byte is below 256 and determines `edit`, together with the setter
--- number. Each edit of a program has this property: a byte that is not absent is not 0.
+-- `HasByte edit` holds if the argument of `edit` as a byte is below 256 and, together with the setter number,
+-- determines `edit`. Each edit of a program has this property, since a byte that is present is not 0.
 abbrev pub HasByte : Edit → Type 0
 HasByte edit = (argument_byte edit < 256) × (edit_of_number (setter_number edit) (argument_byte edit) ≡ Some edit)
 

@@ -19,7 +19,7 @@ use Rattle.lexical_util.specs.declared.edits.text.SettingError.{SettingError}
 use Rattle.lexical_util.specs.declared.edits.text.SettingError.TheVariants as errors
 
 -- `byte_from_digits radix most digits` is the number that `digits` represent in `radix`. It is `None` unless `digits`
--- are 1 to `most` digits of `radix` and the number is at most 255.
+-- are one to `most` digits in `radix` and the number is at most 255.
 abbrev pub byte_from_digits : ℕ → ℕ → List ℕ → Option ℕ
 byte_from_digits radix most digits =
     then_some (is_numeral radix most digits && nat_le (numeral radix digits) 255) (numeral radix digits)
@@ -55,7 +55,7 @@ argument_from_text kinds.Flag text = option_map arguments.Flag (bool_from_text t
 argument_from_text kinds.Byte text = option_map arguments.Byte (byte_from_text text)
 argument_from_text kinds.OptionalByte text = option_map arguments.OptionalByte (optional_byte_from_text text)
 
--- `is_number text` is true if `text` is a number of any length: `0x` and hexadecimal digits, or decimal digits.
+-- `is_number text` is true if `text` is `0x` followed by one or more hexadecimal digits, or one or more decimal digits.
 abbrev pub is_number : List ℕ → Bool
 is_number text =
     if bytes_eq (take 2 text) (codes "0x") then is_numeral 16 (length (drop 2 text)) (drop 2 text)

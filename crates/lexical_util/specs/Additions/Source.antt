@@ -13,7 +13,7 @@ abbrev pub option_text : Option ℕ → List ℕ
 option_text None = codes "None"
 option_text (Some byte) = codes "NonZeroU8::new(" ++ decimal byte ++ codes ")"
 
--- `call name value` is the Rust text of a call of the setter `name` with the argument `value`, both of them texts.
+-- `call name value` is the Rust text that calls the setter `name` with the argument `value`. Both are texts.
 abbrev pub call : List ℕ → List ℕ → List ℕ
 call name value = codes "." ++ name ++ codes "(" ++ value ++ codes ")"
 

@@ -39,8 +39,8 @@ byte_tests = (λ byte. byte == 48) ∷ (λ byte. byte == 120) ∷ replicate 32 (
 abbrev pub first_misfit : List ℕ → ℕ
 first_misfit text = common_prefix_len (λ test byte. test byte) byte_tests text
 
--- `misfit_error index byte` is the error of a text whose first misfit is `byte` at `index`: `Overflow` if it is one
--- digit too many, `InvalidDigit` for any other byte, and `Empty` if the text ends there.
+-- `misfit_error index byte` is the error of a text whose first misfit is `byte` at `index`. It is `Overflow` if `byte`
+-- is a 33rd digit, `InvalidDigit` if it is any other byte, and `Empty` if the text ends at `index`.
 abbrev pub misfit_error : ℕ → Option ℕ → Error
 misfit_error index None = errors.Empty index
 misfit_error index (Some byte) =
@@ -69,6 +69,6 @@ unfoldable pub last_digits : ℕ → ℕ → List ℕ
 last_digits zero number = []
 last_digits (suc count) number = digit_at number count ∷ last_digits count number
 
--- `printed word` is the text of `word` with which it is printed: `0x` and 32 hexadecimal digits.
+-- `printed word` is the text of `word` in printed form: `0x` followed by 32 hexadecimal digits.
 abbrev pub printed : ℕ → List ℕ
 printed word = codes "0x" ++ last_digits 32 word

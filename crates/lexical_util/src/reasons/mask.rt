@@ -11,7 +11,7 @@ use lexical_flags::format_flags as flags;
 use lexical_flags::format_flags::Rule;
 
 impl Reason {
-    /// Returns the first rule that the reason breaks.
+    /// Returns the first rule that is broken for this reason.
     pub const fn rule(&self) -> Rule
         ensures { result ≡ rule_of_reason self.now }
     {
@@ -28,7 +28,7 @@ impl Reason {
         }
     }
 
-    /// Returns the rules that the reason breaks, in the order of the rules. A slot without a rule is `None`.
+    /// Returns the rules that are broken for this reason, in the order of the rules. A slot without a rule is `None`.
     pub const fn rules(&self) -> [Option<Rule>; 3]
         ensures { result ≡ rules_of_reason self.now }
     {
@@ -49,8 +49,9 @@ impl Reason {
         }
     }
 
-    /// Returns whether the reason breaks `rule`. A mantissa radix that is out of range also breaks the rule for the
-    /// exponent base or the exponent radix if that byte is absent. Every other reason breaks only one rule.
+    /// Returns whether `rule` is broken for this reason. If the mantissa radix is out of range and the exponent base or
+    /// the exponent radix is absent, the rule for the absent byte is broken too. For every other reason, only one rule
+    /// is broken.
     pub const fn breaks(&self, rule: Rule) -> bool
         ensures { IsTrue result ↔ Breaks self.now rule }
     {
@@ -71,12 +72,12 @@ impl Reason {
         }
     }
 
-    /// Returns the mask of the bits that the reason blames. The reason applies to every word that agrees with this one
-    /// in these bits.
+    /// Returns the mask of the bits that the reason blames. The reason applies to every format word that has the same
+    /// values in these bits.
     ///
     /// The mask has the bits of every byte and every flag in the variant. For [`Reason::NeedsPosition`], it has the
-    /// bits of all flags that allow digit separators in that part of the number. If the word was built from a list of
-    /// settings, a setting is to blame if its [`Edit::mask`] shares a bit with this mask, and if this bit is not
+    /// bits of all flags that allow digit separators in the same part of the number. If the word was built from a list
+    /// of settings, a setting is to blame if its [`Edit::mask`] shares a bit with this mask, and if this bit is not
     /// overridden by a later setting.
     pub const fn mask(&self) -> u128
         ensures { result ≡ mask_of_reason self.now }
