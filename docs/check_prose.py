@@ -68,7 +68,6 @@ KEPT = [
     ("crates/lexical_util/specs/Additions/SettingNumbers.antt", "is no X", "-- `setter_number_of_name name` is", "there is no .."),
     ("crates/lexical_util/specs/Additions/SettingText.antt", "is no X", "-- the error if there is no such setter", "there is no .."),
     ("crates/numfmt/specs/Explanation.antt", "is no X", "if there are no edits", "there are no .."),
-    ("crates/numfmt/src/explanation.rt", "a comment from its middle", "/// and the edits that mend", "a line within a sentence"),
     ("docs/C-AND-PYTHON.md", "two semicolons", "for (int i = 1; i < argc; i++)", "code"),
     ("docs/DECISIONS.md", "alone", "cargo alone can build it", "cargo alone"),
     ("explorer/number.js", "is no X", "if there is no such radix", "there is no .."),

@@ -1,4 +1,4 @@
-//! A test that a text has only digits: the smallest complete caller.
+//! The smallest complete caller: a function that tests whether a text has only digits.
 
 ghost use Rattle.std.specs.Prelude.{◌↔◌, IsTrue};
 ghost use Rattle.std.specs.List.{AllPass};
@@ -7,8 +7,8 @@ ghost use Rattle.lexical_util.specs.Roles.{digits};
 
 use lexical_util::format::is_digit;
 
-/// Returns whether each byte of `text` is a digit of `format`, in its mantissa or in its exponent. Any word may be
-/// passed. For an empty text, the result is `true`.
+/// Returns whether every byte of `text` is a digit of the mantissa or of the exponent of `format`, which may be any
+/// word. If `text` is empty, the result is `true`.
 pub fn has_digits_alone(format: u128, text: &[u8]) -> bool
     ensures { IsTrue result ↔ AllPass (digits (raw format)) text.now }
 {

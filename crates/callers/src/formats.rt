@@ -1,7 +1,8 @@
-//! Formats of your own: constants that are proved lawful when they are compiled.
+//! Formats of your own: constants that are proved to be lawful.
 //!
-//! Each format has a constant and a law, a function that does nothing. If you call the law, you may pass the constant
-//! where a lawful format is required. Nothing is tested at run time.
+//! Each format has a constant and a law. The law is a function that does nothing, but whose contract states that the
+//! format is lawful. After a call to the law, you can pass the constant where a lawful format is required. Nothing is
+//! tested at run time.
 
 ghost use Rattle.std.specs.Prelude.{◌≡◌, ◌≢◌, ◌↔◌, [], ◌∷◌, IfErr, IsTrue, bit_and, true, false};
 ghost use Rattle.std.specs.Result.{OkIff};
@@ -19,30 +20,30 @@ use lexical_util::error::Error;
 use lexical_util::format_flags::DIGIT_SEPARATOR_FLAG_MASK;
 use lexical_util::laws::flags;
 
-/// Decimal numbers with `_` between digits, such as `1_000.000_1e1_0`.
+/// The format of decimal numbers with `_` between digits, such as `1_000.000_1e1_0`.
 pub const DECIMAL: u128 = 0x0A0A0A00_0000005F_00000007_0000000C;
 
-/// Integers as in Rust's source, without a sign: `_` between digits and after them, also several in a row, such as
-/// `1_000` and `1__0_`.
+/// The format of integers without a sign, as in Rust source code, such as `1_000` and `1__0_`. One or more `_` are
+/// allowed between digits and after them.
 pub const RUST_INTEGER: u128 = 0x0A0A0A00_0000005F_00000241_00000459;
 
-/// Hexadecimal floats, such as `0x1.8p-3`: the prefix `x`, digits of radix 16, and a required exponent, which has
-/// decimal digits and the base 2.
+/// The format of hexadecimal floats, such as `0x1.8p-3`. They have the base prefix `x` and digits of radix 16. An
+/// exponent is required. Its digits are decimal, and its base is 2.
 pub const HEXADECIMAL_FLOAT: u128 = 0x0A021000_78000000_00000000_0000400C;
 
-/// Octal numbers with the suffix `o` or `O`, such as `17o`.
+/// The format of octal numbers with the suffix `o` or `O`, such as `17o`.
 pub const OCTAL: u128 = 0x0808086F_00000000_00000000_0000000C;
 
-/// The decimal point of all these formats.
+/// The decimal point of all formats in this module.
 pub const POINT: u8 = b'.';
 
 /// The exponent character of decimal and octal numbers.
 pub const EXPONENT: u8 = b'e';
 
-/// The exponent character of hexadecimal floats, where `e` is a digit.
+/// The exponent character of hexadecimal floats. It is not `e`, since `e` is a hexadecimal digit.
 pub const HEXADECIMAL_EXPONENT: u8 = b'p';
 
-/// Returns whether a digit separator flag of `word` is set. A law states which flags the mask contains.
+/// Returns whether any digit separator flag of `word` is set. The law `layout_facts` states which flags the mask has.
 pub fn has_separator_flag(word: u128) -> bool
     ensures { IsTrue result ↔ (bit_and word (mask_of layout.digit_separator_flags) ≢ 0) }
 {
@@ -50,7 +51,7 @@ pub fn has_separator_flag(word: u128) -> bool
     word & DIGIT_SEPARATOR_FLAG_MASK != 0
 }
 
-/// States the properties of [`DECIMAL`].
+/// States how [`DECIMAL`] is built, which fields it has, that it is lawful, and which options fit it.
 #[tactic(auto, unfolding(lexical_util::specs::Unfoldable::on_literals))]
 pub fn decimal_facts()
     // The constant is the format of decimal numbers after two setter calls.
@@ -64,7 +65,7 @@ pub fn decimal_facts()
     ensures options { OptionsFit DECIMAL EXPONENT POINT }
 {}
 
-/// States the properties of [`RUST_INTEGER`].
+/// States how [`RUST_INTEGER`] is built, which fields it has, that it is lawful, and which options fit it.
 #[tactic(auto, unfolding(lexical_util::specs::Unfoldable::on_literals))]
 pub fn rust_integer_facts()
     ensures word { edited 0x0A0A0A00_00000000_00000000_0000000C
@@ -81,7 +82,7 @@ pub fn rust_integer_facts()
     ensures options { OptionsFit RUST_INTEGER EXPONENT POINT }
 {}
 
-/// States the properties of [`HEXADECIMAL_FLOAT`].
+/// States how [`HEXADECIMAL_FLOAT`] is built, which fields it has, that it is lawful, and which options fit it.
 #[tactic(auto, unfolding(lexical_util::specs::Unfoldable::on_literals))]
 pub fn hexadecimal_float_facts()
     ensures word { edited 0x10101000_00000000_00000000_0000000C
@@ -97,7 +98,7 @@ pub fn hexadecimal_float_facts()
     ensures options { OptionsFit HEXADECIMAL_FLOAT HEXADECIMAL_EXPONENT POINT }
 {}
 
-/// States the properties of [`OCTAL`].
+/// States how [`OCTAL`] is built, which fields it has, that it is lawful, and which options fit it.
 #[tactic(auto, unfolding(lexical_util::specs::Unfoldable::on_literals))]
 pub fn octal_facts()
     ensures word { edited 0x08080800_00000000_00000000_0000000C (write_byte layout.base_suffix 0x6F ∷ []) ≡ OCTAL }
@@ -109,8 +110,11 @@ pub fn octal_facts()
     ensures options { OptionsFit OCTAL EXPONENT POINT }
 {}
 
-/// Reads a decimal number of 64 bits with `_` between digits, such as `1_000`. The errors are the errors of
-/// [`read_digits`].
+/// Reads `text` as a decimal number of 64 bits, which may have `_` between digits, such as `1_000`.
+///
+/// # Errors
+///
+/// Returns an error if [`read_digits`] returns one.
 pub fn read_decimal(text: &[u8]) -> Result<u64, Error>
     ensures number { OkIff result (IsNumeral (raw DECIMAL) text.now) (number_read (raw DECIMAL) text.now) }
     ensures refusal { IfErr result (IsRefusal (raw DECIMAL) text.now) }

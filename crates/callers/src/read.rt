@@ -1,4 +1,4 @@
-//! A reader of whole numbers: it reads the digits of any lawful format into a `u64`.
+//! Functions that read a whole number in any lawful format into a `u64`.
 
 ghost use Rattle.std.specs.Prelude.{◌≡◌, ◌+◌, ◌*◌, ◌<◌, ◌^◌, ◌⊎◌, Err, IfErr, IsTrue, length};
 ghost use Rattle.std.specs.Option.{SomeIff};
@@ -17,17 +17,20 @@ use lexical_util::format::{NumberFormat, check, mantissa_radix};
 
 /// Reads `text` as a whole number in the mantissa radix of `format`, which may be any lawful format.
 ///
-/// A digit separator between two digits is skipped if the flag `integer_internal_digit_separator` is set, and several
-/// in a row are skipped if `integer_consecutive_digit_separator` is set too.
+/// A digit separator between two digits is skipped if the flag `integer_internal_digit_separator` is set. Several in a
+/// row are skipped if the flag `integer_consecutive_digit_separator` is set too.
 ///
-/// The error is `InvalidDigit` with the index of the first byte that is neither a digit nor such a separator,
-/// `Overflow` with the index of the first digit at which the number exceeds 64 bits, or `Empty(0)` if `text` is empty.
+/// # Errors
+///
+/// If `text` is empty, returns `Empty(0)`. Otherwise, returns `InvalidDigit` with the index of the first byte that is
+/// neither a digit nor a skipped separator, or `Overflow` with the index of the first digit with which the number
+/// exceeds 64 bits, whichever byte comes first.
 pub fn read_digits(format: u128, text: &[u8]) -> Result<u64, Error>
     requires { Lawful format }
     ensures number { OkIff result (IsNumeral (raw format) text.now) (number_read (raw format) text.now) }
     ensures refusal { IfErr result (IsRefusal (raw format) text.now) }
 
-    // Only one error describes a text that is refused.
+    // Only one error describes why a text is refused.
     ensures unique { (error : Error) → IsRefusal (raw format) text.now error → result ≡ Err error }
 {
     let mut number: u64 = 0;
@@ -48,8 +51,12 @@ pub fn read_digits(format: u128, text: &[u8]) -> Result<u64, Error>
     }
 }
 
-/// Reads `text` as a whole number, as [`read_digits`] does, for any word `format`. If `format` breaks a rule, the error
-/// is the error of the first broken rule.
+/// Reads `text` as a whole number, as [`read_digits`] does, but accepts any word `format`.
+///
+/// # Errors
+///
+/// If `format` breaks a rule, returns the error of the first rule that it breaks. Otherwise, returns an error if
+/// [`read_digits`] returns one.
 pub fn read_checked(format: u128, text: &[u8]) -> Result<u64, Error>
     ensures number { OkIff result (Lawful format × IsNumeral (raw format) text.now)
         (number_read (raw format) text.now) }
@@ -60,8 +67,8 @@ pub fn read_checked(format: u128, text: &[u8]) -> Result<u64, Error>
     read_digits(format, text)
 }
 
-/// Returns the value of `byte` as a digit of the mantissa, 0 to 35 in a lawful format, or `None` if `byte` is not such
-/// a digit.
+/// Returns the value of `byte` as a digit of the mantissa, or `None` if `byte` is not such a digit. In a lawful format,
+/// the value is at most 35.
 pub fn digit_value(format: u128, byte: u8) -> Option<u32>
     ensures { SomeIff result (IsTrue (is_mantissa_digit (raw format) byte)) (byte_value byte) }
 {

@@ -33,8 +33,10 @@ pub enum Role {
     Point,
 }
 
-/// Returns the role of `byte` in a lawful format, with an exponent character and a decimal point that the format
-/// accepts, or `None` if `byte` has no role. No byte has two roles.
+/// Returns the role of `byte` in the numbers of `format`, or `None` if `byte` has no role.
+///
+/// The format must be lawful, and must accept `exponent` as the exponent character and `decimal_point` as the decimal
+/// point. So no byte has two roles.
 pub fn role_of(format: u128, exponent: u8, decimal_point: u8, byte: u8) -> Option<Role>
     requires lawful { Lawful format }
     requires accepted { OptionsFit format exponent decimal_point }
@@ -60,8 +62,12 @@ pub fn role_of(format: u128, exponent: u8, decimal_point: u8, byte: u8) -> Optio
     }
 }
 
-/// Returns the role of `byte`, as [`role_of`] does, for any word and any two bytes. The error is the error of the first
-/// rule that `format` breaks, or `InvalidPunctuation` if `format` does not accept the two bytes.
+/// Returns the role of `byte`, as [`role_of`] does, but accepts any arguments.
+///
+/// # Errors
+///
+/// If `format` breaks a rule, returns the error of the first rule that it breaks. Otherwise, returns
+/// `InvalidPunctuation` if `format` does not accept `exponent` and `decimal_point`.
 pub fn checked_role_of(
     format: u128,
     exponent: u8,
@@ -81,7 +87,7 @@ pub fn checked_role_of(
     }
 }
 
-// If `byte` is in the set of a role, then it has this role, in a lawful format with options that the format accepts.
+// States that `byte` has a role if it is in the set of that role. The format must be lawful and accept the options.
 #[inline(always)]
 fn one_role(format: u128, exponent: u8, decimal_point: u8, byte: u8)
     requires lawful { Lawful format }

@@ -55,7 +55,7 @@ pub const fn char_to_valid_digit_const(c: u8, radix: u32) -> u32
     }
 }
 
-/// Returns the value of the byte `c` as a digit of `radix`, or `None` if its value is not below `radix`.
+/// Returns the value of the byte `c` as a digit of `radix`, or `None` if `c` is not a digit of `radix`.
 ///
 /// The digits `0` to `9` have the values 0 to 9, and the letters of either case have the values 10 to 35. `radix` may
 /// be any number. If it is at least 36, all these characters are digits. If it is above 255, every other byte is also a
@@ -106,7 +106,7 @@ pub const fn digit_to_char_const(digit: u32, radix: u32) -> u8
     }
 }
 
-/// Returns the value of the byte `c` as a digit of `radix`, or `None` if its value is not below `radix`.
+/// Returns the value of the byte `c` as a digit of `radix`, or `None` if `c` is not a digit of `radix`.
 ///
 /// [`char_to_digit_const`] returns the same result. Use `char_to_digit` for a radix that is known only at run time.
 #[inline(always)]

@@ -216,7 +216,7 @@ const RESERVED_MASK: u128 = !(FLAG_MASK | DIGIT_SEPARATOR | !0 << BASE_PREFIX_SH
 // `exponent_base` and `exponent_radix` read their byte and the mantissa radix before they choose one of them, so that
 // the compiler needs no branch.
 
-/// Returns the digit separator of the word `format`, or 0 if it is absent. The result is the same whether or not a flag
+/// Returns the digit separator of the word `format`, or 0 if it is absent. The result does not depend on whether a flag
 /// allows a digit separator.
 #[inline(always)]
 pub const fn digit_separator(format: u128) -> u8
@@ -241,8 +241,8 @@ pub const fn base_suffix(format: u128) -> u8
     ((format & BASE_SUFFIX) >> BASE_SUFFIX_SHIFT) as u8
 }
 
-/// Returns the mantissa radix of the word `format`. It is at most 255. If `format` is [lawful][Rule], it is between
-/// 2 and 36.
+/// Returns the mantissa radix of the word `format`. The result is at most 255. If `format` is [lawful][Rule], the
+/// result is between 2 and 36.
 #[inline(always)]
 pub const fn mantissa_radix(format: u128) -> u32
     ensures value { result ≡ (raw format).byte layout.mantissa_radix }

@@ -1,4 +1,4 @@
-//! The commands: what the program's arguments ask for, and the response to it.
+//! The commands of the program, and the response to each of them.
 
 ghost use Rattle.std.specs.Prelude.{◌≡◌, IfErr, map, string_bytes};
 ghost use Rattle.std.specs.Result.{result_ok};
@@ -17,9 +17,9 @@ use lexical_util::format_flags::is_valid_options_punctuation;
 // The maximum number of edits in one command.
 const MAX_EDITS: usize = 64;
 
-/// Returns the response to `args`, the program's arguments without its name: the answer to the command, or the first
-/// reason to refuse the arguments. The reasons are tested in this order: an unknown command, a wrong number of
-/// arguments, too many edits, then each argument from left to right.
+/// Returns the response to `args`, the program's arguments without its name. The response is the answer to the command,
+/// or the first reason to refuse the arguments. The reasons are tested in this order: an unknown command, a wrong
+/// number of arguments, too many edits, then each argument from left to right.
 pub fn response_to(args: &[String]) -> Result<Answer, Refusal>
     ensures { Responds (request_of (map string_bytes args.now)) result }
 {
@@ -140,7 +140,7 @@ fn explain(args: &[String]) -> Result<Answer, Refusal>
     }
 }
 
-// Parses an argument as a format word, or refuses it.
+// Parses the argument `text` as a format word, or returns [`Refusal::BadWord`].
 fn parse_word(text: &String) -> Result<u128, Refusal>
     ensures word { result_ok result ≡ word_from_text (string_bytes text.now) }
     ensures refusal { IfErr result (λ refusal. refusal ≡ Refusal.BadWord) }
@@ -148,7 +148,7 @@ fn parse_word(text: &String) -> Result<u128, Refusal>
     read_word(text.as_str()).ok_or(Refusal::BadWord)
 }
 
-// Parses an argument as a decimal byte, or refuses it.
+// Parses the argument `text` as a decimal byte, or returns [`Refusal::BadByte`].
 fn parse_byte(text: &String) -> Result<u8, Refusal>
     ensures byte { result_ok result ≡ byte_from_digits 10 3 (string_bytes text.now) }
     ensures refusal { IfErr result (λ refusal. refusal ≡ Refusal.BadByte) }

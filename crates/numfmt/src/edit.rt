@@ -1,4 +1,4 @@
-//! Edits as text: `NAME=VALUE`.
+//! The function that parses edits, which are written as `NAME=VALUE`.
 
 ghost use Rattle.std.specs.Prelude.{◌≡◌, ◌≤◌, length, take, map, string_bytes};
 ghost use Rattle.std.specs.Option.{option_map};

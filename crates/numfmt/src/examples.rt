@@ -1,5 +1,5 @@
-//! A law: arguments have only one response. Examples: for each predicate, one case that holds and one that does not.
-//! No code calls these functions.
+//! A law, which states that arguments have only one response, and examples of each predicate: one case that holds and
+//! one that does not. No code calls these functions.
 
 ghost use Rattle.std.specs.Prelude.{◌≡◌, ℕ, List, Ok};
 ghost use Rattle.numfmt.specs.Command.{Responds, request_of};

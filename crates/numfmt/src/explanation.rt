@@ -12,11 +12,13 @@ use lexical_util::format_flags::Rule;
 use lexical_util::reasons::{Reason, mend, notes, reasons};
 use std::io;
 
-/// Writes each reason why `word` breaks rules: its sentence, the errors of the broken rules, the fields that it blames,
-/// and the edits that mend each of these fields, if there are any. Then writes each note. If the word has neither
-/// reasons nor notes, nothing is written.
+/// Writes each reason why `word` breaks rules, then each note. If the word has neither reasons nor notes, nothing is
+/// written.
 ///
-/// Any word may be passed. After an error, the contract does not state what was written.
+/// A reason is written as its sentence, the errors of the broken rules, the fields that it blames, and any edits that
+/// mend each of these fields.
+///
+/// `word` may be any word. After an error, the contract does not state what was written.
 pub fn write_explanation<W: Output>(word: u128, out: &mut W) -> io::Result<()>
     ensures text { OnOk result (Appends (W.contents out.old) (W.contents out.new) (explanation word)) }
     ensures failed { IsErr result → W.has_failed out.new }

@@ -21,6 +21,7 @@ pub trait Output {
     // Holds if the last call failed.
     ghost has_failed: { Self → Type 0 };
 
+    /// Writes all of `bytes`.
     fn write_all(&mut self, bytes: &[u8]) -> io::Result<()>
         ensures bytes { OnOk result (Appends (contents self.old) (contents self.new) bytes.now) }
         ensures failed { IsErr result → has_failed self.new };
@@ -30,7 +31,7 @@ pub trait Output {
         ensures bytes { OnOk result (IfSome (D.output text) (Appends (contents self.old) (contents self.new))) }
         ensures failed { IsErr result → has_failed self.new };
 
-    /// Passes on all bytes that are held back.
+    /// Passes on all bytes that the writer holds back.
     fn flush(&mut self) -> io::Result<()>
         ensures bytes { Keeps (contents self.old) (contents self.new) }
         ensures flushed { OnOk result (is_flushed self.new) }

@@ -6,8 +6,7 @@ ghost use Rattle.lexical_util.specs.Additions.WordText.{IsWordText, IsPrintedFor
 
 use lexical_util::word_text;
 
-/// Parses `text` as a format word: returns `Some` if it is `0x` and 1 to 32 hexadecimal digits of either case, and
-/// `None` otherwise.
+/// Parses `text` as a format word. Returns `None` unless `text` is `0x` and 1 to 32 hexadecimal digits of either case.
 pub fn read_word(text: &str) -> Option<u128>
     ensures { SomeIff result (IsWordText text.now) (hex text.now) }
 {
@@ -15,7 +14,7 @@ pub fn read_word(text: &str) -> Option<u128>
 }
 
 /// Returns the text of `word` as it is printed: `0x` and 32 hexadecimal digits with uppercase letters. From this text,
-/// `read_word` returns `word`.
+/// [`read_word`] returns `word`.
 pub fn word_text(word: u128) -> [u8; 34]
     ensures text { result ≡ printed word }
     ensures form { IsPrintedForm result }

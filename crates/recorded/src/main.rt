@@ -1,9 +1,9 @@
 //! `recorded` replays results of `lexical-util` against the library.
 //!
-//! The file `results.txt` has one recorded result a line, written by `compare/run --record`. The program reads each
-//! line and makes the same call of the library. If all results are equal, it prints how many there are, and the status
-//! is 0. Otherwise it prints the first line that differs, or that it cannot read, and the status is 1. The status is
-//! also 1 if the file cannot be read or a write fails.
+//! The file `results.txt`, which `compare/run --record` writes, has one recorded result per line. The program reads
+//! each line and makes the same call to the library. If all results are equal, the program prints their number, and the
+//! exit status is 0. Otherwise, it prints the first line that differs or that it cannot read, and the exit status is 1.
+//! The exit status is also 1 if the file cannot be read or a write fails.
 #![tactic(auto)]
 
 mod fact;
@@ -26,7 +26,7 @@ fn replay_file(rt: &HostRuntime) -> io::Result<bool> {
     replay(text.as_str(), rt)
 }
 
-// Replays results line by line, prints the outcome, and returns whether all lines are kept.
+// Replays results line by line, prints the outcome, and returns whether the library returns every recorded result.
 fn replay(results: &str, rt: &HostRuntime) -> io::Result<bool> {
     let (mut lines, mut on_purpose) = (0u64, 0u64);
     for line in results.lines() {

@@ -1,6 +1,6 @@
-//! Reads recorded results, one a line.
+//! The type [`Parts`], which reads recorded results from lines of text.
 //!
-//! A line is a kind and its parts, each after a single space:
+//! A line has one result. It consists of a kind and parts, separated by single spaces:
 //!
 //! | Line | Records |
 //! |---|---|
@@ -23,8 +23,10 @@ use lexical_util::error::Error;
 use std::alloc::{AllocError, Global};
 use std::str::FromStr;
 
-/// The parts of a line that are not read yet, and whether all other parts could be read. A part that is missing or
-/// cannot be read gives some value. At the end, [`Self::are_read`] returns whether this happened.
+/// The parts of a line that have not been read yet, and whether all parts before them could be read.
+///
+/// If a part is missing or malformed, a call that reads it returns an arbitrary value. At the end, [`Self::are_read`]
+/// returns whether every part could be read.
 #[derive(Drop)]
 pub struct Parts<'a> {
     rest: Option<&'a str>,
@@ -44,12 +46,12 @@ impl<'a> Parts<'a> {
         }
     }
 
-    /// Returns whether the line ends here, and all its parts could be read.
+    /// Returns whether no part is left, and every part could be read.
     pub fn are_read(&self) -> bool {
         self.is_read && self.rest.is_none()
     }
 
-    /// Reads the fact that the line records. If the line cannot be read, returns some fact.
+    /// Reads the fact that the line records. If the line cannot be read, returns an arbitrary fact.
     pub fn fact(&mut self, alloc: Global) -> Result<Fact<'a>, AllocError> {
         Ok(match self.next() {
             "byte" => Fact::Byte(self.value(), self.value(), self.value()),
@@ -88,7 +90,7 @@ impl<'a> Parts<'a> {
         }
     }
 
-    // Returns the value in `read`, or `otherwise` if it is `None`, and remembers that a part could not be read.
+    // Returns the value in `read`. If `read` is `None`, records that a part could not be read, and returns `otherwise`.
     fn checked<T: Drop>(&mut self, read: Option<T>, otherwise: T) -> T {
         self.is_read = self.is_read && read.is_some();
         read.unwrap_or(otherwise)
@@ -141,7 +143,7 @@ impl<'a> Parts<'a> {
         self.checked(None, Error::Success)
     }
 
-    // Reads the other parts as edits.
+    // Reads all remaining parts as edits.
     fn edits(&mut self, alloc: Global) -> Result<Vec<Edit>, AllocError> {
         let count = match self.rest {
             Some(calls) => calls.split(' ').count(),

@@ -1,6 +1,6 @@
 // Made by rust/tools/erase.py from crates/numfmt/src/command.rt: change that file.
 
-//! The commands: what the program's arguments ask for, and the response to it.
+//! The commands of the program, and the response to each of them.
 
 use crate::edit::read_edits;
 use crate::response::{Answer, Refusal};
@@ -12,9 +12,9 @@ use peltzivar::word::{format_error, format_is_valid, STANDARD};
 // The maximum number of edits in one command.
 const MAX_EDITS: usize = 64;
 
-/// Returns the response to `args`, the program's arguments without its name: the answer to the command, or the first
-/// reason to refuse the arguments. The reasons are tested in this order: an unknown command, a wrong number of
-/// arguments, too many edits, then each argument from left to right.
+/// Returns the response to `args`, the program's arguments without its name. The response is the answer to the command,
+/// or the first reason to refuse the arguments. The reasons are tested in this order: an unknown command, a wrong
+/// number of arguments, too many edits, then each argument from left to right.
 pub fn response_to(args: &[String]) -> Result<Answer, Refusal> {
     match args {
         [] => Ok(Answer::Fields(STANDARD)),
@@ -122,12 +122,12 @@ fn explain(args: &[String]) -> Result<Answer, Refusal> {
     }
 }
 
-// Parses an argument as a format word, or refuses it.
+// Parses the argument `text` as a format word, or returns [`Refusal::BadWord`].
 fn parse_word(text: &String) -> Result<u128, Refusal> {
     read_word(text.as_str()).ok_or(Refusal::BadWord)
 }
 
-// Parses an argument as a decimal byte, or refuses it.
+// Parses the argument `text` as a decimal byte, or returns [`Refusal::BadByte`].
 fn parse_byte(text: &String) -> Result<u8, Refusal> {
     byte_from_decimal(text.as_str()).ok_or(Refusal::BadByte)
 }

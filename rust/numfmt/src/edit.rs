@@ -1,6 +1,6 @@
 // Made by rust/tools/erase.py from crates/numfmt/src/edit.rt: change that file.
 
-//! Edits as text: `NAME=VALUE`.
+//! The function that parses edits, which are written as `NAME=VALUE`.
 
 use peltzivar::edits::Edit;
 

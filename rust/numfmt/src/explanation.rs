@@ -8,11 +8,13 @@ use peltzivar::format_flags::Rule;
 use peltzivar::reasons::{mend, notes, reasons, Reason};
 use std::io;
 
-/// Writes each reason why `word` breaks rules: its sentence, the errors of the broken rules, the fields that it blames,
-/// and the edits that mend each of these fields, if there are any. Then writes each note. If the word has neither
-/// reasons nor notes, nothing is written.
+/// Writes each reason why `word` breaks rules, then each note. If the word has neither reasons nor notes, nothing is
+/// written.
 ///
-/// Any word may be passed. After an error, the contract does not state what was written.
+/// A reason is written as its sentence, the errors of the broken rules, the fields that it blames, and any edits that
+/// mend each of these fields.
+///
+/// `word` may be any word. After an error, the contract does not state what was written.
 pub fn write_explanation<W: Output>(word: u128, out: &mut W) -> io::Result<()> {
     for reason in &reasons(word) {
         if let Some(reason) = reason {

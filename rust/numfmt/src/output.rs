@@ -11,12 +11,13 @@ use std::io::Write;
 /// Each writer defines `has_failed` and `is_flushed`. So for any `Output`, a proof can derive `has_failed` only from a
 /// failed call, and `is_flushed` only from a flush. After the next call, neither is known.
 pub trait Output {
+    /// Writes all of `bytes`.
     fn write_all(&mut self, bytes: &[u8]) -> io::Result<()>;
 
     /// Writes the text of a value. The macros `write!` and `writeln!` call this function.
     fn write_fmt(&mut self, text: Arguments<'_>) -> io::Result<()>;
 
-    /// Passes on all bytes that are held back.
+    /// Passes on all bytes that the writer holds back.
     fn flush(&mut self) -> io::Result<()>;
 }
 

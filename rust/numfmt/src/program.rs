@@ -1,6 +1,6 @@
 // Made by rust/tools/erase.py from crates/numfmt/src/program.rt: change that file.
 
-//! The program over its arguments and a writer.
+//! The program as a function of its arguments and a writer.
 
 use crate::command::response_to;
 use crate::output::Output;
@@ -9,7 +9,7 @@ use crate::response::{exit_status, print};
 /// Runs the command in `args`, the program's arguments without its name, and returns the exit status: 0 for success or
 /// yes, 1 for no, 2 for refused arguments, and 3 if `out` failed.
 ///
-/// All text is written to `out`, which is flushed at the end. After a write or flush fails, nothing more is written.
+/// All text is written to `out`, which is flushed at the end. After a write or a flush fails, nothing more is written.
 #[must_use]
 pub fn run<W: Output>(args: &[String], out: &mut W) -> u8 {
     let response = response_to(args);

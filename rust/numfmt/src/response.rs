@@ -23,18 +23,18 @@ pub enum Answer {
     Outcome(Error),
     /// The answer to `options`: `true` if the exponent byte and the point byte fit the format word.
     Acceptance(bool),
-    /// The builder expression of a format word, and whether it builds this very word.
+    /// A format word to write as a builder expression, and whether the expression builds this very word.
     Source(u128, bool),
-    /// The reasons why a format word breaks rules and the notes on it, and whether it is lawful.
+    /// A format word to explain, and whether the word is lawful.
     Explanation(u128, bool),
 }
 
-/// The reason why arguments are refused.
+/// A reason to refuse the arguments.
 #[derive(Clone, Copy)]
 pub enum Refusal {
     /// The first argument is not the name of a command.
     UnknownCommand,
-    /// The command takes another number of arguments.
+    /// The command takes a different number of arguments.
     WrongNumberOfArguments,
     /// There are more than 64 edits.
     TooManyEdits,
@@ -46,7 +46,7 @@ pub enum Refusal {
     BadByte,
 }
 
-/// Returns the exit status of a run that printed `response`: 0, 1 if the answer is no, or 2 for a refusal.
+/// Returns the exit status of a run that printed `response`: 1 if the answer is no, 2 for a refusal, and 0 otherwise.
 #[must_use]
 pub fn exit_status(response: Result<Answer, Refusal>) -> u8 {
     match response {

@@ -11,7 +11,7 @@ use crate::format_flags::*;
 /// The variants are in the order in which the rules are checked. The name of each variant states the condition that the
 /// rule imposes. *Punctuation* is a byte that [`is_valid_ascii`][crate::ascii::is_valid_ascii] accepts and that
 /// is neither a sign (`+` or `-`) nor a [digit][is_digit] of the format. An *absent* byte is 0. `Rule` does not
-/// implement `Display`: a `Reason` states in words why a word breaks a rule.
+/// implement `Display`. A [`Reason`][crate::reasons::Reason] explains why a word breaks a rule.
 #[derive(Debug, Clone, Copy, PartialEq, Eq, Hash, PartialOrd, Ord)]
 #[non_exhaustive]
 pub enum Rule {
@@ -27,7 +27,7 @@ pub enum Rule {
     BasePrefixIsPunctuation,
     /// The base suffix is absent or punctuation.
     BaseSuffixIsPunctuation,
-    /// The digit separator, the base prefix and the base suffix share no byte, as [`is_valid_punctuation`] tests.
+    /// The digit separator, the base prefix and the base suffix share no byte (see [`is_valid_punctuation`]).
     PunctuationDiffers,
     /// Exponents are not both forbidden and required.
     ExponentFlagsAgree,
@@ -35,9 +35,9 @@ pub enum Rule {
     MantissaSignFlagsAgree,
     /// A sign in the exponent is not required if `+` is forbidden there.
     ExponentSignFlagsAgree,
-    /// Special values are not both forbidden and case-sensitive.
+    /// Special values (NaN and infinity) are not both forbidden and case-sensitive.
     SpecialCaseFlagsAgree,
-    /// Digit separators are allowed in special values only if special values are allowed.
+    /// Digit separators are allowed in special values (NaN and infinity) only if special values are allowed.
     SpecialSeparatorFlagsAgree,
     /// Consecutive digit separators are allowed in the integer only if a digit separator is allowed between, before
     /// or after its digits.
@@ -48,7 +48,7 @@ pub enum Rule {
     /// Consecutive digit separators are allowed in the exponent only if a digit separator is allowed between, before
     /// or after its digits.
     ExponentConsecutiveIsAllowed,
-    /// All reserved bits are 0.
+    /// All reserved bits, which belong to no field, are 0.
     ReservedBitsAreZero,
 }
 
@@ -77,7 +77,7 @@ pub const RULES: [Rule; 16] = [
 const DIGIT_RADIXES: u128 = MANTISSA_RADIX | EXPONENT_RADIX;
 
 impl Rule {
-    /// Returns the error of each word for which this is the first rule that the word breaks.
+    /// Returns the error of a word whose first broken rule is this one.
     #[must_use]
     pub const fn error(self) -> Error {
         match self {
@@ -134,7 +134,7 @@ impl Rule {
     }
 
     /// Returns the mask of the bits that this rule reads. For [`Rule::ReservedBitsAreZero`], these are the reserved
-    /// bits. For every other rule, they are the bits of the fields that the rule restricts. Two words that agree in
+    /// bits. For every other rule, they are the bits of the fields on which the rule depends. Two words that agree in
     /// these bits both keep the rule or both break it.
     #[must_use]
     pub const fn mask(self) -> u128 {

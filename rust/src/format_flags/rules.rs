@@ -37,7 +37,7 @@ const fn larger(a: u32, b: u32) -> u32 {
     }
 }
 
-/// Returns whether `byte` is a digit of the word `format`, that is, of its mantissa radix or of its exponent radix.
+/// Returns whether `byte` is a digit of the mantissa radix or of the exponent radix of the word `format`.
 ///
 /// Letters of either case are digits: in radix 16, both `f` and `F` are. If the exponent radix is 0, only the mantissa
 /// radix determines the result. The exponent base never does. `format` may be any word.
@@ -223,11 +223,11 @@ const fn is_disjoint_from_format_roles(format: u128, byte: u8, case_sensitive: b
 /// numbers of this format.
 ///
 /// Each must be a byte that [`is_valid_ascii`][crate::ascii::is_valid_ascii] accepts and that is neither a sign
-/// (`+` or `-`) nor a [digit][is_digit] of the format. So neither may be 0. They may share a byte neither with each
-/// other nor with the digit separator, the base prefix or the base suffix. If the exponent character is a letter, it
-/// matches both cases of that letter unless [`CASE_SENSITIVE_EXPONENT`] is set. The base prefix and the base suffix are
-/// compared as in [`is_valid_punctuation`]. The decimal point is always case-sensitive. Every [lawful][Rule] format
-/// accepts at least one such pair, and then no byte plays two roles. `lexical-util` compares the raw bytes.
+/// (`+` or `-`) nor a [digit][is_digit] of the format. So neither may be 0. Neither may share a byte with the other,
+/// the digit separator, the base prefix or the base suffix. If the exponent character is a letter, it matches both
+/// cases of that letter unless [`CASE_SENSITIVE_EXPONENT`] is set. The base prefix and the base suffix are compared as
+/// in [`is_valid_punctuation`]. The decimal point is always case-sensitive. Every [lawful][Rule] format accepts at
+/// least one pair. With each pair that it accepts, no byte plays two roles. `lexical-util` compares the raw bytes.
 ///
 /// ```
 /// use peltzivar::format::{is_valid_options_punctuation, STANDARD};
@@ -264,8 +264,8 @@ pub const fn is_valid_options_punctuation(format: u128, exponent: u8, decimal_po
         && is_disjoint_from_format_roles(format, exponent, exponent_case)
 }
 
-/// Returns the reason why [`is_valid_options_punctuation`] rejects an exponent character and a decimal point, or
-/// `Success` if it accepts them.
+/// Returns the error that explains why [`is_valid_options_punctuation`] rejects an exponent character and a decimal
+/// point, or `Success` if it accepts them.
 ///
 /// 1. If the exponent character is a digit, a sign, or not allowed ASCII, the result is `InvalidExponentSymbol`.
 /// 2. Otherwise, if the decimal point is a digit, a sign, or not allowed ASCII, the result is `InvalidDecimalPoint`.

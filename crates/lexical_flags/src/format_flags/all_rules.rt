@@ -15,7 +15,7 @@ use lexical_base::error::Error;
 /// The variants are in the order in which the rules are checked. The name of each variant states the condition that the
 /// rule imposes. *Punctuation* is a byte that [`is_valid_ascii`][lexical_base::ascii::is_valid_ascii] accepts and that
 /// is neither a sign (`+` or `-`) nor a [digit][is_digit] of the format. An *absent* byte is 0. `Rule` does not
-/// implement `Display`: a `Reason` states in words why a word breaks a rule.
+/// implement `Display`. A [`Reason`][lexical_util::reasons::Reason] explains why a word breaks a rule.
 #[derive(Debug, Clone, Copy, PartialEq, Eq, Hash)]
 pub enum Rule {
     /// The mantissa radix is between 2 and 36.
@@ -30,7 +30,7 @@ pub enum Rule {
     BasePrefixIsPunctuation,
     /// The base suffix is absent or punctuation.
     BaseSuffixIsPunctuation,
-    /// The digit separator, the base prefix and the base suffix share no byte, as [`is_valid_punctuation`] tests.
+    /// The digit separator, the base prefix and the base suffix share no byte (see [`is_valid_punctuation`]).
     PunctuationDiffers,
     /// Exponents are not both forbidden and required.
     ExponentFlagsAgree,
@@ -38,9 +38,9 @@ pub enum Rule {
     MantissaSignFlagsAgree,
     /// A sign in the exponent is not required if `+` is forbidden there.
     ExponentSignFlagsAgree,
-    /// Special values are not both forbidden and case-sensitive.
+    /// Special values (NaN and infinity) are not both forbidden and case-sensitive.
     SpecialCaseFlagsAgree,
-    /// Digit separators are allowed in special values only if special values are allowed.
+    /// Digit separators are allowed in special values (NaN and infinity) only if special values are allowed.
     SpecialSeparatorFlagsAgree,
     /// Consecutive digit separators are allowed in the integer only if a digit separator is allowed between, before
     /// or after its digits.
@@ -51,7 +51,7 @@ pub enum Rule {
     /// Consecutive digit separators are allowed in the exponent only if a digit separator is allowed between, before
     /// or after its digits.
     ExponentConsecutiveIsAllowed,
-    /// All reserved bits are 0.
+    /// All reserved bits, which belong to no field, are 0.
     ReservedBitsAreZero,
 }
 
@@ -79,7 +79,7 @@ pub const RULES: [Rule; 16] = [
 const DIGIT_RADIXES: u128 = MANTISSA_RADIX | EXPONENT_RADIX;
 
 impl Rule {
-    /// Returns the error of each word for which this is the first rule that the word breaks.
+    /// Returns the error of a word whose first broken rule is this one.
     pub const fn error(self) -> Error
         ensures { result ≡ error_of self }
     {
@@ -138,7 +138,7 @@ impl Rule {
     }
 
     /// Returns the mask of the bits that this rule reads. For [`Rule::ReservedBitsAreZero`], these are the reserved
-    /// bits. For every other rule, they are the bits of the fields that the rule restricts. Two words that agree in
+    /// bits. For every other rule, they are the bits of the fields on which the rule depends. Two words that agree in
     /// these bits both keep the rule or both break it.
     pub const fn mask(self) -> u128
         ensures { result ≡ mask_read self }

@@ -21,7 +21,7 @@ pub fn mask_examples()
     ensures first_and_third { ArePairwise ShareNoBit (1 ∷ 2 ∷ 5 ∷ []) → ⊥ }
 {}
 
-/// States examples of a separator that flag 44 allows, and of one that no flag allows.
+/// States an example of a separator that flag 44 allows, and an example of one that no flag allows.
 pub fn built_examples()
     ensures allowed { SeparatorAllowedOrAbsent (raw 0x00000A00_0000005F_00001000_0000000C) }
     ensures not_allowed { SeparatorAllowedOrAbsent (raw 0x00000A00_0000005F_00000000_0000000C) → ⊥ }
