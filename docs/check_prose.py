@@ -48,8 +48,6 @@ PROSE = [("crates", "*.rt"), ("crates", "*.antt"), ("rust", "*.rs"), ("c", "*.[c
          ("docs", "*.py"), ("c", "*.py"), ("compare", "*.py"), ("crates", "*.py"), ("rust", "*.py")]  # fmt: skip
 # The lines that stay: the file, the construction, a piece of the line, and the reason.
 KEPT = [
-    ("CHANGELOG.md", "two semicolons", "a null pointer with length 0 is allowed;", "an old entry"),
-    ("CHANGELOG.md", "two semicolons", "- 0.3.0: ", "an old entry"),
     ("README.md", "a comment from its middle", "Rust with *contracts* that state", "emphasis"),
     ("README.md", "the Rust crate", "the Rust crate `lexical-util` 1.0.7", "names the crate"),
     ("README.md", "alone", "With cargo alone", "cargo alone"),
