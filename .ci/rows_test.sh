@@ -118,7 +118,7 @@ END
     chmod +x "$1"
 }
 
-tests=(explorer/build docs/check_test.py .ci/rows_test.sh {rust/tools,c,explorer}/test.sh)
+tests=(explorer/build docs/check_test.py .ci/rows_test.sh {rust/tools,c,compare,explorer}/test.sh)
 tests+=(crates/{numfmt,recorded}/built-program-test.sh)
 for test in "${tests[@]}" ../*/test.sh; do stub "$work/repository/${test#../}" "${test#../}"; done
 stub "$work/bin/python3" docs/check.py
@@ -175,6 +175,7 @@ cargo clippy --quiet --workspace --all-targets -- -D warnings
 cargo test
 cargo test --quiet --lib --bins --tests --examples -- --list
 cargo test --quiet --lib --bins --tests --examples -- --list --ignored
+python3 tools/rounds_test.py
 cargo run --quiet --example face_program
 RUSTC cargo test --quiet --workspace --lib --bins --tests --examples
 -Dwarnings cargo doc --quiet --no-deps --workspace
@@ -198,7 +199,7 @@ for STATUS in 1 0; do
         [ "$(uniq "$work/log")" = "$(cat "$work/commands")" ] && [ "$(grep -cx 'cargo run --quiet' "$work/log")" = 3 ]
     else
         [ "$(cat "$work/log")" = "$(cat "$work/commands")" ] &&
-            [ "$(tail -n 2 <<< "$got")" = $'2 passed, 25 failed, 0 skipped\nstatus 1' ]
+            [ "$(tail -n 2 <<< "$got")" = $'2 passed, 26 failed, 0 skipped\nstatus 1' ]
     fi && continue
     failed=$((failed + 1))
     printf 'rust/tools/test.sh, over tools that end with %s:\n%s\n' $STATUS "$got"

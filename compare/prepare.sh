@@ -83,18 +83,24 @@ build_member() {
     (cd "$work/rust" && CARGO_TARGET_DIR=$work/target-rust cargo build --release --offline --quiet -p "$1")
 }
 
-# Builds the driver of folder $1 for processor $2. The driver of bench/ takes some modules of compare/, and links the
-# static libraries that were built for processor $3.
-#
-# No jump crosses a border of 32 bytes: otherwise rows of bench/ move with the addresses of their code.
-build_driver() {
-    local folder flags="-C target-cpu=$2 -C llvm-args=-x86-branches-within-32B-boundaries"
+# Copies both drivers. The driver of bench/ takes some modules of compare/.
+prepare_drivers() {
+    local folder
     for folder in compare bench; do
         rm -rf "${work:?}/$folder"
         mkdir -p "$work/$folder"
         cp -r "$repository/$folder/rust" "$work/$folder/"
         mv "$work/$folder/rust/Cargo.toml.in" "$work/$folder/rust/Cargo.toml"
     done
+}
+
+# Builds the driver of folder $1 for processor $2. The driver of bench/ links the static libraries that were built for
+# processor $3.
+#
+# No jump crosses a border of 32 bytes: otherwise rows of bench/ move with the addresses of their code.
+build_driver() {
+    local flags="-C target-cpu=$2 -C llvm-args=-x86-branches-within-32B-boundaries"
+    prepare_drivers
     (cd "$work/$1/rust" && BENCH_LIB=$work/lib-${3:-} RUSTFLAGS=$flags \
         CARGO_TARGET_DIR="$work/target-$1-$2" cargo build --release --offline --quiet)
     # shellcheck disable=SC2034 # the scripts that source this file run it

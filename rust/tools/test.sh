@@ -38,6 +38,8 @@ attributes=$(find . -name target -prune -o -name '*.rs' -exec cat {} + | grep -c
 listed='cargo test --quiet --lib --bins --tests --examples -- --list'
 listed="echo \$($listed | grep -c ': test\$') tests, \$($listed --ignored | grep -c ': test\$') ignored"
 prints 0 "$attributes tests, 0 ignored" bash -c "$listed"
+# Each loop of the tests has a round, and as many as before.
+needing python3 counts 51747 tools/rounds_test.py
 # The program of docs/RUST.md: its assertions hold when it runs.
 passes cargo run --quiet --example face_program
 # The least version of Rust, if a folder of the PATH has it, as one has with Debian's `rustc-web` and `cargo-web`.
@@ -68,4 +70,4 @@ head -c 1020 /dev/zero > "$work/short"
 short="trap '' XFSZ; ulimit -f 1; '$CARGO_TARGET_DIR/debug/numfmt' show 0xC >> '$work/short'; echo \$?"
 prints 0 3 bash -c "$short"
 needing cc needing python3 passes ../crates/numfmt/built-program-test.sh "$CARGO_TARGET_DIR/debug/numfmt"
-counted 27
+counted 28

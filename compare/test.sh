@@ -1,0 +1,154 @@
+#!/usr/bin/env bash
+# Tests compare/ and bench/ without the sources of lexical-util, and without the kit:
+#
+# - over a copy of the plain Rust that has the rules of lexical-util, the driver of compare/ has the counts of README.md,
+#   and the driver of bench/ compiles. A difference is reported;
+# - names.py reads the names of lexical-util in the plain Rust;
+# - `bench/run --against` and `bench/sizes.sh` work with a cargo that builds nothing.
+#
+# The last line is `N passed, M failed, K skipped`. The exit status is 1 if a row failed, or if there are fewer rows than
+# before.
+set -u
+cd "$(dirname "$0")" || exit
+# shellcheck source=../.ci/rows.sh
+. ../.ci/rows.sh
+top=$(mktemp -d)
+trap 'rm -rf "$top"' EXIT
+export CARGO_NET_OFFLINE=true CARGO_TARGET_DIR=${CARGO_TARGET_DIR:-$top/target} CARGO_PROFILE_DEV_DEBUG=0
+rust=$(realpath ../rust)
+export WORK=$top/work UPSTREAM=$rust BENCH_LIB=$top
+
+# like: the plain Rust as lexical-util: a strict build panics, bytes are compared as they are, reserved bits are allowed.
+like() {
+    local file src=$WORK/upstream/src
+    (cd "$rust" && find src -type d -exec mkdir -p "$WORK/upstream/{}" ';')
+    while IFS= read -r file; do
+        [ -e "$WORK/upstream/$file" ] || cp "$rust/$file" "$WORK/upstream/$file"
+    done < <(cd "$rust" && find src -name '*.rs')
+    while IFS= read -r file; do
+        grep -q "$file" "$src/lib.rs" || echo "$file" >> "$src/lib.rs"
+    done < <(grep -E '^(pub )?mod ' "$rust/src/lib.rs")
+    find "$src" -name '*.rs' -exec sed -i 's/\bbuild_strict\b/build_result/' {} +
+    echo 'impl NumberFormatBuilder { pub const fn build_strict(&self) -> u128 { self.build_or_panic() } }' \
+        >> "$src/format.rs"
+    echo 'pub use crate::format_flags::{format_error_impl, radix_error_impl};' >> "$src/feature_format.rs"
+    sed -i '/fn \(prefix\|suffix\|exponent\)_is_case_sensitive/,/^}/s/^    .*/    let _ = format; true/
+        /fn is_clean/,/^}/s/^    .*/    let _ = format; true/' "$src/format_flags/rules.rs"
+}
+
+# copies FOLDER: copies the sources of lexical-util from a folder.
+copies() {
+    UPSTREAM=$1 bash -c '. ./prepare.sh; prepare_work; prepare_upstream'
+}
+
+# drivers: copies the libraries and the drivers, and compiles the drivers.
+drivers() (
+    set -e
+    . ./prepare.sh
+    prepare_work
+    prepare_upstream
+    prepare_rust
+    prepare_drivers
+    like
+    cargo build --quiet --manifest-path "$WORK/compare/rust/Cargo.toml"
+    cargo check --quiet --manifest-path "$WORK/bench/rust/Cargo.toml"
+)
+
+# section NAME: the driver prints the row that README.md has.
+section() {
+    local wanted got
+    wanted=$(sed -nE "s/^\| $1 \| ([0-9,| ]+) \|$/\1/p" README.md | tr -d ',|')
+    got=$("$CARGO_TARGET_DIR/debug/driver" --only "$1" | sed -n "s/^$1 //p")
+    compares "$(xargs <<< "$wanted")" "$(xargs <<< "$got")" "$1"
+}
+
+# driver: the sections that take a second in all.
+driver() {
+    passes drivers || return
+    section "bytes and digits"
+    section "outcomes"
+    section "constants and standard formats"
+    section "words known when compiled"
+    section "single bits and pairs of bits"
+    section "masked radixes"
+    section "options"
+    # Another crate, which writes two digits the other way in each of 307 radixes: this is reported.
+    sed -i 's/WXYZ/WXZY/' "$WORK/upstream/src/digit.rs"
+    passes cargo build --quiet --manifest-path "$WORK/compare/rust/Cargo.toml"
+    prints 1 "compared 415883, different on purpose 0, unexplained 614" \
+        bash -o pipefail -c "'$CARGO_TARGET_DIR/debug/driver' --only 'and digits' | tail -n 1"
+}
+
+# reads: names.py reads at least as many names of lexical-util in the plain Rust as before, which has most of them.
+reads() {
+    mkdir "$top/names"
+    cp names.py "$top/names" && "$top/names/names.py" --list &&
+        [ "$(LC_ALL=C comm -12 <(LC_ALL=C sort names.txt) <(LC_ALL=C sort "$top/names/names.txt") | wc -l)" -ge "$1" ]
+}
+
+# fake: a cargo that builds nothing. It makes files of known sizes, and a driver that prints the next line of the file
+# `rows`. A package is built three times for its time, and the first takes longest.
+fake() {
+    export FAKE=$top/fake
+    mkdir "$FAKE"
+    cat > "$FAKE/cargo" << 'END'
+#!/usr/bin/env bash
+echo "$1 ${PWD##*/}" >> "$FAKE/calls"
+[ "$(cut -d' ' -f1 "$FAKE/calls" | tail -n 4 | xargs)" != "build build clean build" ] || sleep 0.6
+release=${CARGO_TARGET_DIR:-target}/release
+mkdir -p "$release"
+head -c 66000 /dev/zero > "$release/libpeltzivar_c.so"
+head -c 6000 /dev/zero > "$release/numfmt"
+cat > "$release/driver" << DRIVER
+#!/bin/sh
+echo "\$@" >> $FAKE/options
+head -n 1 $FAKE/rows
+sed -i 1d $FAKE/rows
+DRIVER
+chmod +x "$release/driver"
+END
+    chmod +x "$FAKE/cargo"
+    PATH=$FAKE:$PATH
+}
+
+# against STATUS WORDS TIME..: `bench/run --against` ends with the status, and its row with these words, if the drivers
+# print these times of the library in turns.
+against() {
+    local got
+    printf 'plain: some row %s 2.000 1.00 1.00 to 1.00\n' "${@:3}" > "$FAKE/rows"
+    got=$(PROCESSORS=any:any ../bench/run.sh --against HEAD --only some --rounds 3 2>&1 | tail -n 1
+        echo "status ${PIPESTATUS[0]}")
+    compares "$2 status $1" "$(xargs <<< "$got")" bench/run --against HEAD
+}
+
+# sizes: what sizes.sh prints, without the digits of a time below half a second, and without the last line.
+sizes="| | plain Rust | lexical-util |
+|---|---|---|
+| cold \`cargo build --release\` of the library, s | short | short |
+| 1,000 constant formats in one crate, s | short | short |
+| shared library | 64 KiB | - |
+| \`numfmt\` | 5 KiB | - |"
+sizes() {
+    ../bench/sizes.sh 2> /dev/null | sed -E 's/\| 0\.[0-4][0-9] /| short /g; $d'
+}
+
+# scripts: the scripts of bench/ with this cargo.
+scripts() {
+    fake
+    against 0 "some row 100.000 105.000 1.05 1.00" 101 105 100 107 103 106 104 109 100 106
+    against 1 "some row 100.000 106.000 1.06 1.00 slower" 101 107 100 107 103 106 104 109 100 106
+    compares "--only plain: --only plain: some --rounds 3" "$(uniq "$FAKE/options" | xargs)" options
+    : > "$FAKE/calls"
+    prints 0 "$sizes" sizes
+    compares "4 rust 4 upstream 4 formats-peltzivar 4 formats-upstream" \
+        "$(sed -n 's/^build //p' "$FAKE/calls" | tail -n +3 | uniq -c | xargs)" "builds of bench/sizes.sh"
+    compares "1000 build_or_panic 1000 build_strict" \
+        "$(grep -ohE 'build_or_panic|build_strict' "$WORK"/formats-*/src/lib.rs | uniq -c | xargs)" "formats of bench/sizes.sh"
+}
+prints 2 "$top has no src/ascii.rs" copies "$top"
+prints 2 "../rust/lexical-util has no src/ascii.rs" copies ../rust/lexical-util
+prints 0 "note: $rust/Cargo.toml does not have version 1.0.7" copies "$rust"
+needing cargo driver
+needing python3 passes reads 201
+needing git needing cc scripts
+counted 20
