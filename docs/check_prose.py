@@ -60,8 +60,6 @@ KEPT = [
     ("crates/lexical_c/src/reasons.rt", "a comment from its middle", "/// that no flag", "a line within a sentence"),
     ("crates/lexical_util/proofs/BlameLemmas.antt", "a comment from its middle", "-- and whether the prefix is case-sensitive",
      "a line within a sentence"),
-    ("crates/lexical_util/specs/Additions/SettingNumbers.antt", "a comment from its middle", "-- and numbers come from",
-     "a line within a sentence"),
     ("crates/lexical_util/specs/Additions/SettingNumbers.antt", "is no X", "-- `setter_name_of_number number` is", "there is no .."),
     ("crates/lexical_util/specs/Additions/SettingNumbers.antt", "is no X", "-- `setter_number_of_name name` is", "there is no .."),
     ("crates/lexical_util/specs/Additions/SettingText.antt", "is no X", "-- the error if there is no such setter", "there is no .."),

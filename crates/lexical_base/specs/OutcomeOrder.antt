@@ -1,4 +1,4 @@
--- For `==` and `cmp` of `Error`: the order and the equality of the outcomes.
+-- The order and the equality of outcomes, for `==` and `cmp` of `Error`.
 use Rattle.std.specs.Prelude.{Bool}
 use Rattle.std.specs.declared.cmp.Ordering.{Ordering}
 use Rattle.std.specs.Ordering.{nat_cmp, on, then_cmp, eq_by_cmp}

@@ -1,4 +1,4 @@
--- For `rank`, `description`, `index`, `class` and `Display` of `Error`: the table of the 49 outcomes.
+-- The table of the 49 outcomes, for `rank`, `description`, `index`, `class` and `Display` of `Error`.
 use Rattle.std.specs.Prelude.{ℕ, ◌≡◌, ◌+◌, ◌++◌, List, [], Option, Some, None, IsSome, codes, nat_lt}
 use Rattle.std.specs.Prelude.{if◌then◌else◌, unwrap_or}
 use Rattle.std.specs.Fmt.{decimal}

@@ -1,4 +1,4 @@
--- For private functions and the proofs of this crate: no public contract cites these definitions.
+-- Definitions for private functions and for the proofs of this crate. No public contract cites them.
 use Rattle.std.specs.Prelude.{ℕ, ◌+◌, ◌<◌, ◌≤◌, ◌||◌, bit_and, length}
 use Rattle.lexical_base.specs.Ascii.{ByteSet, between}
 use Rattle.lexical_base.specs.declared.error.short_text.Piece.{Piece}

@@ -1,4 +1,4 @@
--- For private functions and the proofs of this crate: no public contract cites these definitions.
+-- Definitions for private functions and for the proofs of this crate. No public contract cites them.
 use Rattle.std.specs.Prelude.{ℕ, ◌+◌, ◌*◌, ◌^◌, ◌<◌, ◌==◌, find, unwrap_or, length}
 use Rattle.lexical_flags.specs.Layout.{part, Flag, Byte, bit, flags, bytes, base_flags, digit_separator_flags}
 use Rattle.lexical_flags.specs.Layout as layout

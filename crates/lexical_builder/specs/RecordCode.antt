@@ -1,4 +1,4 @@
--- For the type's `impl Model`: bookkeeping that proofs need to distinguish records. It is not part of the model, and no
+-- Bookkeeping by which proofs distinguish records, for the `impl Model` of the builder. It is not part of the model. No
 -- contract cites it.
 use Rattle.std.specs.Prelude.{◌≡◌, ℕ, Bool, false, refl, List, map, slice_index_or}
 use Rattle.std.specs.Coded.{Coded, code_by, coded×, coded_bool, coded_list, coded_ℕ}

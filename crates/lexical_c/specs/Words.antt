@@ -1,4 +1,4 @@
--- The values of the structs that cross to C.
+-- The values of the structs that are passed to and from C.
 use Rattle.std.specs.Prelude.{ℕ, ◌+◌, ◌*◌, ◌^◌, ◌%◌, length}
 use Rattle.lexical_util.specs.Layout.{flags}
 use Rattle.lexical_util.specs.BuilderBits.{builder_record_of_parts}

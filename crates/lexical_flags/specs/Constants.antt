@@ -1,4 +1,4 @@
--- For `layout_facts`: the constants of the program, and the lists and relations with which they are compared.
+-- The constants of the code, and the lists and relations with which `layout_facts` compares them.
 use Rattle.std.specs.Prelude.{ℕ, zero, suc, ℤ, ◌≡◌, ◌*◌, List, [], ◌∷◌, bit_and}
 use Rattle.lexical_flags.specs.Layout.{Flag, Byte}
 use Rattle.lexical_flags.specs.Layout as layout

@@ -1,4 +1,4 @@
--- For private functions and the proofs of this crate: no public contract cites these definitions.
+-- Definitions for private functions and for the proofs of this crate. No public contract cites them.
 use Rattle.std.specs.Prelude.{ℕ, Bool, false, get_or}
 use Rattle.std.specs.List.{list_any}
 use Rattle.lexical_builder.specs.Writes.{new_record, changes}

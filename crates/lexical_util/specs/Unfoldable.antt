@@ -1,5 +1,5 @@
--- For proofs of callers: the definitions that a caller may unfold, on a function by
--- `#[tactic(auto, unfolding(lexical_util::specs::Unfoldable::cased))]`.
+-- The definitions that the proof of a caller may unfold, if the caller has an attribute such as `#[tactic(auto,
+-- unfolding(lexical_util::specs::Unfoldable::cased))]`.
 use Rattle.std.specs.Prelude.{⊤}
 use Rattle.lexical_flags.specs.Literals.{on_literals as flags_on_literals}
 use Rattle.lexical_util.specs.Groups.{any_flag, bits_of}

@@ -1,4 +1,4 @@
--- The recorded results, stated by the definitions of the library.
+-- The recorded results, stated in the definitions of the libraries.
 use Rattle.recorded.specs.declared.fact.Fact.{Fact}
 use Rattle.recorded.specs.declared.fact.Fact.TheVariants as facts
 use Rattle.recorded.specs.declared.fact.Fields.{Fields}

@@ -1,4 +1,4 @@
--- For `put_into`: texts that consist of pieces.
+-- Texts that consist of pieces, for `put_into`.
 use Rattle.std.specs.Prelude.{ℕ, Bool, true, not, ◌==◌, ◌&&◌, if◌then◌else◌, List, [], ◌∷◌, ◌++◌, codes, decimal}
 use Rattle.std.specs.Fmt.{digits_onto}
 use Rattle.lexical_base.specs.Ascii.{between}

@@ -1,5 +1,5 @@
--- For `Rule::mask`, `Rule::if_broken`, `broken_rules` and `clashes`: the bits that a rule reads, and which rules a word
--- breaks.
+-- The bits that a rule reads, and the rules that a word breaks, for `Rule::mask`, `Rule::if_broken`, `broken_rules` and
+-- `clashes`.
 use Rattle.std.specs.Prelude.{ℕ, ◌+◌, ◌≡◌, ◌⊎◌, Bool, not, List, [], ◌∷◌, Option, None, Some, sum_by}
 use Rattle.lexical_base.specs.declared.error.Error.{Error}
 use Rattle.lexical_base.specs.declared.error.Error.TheVariants as errors

@@ -1,4 +1,4 @@
--- For `field_edits_of`, `numfmt` and `peltzivar_edits_of`: the single-field edits of a record.
+-- The single-field edits of a record, for `field_edits_of`, `numfmt` and `peltzivar_edits_of`.
 use Rattle.std.specs.Prelude.{List, [], ◌∷◌, map, find, unwrap_or}
 use Rattle.std.specs.Str.{bytes_eq}
 use Rattle.lexical_flags.specs.Layout.{Flag, bit}

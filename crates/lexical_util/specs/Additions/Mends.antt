@@ -1,4 +1,4 @@
--- For `mend`: edits that mend a field that a reason blames.
+-- Edits that mend a field that a reason blames, for `mend`.
 use Rattle.std.specs.Prelude.{ℕ, ◌≡◌, ◌==◌, ◌&&◌, ◌||◌, ◌⊎◌, true, false, not, if◌then◌else◌, Bool, Some, None, List}
 use Rattle.std.specs.Prelude.{[], ◌∷◌, length}
 use Rattle.std.specs.List.{list_all, list_any}

@@ -1,4 +1,4 @@
--- For `read_numeral`: the digits of a radix.
+-- The digits of a radix, for `read_numeral`.
 use Rattle.std.specs.Prelude.{ℕ, Bool, ◌&&◌, List, length, nat_lt, nat_le}
 use Rattle.std.specs.List.{list_all}
 use Rattle.lexical_base.specs.Digits.{byte_value}

@@ -1,5 +1,5 @@
--- For `setter_number`, `argument`, `name` and `from_number`: an edit as the number of its setter and an argument. Names
--- and numbers come from the program's table. An edit can be built again from its number and argument (`read_back`).
+-- An edit as the number of its setter and an argument, for `setter_number`, `argument`, `name` and `from_number`. The
+-- names and numbers come from the code's table. The number and the argument determine the edit (`read_back`).
 use Rattle.std.specs.Prelude.{ℕ, ◌≡◌, ◌<◌, ◌+◌, ◌^◌, length, not, ◌==◌, nat_lt, if◌then◌else◌, ◌||◌, Option, Some, None}
 use Rattle.std.specs.Prelude.{List, [], map, get_or, slice_get, bytes_eq}
 use Rattle.std.specs.Bool.{then_some}

@@ -1,5 +1,5 @@
--- For `from_setting`, `from_text` and `text`: the texts NAME=VALUE. These definitions repeat the code. The clause with
--- a meaning of its own is `read_back`: the text of an edit is parsed to the same edit.
+-- The texts `NAME=VALUE`, for `from_setting`, `from_text` and `text`. These definitions repeat the code. Only the
+-- clause `read_back` has a meaning of its own: parsing the text of an edit gives the same edit.
 use Rattle.std.specs.Prelude.{ℕ, if◌then◌else◌, ◌+◌, ◌==◌, ◌&&◌, Bool, true, false, Option, None, Some, Result, Err}
 use Rattle.std.specs.Prelude.{List, [], ◌∷◌, ◌++◌, length, take, drop, get_or, codes, decimal, bytes_eq, nat_le, nat_lt}
 use Rattle.std.specs.Bool.{then_some}

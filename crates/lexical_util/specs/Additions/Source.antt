@@ -1,4 +1,4 @@
--- For `put_into` of `BuilderExpression`, `numfmt` and C: the builder expression of a format word, as Rust code.
+-- The builder expression of a format word, as Rust code, for `put_into` of `BuilderExpression`, `numfmt` and C.
 use Rattle.std.specs.Prelude.{ℕ, List, ◌++◌, Option, Some, None, codes, decimal, flat_map}
 use Rattle.lexical_flags.specs.Record.{raw}
 use Rattle.lexical_util.specs.Additions.FieldEdits.{needed_edits}
