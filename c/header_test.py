@@ -170,7 +170,7 @@ def phrases():
         "1 to 32 hexadecimal digits of either case",
         "at least 33 hexadecimal digits",
         "a number that is above 255 or has",
-        "character between two `'`, or `0x` followed by one or two hexadecimal digits, or one to three decimal digits",
+        "`0x` followed by one or two hexadecimal digits, or one to three decimal digits",
         "UTF-8",
         "No two slots",
         "one of the two clashes",

@@ -229,7 +229,7 @@ enum {
 /* Each rule has a number. The rules are checked in this order. The comment on each rule states what the rule requires.
  * docs/FORMAT.md numbers the rules from 1, so its rule n is rule n - 1 here. The allowed ASCII bytes are the bytes 9
  * to 13 and 32 to 126. Punctuation is any allowed ASCII byte except the signs (+ and -) and the digits of the mantissa
- * radix and of the exponent radix. In these rules, an absent exponent byte means the mantissa radix. */
+ * radix and of the exponent radix. An absent exponent_base or exponent_radix means the mantissa radix. */
 enum {
     PELTZIVAR_RULE_MANTISSA_RADIX_IN_RANGE = 0, /* mantissa_radix is between 2 and 36. */
     PELTZIVAR_RULE_EXPONENT_BASE_IN_RANGE, /* exponent_base is between 2 and 36. */
@@ -341,11 +341,11 @@ PELTZIVAR_API bool peltzivar_same_format(peltzivar_word a, peltzivar_word b);
  * separator is 0 or a digit separator flag is set. */
 PELTZIVAR_API bool peltzivar_is_built(peltzivar_word format);
 
-/* Writes one edit for each field of the word to the array. The edits of those fields that differ from
- * PELTZIVAR_NEW_FIELDS come first. Returns the number of these edits. If only these edits are applied to a copy of
- * PELTZIVAR_NEW_FIELDS, the copy has the fields of the word. For an absent exponent byte, the value of the edit is 0,
- * not the mantissa radix. If peltzivar_is_built returns true for the word, a shorter list of edits can build the word
- * only with a group setter. */
+/* Writes one edit for each field of the word to the array. The edits of fields that differ from PELTZIVAR_NEW_FIELDS
+ * come first. Returns the number of these edits. If only these edits are applied to a copy of PELTZIVAR_NEW_FIELDS,
+ * the copy has the fields of the word. For an absent exponent byte, the value of the edit is 0, not the mantissa
+ * radix. If peltzivar_is_built returns true for the word, any shorter list of edits that builds the word contains a
+ * group setter. */
 PELTZIVAR_API size_t peltzivar_edits_of(peltzivar_word format, peltzivar_edit edits[PELTZIVAR_FIELD_COUNT]);
 
 /* RULES */
@@ -378,9 +378,9 @@ PELTZIVAR_API bool peltzivar_is_valid_punctuation(peltzivar_word format);
 
 /* Returns whether an exponent character and a decimal point fit a word. They fit if both are punctuation, if they do
  * not clash with each other, and if neither of them clashes with the digit separator, base prefix or base suffix of
- * the word. Two characters clash if they match the same byte. The decimal point matches only itself. If the exponent
- * character is a letter, it matches both cases of the letter unless case_sensitive_exponent is set.
- * PELTZIVAR_RULE_PUNCTUATION_DIFFERS states which bytes the characters of the word match. This function does not
+ * the word. Two characters clash if both of them match the same byte. The decimal point matches only itself. If the
+ * exponent character is a letter, it matches both cases of the letter unless case_sensitive_exponent is set.
+ * PELTZIVAR_RULE_PUNCTUATION_DIFFERS states which bytes the other characters match. This function does not
  * check whether the word is lawful. */
 PELTZIVAR_API bool peltzivar_is_valid_options_punctuation(
     peltzivar_word format, uint8_t exponent, uint8_t decimal_point);
@@ -393,11 +393,11 @@ PELTZIVAR_API bool peltzivar_is_valid_options_punctuation(
 PELTZIVAR_MUST_USE PELTZIVAR_API peltzivar_error peltzivar_options_error(
     peltzivar_word format, uint8_t exponent, uint8_t decimal_point);
 
-/* Returns whether a word keeps a rule. Returns false if no rule has this number. */
+/* Returns whether a word keeps a rule. If no rule has this number, returns false. */
 PELTZIVAR_API bool peltzivar_keeps_rule(peltzivar_word format, uint8_t rule);
 
-/* Returns the error of a rule, which peltzivar_format_error returns for a word that breaks this rule and keeps every
- * rule before it. Returns PELTZIVAR_SUCCESS if no rule has this number. */
+/* Returns the error of a rule. peltzivar_format_error returns this error for a word that breaks the rule and keeps
+ * every rule before it. If no rule has this number, returns PELTZIVAR_SUCCESS. */
 PELTZIVAR_API peltzivar_error peltzivar_rule_error(uint8_t rule);
 
 /* Returns a mask of the bits that a rule reads. The mask is 0 if no rule has this number. If a word breaks the rule,
@@ -410,22 +410,22 @@ PELTZIVAR_API bool peltzivar_flag(peltzivar_word format, uint8_t setter);
 
 /* REASONS
  *
- * A reason states why a word breaks one or more rules, such as that the base prefix is a digit. A word has
- * PELTZIVAR_CANDIDATE_COUNT slots for reasons, which are numbered from 0. Each slot holds one reason or is empty. All
- * slots are empty if and only if the word is lawful. If no slot has an index that you pass, the functions behave as if
- * the slot were empty. peltzivar_word_reason writes the text of a reason. */
+ * A reason states why a word breaks one or more rules. For example, the base prefix is a digit. A word has
+ * PELTZIVAR_CANDIDATE_COUNT slots for reasons. The slots are numbered from 0. Each slot holds one reason or is empty.
+ * All slots are empty if and only if the word is lawful. An index that no slot has is treated as the index of an empty
+ * slot. peltzivar_word_reason writes the text of a reason. */
 
-/* Returns a mask of the bits that the reason in a slot blames. The mask is 0 if the slot is empty. If a list of edits
- * built the word, an edit is to blame if it writes one of these bits and no later edit writes that bit (see
- * peltzivar_edit_mask). The reason is true of every word in which these bits have the same values. */
+/* Returns a mask of the bits that the reason in a slot blames. The mask is 0 if the slot is empty. In a list of
+ * edits that builds the word, an edit is to blame if it writes one of these bits and no later edit writes that bit
+ * (see peltzivar_edit_mask). The reason is true of every word in which these bits have the same values. */
 PELTZIVAR_API peltzivar_word peltzivar_word_reason_mask(peltzivar_word format, uint8_t index);
 
 /* Returns the first rule that a word breaks for the reason in a slot, or PELTZIVAR_RULE_COUNT if the slot is empty. */
 PELTZIVAR_API uint8_t peltzivar_word_reason_rule(peltzivar_word format, uint8_t index);
 
-/* Returns whether a word breaks a rule for the reason in a slot. Returns false if the slot is empty or no rule has
- * this number. A word can break several rules for the same reason: if the mantissa radix is out of range and an
- * exponent byte is absent, the word also breaks the rule of this exponent byte. */
+/* Returns whether a word breaks a rule for the reason in a slot. If the slot is empty or no rule has this number,
+ * returns false. A word can break several rules for the same reason: if the mantissa radix is out of range and an
+ * exponent byte is absent, the word also breaks the radix rule of this exponent byte. */
 PELTZIVAR_API bool peltzivar_word_reason_breaks(peltzivar_word format, uint8_t index, uint8_t rule);
 
 /* Writes edits that remove the reason in a slot by changing one field, and returns the number of these edits. If
@@ -436,14 +436,16 @@ PELTZIVAR_API bool peltzivar_word_reason_breaks(peltzivar_word format, uint8_t i
  * six bytes in the order of their bits. The edits set a flag to false, make a byte absent, or set the mantissa radix
  * to 10 and keep absent exponent bytes absent. After peltzivar_edit_word has applied them, the word keeps each
  * rule that it kept before, and each rule that it broke only for this reason. If the word breaks a rule for this
- * reason and for another one, ignore edits that write no bit that this reason blames: they do not remove this
- * reason. */
+ * reason and for another one, ignore edits that write none of the bits that this reason blames, since they do not
+ * remove it. */
 PELTZIVAR_API size_t peltzivar_word_reason_mend(
     peltzivar_word format, uint8_t index, uint8_t field, peltzivar_edit edits[PELTZIVAR_MAX_MENDING_EDITS]);
 
 /* Returns a mask of the bits of the fields that a note describes. The mask is 0 if peltzivar_note writes an empty text
  * for this index. */
 PELTZIVAR_API peltzivar_word peltzivar_note_mask(const peltzivar_fields *fields, uint8_t index);
+
+/* BYTES OF A NUMBER */
 
 /* Returns whether a byte is a digit in the mantissa radix or the exponent radix of a word. */
 PELTZIVAR_API bool peltzivar_is_digit(peltzivar_word format, uint8_t byte);
@@ -502,8 +504,7 @@ PELTZIVAR_API uint8_t peltzivar_digit_to_char_const(uint32_t digit, uint32_t rad
  * buffer has len bytes. If the text and its null terminator do not fit, the function writes only the beginning of the
  * text and a null terminator. If len is 0, it writes nothing. It always returns the length of the whole text, not
  * counting the null terminator. The text is empty if no error, setter, rule, reason or note has the number or
- * index that is passed. PELTZIVAR_TEXT_SIZE bytes are enough for any text, except that peltzivar_source needs up to
- * PELTZIVAR_SOURCE_SIZE bytes. */
+ * index that is passed. See PELTZIVAR_TEXT_SIZE for the size of the buffer. */
 
 /* Writes a word as `0x` followed by 32 uppercase hexadecimal digits. */
 PELTZIVAR_API size_t peltzivar_text_of_word(peltzivar_word format, char *text, size_t len);
@@ -538,8 +539,8 @@ PELTZIVAR_API size_t peltzivar_reason(peltzivar_word format, uint8_t rule, uint8
 
 /* Writes the reason in a slot of a word, such as "no_special and case_sensitive_special cannot both be set". The
  * index of the slot is between 0 and PELTZIVAR_CANDIDATE_COUNT - 1. The text is empty if the slot is empty. Try every
- * index, since any slot may be empty. No two slots hold the same reason. The reasons are in the order of the first
- * rule that the word breaks for each of them. */
+ * index, since any slot may be empty. No two slots hold the same reason. The reasons are sorted by the first rule that
+ * the word breaks for each of them. */
 PELTZIVAR_API size_t peltzivar_word_reason(peltzivar_word format, uint8_t index, char *text, size_t len);
 
 /* Writes a note on fields that have no effect, such as "no number can have the digit separator '_': no flag allows
@@ -559,8 +560,9 @@ PELTZIVAR_API size_t peltzivar_note(const peltzivar_fields *fields, uint8_t inde
  * without PELTZIVAR_SET_. */
 PELTZIVAR_API size_t peltzivar_setter_name(uint8_t setter, char *text, size_t len);
 
-/* Returns the setter with this name, or PELTZIVAR_NO_SETTER if no setter has it. The name has len bytes and need not
- * be null-terminated. Therefore, it can be part of a longer text, such as the part of a setting before the `=`. */
+/* Returns the number of the setter with this name, or PELTZIVAR_NO_SETTER if no setter has it. The name has len
+ * bytes and need not be null-terminated. Therefore, it can be part of a longer text, such as the part of a
+ * setting before the `=`. */
 PELTZIVAR_API uint8_t peltzivar_setter_of_name(const char *name, size_t len);
 
 /* Parses a setting, which is a text of the form NAME=VALUE. The text has len bytes and need not be null-terminated. It
@@ -571,9 +573,9 @@ PELTZIVAR_API uint8_t peltzivar_setter_of_name(const char *name, size_t len);
  * - PELTZIVAR_SETTING_UNKNOWN_NAME if no setter has the name;
  * - PELTZIVAR_SETTING_OUT_OF_RANGE if the setter is a byte setter, and the value is a number that is above 255 or has
  *   too many digits;
- * - PELTZIVAR_SETTING_BAD_VALUE if the setter does not take the value for another reason.
+ * - PELTZIVAR_SETTING_BAD_VALUE in every other case.
  *
- * A flag setter or a group setter takes `true` or `false`. A byte setter takes an ASCII character between two `'`, or
+ * A flag setter or a group setter takes `true` or `false`. A byte setter takes one ASCII character in single quotes,
  * `0x` followed by one or two hexadecimal digits, or one to three decimal digits. Every byte setter except
  * mantissa_radix and radix also takes `none`, which is equivalent to 0: the byte is absent. Spaces are not skipped. */
 PELTZIVAR_MUST_USE PELTZIVAR_API uint32_t peltzivar_edit_of_text(const char *text, size_t len, peltzivar_edit *out);

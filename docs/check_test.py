@@ -103,7 +103,7 @@ PLANTS = [
     (HEADER, "#define PELTZIVAR_VERSION_PATCH ", "#define PELTZIVAR_VERSION_PATCH 7",
      "c/peltzivar.h: has not: #define PELTZIVAR_VERSION_PATCH "),
     (HEADER, None, "", "peltzivar.h has what the sources do not have: PELTZIVAR_SET_REQUIRED"),
-    (HEADER, "the bytes 9 to 13 and", "the bytes 9 to 14 and", "no comment has this text: the bytes 9 to 13 and"),
+    (HEADER, "to 13 and 32 to 126", "to 14 and 32 to 126", "no comment has this text: the bytes 9 to 13 and"),
     (HEADER, "/* exponent_radix is between", "/* exponent_base is between", "EXPONENT_RADIX_IN_RANGE does not have the"),
     (HEADER, "digit_separator matches only", "exponent_base matches only",
      "PELTZIVAR_RULE_PUNCTUATION_DIFFERS has a comment with other names"),
