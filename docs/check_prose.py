@@ -67,7 +67,6 @@ KEPT = [
     ("docs/C-AND-PYTHON.md", "two semicolons", "for (int i = 1; i < argc; i++)", "code"),
     ("docs/DECISIONS.md", "alone", "cargo alone can build it", "cargo alone"),
     ("explorer/number.js", "is no X", "if there is no such radix", "there is no .."),
-    ("rust/examples/settings.rs", "is no X", "if there is no problem", "there is no .."),
     ("rust/tests/details.rs", "a comment from its middle", "//! and numbers of rules,", "a line within a sentence"),
 ]  # fmt: skip
 # The most lines that stay.

@@ -1,7 +1,9 @@
-//! Formats of languages as constants to copy. Each names the section of the grammar that it follows, and what of it a
-//! format cannot express. The comment of a setter has a text that is accepted or refused because of it.
+//! Formats of programming languages, as constants that you can copy. The comment of a constant names the section of the
+//! grammar that the format follows, and states what a format cannot express. The comment of a setter has a text that is
+//! accepted or refused because of the setter.
 //!
-//! No format refuses `-`, or requires its base prefix or suffix; docs/FORMAT.md has what to do instead.
+//! No format refuses `-`, and no format requires its base prefix or suffix. docs/FORMAT.md describes what to do
+//! instead.
 //!
 //!     cargo run --example recipes -- HEX
 
@@ -182,7 +184,8 @@ pub const NASM_HEX_INTEGER: u128 = NumberFormatBuilder::new()
     .integer_internal_digit_separator(true) // accepts `0C8_00h`
     .build_or_panic();
 
-/// Each format with its name and an exponent character that fits it: in radix 16 `e` is a digit.
+/// All formats, each with its name and an exponent character that fits the format. In radix 16, `e` does not fit, since
+/// it is a digit.
 pub const RECIPES: [(&str, u128, u8); 17] = [
     ("RUST_HEX_INTEGER", RUST_HEX_INTEGER, b'p'),
     ("JSON", JSON, b'e'),

@@ -1,13 +1,14 @@
-//! Reads a file of settings, `NAME = VALUE` a line, and prints the format, and each problem and note after the lines to
-//! which it belongs: `cargo run --example settings -- examples/settings.txt`. The file may have any bytes.
+//! Reads a file with one setting `NAME = VALUE` per line: `cargo run --example settings -- examples/settings.txt`.
+//! Prints the format, and each problem and note with the numbers of the lines that cause it. The file may have any
+//! bytes.
 
 use peltzivar::{Edit, Format, NumberFormatBuilder, SettingError};
 use std::process::ExitCode;
 
-/// A setting: its line, its edit, and the bits that it writes and no later line.
+/// A setting: the number of its line, its edit, and the bits that it writes and that no later line writes.
 type Setting = (usize, Edit, u128);
 
-/// Returns bytes as text, each that is not printable ASCII as `\x1b`.
+/// Returns bytes as text. A byte that is not printable ASCII is escaped, as in `\x1b`.
 fn printable(bytes: &[u8]) -> String {
     let shown = bytes.iter().map(|byte| match byte {
         b' '..=b'~' => char::from(*byte).to_string(),
@@ -16,7 +17,8 @@ fn printable(bytes: &[u8]) -> String {
     shown.collect()
 }
 
-/// Returns the setter name that shares most pairs of letters with an unknown name, if it is like it, as a question.
+/// Returns a question that suggests the setter name most similar to an unknown name, or an empty text if no setter name
+/// is similar. Names are similar if they share many pairs of letters.
 fn suggestion(name: &str) -> String {
     let rated = Edit::NAMES.iter().map(|other| {
         let pairs = (2..=other.len()).map(|end| &other[end - 2..end]);
@@ -39,8 +41,8 @@ fn edit_from_line(line: &[u8]) -> Result<Edit, String> {
     })
 }
 
-/// Returns the settings of a file, and its problems: lines that are not settings, and settings of which later lines
-/// leave nothing. A later line may refine a group.
+/// Returns the settings of a file, and the problems with its lines. A line that is not a setting is a problem, and so
+/// is a setting that later lines override completely. A later line may override some flags of a group.
 fn read(file: &[u8]) -> (Vec<Setting>, Vec<String>) {
     let (mut settings, mut problems) = (Vec::<Setting>::new(), Vec::new());
     let lines = file.split(|byte| *byte == b'\n').map(<[u8]>::trim_ascii);
@@ -64,8 +66,8 @@ fn read(file: &[u8]) -> (Vec<Setting>, Vec<String>) {
     (settings, problems)
 }
 
-/// Returns the format of a file if there is no problem, and all problems and notes. A reason ends with settings, each
-/// of which mends it. A field that no line writes keeps its default.
+/// Returns the format of a file if the file has no problems, and all problems and notes. The sentence of a reason ends
+/// with settings. Each of them mends the format for this reason. A field that no line sets keeps its default.
 pub fn format_of(file: &[u8]) -> (Option<Format>, Vec<String>) {
     let (settings, mut found) = read(file);
     let located = |mask: u128, text: String| {
@@ -78,7 +80,7 @@ pub fn format_of(file: &[u8]) -> (Option<Format>, Vec<String>) {
     let format = builder.build_format().ok().filter(|_| found.is_empty());
     let view = builder.view();
     for reason in view.reasons() {
-        // The other edits of a mend only keep exponent bytes absent.
+        // The other edits of a mend only keep the exponent base and the exponent radix absent.
         let mends = view.mends(reason).map(|mend| mend.edits()[0]);
         let text = mends.fold(reason.to_string(), |all, it| format!("{all}; mend: {it}"));
         found.push(located(reason.mask(), text));

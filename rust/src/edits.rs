@@ -429,7 +429,7 @@ pub const fn edit_word(format: u128, edits: &[Edit]) -> u128 {
 /// ensures unique { (other : ℕ) → other < 2 ^ 128 → IsClean other
 ///     → raw other ≡ trim (fill (raw format)) → other ≡ result }
 ///
-/// // The normal form of a normal form is the word itself.
+/// // The normal form of the result is the result itself.
 /// ensures idempotent { normal_form_of result ≡ result }
 /// ensures unchanged { (result ≡ format) ↔ IsNormal format }
 ///

@@ -213,7 +213,7 @@ const fn clash_reasons(format: u128) -> [Option<Reason>; MAX_REASONS] {
     ]
 }
 
-// Returns the reason for two bytes that clash. If the bytes differ, the reason has the flag.
+// Returns the reason for two bytes that clash. If the bytes differ, the reason contains the flag.
 const fn clash(a: &Edit, b: &Edit, flag: FlagSetter) -> Reason {
     if b.argument_byte() == a.argument_byte() {
         Reason::Clash(*a, *b, None)
@@ -231,7 +231,7 @@ const fn case_flag(format: u128) -> FlagSetter {
     }
 }
 
-// Returns the reason with the flags that break a rule on flags.
+// Returns the reason with the flags for which a rule on flags is broken.
 const fn flag_reason(rule: Rule) -> Reason {
     let (a, b) = match rule {
         Rule::ExponentFlagsAgree => (

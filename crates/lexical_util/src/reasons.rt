@@ -83,16 +83,16 @@ pub const fn reasons(format: u128) -> [Option<Reason>; CANDIDATE_COUNT]
     ensures each { result ≡ map if_applicable (candidates format) }
     ensures lawful { Lawful format ↔ (all_reasons format ≡ []) }
 
-    // Each reason why the word breaks a rule is in a slot, and breaks this rule.
+    // Each reason why the word breaks a rule is in a slot, and the rule is broken for this reason.
     ensures by_rule { (rule : Rule)
         → AllByRecursion (λ reason. IsAmong (all_reasons format) reason × Breaks reason rule) (reasons_of rule format) }
 
-    // A rule that a reason breaks is not kept.
+    // If a rule is broken for a reason, the word does not keep the rule.
     ensures broken { (rule : Rule)
         → AllByRecursion (λ reason. Breaks reason rule → Holds rule format → ⊥) (all_reasons format) }
     ensures distinct { ArePairwise (λ a b. a ≢ b) (all_reasons format) }
 
-    // Each word that has the same bits as this word under the mask of a reason has this reason too, and breaks the
+    // Every word that has the same bits as this word under the mask of a reason also has the reason, and breaks the
     // first rule of the reason.
     ensures blame { (other : ℕ) → AllByRecursion (Blames format other) (all_reasons format) }
 {
@@ -257,7 +257,7 @@ const fn clash_reasons(format: u128) -> [Option<Reason>; MAX_REASONS]
     ]
 }
 
-// Returns the reason for two bytes that clash. If the bytes differ, the reason has the flag.
+// Returns the reason for two bytes that clash. If the bytes differ, the reason contains the flag.
 const fn clash(a: &Edit, b: &Edit, flag: FlagSetter) -> Reason
     ensures { result ≡ reasons.Clash a.now b.now
         (if argument_byte b.now == argument_byte a.now then None else Some flag) }
@@ -280,7 +280,7 @@ const fn case_flag(format: u128) -> FlagSetter
     }
 }
 
-// Returns the reason with the flags that break a rule on flags.
+// Returns the reason with the flags for which a rule on flags is broken.
 const fn flag_reason(rule: Rule) -> Reason
     ensures { result ≡ flag_reason rule }
 {

@@ -1,13 +1,13 @@
-//! Memory that a call only writes. C may leave it unset, so no reference to a value may point there: a value is written
-//! through a raw pointer, and a text as bytes that may be unset.
+//! Memory to which a call only writes. C may leave this memory uninitialised, so no reference to a value may point to
+//! it. A value is written through a raw pointer, and a text is written as bytes that may be uninitialised.
 
 use core::mem::MaybeUninit;
 
 /// A raw pointer to memory for one value. The value is never read. `write` consumes the pointer, so it writes at most
 /// once.
 ///
-/// No code here makes an `Out`: each is an argument that C passes. `c/peltzivar.h` asks its caller for a pointer to an
-/// object of the type, which nothing else reads or writes during the call.
+/// No code here creates an `Out`, since each one is an argument that C passes. `c/peltzivar.h` requires a pointer to an
+/// object of this type, which nothing else reads or writes during the call.
 #[repr(transparent)]
 pub struct Out<T>(*mut T);
 
@@ -24,7 +24,7 @@ impl<T, const N: usize> Out<[T; N]> {
     ///
     /// # Panics
     ///
-    /// If the array has no such index.
+    /// Panics if the array has no such index.
     pub fn write_at(&mut self, index: usize, value: T) {
         assert!(index < N);
         // SAFETY: C passed the pointer, and it points to an array of this type, as the comment of the type states. The
@@ -33,7 +33,7 @@ impl<T, const N: usize> Out<[T; N]> {
     }
 }
 
-/// Bytes of C to which a text is written.
+/// Bytes that C passes, to which a text is written.
 pub type Buffer = [MaybeUninit<u8>];
 
 /// Writes bytes to the start of a buffer.

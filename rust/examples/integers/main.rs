@@ -2,7 +2,7 @@
 //!
 //!     cargo run --example integers -- 0xFF_FF -12 0x1__0
 //!
-//! `read.rs` also works over `lexical-util`: the module above it defines which crate `library` is.
+//! `read.rs` also works with `lexical-util`: its parent module defines which crate `library` is.
 
 mod read;
 

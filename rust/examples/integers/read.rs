@@ -1,4 +1,4 @@
-//! Reads integers: sign, base prefix after a zero, digits with separators, base suffix.
+//! Reads integers with a sign, a base prefix after a zero, digits with separators, and a base suffix.
 
 use super::library::{digit::char_to_digit_const, error::Error, format::NumberFormat};
 
@@ -32,7 +32,7 @@ fn read_sign<const FORMAT: u128>(text: &[u8]) -> Result<i32, Error> {
 
 type AtIndex = fn(usize) -> Error;
 
-/// Reads the text after the sign. The error of a number above `limit` is `beyond`.
+/// Reads the text after the sign. If the number is above `limit`, the error is `beyond`.
 fn read_digits<const FORMAT: u128>(text: &[u8], limit: u64, beyond: AtIndex) -> Result<u64, Error> {
     const { assert!(NumberFormat::<FORMAT>::new().is_valid()) };
     let format = NumberFormat::<FORMAT>::new();
@@ -64,7 +64,7 @@ fn read_digits<const FORMAT: u128>(text: &[u8], limit: u64, beyond: AtIndex) -> 
     }
 }
 
-/// Returns the index after the digit separators at `start`, if they are allowed there.
+/// Returns the index after the digit separators at `start` if digit separators are allowed there.
 fn skip_separators<const FORMAT: u128>(
     text: &[u8],
     start: usize,
@@ -93,7 +93,8 @@ fn digit_at(text: &[u8], index: usize, radix: u32) -> Option<u32> {
     char_to_digit_const(*text.get(index)?, radix)
 }
 
-/// Returns whether `wanted` is at an index: this byte if `is_exact`, or either case of a letter. A byte of 0 is absent.
+/// Returns whether the byte at `index` is `wanted` or, unless `is_exact` is true, the same letter in the other case.
+/// Returns `false` if `wanted` is 0, which means absent.
 fn is_at(text: &[u8], index: usize, wanted: u8, is_exact: bool) -> bool {
     let is_wanted = |byte: &u8| *byte == wanted || !is_exact && byte.eq_ignore_ascii_case(&wanted);
     wanted != 0 && text.get(index).is_some_and(is_wanted)

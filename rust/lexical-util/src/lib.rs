@@ -1,11 +1,11 @@
-//! [`peltzivar`] under the name of `lexical-util`.
+//! This crate provides [`peltzivar`] under the name `lexical-util`.
 #![no_std]
 #![forbid(unsafe_code)]
 
 pub use peltzivar::*;
 
-/// The result of a call that can fail.
+/// The result type of calls that can fail.
 pub mod result {
-    /// [`core::result::Result`] with the error of this library.
+    /// A [`core::result::Result`] whose error type is the one of this library.
     pub type Result<T> = core::result::Result<T, peltzivar::error::Error>;
 }

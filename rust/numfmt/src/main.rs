@@ -1,9 +1,9 @@
 //! `numfmt` shows, edits, compares, checks, explains and migrates number formats, and prints them as Rust code. This
-//! file and `tests` are written by hand, and `rust/tools/erase.py` generates the others from `crates/numfmt`, whose
-//! `src/main.rt` has the commands.
+//! file and `tests` are written by hand. `rust/tools/erase.py` generates the other files from `crates/numfmt`, whose
+//! `src/main.rt` describes the commands.
 //!
-//! Two statuses differ from the proved program, since std decides them: if memory runs out, this program aborts, and an
-//! output that is closed or read-only counts as `/dev/null`.
+//! In two cases, this program and the proved program end differently, since std determines how. If memory runs out,
+//! this program aborts. An output that is closed or read-only is treated as `/dev/null`.
 
 #[allow(clippy::ptr_arg, reason = "as it is proved")]
 mod command;
@@ -31,7 +31,7 @@ fn main() -> ExitCode {
     };
     let mut text = Vec::new();
     let status = program::run(&args, &mut text);
-    // All lines are written at once: `Stdout` then keeps nothing that it could write after a failed write.
+    // All lines are written at once, so that `Stdout` buffers nothing that it could write after a failed write.
     match io::stdout().write_all(&text) {
         Ok(()) => ExitCode::from(status),
         Err(_) => ExitCode::from(3),
