@@ -40,7 +40,7 @@
 //!
 //! ## `digit_characters`
 //!
-//! `digit_characters` lists the 36 digit characters, each at the index of its value.
+//! `digit_characters` lists the 36 digit characters, each at the index that equals its value.
 //!
 //! ```text
 //! digit_characters : List ℕ
@@ -58,7 +58,7 @@
 //!
 //! ## `byte_value`
 //!
-//! `byte_value byte` is the index of the uppercase form of `byte` among the digit characters, or 255 if it is not one.
+//! `byte_value byte` is the index of `uppercase byte` in `digit_characters`, or 255 if it is not in that list.
 //!
 //! ```text
 //! byte_value : ℕ → ℕ
@@ -285,7 +285,7 @@
 //!
 //! ## `Record`
 //!
-//! `Record` has the fields of a format: a truth value for each flag, and a number for each byte, 0 if it is absent.
+//! `Record` has the fields of a format: a truth value for each flag, and a number for each byte, which is 0 if absent.
 //!
 //! ```text
 //! record Record : Type 0 where
@@ -359,7 +359,7 @@
 //!
 //! ## `SeparatorAllowedOrAbsent`
 //!
-//! `SeparatorAllowedOrAbsent r` holds if some flag of `r` allows a digit separator, or `r` has none.
+//! `SeparatorAllowedOrAbsent r` holds if some flag of `r` allows a digit separator, or if `r` has none.
 //!
 //! ```text
 //! SeparatorAllowedOrAbsent : Record → Type 0
@@ -395,7 +395,7 @@
 //!
 //! ## `word_of`
 //!
-//! `word_of r` is the sum of the fields of `r`, each at its bits.
+//! `word_of r` is the sum of the fields of `r`, each shifted to its bits.
 //!
 //! ```text
 //! word_of : Record → ℕ
@@ -404,7 +404,7 @@
 //!
 //! ## `pack`
 //!
-//! `pack r` is the word of `r` after `trim`.
+//! `pack r` is the word with the fields of `trim r`.
 //!
 //! ```text
 //! pack : Record → ℕ
@@ -671,7 +671,7 @@
 //!   makes : pack (after new_record writes) ≡ word
 //! ```
 //!
-//! # Lists in which any two elements are related
+//! # Lists in which each element is related to every later one
 //!
 //! ## `ArePairwise`
 //!
@@ -723,7 +723,7 @@
 //!
 //! ## `cased`
 //!
-//! `cased case_sensitive byte` is the set with `byte` and, unless it is case-sensitive, the other case of `byte`. It is empty if `byte` is 0, which means absent.
+//! `cased case_sensitive byte` is the set that contains `byte` and, if `case_sensitive` is false, its other case. It is empty if `byte` is 0, which means absent.
 //!
 //! ```text
 //! cased : Bool → ℕ → ByteSet
@@ -777,7 +777,7 @@
 //!
 //! ## `exponent`
 //!
-//! `exponent r chosen` is the role of the exponent character `chosen`, which the options choose and not the format.
+//! `exponent r chosen` is the role of the exponent character `chosen`, which is chosen by options, not by the format.
 //!
 //! ```text
 //! exponent : Record → ℕ → ByteSet
@@ -786,7 +786,7 @@
 //!
 //! ## `point`
 //!
-//! `point chosen` is the role of the decimal point `chosen`, which the options choose and not the format.
+//! `point chosen` is the role of the decimal point `chosen`, which is chosen by options, not by the format.
 //!
 //! ```text
 //! point : ℕ → ByteSet
@@ -813,7 +813,7 @@
 //!
 //! ## `seven_roles`
 //!
-//! `seven_roles r exponent_byte point_byte` lists the roles of the exponent character, the decimal point, and `r`.
+//! `seven_roles r exponent_byte point_byte` lists the roles of the two bytes, and the five roles of `r`.
 //!
 //! ```text
 //! seven_roles : Record → ℕ → ℕ → List ByteSet
@@ -824,7 +824,7 @@
 //!
 //! ## `IsRadix`
 //!
-//! `IsRadix radix` holds if `radix` is between 2 and 36, so that numbers can be written in it.
+//! `IsRadix radix` holds if `radix` is between 2 and 36, inclusive.
 //!
 //! ```text
 //! IsRadix : ℕ → Type 0
@@ -833,7 +833,7 @@
 //!
 //! ## `IsPunctuation`
 //!
-//! `IsPunctuation r byte` holds if `byte` is allowed ASCII and neither a digit of `r` nor a sign.
+//! `IsPunctuation r byte` holds if `byte` is allowed ASCII, but neither a digit of `r` nor a sign.
 //!
 //! ```text
 //! IsPunctuation : Record → ℕ → Type 0
@@ -842,7 +842,7 @@
 //!
 //! ## `IsAbsentOrPunctuation`
 //!
-//! `IsAbsentOrPunctuation r byte` holds if `byte` is absent or punctuation.
+//! `IsAbsentOrPunctuation r byte` holds if `byte` is 0, which means absent, or punctuation in the format `r`.
 //!
 //! ```text
 //! IsAbsentOrPunctuation : Record → ℕ → Type 0
@@ -851,7 +851,7 @@
 //!
 //! ## `IsTextOrNone`
 //!
-//! `IsTextOrNone byte` holds if `byte` is absent or allowed ASCII.
+//! `IsTextOrNone byte` holds if `byte` is 0, which means absent, or allowed ASCII.
 //!
 //! ```text
 //! IsTextOrNone : ℕ → Type 0
@@ -860,7 +860,7 @@
 //!
 //! ## `lacks_position`
 //!
-//! `lacks_position consecutive internal leading trailing` is true if only `consecutive` is true: no position is allowed.
+//! `lacks_position consecutive internal leading trailing` is true if `consecutive` is true and the others are false.
 //!
 //! ```text
 //! lacks_position : Bool → Bool → Bool → Bool → Bool
@@ -892,7 +892,7 @@
 //!
 //! ## `Demands`
 //!
-//! `Demands rule r` holds if the fields of `r` keep `rule`. The rule for reserved bits reads no field: `Holds` has it.
+//! `Demands rule r` holds if the fields of `r` keep `rule`. Only `Holds` covers the rule for reserved bits.
 //!
 //! ```text
 //! Demands : Rule → Record → Type 0
@@ -918,7 +918,7 @@
 //!
 //! ## `error_of`
 //!
-//! `error_of rule` is the error of `rule`.
+//! `error_of rule` is the error of a word whose first broken rule is `rule`.
 //!
 //! ```text
 //! error_of : Rule → Error
@@ -983,7 +983,7 @@
 //!
 //! ## `ErrorUnless`
 //!
-//! `ErrorUnless demand own next error` holds if `demand` fails and `error` is `own`, or if `demand` and `next error` hold.
+//! `ErrorUnless demand own next error` holds if `demand` fails and `error` is `own`, or `demand` and `next error` hold.
 //!
 //! ```text
 //! ErrorUnless : Type 0 → Error → (Error → Type 0) → Error → Type 0
@@ -1002,7 +1002,7 @@
 //!
 //! ## `IsErrorOf`
 //!
-//! `IsErrorOf word error` holds if `error` is the error of the first rule that `word` breaks, or `Success`.
+//! `IsErrorOf word error` holds if `error` is the error of the first rule that `word` breaks, or `Success` if all hold.
 //!
 //! ```text
 //! IsErrorOf : ℕ → Error → Type 0
@@ -1028,14 +1028,14 @@
 //!
 //! ## `Lawful`
 //!
-//! `Lawful word` holds if all parts of `LawfulParts word` do, that is, if `word` keeps every rule.
+//! `Lawful word` holds if `LawfulParts word` holds, that is, if `word` keeps every rule.
 //!
 //! ```text
 //! Lawful : ℕ → Type 0
 //! Lawful word = LawfulParts word
 //! ```
 //!
-//! # An exponent character and a decimal point, which an options type chooses for a format
+//! # An exponent character and a decimal point, which are chosen by the options of a parser or a writer
 //!
 //! ## `OptionsFit`
 //!
@@ -1052,7 +1052,7 @@
 //!
 //! ## `OptionsHaveOneRole`
 //!
-//! `OptionsHaveOneRole word exponent_byte point_byte` holds if both bytes are allowed ASCII, and no byte has two roles.
+//! `OptionsHaveOneRole word exponent_byte point_byte` holds if both bytes are allowed ASCII and no byte plays two roles.
 //!
 //! ```text
 //! record OptionsHaveOneRole (word exponent_byte point_byte : ℕ) : Type 0 where

@@ -1,2 +1,2 @@
--- For settings and reasons: what only additions to `lexical-util` cite.
+-- For settings and reasons: definitions that only additions to `lexical-util` cite.
 pub mod ShortTexts

@@ -4,7 +4,7 @@ use Rattle.std.specs.Prelude.{min, map}
 use Rattle.std.specs.Int.Digits.{number_from_digits}
 use Rattle.lexical_base.specs.Ascii.{ByteSet, between}
 
--- `digit_characters` lists the 36 digit characters, each at the index of its value.
+-- `digit_characters` lists the 36 digit characters, each at the index that equals its value.
 abbrev pub digit_characters : List ℕ
 digit_characters = codes "0123456789ABCDEFGHIJKLMNOPQRSTUVWXYZ"
 
@@ -12,11 +12,11 @@ digit_characters = codes "0123456789ABCDEFGHIJKLMNOPQRSTUVWXYZ"
 abbrev pub uppercase : ℕ → ℕ
 uppercase byte = if between 97 122 byte then byte - 32 else byte
 
--- `byte_value byte` is the index of the uppercase form of `byte` among the digit characters, or 255 if it is not one.
+-- `byte_value byte` is the index of `uppercase byte` in `digit_characters`, or 255 if it is not in that list.
 unfoldable pub byte_value : ℕ → ℕ
 byte_value byte = unwrap_or (position (λ character. character == uppercase byte) digit_characters) 255
 
--- `digit_of byte radix` is the value of `byte` if that is below `radix`, and `None` otherwise.
+-- `digit_of byte radix` is `Some` of the value of `byte` if that value is below `radix`, and `None` otherwise.
 abbrev pub digit_of : ℕ → ℕ → Option ℕ
 digit_of byte radix = if nat_lt (byte_value byte) radix then Some (byte_value byte) else None
 

@@ -59,7 +59,7 @@ rank_of outcomes.InvalidNegativeExponentBreak = 46
 rank_of outcomes.InvalidPositiveExponentBreak = 47
 rank_of outcomes.Success = 48
 
--- `index_of error` is the index that the parse error `error` holds, and `None` for every other outcome.
+-- `index_of error` is `Some` of the index that the parse error `error` holds, and `None` for every other outcome.
 abbrev pub index_of : Error → Option ℕ
 index_of (outcomes.Overflow index) = Some index
 index_of (outcomes.Underflow index) = Some index
@@ -145,12 +145,12 @@ description_of outcomes.Success = codes "'not actually an error'"
 abbrev pub held_index : Error → ℕ
 held_index error = unwrap_or (index_of error) 0
 
--- `IsAt index error` holds if the outcome `error` holds `index`, or holds no index.
+-- `IsAt index error` holds if the outcome `error` holds the index `index`, or if it holds no index.
 abbrev pub IsAt : ℕ → Error → Type 0
 IsAt index error = IsSome (index_of error) → index_of error ≡ Some index
 
--- `class_of error` is the class of the outcome `error`: by rank, 19 parse errors, then 17 format errors, then 12 option
--- errors, and last `Success`.
+-- `class_of error` is the class of the outcome `error`. In the order of their ranks, the outcomes are 19 parse errors,
+-- 17 format errors, 12 option errors and `Success`.
 abbrev pub class_of : Error → Class
 class_of error =
     if nat_lt (rank_of error) 19 then classes.Parse

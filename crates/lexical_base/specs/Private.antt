@@ -4,8 +4,8 @@ use Rattle.lexical_base.specs.Ascii.{ByteSet, between}
 use Rattle.lexical_base.specs.declared.error.short_text.Piece.{Piece}
 use Rattle.lexical_base.specs.declared.error.short_text.Piece.TheVariants as pieces
 
--- `in_two_ranges mask first second` is the set of the bytes that are in the range `first` or `second` after the
--- bits that `mask` lacks are cleared. Each range is given by its lowest and its highest byte.
+-- `in_two_ranges mask first second` is the set of the bytes that, masked with `mask`, are in the range `first` or in
+-- the range `second`. Each range is given by its lowest and its highest byte.
 abbrev pub in_two_ranges : ℕ → ℕ × ℕ → ℕ × ℕ → ByteSet
 in_two_ranges mask first second byte =
     between first.0 first.1 (bit_and byte mask) || between second.0 second.1 (bit_and byte mask)
@@ -19,7 +19,7 @@ pub record AreTwoRanges (first second : ℕ × ℕ) : Type 0 where
   pub first_bytes : first.1 < 256
   pub second_bytes : second.1 < 256
 
--- `max_length piece` is at least the length of the text of `piece`. For a decimal number it allows 64 digits.
+-- `max_length piece` is an upper bound of the length of the text of `piece`. It allows 64 digits for a decimal number.
 abbrev pub max_length : Piece → ℕ
 max_length (pieces.Words words) = length words.now
 max_length (pieces.Number number) = 64

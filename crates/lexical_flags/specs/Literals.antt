@@ -6,7 +6,7 @@ use Rattle.lexical_flags.specs.Record.{word_of}
 use Rattle.lexical_flags.specs.Roles.{Disjoint, are_disjoint, cased}
 use Rattle.lexical_flags.specs.Rules.{IsPunctuation, Holds, IsErrorOf, Lawful}
 
--- `on_literals` unfolds these definitions: the packing, the digits, the roles, the rules and the error of a word.
+-- `on_literals` unfolds the definitions of packing, and of the digits, the roles, the rules and the error of a word.
 unfoldable pub on_literals : ⊤
 unfolding byte_value word_of common Disjoint are_disjoint cased IsPunctuation Holds IsErrorOf Lawful
 on_literals = tt

@@ -1,4 +1,4 @@
--- An exponent character and a decimal point, which an options type chooses for a format.
+-- An exponent character and a decimal point, which are chosen by the options of a parser or a writer.
 use Rattle.std.specs.Prelude.{ℕ, ◌≡◌, IsTrue}
 use Rattle.std.specs.List.{AllByRecursion}
 use Rattle.lexical_base.specs.Ascii.{allowed_ascii}
@@ -17,15 +17,15 @@ pub record OptionsFit (word exponent_byte point_byte : ℕ) : Type 0 where
   pub exponent_is_new : AllByRecursion (Disjoint (exponent (raw word) exponent_byte)) (format_roles (raw word))
   pub point_is_new : AllByRecursion (Disjoint (point point_byte)) (format_roles (raw word))
 
--- `IsOptionsError word exponent_byte point_byte error` holds if `error` is the error of the first demand on the two
--- bytes that fails, or `Success` if all demands hold.
+-- `IsOptionsError word exponent_byte point_byte error` holds if `error` is the error of the first condition that the
+-- two bytes do not satisfy, or `Success` if they satisfy all.
 abbrev pub IsOptionsError : ℕ → ℕ → ℕ → Error → Type 0
 IsOptionsError word exponent_byte point_byte =
     ErrorUnless (IsPunctuation (raw word) exponent_byte) errors.InvalidExponentSymbol
     (ErrorUnless (IsPunctuation (raw word) point_byte) errors.InvalidDecimalPoint
     (ErrorUnless (OptionsFit word exponent_byte point_byte) errors.InvalidPunctuation (λ e. e ≡ errors.Success)))
 
--- `OptionsHaveOneRole word exponent_byte point_byte` holds if both bytes are allowed ASCII, and no byte has two roles.
+-- `OptionsHaveOneRole word exponent_byte point_byte` holds if both bytes are allowed ASCII and no byte plays two roles.
 pub record OptionsHaveOneRole (word exponent_byte point_byte : ℕ) : Type 0 where
   pub exponent_is_text : IsTrue (allowed_ascii exponent_byte)
   pub point_is_text : IsTrue (allowed_ascii point_byte)

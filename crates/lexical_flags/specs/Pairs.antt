@@ -1,4 +1,4 @@
--- Lists in which any two elements are related.
+-- Lists in which each element is related to every later one.
 use Rattle.std.specs.Prelude.{List, [], ◌∷◌, ⊤}
 use Rattle.std.specs.List.{AllByRecursion}
 

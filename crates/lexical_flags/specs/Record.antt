@@ -4,7 +4,7 @@ use Rattle.std.specs.List.{list_any}
 use Rattle.lexical_flags.specs.Layout.{part, Flag, Byte, bit, shift, flags, bytes, digit_separator_flags, IsClean}
 use Rattle.lexical_flags.specs.Layout as layout
 
--- `Record` has the fields of a format: a truth value for each flag, and a number for each byte, 0 if it is absent.
+-- `Record` has the fields of a format: a truth value for each flag, and a number for each byte, which is 0 if absent.
 pub record Record : Type 0 where
   pub flag : Flag → Bool
   pub byte : Byte → ℕ
@@ -38,7 +38,7 @@ fill r =
 abbrev pub separator_allowed : Record → Bool
 separator_allowed r = list_any r.flag digit_separator_flags
 
--- `SeparatorAllowedOrAbsent r` holds if some flag of `r` allows a digit separator, or `r` has none.
+-- `SeparatorAllowedOrAbsent r` holds if some flag of `r` allows a digit separator, or if `r` has none.
 abbrev pub SeparatorAllowedOrAbsent : Record → Type 0
 SeparatorAllowedOrAbsent r = IsTrue (separator_allowed r) ⊎ (r.byte layout.digit_separator ≡ 0)
 
@@ -54,11 +54,11 @@ flag_bits r f = if r.flag f then 2 ^ bit f else 0
 abbrev pub byte_bits : Record → Byte → ℕ
 byte_bits r b = r.byte b * 2 ^ shift b
 
--- `word_of r` is the sum of the fields of `r`, each at its bits.
+-- `word_of r` is the sum of the fields of `r`, each shifted to its bits.
 unfoldable pub word_of : Record → ℕ
 word_of r = sum_by (flag_bits r) flags + sum_by (byte_bits r) bytes
 
--- `pack r` is the word of `r` after `trim`.
+-- `pack r` is the word with the fields of `trim r`.
 abbrev pub pack : Record → ℕ
 pack r = word_of (trim r)
 

@@ -23,8 +23,8 @@ AreDisjoint sets = ArePairwise Disjoint sets
 abbrev pub other_case : ℕ → ℕ
 other_case byte = if between 65 90 byte then byte + 32 else if between 97 122 byte then byte - 32 else byte
 
--- `cased case_sensitive byte` is the set with `byte` and, unless it is case-sensitive, the other case of `byte`. It is empty
--- if `byte` is 0, which means absent.
+-- `cased case_sensitive byte` is the set that contains `byte` and, if `case_sensitive` is false, its other case. It is
+-- empty if `byte` is 0, which means absent.
 unfoldable pub cased : Bool → ℕ → ByteSet
 cased case_sensitive byte c = not (byte == 0) && ((c == byte) || (not case_sensitive && (c == other_case byte)))
 
@@ -48,11 +48,11 @@ prefix r = cased (r.flag layout.case_sensitive_base_prefix) (r.byte layout.base_
 abbrev pub suffix : Record → ByteSet
 suffix r = cased (r.flag layout.case_sensitive_base_suffix) (r.byte layout.base_suffix)
 
--- `exponent r chosen` is the role of the exponent character `chosen`, which the options choose and not the format.
+-- `exponent r chosen` is the role of the exponent character `chosen`, which is chosen by options, not by the format.
 abbrev pub exponent : Record → ℕ → ByteSet
 exponent r chosen = cased (r.flag layout.case_sensitive_exponent) chosen
 
--- `point chosen` is the role of the decimal point `chosen`, which the options choose and not the format.
+-- `point chosen` is the role of the decimal point `chosen`, which is chosen by options, not by the format.
 abbrev pub point : ℕ → ByteSet
 point chosen = cased true chosen
 
@@ -64,6 +64,6 @@ format_roles r = separator r ∷ prefix r ∷ suffix r ∷ []
 abbrev pub five_roles : Record → List ByteSet
 five_roles r = digits r ∷ signs ∷ format_roles r
 
--- `seven_roles r exponent_byte point_byte` lists the roles of the exponent character, the decimal point, and `r`.
+-- `seven_roles r exponent_byte point_byte` lists the roles of the two bytes, and the five roles of `r`.
 abbrev pub seven_roles : Record → ℕ → ℕ → List ByteSet
 seven_roles r exponent_byte point_byte = exponent r exponent_byte ∷ point point_byte ∷ five_roles r

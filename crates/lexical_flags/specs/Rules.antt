@@ -20,23 +20,23 @@ use Rattle.lexical_flags.specs.Layout.{IsClean}
 use Rattle.lexical_flags.specs.Record.{Record, raw, effective_exponent_base, effective_exponent_radix}
 use Rattle.lexical_flags.specs.Roles.{AreDisjoint, digits, signs, format_roles, five_roles}
 
--- `IsRadix radix` holds if `radix` is between 2 and 36, so that numbers can be written in it.
+-- `IsRadix radix` holds if `radix` is between 2 and 36, inclusive.
 abbrev pub IsRadix : ℕ → Type 0
 IsRadix radix = (2 ≤ radix) × (radix ≤ 36)
 
--- `IsPunctuation r byte` holds if `byte` is allowed ASCII and neither a digit of `r` nor a sign.
+-- `IsPunctuation r byte` holds if `byte` is allowed ASCII, but neither a digit of `r` nor a sign.
 unfoldable pub IsPunctuation : Record → ℕ → Type 0
 IsPunctuation r byte = IsTrue (allowed_ascii byte) × (IsTrue (digits r byte) → ⊥) × (IsTrue (signs byte) → ⊥)
 
--- `IsAbsentOrPunctuation r byte` holds if `byte` is absent or punctuation.
+-- `IsAbsentOrPunctuation r byte` holds if `byte` is 0, which means absent, or punctuation in the format `r`.
 abbrev pub IsAbsentOrPunctuation : Record → ℕ → Type 0
 IsAbsentOrPunctuation r byte = (byte ≡ 0) ⊎ IsPunctuation r byte
 
--- `IsTextOrNone byte` holds if `byte` is absent or allowed ASCII.
+-- `IsTextOrNone byte` holds if `byte` is 0, which means absent, or allowed ASCII.
 abbrev pub IsTextOrNone : ℕ → Type 0
 IsTextOrNone byte = (byte ≡ 0) ⊎ IsTrue (allowed_ascii byte)
 
--- `lacks_position consecutive internal leading trailing` is true if only `consecutive` is true: no position is allowed.
+-- `lacks_position consecutive internal leading trailing` is true if `consecutive` is true and the others are false.
 abbrev pub lacks_position : Bool → Bool → Bool → Bool → Bool
 lacks_position consecutive internal leading trailing = consecutive && not (internal || leading || trailing)
 
@@ -58,7 +58,7 @@ contradict rules.ExponentConsecutiveIsAllowed r =
     (r.flag exponent_leading_digit_separator) (r.flag exponent_trailing_digit_separator)
 contradict _ r = false
 
--- `Demands rule r` holds if the fields of `r` keep `rule`. The rule for reserved bits reads no field: `Holds` has it.
+-- `Demands rule r` holds if the fields of `r` keep `rule`. Only `Holds` covers the rule for reserved bits.
 abbrev pub Demands : Rule → Record → Type 0
 Demands rules.MantissaRadixInRange r = IsRadix (r.byte layout.mantissa_radix)
 Demands rules.ExponentBaseInRange r = IsRadix (effective_exponent_base r)
@@ -74,7 +74,7 @@ unfoldable pub Holds : Rule → ℕ → Type 0
 Holds rules.ReservedBitsAreZero word = IsClean word
 Holds rule word = Demands rule (raw word)
 
--- `error_of rule` is the error of `rule`.
+-- `error_of rule` is the error of a word whose first broken rule is `rule`.
 abbrev pub error_of : Rule → Error
 error_of rules.MantissaRadixInRange = errors.InvalidMantissaRadix
 error_of rules.ExponentBaseInRange = errors.InvalidExponentBase
@@ -114,7 +114,7 @@ flag_rules =
 abbrev pub rules_in_order : List Rule
 rules_in_order = radix_rules ++ punctuation_rules ++ flag_rules ++ rules.ReservedBitsAreZero ∷ []
 
--- `ErrorUnless demand own next error` holds if `demand` fails and `error` is `own`, or if `demand` and `next error` hold.
+-- `ErrorUnless demand own next error` holds if `demand` fails and `error` is `own`, or `demand` and `next error` hold.
 abbrev pub ErrorUnless : Type 0 → Error → (Error → Type 0) → Error → Type 0
 ErrorUnless demand own next error = ((demand → ⊥) × (error ≡ own)) ⊎ (demand × next error)
 
@@ -124,7 +124,7 @@ abbrev pub IsFirstError : List Rule → ℕ → Error → Type 0
 IsFirstError [] word error = error ≡ errors.Success
 IsFirstError (rule ∷ rules) word error = ErrorUnless (Holds rule word) (error_of rule) (IsFirstError rules word) error
 
--- `IsErrorOf word error` holds if `error` is the error of the first rule that `word` breaks, or `Success`.
+-- `IsErrorOf word error` holds if `error` is the error of the first rule that `word` breaks, or `Success` if all hold.
 unfoldable pub IsErrorOf : ℕ → Error → Type 0
 IsErrorOf word error = IsFirstError rules_in_order word error
 
@@ -141,6 +141,6 @@ pub record LawfulParts (word : ℕ) : Type 0 where
   pub roles : AreDisjoint (five_roles (raw word))
   pub clean : IsClean word
 
--- `Lawful word` holds if all parts of `LawfulParts word` do, that is, if `word` keeps every rule.
+-- `Lawful word` holds if `LawfulParts word` holds, that is, if `word` keeps every rule.
 unfoldable pub Lawful : ℕ → Type 0
 Lawful word = LawfulParts word

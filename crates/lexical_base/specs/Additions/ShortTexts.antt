@@ -9,12 +9,12 @@ use Rattle.lexical_base.specs.declared.error.short_text.Piece.TheVariants as pie
 abbrev pub numbered_byte : List ℕ → ℕ → List ℕ
 numbered_byte name byte = codes "the " ++ (name ++ (codes " " ++ decimal byte))
 
--- `can_be_quoted byte` is true if `byte` is a visible ASCII character, but not the quote.
+-- `can_be_quoted byte` is true if `byte` is a visible ASCII character other than the single quote.
 abbrev pub can_be_quoted : ℕ → Bool
 can_be_quoted byte = between 33 126 byte && not (byte == 39)
 
--- `quoted_byte name byte` is the text `the`, `name` and `byte`, with spaces between them. The byte is a character in
--- quotes if it can be quoted, and in decimal otherwise.
+-- `quoted_byte name byte` is the text `the`, `name` and `byte`, with spaces between them. The byte is written as a
+-- character in single quotes if it can be quoted, and in decimal otherwise.
 abbrev pub quoted_byte : List ℕ → ℕ → List ℕ
 quoted_byte name byte =
     if can_be_quoted byte then codes "the " ++ (name ++ (codes " '" ++ byte ∷ codes "'")) else numbered_byte name byte

@@ -55,8 +55,8 @@ first_error [] = errors.Success
 first_error (None ∷ broken) = first_error broken
 first_error (Some rule ∷ broken) = error_of rule
 
--- `clashes r` lists for three pairs of roles whether they share a byte: separator and prefix, separator and suffix, and
--- prefix and suffix.
+-- `clashes r` lists, for each of three pairs of roles, whether the two share a byte: separator and prefix,
+-- separator and suffix, and prefix and suffix.
 abbrev pub clashes : Record → List Bool
 clashes r =
     not (are_disjoint (separator r) (prefix r))

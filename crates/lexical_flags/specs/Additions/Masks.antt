@@ -15,7 +15,7 @@ mask_of fs = sum_by (λ f. 2 ^ bit f) fs
 abbrev pub reserved_mask : ℕ
 reserved_mask = (2 ^ 14 - 1) * 2 ^ 18 + (2 ^ 19 - 1) * 2 ^ 45 + (2 ^ 16 - 1) * 2 ^ 72
 
--- `interface_flags` lists the flags that a parser's front end handles.
+-- `interface_flags` lists the flags of the constant `INTERFACE_FLAG_MASK`.
 abbrev pub interface_flags : List Flag
 interface_flags =
     layout.required_digits ++
@@ -23,7 +23,7 @@ interface_flags =
     layout.no_float_leading_zeros ∷ layout.required_exponent_notation ∷ [] ++
     layout.internal_digit_separator ++ layout.leading_digit_separator ++ layout.trailing_digit_separator ++ layout.consecutive_digit_separator
 
--- `exponent_flags` lists the exponent flags, except the flag for the case of the exponent character.
+-- `exponent_flags` lists all exponent flags except `case_sensitive_exponent`.
 abbrev pub exponent_flags : List Flag
 exponent_flags =
     layout.required_exponent_digits ∷ layout.no_exponent_notation ∷ layout.no_positive_exponent_sign ∷
