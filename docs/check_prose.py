@@ -57,7 +57,6 @@ KEPT = [
     ("c/settings_test.c", "a comment from its middle", "* that writes each bit", "a line within a sentence"),
     ("c/settings_test.c", "is no X", "whether there is no problem", "there is no .."),
     ("c/settings_test.c", "how many or whether", "* whether there is", "a line within a sentence"),
-    ("crates/lexical_c/src/reasons.rt", "a comment from its middle", "/// that no flag", "a line within a sentence"),
     ("crates/lexical_util/proofs/BlameLemmas.antt", "a comment from its middle", "-- and whether the prefix is case-sensitive",
      "a line within a sentence"),
     ("crates/lexical_util/specs/Additions/SettingNumbers.antt", "is no X", "-- `setter_name_of_number number` is", "there is no .."),

@@ -1,4 +1,4 @@
-//! Bytes and digits.
+//! Functions that classify bytes and convert digits.
 
 ghost use Rattle.std.specs.Prelude.{◌≡◌, ◌↔◌, ℕ, ◌<◌, ◌≤◌, ◌+◌, ◌-◌, ◌^◌, ◌%◌, ◌||◌, IsTrue, IsSome, Some, unwrap_or};
 ghost use Rattle.std.specs.Prelude.{slice_get, nat_le, nat_lt, if◌then◌else◌};
@@ -40,7 +40,7 @@ pub extern "C" fn peltzivar_is_valid_letter_slice(bytes: &[u8]) -> bool
     ascii::is_valid_letter_slice(bytes)
 }
 
-/// Returns the value of a byte as a digit of a radix, or `u32::MAX` if it is not a digit.
+/// Returns the value of a byte as a digit of a radix, or `u32::MAX` if the byte is not a digit of the radix.
 #[unsafe(no_mangle)]
 pub extern "C" fn peltzivar_char_to_digit(byte: u8, radix: u32) -> u32
     ensures { result ≡ unwrap_or (digit_of byte radix) (2 ^ 32 - 1) }
@@ -69,7 +69,7 @@ pub extern "C" fn peltzivar_digit_to_char(digit: u32) -> u8
     }
 }
 
-/// Returns the result of [`peltzivar_char_to_digit`], from the function for a radix known at compile time.
+/// Returns the same result as [`peltzivar_char_to_digit`]. In `lexical-util`, the radix is a compile-time constant.
 #[unsafe(no_mangle)]
 pub extern "C" fn peltzivar_char_to_digit_const(byte: u8, radix: u32) -> u32
     ensures { result ≡ unwrap_or (digit_of byte radix) (2 ^ 32 - 1) }
@@ -77,7 +77,7 @@ pub extern "C" fn peltzivar_char_to_digit_const(byte: u8, radix: u32) -> u32
     digit_or_max(digit::char_to_digit_const(byte, radix))
 }
 
-/// Returns the value of a byte that must be a digit of the radix.
+/// Returns the value of a byte that is a digit of the radix, and an unspecified number for any other byte.
 #[unsafe(no_mangle)]
 pub extern "C" fn peltzivar_char_to_valid_digit_const(byte: u8, radix: u32) -> u32
     ensures small { radix ≤ 10 → result ≡ (byte + 208) % 256 }
@@ -86,7 +86,7 @@ pub extern "C" fn peltzivar_char_to_valid_digit_const(byte: u8, radix: u32) -> u
     digit::char_to_valid_digit_const(byte, radix)
 }
 
-/// Returns the result of [`peltzivar_char_is_digit`], from the function for a radix known at compile time.
+/// Returns the same result as [`peltzivar_char_is_digit`]. In `lexical-util`, the radix is a compile-time constant.
 #[unsafe(no_mangle)]
 pub extern "C" fn peltzivar_char_is_digit_const(byte: u8, radix: u32) -> bool
     ensures { IsTrue result ↔ IsSome (digit_of byte radix) }
@@ -94,7 +94,8 @@ pub extern "C" fn peltzivar_char_is_digit_const(byte: u8, radix: u32) -> bool
     digit::char_is_digit_const(byte, radix)
 }
 
-/// Returns the character of a digit that is below the radix, or 0 if the digit is 36 or more.
+/// Returns the character of a digit that is less than the radix, or 0 if the digit is 36 or more. For any other digit,
+/// returns an unspecified byte.
 #[unsafe(no_mangle)]
 pub extern "C" fn peltzivar_digit_to_char_const(digit: u32, radix: u32) -> u8
     ensures byte { digit < 36 → result ≡ (if (nat_le radix 10) || (nat_lt digit 10) then 48 + digit else 55 + digit) }
@@ -107,7 +108,8 @@ pub extern "C" fn peltzivar_digit_to_char_const(digit: u32, radix: u32) -> u8
     }
 }
 
-// Returns the digit, or `u32::MAX`, which is not a digit of any radix. In a radix above 255, 255 is a digit.
+// Returns the digit, or `u32::MAX` if `digit` is `None`. No digit has the value `u32::MAX`. The result 255 would be
+// ambiguous, since 255 is a digit in any radix above 255.
 #[inline(always)]
 fn digit_or_max(digit: Option<u32>) -> u32
     ensures { result ≡ unwrap_or digit (2 ^ 32 - 1) }

@@ -1,4 +1,4 @@
-//! Edits of builders, which cross to C as structs of fields, and edits of words.
+//! Functions that edit builders and words. In C, a builder is a struct of its fields.
 
 ghost use Rattle.std.specs.Prelude.{◌≡◌, ◌↔◌, ◌++◌, ◌<◌, ◌≤◌, ◌^◌, IsTrue, IsFalse, IsSome, IfSome, List, All, length, map, take};
 ghost use Rattle.lexical_util.specs.Layout.{IsClean, flags};
@@ -19,7 +19,8 @@ use lexical_util::edits::{Edit, FIELD_COUNT, apply, edits_of};
 use lexical_util::format_builder::NumberFormatBuilder;
 use lexical_util::laws::write_facts;
 
-/// Applies the edits in order to a builder. Returns `None` if an edit has an unknown setter.
+/// Applies the edits to a builder in order and returns the new builder. If an edit has an unknown setter, returns
+/// `None`.
 #[inline(always)]
 pub fn apply_edits(
     mut builder: NumberFormatBuilder,
@@ -38,7 +39,8 @@ pub fn apply_edits(
     Some(builder)
 }
 
-/// Returns the fields of a word. An absent exponent byte becomes the mantissa radix. The bits above the flags are 0.
+/// Returns the fields of a word. In the result, the mantissa radix replaces an absent exponent byte, and the bits above
+/// the flags are 0.
 #[unsafe(no_mangle)]
 pub extern "C" fn peltzivar_fields_of(format: Word) -> Fields
     ensures fields { fields_of result ≡ fill (raw format) }
@@ -47,8 +49,8 @@ pub extern "C" fn peltzivar_fields_of(format: Word) -> Fields
     Fields::new(&NumberFormatBuilder::rebuild(format.number()))
 }
 
-/// Applies the edits in order to the fields, clears the bits above the flags and returns `true`. Returns `false` if an
-/// edit has an unknown setter.
+/// Applies the edits to the fields in order, clears the bits above the flags and returns `true`. If an edit has an
+/// unknown setter, returns `false` and leaves the fields unchanged.
 #[unsafe(no_mangle)]
 pub extern "C" fn peltzivar_edit_fields(fields: &mut Fields, edits: &[NumberedEdit]) -> bool
     ensures accepted { IsTrue result ↔ All HasSetter edits.now }
@@ -64,7 +66,7 @@ pub extern "C" fn peltzivar_edit_fields(fields: &mut Fields, edits: &[NumberedEd
     true
 }
 
-/// Packs the fields into a word, lawful or not.
+/// Packs the fields into a word and returns the word, whether or not it is lawful.
 #[unsafe(no_mangle)]
 pub extern "C" fn peltzivar_pack(fields: &Fields) -> Word
     ensures word { result ≡ pack (fields_of fields.now) }
@@ -74,7 +76,8 @@ pub extern "C" fn peltzivar_pack(fields: &Fields) -> Word
     Word::new(fields.builder().build_unchecked())
 }
 
-/// Writes the word of the edited fields and returns `true`. Returns `false` if an edit has an unknown setter.
+/// Applies the edits in order to a copy of the fields, packs the copy, writes the word and returns `true`. If an edit
+/// has an unknown setter, returns `false` and writes nothing.
 #[unsafe(no_mangle)]
 pub extern "C" fn peltzivar_build(fields: &Fields, edits: &[NumberedEdit], out: &mut Word) -> bool
     ensures accepted { IsTrue result ↔ All HasSetter edits.now }
@@ -90,7 +93,8 @@ pub extern "C" fn peltzivar_build(fields: &Fields, edits: &[NumberedEdit], out: 
     true
 }
 
-/// Writes the word of the fields and returns 0 if the word is lawful. Otherwise, returns the number of its error.
+/// Packs the fields into a word. If the word is lawful, writes it and returns 0. Otherwise, writes nothing and returns
+/// the number of the error of the word.
 #[unsafe(no_mangle)]
 pub extern "C" fn peltzivar_build_strict(fields: &Fields, out: &mut Word) -> ErrorNumber
     ensures { IsWrittenIfLawful (pack (fields_of fields.now)) result out.old out.new }
@@ -98,7 +102,8 @@ pub extern "C" fn peltzivar_build_strict(fields: &Fields, out: &mut Word) -> Err
     write_if_lawful(fields.builder().build_strict(), out)
 }
 
-/// Writes the edited word and returns `true`. Returns `false` if an edit has an unknown setter.
+/// Applies the edits to a word in order, writes the new word and returns `true`. If an edit has an unknown setter,
+/// returns `false` and writes nothing.
 #[unsafe(no_mangle)]
 pub extern "C" fn peltzivar_edit_word(format: Word, edits: &[NumberedEdit], out: &mut Word) -> bool
     ensures accepted { IsTrue result ↔ All HasSetter edits.now }
@@ -127,8 +132,8 @@ pub extern "C" fn peltzivar_normal_form(format: Word) -> Word
     Word::new(edits::normal_form(format.number()))
 }
 
-/// Writes the normal form of a word and returns 0 if the normal form is lawful. Otherwise, returns the number of its
-/// error.
+/// If the normal form of a word is lawful, writes the normal form and returns 0. Otherwise, writes nothing and returns
+/// the number of the error of the normal form.
 #[unsafe(no_mangle)]
 pub extern "C" fn peltzivar_migrate(format: Word, out: &mut Word) -> ErrorNumber
     ensures { IsWrittenIfLawful (normal_form_of format) result out.old out.new }
@@ -136,7 +141,7 @@ pub extern "C" fn peltzivar_migrate(format: Word, out: &mut Word) -> ErrorNumber
     write_if_lawful(edits::migrate(format.number()), out)
 }
 
-/// Returns whether two words are equivalent: whether they have the same normal form.
+/// Returns whether two words are equivalent, that is, whether they have the same normal form.
 #[unsafe(no_mangle)]
 pub extern "C" fn peltzivar_same_format(a: Word, b: Word) -> bool
     ensures normal_forms { IsTrue result ↔ (normal_form_of a ≡ normal_form_of b) }
@@ -154,7 +159,8 @@ pub extern "C" fn peltzivar_is_built(format: Word) -> bool
     edits::is_built(format.number())
 }
 
-/// Writes one edit for each field. The edits that change a new builder come first, and their number is returned.
+/// Writes one edit for each field of a word. The edits of fields that differ from a new builder come first. Returns the
+/// number of these edits.
 #[unsafe(no_mangle)]
 pub extern "C" fn peltzivar_edits_of(format: Word, edits: &mut [NumberedEdit; FIELD_COUNT]) -> usize
     ensures numbers { edits.new ≡ map encode_edit (needed_edits (raw format) ++ other_edits (raw format)) }

@@ -1,4 +1,4 @@
-//! Examples of results. Each is a clause of a function with an empty body.
+//! Examples of results. Each example is a clause of a function with an empty body.
 
 ghost use Rattle.std.specs.Prelude.{◌≡◌, [], ◌∷◌};
 ghost use Rattle.lexical_util.specs.declared.error.Error.TheVariants as errors;
@@ -10,13 +10,13 @@ pub fn returned_examples()
     ensures success { IsCodeOfSome (λ error. error ≡ errors.Success) 0 }
     ensures other_number { IsCodeOfSome (λ error. error ≡ errors.Success) 48 → ⊥ }
 
-    // The front of a longer text is written.
+    // Only the beginning of a text that does not fit is written.
     ensures front { IsWritten (1 ∷ 2 ∷ []) 2 (9 ∷ 9 ∷ []) (1 ∷ 0 ∷ []) }
     ensures other_byte { IsWritten (1 ∷ 2 ∷ []) 2 (9 ∷ 9 ∷ []) (1 ∷ 2 ∷ []) → ⊥ }
 {}
 
-/// States that an output is not written as the contract demands if it is left unchanged although the word is lawful.
-/// Each call proves an example that holds.
+/// States that a function breaks its contract if it leaves the output unchanged although the word is lawful. Each call
+/// proves an example that holds.
 #[tactic(auto, unfolding(lexical_util::specs::Unfoldable::on_literals))]
 pub fn written_examples()
     ensures unchanged { IsWrittenIfLawful 0x00000A00_00000000_00000000_0000000C 0 7 7 → ⊥ }

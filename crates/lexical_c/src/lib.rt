@@ -1,10 +1,11 @@
-//! The library for callers in C, Rust and other languages: a static library of its calls.
+//! This crate is a static library for callers in C, Rust and other languages.
 //!
-//! Each export is a call of the library. Its clauses state the result by the library's definitions, and do not repeat
-//! what the library's laws derive from them. No export has a `requires`. For a number without a setter, an outcome or a
-//! digit, it returns `false` or a reserved value, or writes an empty text, and leaves the caller's words and fields
-//! unchanged. C's types state the duties of a caller: each pointer points to a whole value, or to as many values as the
-//! length states.
+//! The exports make the functions of `lexical_util` available in C. Their clauses state the results with the
+//! definitions of `lexical_util`, and do not repeat what the laws of `lexical_util` derive from these definitions. No
+//! export has a `requires` clause. If no setter, outcome or digit has the number that is passed, an export returns
+//! `false` or a reserved value, or it writes an empty text. It then leaves the words and fields of the caller
+//! unchanged. The types in C state the duties of the caller: each pointer points to a valid value, or to an array of as
+//! many values as the length states.
 #![tactic(auto)]
 
 mod bytes;

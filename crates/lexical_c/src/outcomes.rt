@@ -1,4 +1,4 @@
-//! Outcomes, which cross as numbers, and their texts.
+//! Outcomes and their texts. In C, an outcome is a number.
 
 ghost use Rattle.std.specs.Prelude.{◌≡◌, ◌≢◌, ◌↔◌, ◌<◌, ℕ, [], Err, IsSome, IfSome, IfErr};
 ghost use Rattle.std.specs.Result.{OkIff};
@@ -28,7 +28,7 @@ pub fn error_number(error: Error) -> ErrorNumber
     }
 }
 
-/// Writes the word and returns 0, or writes nothing and returns the number of the error.
+/// If `word` is `Ok`, writes the word and returns 0. Otherwise, writes nothing and returns the number of the error.
 #[inline(always)]
 pub fn write_if_lawful(word: Result<u128, Error>, out: &mut Word) -> ErrorNumber
     ensures { (lawful : ℕ) → OkIff word (Lawful lawful) lawful → IfErr word (IsErrorOf lawful)
@@ -44,7 +44,7 @@ pub fn write_if_lawful(word: Result<u128, Error>, out: &mut Word) -> ErrorNumber
     }
 }
 
-/// Writes the description of an outcome.
+/// Writes the description of an outcome, or an empty text if no outcome has this number.
 #[unsafe(no_mangle)]
 pub extern "C" fn peltzivar_description(error: ErrorNumber, text: &mut [u8]) -> usize
     ensures text { error < outcome_count
@@ -57,7 +57,8 @@ pub extern "C" fn peltzivar_description(error: ErrorNumber, text: &mut [u8]) -> 
     }
 }
 
-/// Writes the text that `Display` prints for an outcome. A parse error has the index `index`.
+/// Writes the text that `Display` prints for an outcome, or an empty text if no outcome has this number. A parse error
+/// has the index `index`.
 #[unsafe(no_mangle)]
 pub extern "C" fn peltzivar_text(error: ErrorNumber, index: usize, text: &mut [u8]) -> usize
     ensures text { error < outcome_count → IsCodeOfSome (λ outcome. IsAt index outcome
@@ -70,7 +71,7 @@ pub extern "C" fn peltzivar_text(error: ErrorNumber, index: usize, text: &mut [u
     }
 }
 
-// Returns the outcome with a number, or `None` if no outcome has it. A parse error has the index `index`.
+// Returns the outcome with this number, or `None` if no outcome has this number. A parse error has the index `index`.
 fn outcome(number: ErrorNumber, index: usize) -> Option<Error>
     ensures defined { IsSome result ↔ (number < outcome_count) }
     ensures number { IfSome result (λ error. error_number error ≡ number) }

@@ -1,5 +1,5 @@
-//! The reasons why words break rules, the edits that mend fields, and the notes. Reasons, fields and notes cross to C
-//! as indices.
+//! The reasons why words break rules, the edits that mend fields, and the notes. In C, a reason, a field or a note is
+//! an index.
 
 ghost use Rattle.std.specs.Prelude.{◌≡◌, ◌≢◌, ◌↔◌, ◌≤◌, IsTrue, IfSome, Some, None, [], map, take, length};
 ghost use Rattle.lexical_util.specs.Additions.Mends.{Mends};
@@ -21,7 +21,8 @@ use lexical_util::reasons::{
     MAX_MENDING_EDITS, Note, Reason, mend, notes_of_fields, reasons, reasons_of,
 };
 
-/// Writes the reason in a slot, 0 to 2, of the reasons why a word breaks a rule.
+/// Writes one of the reasons why a word breaks a rule. There are three slots, with the indices 0 to 2. Writes an empty
+/// text if the slot is empty or no rule has this number.
 #[unsafe(no_mangle)]
 pub extern "C" fn peltzivar_reason(format: Word, rule: u8, index: u8, text: &mut [u8]) -> usize
     ensures text { IfSome (reason_at (rule_of rule) format index)
@@ -37,7 +38,8 @@ pub extern "C" fn peltzivar_reason(format: Word, rule: u8, index: u8, text: &mut
     }
 }
 
-/// Writes the reason in a slot, 0 to 23, of all reasons why a word breaks rules.
+/// Writes the reason in a slot of a word. There are 24 slots, with the indices 0 to 23. Writes an empty text if the
+/// slot is empty.
 #[unsafe(no_mangle)]
 pub extern "C" fn peltzivar_word_reason(format: Word, index: u8, text: &mut [u8]) -> usize
     ensures text { IfSome (word_reason_at format index) (λ reason. IsWritten (reason_text reason) result text.old text.new) }
@@ -49,7 +51,7 @@ pub extern "C" fn peltzivar_word_reason(format: Word, index: u8, text: &mut [u8]
     }
 }
 
-/// Returns the bits of a word that the reason in a slot blames, or 0 if the slot is empty.
+/// Returns a mask of the bits that the reason in a slot blames, or 0 if the slot is empty.
 #[unsafe(no_mangle)]
 pub extern "C" fn peltzivar_word_reason_mask(format: Word, index: u8) -> Word
     ensures mask { IfSome (word_reason_at format index) (λ reason. result ≡ mask_of_reason reason) }
@@ -83,7 +85,8 @@ pub extern "C" fn peltzivar_word_reason_breaks(format: Word, index: u8, rule: u8
     breaks_at(word_reason_at(format, index), rule_of(rule))
 }
 
-/// Writes the edits that mend a field for the reason in a slot and returns their number, which may be 0.
+/// Writes the edits that mend a field for the reason in a slot, and returns the number of these edits. If the number is
+/// 0, writes nothing.
 #[unsafe(no_mangle)]
 pub extern "C" fn peltzivar_word_reason_mend(
     format: Word,
@@ -113,8 +116,9 @@ pub extern "C" fn peltzivar_word_reason_mend(
     count
 }
 
-/// Writes the note in a slot, 0 to 2, on fields. It takes fields and not a word, since packing drops a digit separator
-/// that no flag allows.
+/// Writes the note on fields in a slot. There are three slots, with the indices 0 to 2. Writes an empty text if the
+/// slot is empty. This function takes fields rather than a word, since packing drops a digit separator that no flag
+/// allows.
 #[unsafe(no_mangle)]
 pub extern "C" fn peltzivar_note(fields: &Fields, index: u8, text: &mut [u8]) -> usize
     ensures text { IfSome (note_at (fields_of fields.now) index)
@@ -127,7 +131,7 @@ pub extern "C" fn peltzivar_note(fields: &Fields, index: u8, text: &mut [u8]) ->
     }
 }
 
-/// Returns the bits of a word that the note in a slot describes, or 0 if the slot is empty.
+/// Returns a mask of the bits that the note in a slot describes, or 0 if the slot is empty.
 #[unsafe(no_mangle)]
 pub extern "C" fn peltzivar_note_mask(fields: &Fields, index: u8) -> Word
     ensures mask { IfSome (note_at (fields_of fields.now) index) (λ note. result ≡ mask_of_note note) }
@@ -139,7 +143,7 @@ pub extern "C" fn peltzivar_note_mask(fields: &Fields, index: u8) -> Word
     }
 }
 
-// Returns the reason in a slot of all reasons of a word, or `None` if the slot is empty.
+// Returns the reason in a slot of a word, or `None` if the slot is empty.
 fn word_reason_at(format: Word, index: u8) -> Option<Reason>
     ensures { result ≡ word_reason_at format index }
 {
@@ -151,7 +155,7 @@ fn word_reason_at(format: Word, index: u8) -> Option<Reason>
     }
 }
 
-// Returns whether a reason breaks a rule, or `false` if one of the two is `None`.
+// Returns whether a reason breaks a rule, or `false` if the reason or the rule is `None`.
 fn breaks_at(reason: Option<Reason>, rule: Option<Rule>) -> bool
     ensures { IsTrue result ↔ BreaksAt reason rule }
 {

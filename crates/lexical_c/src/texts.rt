@@ -1,4 +1,4 @@
-//! Texts that are written into a buffer with a final 0.
+//! Functions that write null-terminated texts to buffers.
 
 ghost use Rattle.std.specs.Prelude.{◌≡◌, ◌+◌, ◌<◌, ◌≤◌, ◌++◌, List, [], length};
 ghost use Rattle.lexical_util.specs.Outcomes.{printed_text};
@@ -10,8 +10,8 @@ use lexical_util::source::BuilderExpression;
 use std::fmt;
 use std::marker::Model;
 
-/// Writes as much of a text as fits, and a final 0, from the start of a buffer, and returns the length of the whole
-/// text. Writes nothing to an empty buffer.
+/// Writes as much of a text as fits to the start of a buffer, followed by a null terminator. Returns the length of the
+/// whole text. If the buffer is empty, writes nothing.
 pub fn write_text(text: &[u8], out: &mut [u8]) -> usize
     ensures { IsWritten text.now result out.old out.new }
 {
@@ -23,14 +23,14 @@ pub fn write_text(text: &[u8], out: &mut [u8]) -> usize
     text.len()
 }
 
-/// Writes an empty text as [`write_text`] does.
+/// Writes an empty text, as [`write_text`] does.
 pub fn write_nothing(out: &mut [u8]) -> usize
     ensures { IsWritten [] result out.old out.new }
 {
     write_text(b"", out)
 }
 
-/// Writes a sentence as [`write_text`] does.
+/// Writes a sentence, as [`write_text`] does.
 pub fn write_short_text(sentence: &ShortText, out: &mut [u8]) -> usize
     ensures { IsWritten sentence.now result out.old out.new }
 {
@@ -39,7 +39,7 @@ pub fn write_short_text(sentence: &ShortText, out: &mut [u8]) -> usize
     whole.write_to(out)
 }
 
-/// Writes the text that `Display` prints for an error as [`write_text`] does.
+/// Writes the text that `Display` prints for an error, as [`write_text`] does.
 pub fn write_error(error: Error, out: &mut [u8]) -> usize
     ensures { IsWritten (printed_text error) result out.old out.new }
 {
@@ -48,7 +48,7 @@ pub fn write_error(error: Error, out: &mut [u8]) -> usize
     whole.write_to(out)
 }
 
-/// Writes the builder expression of a word as [`write_text`] does.
+/// Writes the builder expression of a word, as [`write_text`] does.
 pub fn write_expression(expression: BuilderExpression, out: &mut [u8]) -> usize
     ensures text { IsWritten (source_text expression.0) result out.old out.new }
     ensures short { result < 2048 }
@@ -58,10 +58,10 @@ pub fn write_expression(expression: BuilderExpression, out: &mut [u8]) -> usize
     whole.write_to(out)
 }
 
-// The capacity of a text, which is more than the length of any text.
+// The capacity of a `Text`, which exceeds the length of every text that is written.
 const ROOM: usize = 2048;
 
-// A text that is put together from pieces. A piece that does not fit is left out.
+// A text that is assembled from pieces. A piece that does not fit is omitted.
 struct Text {
     bytes: [u8; ROOM],
     len: usize,
@@ -88,7 +88,7 @@ impl Text {
         }
     }
 
-    // Writes the text as `write_text` does.
+    // Writes the text, as `write_text` does.
     fn write_to(self, out: &mut [u8]) -> usize
         ensures { IsWritten self result out.old out.new }
     {

@@ -2,7 +2,7 @@
 
 ghost use Rattle.std.specs.Prelude.{◌≡◌};
 
-/// Returns the major, minor and patch number of the version, each in eight bits.
+/// Returns the version. Its major, minor and patch numbers have eight bits each.
 #[unsafe(no_mangle)]
 pub extern "C" fn peltzivar_version() -> u32
     ensures { result ≡ 0x000400 }

@@ -1,4 +1,4 @@
-//! The structs of a word, an edit, and the fields of a builder.
+//! The structs that represent a word, an edit and the fields of a builder in C.
 
 ghost use Rattle.std.specs.Prelude.{◌≡◌, ◌<◌, ◌^◌, Some, length};
 ghost use Rattle.lexical_util.specs.Layout.{flags};
@@ -9,7 +9,7 @@ use lexical_util::edits::Edit;
 use lexical_util::format_builder::NumberFormatBuilder;
 use std::marker::Model;
 
-/// A format word as two halves, since C has no type of 128 bits that every compiler supports.
+/// A format word as two halves, since C has no 128-bit integer type that every compiler supports.
 #[repr(C)]
 #[derive(Clone, Copy)]
 pub struct Word {
@@ -54,7 +54,7 @@ impl Word {
     }
 }
 
-/// An edit as its setter number and its argument.
+/// An edit as a setter number and an argument.
 #[repr(C)]
 #[derive(Clone, Copy)]
 pub struct NumberedEdit {
@@ -83,8 +83,8 @@ impl NumberedEdit {
     }
 }
 
-/// The fields of a builder: the flags, the first at bit 0, and the six bytes in the order of their bits. An absent byte
-/// is 0. The bits above the flags are ignored.
+/// The fields of a builder. The first flag is bit 0 of `flags`. The bits above the flags are ignored. `bytes` has the
+/// six bytes in the order of their bits. An absent byte is 0.
 #[repr(C)]
 #[derive(Clone, Copy)]
 pub struct Fields {

@@ -1,6 +1,6 @@
 // Made by rust/tools/erase.py from crates/lexical_c/src/bytes.rt: change that file.
 
-//! Bytes and digits.
+//! Functions that classify bytes and convert digits.
 
 use peltzivar::{ascii, digit};
 
@@ -42,7 +42,7 @@ pub unsafe extern "C" fn peltzivar_is_valid_letter_slice(
     ascii::is_valid_letter_slice(bytes)
 }
 
-/// Returns the value of a byte as a digit of a radix, or `u32::MAX` if it is not a digit.
+/// Returns the value of a byte as a digit of a radix, or `u32::MAX` if the byte is not a digit of the radix.
 // SAFETY: no other library has names that begin with `peltzivar_`.
 #[unsafe(no_mangle)]
 pub extern "C" fn peltzivar_char_to_digit(byte: u8, radix: u32) -> u32 {
@@ -67,28 +67,29 @@ pub extern "C" fn peltzivar_digit_to_char(digit: u32) -> u8 {
     }
 }
 
-/// Returns the result of [`peltzivar_char_to_digit`], from the function for a radix known at compile time.
+/// Returns the same result as [`peltzivar_char_to_digit`]. In `lexical-util`, the radix is a compile-time constant.
 // SAFETY: no other library has names that begin with `peltzivar_`.
 #[unsafe(no_mangle)]
 pub extern "C" fn peltzivar_char_to_digit_const(byte: u8, radix: u32) -> u32 {
     digit_or_max(digit::char_to_digit_const(byte, radix))
 }
 
-/// Returns the value of a byte that must be a digit of the radix.
+/// Returns the value of a byte that is a digit of the radix, and an unspecified number for any other byte.
 // SAFETY: no other library has names that begin with `peltzivar_`.
 #[unsafe(no_mangle)]
 pub extern "C" fn peltzivar_char_to_valid_digit_const(byte: u8, radix: u32) -> u32 {
     digit::char_to_valid_digit_const(byte, radix)
 }
 
-/// Returns the result of [`peltzivar_char_is_digit`], from the function for a radix known at compile time.
+/// Returns the same result as [`peltzivar_char_is_digit`]. In `lexical-util`, the radix is a compile-time constant.
 // SAFETY: no other library has names that begin with `peltzivar_`.
 #[unsafe(no_mangle)]
 pub extern "C" fn peltzivar_char_is_digit_const(byte: u8, radix: u32) -> bool {
     digit::char_is_digit_const(byte, radix)
 }
 
-/// Returns the character of a digit that is below the radix, or 0 if the digit is 36 or more.
+/// Returns the character of a digit that is less than the radix, or 0 if the digit is 36 or more. For any other digit,
+/// returns an unspecified byte.
 // SAFETY: no other library has names that begin with `peltzivar_`.
 #[unsafe(no_mangle)]
 pub extern "C" fn peltzivar_digit_to_char_const(digit: u32, radix: u32) -> u8 {
@@ -99,7 +100,8 @@ pub extern "C" fn peltzivar_digit_to_char_const(digit: u32, radix: u32) -> u8 {
     }
 }
 
-// Returns the digit, or `u32::MAX`, which is not a digit of any radix. In a radix above 255, 255 is a digit.
+// Returns the digit, or `u32::MAX` if `digit` is `None`. No digit has the value `u32::MAX`. The result 255 would be
+// ambiguous, since 255 is a digit in any radix above 255.
 #[inline(always)]
 fn digit_or_max(digit: Option<u32>) -> u32 {
     match digit {

@@ -1,6 +1,6 @@
 // Made by rust/tools/erase.py from crates/lexical_c/src/edits.rt: change that file.
 
-//! Edits of builders, which cross to C as structs of fields, and edits of words.
+//! Functions that edit builders and words. In C, a builder is a struct of its fields.
 
 use crate::outcomes::{write_if_lawful, ErrorNumber};
 use crate::words::{Fields, NumberedEdit, Word};
@@ -8,7 +8,8 @@ use peltzivar::edits;
 use peltzivar::edits::{apply, edits_of, Edit, FIELD_COUNT};
 use peltzivar::format_builder::NumberFormatBuilder;
 
-/// Applies the edits in order to a builder. Returns `None` if an edit has an unknown setter.
+/// Applies the edits to a builder in order and returns the new builder. If an edit has an unknown setter, returns
+/// `None`.
 #[must_use]
 #[inline(always)]
 pub fn apply_edits(
@@ -24,15 +25,16 @@ pub fn apply_edits(
     Some(builder)
 }
 
-/// Returns the fields of a word. An absent exponent byte becomes the mantissa radix. The bits above the flags are 0.
+/// Returns the fields of a word. In the result, the mantissa radix replaces an absent exponent byte, and the bits above
+/// the flags are 0.
 // SAFETY: no other library has names that begin with `peltzivar_`.
 #[unsafe(no_mangle)]
 pub extern "C" fn peltzivar_fields_of(format: Word) -> Fields {
     Fields::new(&NumberFormatBuilder::rebuild(format.number()))
 }
 
-/// Applies the edits in order to the fields, clears the bits above the flags and returns `true`. Returns `false` if an
-/// edit has an unknown setter.
+/// Applies the edits to the fields in order, clears the bits above the flags and returns `true`. If an edit has an
+/// unknown setter, returns `false` and leaves the fields unchanged.
 // SAFETY: no other library has names that begin with `peltzivar_`.
 #[unsafe(no_mangle)]
 pub unsafe extern "C" fn peltzivar_edit_fields(
@@ -49,14 +51,15 @@ pub unsafe extern "C" fn peltzivar_edit_fields(
     true
 }
 
-/// Packs the fields into a word, lawful or not.
+/// Packs the fields into a word and returns the word, whether or not it is lawful.
 // SAFETY: no other library has names that begin with `peltzivar_`.
 #[unsafe(no_mangle)]
 pub extern "C" fn peltzivar_pack(fields: &Fields) -> Word {
     Word::new(fields.builder().build_unchecked())
 }
 
-/// Writes the word of the edited fields and returns `true`. Returns `false` if an edit has an unknown setter.
+/// Applies the edits in order to a copy of the fields, packs the copy, writes the word and returns `true`. If an edit
+/// has an unknown setter, returns `false` and writes nothing.
 // SAFETY: no other library has names that begin with `peltzivar_`.
 #[unsafe(no_mangle)]
 pub unsafe extern "C" fn peltzivar_build(
@@ -74,7 +77,8 @@ pub unsafe extern "C" fn peltzivar_build(
     true
 }
 
-/// Writes the word of the fields and returns 0 if the word is lawful. Otherwise, returns the number of its error.
+/// Packs the fields into a word. If the word is lawful, writes it and returns 0. Otherwise, writes nothing and returns
+/// the number of the error of the word.
 // SAFETY: no other library has names that begin with `peltzivar_`.
 #[unsafe(no_mangle)]
 pub extern "C" fn peltzivar_build_strict(
@@ -84,7 +88,8 @@ pub extern "C" fn peltzivar_build_strict(
     write_if_lawful(fields.builder().build_strict(), out)
 }
 
-/// Writes the edited word and returns `true`. Returns `false` if an edit has an unknown setter.
+/// Applies the edits to a word in order, writes the new word and returns `true`. If an edit has an unknown setter,
+/// returns `false` and writes nothing.
 // SAFETY: no other library has names that begin with `peltzivar_`.
 #[unsafe(no_mangle)]
 pub unsafe extern "C" fn peltzivar_edit_word(
@@ -110,15 +115,15 @@ pub extern "C" fn peltzivar_normal_form(format: Word) -> Word {
     Word::new(edits::normal_form(format.number()))
 }
 
-/// Writes the normal form of a word and returns 0 if the normal form is lawful. Otherwise, returns the number of its
-/// error.
+/// If the normal form of a word is lawful, writes the normal form and returns 0. Otherwise, writes nothing and returns
+/// the number of the error of the normal form.
 // SAFETY: no other library has names that begin with `peltzivar_`.
 #[unsafe(no_mangle)]
 pub extern "C" fn peltzivar_migrate(format: Word, out: crate::outputs::Out<Word>) -> ErrorNumber {
     write_if_lawful(edits::migrate(format.number()), out)
 }
 
-/// Returns whether two words are equivalent: whether they have the same normal form.
+/// Returns whether two words are equivalent, that is, whether they have the same normal form.
 // SAFETY: no other library has names that begin with `peltzivar_`.
 #[unsafe(no_mangle)]
 pub extern "C" fn peltzivar_same_format(a: Word, b: Word) -> bool {
@@ -132,7 +137,8 @@ pub extern "C" fn peltzivar_is_built(format: Word) -> bool {
     edits::is_built(format.number())
 }
 
-/// Writes one edit for each field. The edits that change a new builder come first, and their number is returned.
+/// Writes one edit for each field of a word. The edits of fields that differ from a new builder come first. Returns the
+/// number of these edits.
 // SAFETY: no other library has names that begin with `peltzivar_`.
 #[unsafe(no_mangle)]
 pub extern "C" fn peltzivar_edits_of(

@@ -1,6 +1,6 @@
 // Made by rust/tools/erase.py from crates/lexical_c/src/outcomes.rt: change that file.
 
-//! Outcomes, which cross as numbers, and their texts.
+//! Outcomes and their texts. In C, an outcome is a number.
 
 use crate::texts::{write_error, write_nothing, write_text};
 use crate::words::Word;
@@ -20,7 +20,7 @@ pub fn error_number(error: Error) -> ErrorNumber {
     }
 }
 
-/// Writes the word and returns 0, or writes nothing and returns the number of the error.
+/// If `word` is `Ok`, writes the word and returns 0. Otherwise, writes nothing and returns the number of the error.
 #[must_use]
 #[inline(always)]
 pub fn write_if_lawful(word: Result<u128, Error>, out: crate::outputs::Out<Word>) -> ErrorNumber {
@@ -33,7 +33,7 @@ pub fn write_if_lawful(word: Result<u128, Error>, out: crate::outputs::Out<Word>
     }
 }
 
-/// Writes the description of an outcome.
+/// Writes the description of an outcome, or an empty text if no outcome has this number.
 // SAFETY: no other library has names that begin with `peltzivar_`.
 #[unsafe(no_mangle)]
 pub unsafe extern "C" fn peltzivar_description(
@@ -49,7 +49,8 @@ pub unsafe extern "C" fn peltzivar_description(
     }
 }
 
-/// Writes the text that `Display` prints for an outcome. A parse error has the index `index`.
+/// Writes the text that `Display` prints for an outcome, or an empty text if no outcome has this number. A parse error
+/// has the index `index`.
 // SAFETY: no other library has names that begin with `peltzivar_`.
 #[unsafe(no_mangle)]
 pub unsafe extern "C" fn peltzivar_text(
@@ -66,7 +67,7 @@ pub unsafe extern "C" fn peltzivar_text(
     }
 }
 
-// Returns the outcome with a number, or `None` if no outcome has it. A parse error has the index `index`.
+// Returns the outcome with this number, or `None` if no outcome has this number. A parse error has the index `index`.
 fn outcome(number: ErrorNumber, index: usize) -> Option<Error> {
     match number {
         0 => Some(Error::Success),

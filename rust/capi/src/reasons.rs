@@ -1,7 +1,7 @@
 // Made by rust/tools/erase.py from crates/lexical_c/src/reasons.rt: change that file.
 
-//! The reasons why words break rules, the edits that mend fields, and the notes. Reasons, fields and notes cross to C
-//! as indices.
+//! The reasons why words break rules, the edits that mend fields, and the notes. In C, a reason, a field or a note is
+//! an index.
 
 use crate::rules::rule_of;
 use crate::texts::{write_nothing, write_short_text};
@@ -12,7 +12,8 @@ use peltzivar::reasons::{
     mend, notes_of_fields, reasons, reasons_of, Note, Reason, MAX_MENDING_EDITS,
 };
 
-/// Writes the reason in a slot, 0 to 2, of the reasons why a word breaks a rule.
+/// Writes one of the reasons why a word breaks a rule. There are three slots, with the indices 0 to 2. Writes an empty
+/// text if the slot is empty or no rule has this number.
 // SAFETY: no other library has names that begin with `peltzivar_`.
 #[unsafe(no_mangle)]
 pub unsafe extern "C" fn peltzivar_reason(
@@ -33,7 +34,8 @@ pub unsafe extern "C" fn peltzivar_reason(
     }
 }
 
-/// Writes the reason in a slot, 0 to 23, of all reasons why a word breaks rules.
+/// Writes the reason in a slot of a word. There are 24 slots, with the indices 0 to 23. Writes an empty text if the
+/// slot is empty.
 // SAFETY: no other library has names that begin with `peltzivar_`.
 #[unsafe(no_mangle)]
 pub unsafe extern "C" fn peltzivar_word_reason(
@@ -50,7 +52,7 @@ pub unsafe extern "C" fn peltzivar_word_reason(
     }
 }
 
-/// Returns the bits of a word that the reason in a slot blames, or 0 if the slot is empty.
+/// Returns a mask of the bits that the reason in a slot blames, or 0 if the slot is empty.
 // SAFETY: no other library has names that begin with `peltzivar_`.
 #[unsafe(no_mangle)]
 pub extern "C" fn peltzivar_word_reason_mask(format: Word, index: u8) -> Word {
@@ -79,7 +81,8 @@ pub extern "C" fn peltzivar_word_reason_breaks(format: Word, index: u8, rule: u8
     breaks_at(word_reason_at(format, index), rule_of(rule))
 }
 
-/// Writes the edits that mend a field for the reason in a slot and returns their number, which may be 0.
+/// Writes the edits that mend a field for the reason in a slot, and returns the number of these edits. If the number is
+/// 0, writes nothing.
 // SAFETY: no other library has names that begin with `peltzivar_`.
 #[unsafe(no_mangle)]
 pub extern "C" fn peltzivar_word_reason_mend(
@@ -104,8 +107,9 @@ pub extern "C" fn peltzivar_word_reason_mend(
     count
 }
 
-/// Writes the note in a slot, 0 to 2, on fields. It takes fields and not a word, since packing drops a digit separator
-/// that no flag allows.
+/// Writes the note on fields in a slot. There are three slots, with the indices 0 to 2. Writes an empty text if the
+/// slot is empty. This function takes fields rather than a word, since packing drops a digit separator that no flag
+/// allows.
 // SAFETY: no other library has names that begin with `peltzivar_`.
 #[unsafe(no_mangle)]
 pub unsafe extern "C" fn peltzivar_note(
@@ -122,7 +126,7 @@ pub unsafe extern "C" fn peltzivar_note(
     }
 }
 
-/// Returns the bits of a word that the note in a slot describes, or 0 if the slot is empty.
+/// Returns a mask of the bits that the note in a slot describes, or 0 if the slot is empty.
 // SAFETY: no other library has names that begin with `peltzivar_`.
 #[unsafe(no_mangle)]
 pub extern "C" fn peltzivar_note_mask(fields: &Fields, index: u8) -> Word {
@@ -132,7 +136,7 @@ pub extern "C" fn peltzivar_note_mask(fields: &Fields, index: u8) -> Word {
     }
 }
 
-// Returns the reason in a slot of all reasons of a word, or `None` if the slot is empty.
+// Returns the reason in a slot of a word, or `None` if the slot is empty.
 fn word_reason_at(format: Word, index: u8) -> Option<Reason> {
     let slots = reasons(format.number());
     if (index as usize) < slots.len() {
@@ -142,7 +146,7 @@ fn word_reason_at(format: Word, index: u8) -> Option<Reason> {
     }
 }
 
-// Returns whether a reason breaks a rule, or `false` if one of the two is `None`.
+// Returns whether a reason breaks a rule, or `false` if the reason or the rule is `None`.
 fn breaks_at(reason: Option<Reason>, rule: Option<Rule>) -> bool {
     match (reason, rule) {
         (Some(reason), Some(rule)) => reason.breaks(rule),

@@ -1,6 +1,6 @@
 // Made by rust/tools/erase.py from crates/lexical_c/src/rules.rt: change that file.
 
-//! The rules of words.
+//! Functions that check the rules of words and the roles of bytes.
 
 use crate::outcomes::{error_number, ErrorNumber};
 use crate::words::Word;
@@ -15,7 +15,8 @@ pub extern "C" fn peltzivar_format_error(format: Word) -> ErrorNumber {
     error_number(format_error(format.number()))
 }
 
-/// Returns the number of the error of the first radix that is not between 2 and 36, or 0 if all three radixes are.
+/// Returns the number of the error of the first radix rule that a word breaks, or 0 if the word keeps all three radix
+/// rules.
 // SAFETY: no other library has names that begin with `peltzivar_`.
 #[unsafe(no_mangle)]
 pub extern "C" fn peltzivar_radix_error(format: Word) -> ErrorNumber {
@@ -29,35 +30,35 @@ pub extern "C" fn peltzivar_is_valid_radix(radix: u32) -> bool {
     flags::is_valid_radix(radix)
 }
 
-/// Returns whether exponents are not both required and forbidden.
+/// Returns whether the flags that require and forbid exponents are not both set.
 // SAFETY: no other library has names that begin with `peltzivar_`.
 #[unsafe(no_mangle)]
 pub extern "C" fn peltzivar_is_valid_exponent_flags(format: Word) -> bool {
     flags::is_valid_exponent_flags(format.number())
 }
 
-/// Returns whether the digit separator is absent, or allowed ASCII that is neither a sign nor a digit.
+/// Returns whether the digit separator is absent, or an allowed ASCII byte that is neither a sign nor a digit.
 // SAFETY: no other library has names that begin with `peltzivar_`.
 #[unsafe(no_mangle)]
 pub extern "C" fn peltzivar_is_valid_digit_separator(format: Word) -> bool {
     flags::is_valid_digit_separator(format.number())
 }
 
-/// Returns whether the base prefix is absent, or allowed ASCII that is neither a sign nor a digit.
+/// Returns whether the base prefix is absent, or an allowed ASCII byte that is neither a sign nor a digit.
 // SAFETY: no other library has names that begin with `peltzivar_`.
 #[unsafe(no_mangle)]
 pub extern "C" fn peltzivar_is_valid_base_prefix(format: Word) -> bool {
     flags::is_valid_base_prefix(format.number())
 }
 
-/// Returns whether the base suffix is absent, or allowed ASCII that is neither a sign nor a digit.
+/// Returns whether the base suffix is absent, or an allowed ASCII byte that is neither a sign nor a digit.
 // SAFETY: no other library has names that begin with `peltzivar_`.
 #[unsafe(no_mangle)]
 pub extern "C" fn peltzivar_is_valid_base_suffix(format: Word) -> bool {
     flags::is_valid_base_suffix(format.number())
 }
 
-/// Returns whether no two of digit separator, base prefix and base suffix share a byte.
+/// Returns whether no two of the digit separator, the base prefix and the base suffix match the same byte.
 // SAFETY: no other library has names that begin with `peltzivar_`.
 #[unsafe(no_mangle)]
 pub extern "C" fn peltzivar_is_valid_punctuation(format: Word) -> bool {
@@ -75,8 +76,7 @@ pub extern "C" fn peltzivar_is_valid_options_punctuation(
     flags::is_valid_options_punctuation(format.number(), exponent, decimal_point)
 }
 
-/// Returns the number of the error of an exponent character and a decimal point that do not fit a word, or 0 if they
-/// fit.
+/// Returns 0 if an exponent character and a decimal point fit a word. Otherwise, returns the number of the error.
 // SAFETY: no other library has names that begin with `peltzivar_`.
 #[unsafe(no_mangle)]
 pub extern "C" fn peltzivar_options_error(
@@ -91,7 +91,7 @@ pub extern "C" fn peltzivar_options_error(
     ))
 }
 
-/// Returns whether a word keeps the rule with this number, or `false` if no rule has it.
+/// Returns whether a word keeps the rule with this number, or `false` if no rule has this number.
 // SAFETY: no other library has names that begin with `peltzivar_`.
 #[unsafe(no_mangle)]
 pub extern "C" fn peltzivar_keeps_rule(format: Word, rule: u8) -> bool {
@@ -112,7 +112,7 @@ pub extern "C" fn peltzivar_rule_error(rule: u8) -> ErrorNumber {
     }
 }
 
-/// Returns the bits of a word that a rule reads, or 0 if no rule has this number.
+/// Returns a mask of the bits that a rule reads, or 0 if no rule has this number.
 // SAFETY: no other library has names that begin with `peltzivar_`.
 #[unsafe(no_mangle)]
 pub extern "C" fn peltzivar_rule_mask(rule: u8) -> Word {
@@ -122,28 +122,31 @@ pub extern "C" fn peltzivar_rule_mask(rule: u8) -> Word {
     }
 }
 
-/// Returns whether a byte is a digit of the mantissa radix or of the exponent radix.
+/// Returns whether a byte is a digit in the mantissa radix or the exponent radix of a word.
 // SAFETY: no other library has names that begin with `peltzivar_`.
 #[unsafe(no_mangle)]
 pub extern "C" fn peltzivar_is_digit(format: Word, byte: u8) -> bool {
     flags::is_digit(format.number(), byte)
 }
 
-/// Returns whether a byte is the base prefix. The case of a letter is ignored unless the prefix is case-sensitive.
+/// Returns whether the base prefix of a word matches a byte. If the base prefix is a letter, it matches both cases of
+/// the letter unless it is case-sensitive.
 // SAFETY: no other library has names that begin with `peltzivar_`.
 #[unsafe(no_mangle)]
 pub extern "C" fn peltzivar_is_base_prefix(format: Word, byte: u8) -> bool {
     FormatView::new(format.number()).is_base_prefix(byte)
 }
 
-/// Returns whether a byte is the base suffix. The case of a letter is ignored unless the suffix is case-sensitive.
+/// Returns whether the base suffix of a word matches a byte. If the base suffix is a letter, it matches both cases of
+/// the letter unless it is case-sensitive.
 // SAFETY: no other library has names that begin with `peltzivar_`.
 #[unsafe(no_mangle)]
 pub extern "C" fn peltzivar_is_base_suffix(format: Word, byte: u8) -> bool {
     FormatView::new(format.number()).is_base_suffix(byte)
 }
 
-/// Returns the low bits of a word under a mask, shifted right, or the mantissa radix if they are 0.
+/// Returns the low 32 bits of `(format & mask) >> shift`, or the mantissa radix of the word if these bits are 0.
+/// Returns `u32::MAX` if `shift` is 128 or more.
 // SAFETY: no other library has names that begin with `peltzivar_`.
 #[unsafe(no_mangle)]
 pub extern "C" fn peltzivar_radix_from_flags(format: Word, mask: Word, shift: u32) -> u32 {
@@ -154,7 +157,8 @@ pub extern "C" fn peltzivar_radix_from_flags(format: Word, mask: Word, shift: u3
     }
 }
 
-/// Returns the rule with this number, its index in the order of the rules, or `None` if no rule has it.
+/// Returns the rule with this number, or `None` if no rule has this number. The number of a rule is its index in the
+/// order of the rules.
 #[must_use]
 pub fn rule_of(number: u8) -> Option<Rule> {
     if (number as usize) < RULES.len() {

@@ -1,13 +1,13 @@
 // Made by rust/tools/erase.py from crates/lexical_c/src/texts.rt: change that file.
 
-//! Texts that are written into a buffer with a final 0.
+//! Functions that write null-terminated texts to buffers.
 
 use core::fmt;
 use peltzivar::error::{Error, ShortText, Sink};
 use peltzivar::source::BuilderExpression;
 
-/// Writes as much of a text as fits, and a final 0, from the start of a buffer, and returns the length of the whole
-/// text. Writes nothing to an empty buffer.
+/// Writes as much of a text as fits to the start of a buffer, followed by a null terminator. Returns the length of the
+/// whole text. If the buffer is empty, writes nothing.
 #[must_use]
 pub fn write_text(text: &[u8], out: &mut crate::outputs::Buffer) -> usize {
     if !out.is_empty() {
@@ -18,13 +18,13 @@ pub fn write_text(text: &[u8], out: &mut crate::outputs::Buffer) -> usize {
     text.len()
 }
 
-/// Writes an empty text as [`write_text`] does.
+/// Writes an empty text, as [`write_text`] does.
 #[must_use]
 pub fn write_nothing(out: &mut crate::outputs::Buffer) -> usize {
     write_text(b"", out)
 }
 
-/// Writes a sentence as [`write_text`] does.
+/// Writes a sentence, as [`write_text`] does.
 #[must_use]
 pub fn write_short_text(sentence: &ShortText, out: &mut crate::outputs::Buffer) -> usize {
     let mut whole = Text::new();
@@ -32,7 +32,7 @@ pub fn write_short_text(sentence: &ShortText, out: &mut crate::outputs::Buffer) 
     whole.write_to(out)
 }
 
-/// Writes the text that `Display` prints for an error as [`write_text`] does.
+/// Writes the text that `Display` prints for an error, as [`write_text`] does.
 #[must_use]
 pub fn write_error(error: Error, out: &mut crate::outputs::Buffer) -> usize {
     let mut whole = Text::new();
@@ -40,7 +40,7 @@ pub fn write_error(error: Error, out: &mut crate::outputs::Buffer) -> usize {
     whole.write_to(out)
 }
 
-/// Writes the builder expression of a word as [`write_text`] does.
+/// Writes the builder expression of a word, as [`write_text`] does.
 #[must_use]
 pub fn write_expression(expression: BuilderExpression, out: &mut crate::outputs::Buffer) -> usize {
     let mut whole = Text::new();
@@ -48,10 +48,10 @@ pub fn write_expression(expression: BuilderExpression, out: &mut crate::outputs:
     whole.write_to(out)
 }
 
-// The capacity of a text, which is more than the length of any text.
+// The capacity of a `Text`, which exceeds the length of every text that is written.
 const ROOM: usize = 2048;
 
-// A text that is put together from pieces. A piece that does not fit is left out.
+// A text that is assembled from pieces. A piece that does not fit is omitted.
 struct Text {
     bytes: [u8; ROOM],
     len: usize,
@@ -66,7 +66,7 @@ impl Text {
         }
     }
 
-    // Writes the text as `write_text` does.
+    // Writes the text, as `write_text` does.
     fn write_to(self, out: &mut crate::outputs::Buffer) -> usize {
         let Text { bytes, len } = self;
         write_text(&bytes[..len], out)

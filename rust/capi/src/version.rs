@@ -2,7 +2,7 @@
 
 //! The version of the library.
 
-/// Returns the major, minor and patch number of the version, each in eight bits.
+/// Returns the version. Its major, minor and patch numbers have eight bits each.
 // SAFETY: no other library has names that begin with `peltzivar_`.
 #[unsafe(no_mangle)]
 pub extern "C" fn peltzivar_version() -> u32 {

@@ -23,7 +23,8 @@ pub unsafe extern "C" fn peltzivar_text_of_word(
     write_text(&word_text(format.number()), text)
 }
 
-/// Parses a text, writes the word and returns 0, or returns the number of the error.
+/// Parses a text. If the text is `0x` followed by 1 to 32 hexadecimal digits, writes the word and returns 0. Otherwise,
+/// writes nothing and returns the number of the error.
 // SAFETY: no other library has names that begin with `peltzivar_`.
 #[unsafe(no_mangle)]
 pub unsafe extern "C" fn peltzivar_word_of_text(
@@ -45,8 +46,8 @@ pub unsafe extern "C" fn peltzivar_word_of_text(
     }
 }
 
-/// Returns whether the flag of a flag setter, or at least one flag of a group setter, is set in a word, or `false` if
-/// no such setter has this number.
+/// For a flag setter, returns whether its flag is set in a word. For a group setter, returns whether at least one
+/// flag of the group is set in the word. For any other number, returns `false`.
 // SAFETY: no other library has names that begin with `peltzivar_`.
 #[unsafe(no_mangle)]
 pub extern "C" fn peltzivar_flag(format: Word, setter: u8) -> bool {
@@ -56,7 +57,7 @@ pub extern "C" fn peltzivar_flag(format: Word, setter: u8) -> bool {
     }
 }
 
-// Returns the flag or group setter with a number, or `None` if no such setter has it.
+// Returns the flag setter or group setter with this number, or `None` for any other number.
 fn flag_setter(number: u8) -> Option<FlagSetter> {
     if (number as usize) < SETTERS.len() {
         Some(SETTERS[number as usize])

@@ -1,11 +1,11 @@
 // Made by rust/tools/erase.py from crates/lexical_c/src/words.rt: change that file.
 
-//! The structs of a word, an edit, and the fields of a builder.
+//! The structs that represent a word, an edit and the fields of a builder in C.
 
 use peltzivar::edits::Edit;
 use peltzivar::format_builder::NumberFormatBuilder;
 
-/// A format word as two halves, since C has no type of 128 bits that every compiler supports.
+/// A format word as two halves, since C has no 128-bit integer type that every compiler supports.
 #[repr(C)]
 #[derive(Clone, Copy)]
 pub struct Word {
@@ -32,7 +32,7 @@ impl Word {
     }
 }
 
-/// An edit as its setter number and its argument.
+/// An edit as a setter number and an argument.
 #[repr(C)]
 #[derive(Clone, Copy)]
 pub struct NumberedEdit {
@@ -58,8 +58,8 @@ impl NumberedEdit {
     }
 }
 
-/// The fields of a builder: the flags, the first at bit 0, and the six bytes in the order of their bits. An absent byte
-/// is 0. The bits above the flags are ignored.
+/// The fields of a builder. The first flag is bit 0 of `flags`. The bits above the flags are ignored. `bytes` has the
+/// six bytes in the order of their bits. An absent byte is 0.
 #[repr(C)]
 #[derive(Clone, Copy)]
 pub struct Fields {
