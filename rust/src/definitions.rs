@@ -1,6 +1,6 @@
 // Made by rust/tools/erase.py from crates/*/specs: change those files.
 
-//! This module has the definitions that the clauses of the parts `Proved` use, directly or through other
+//! This module has the definitions that the clauses in the sections `Proved` use, directly or through other
 //! definitions.
 //!
 //! `f x` is `f` applied to `x`. `.now` is the value behind a reference. In a clause, a builder is the record of

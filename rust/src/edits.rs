@@ -73,8 +73,8 @@ pub use numbers::{
 };
 pub use text::{byte_from_decimal, SettingError};
 
-/// A setter of [`NumberFormatBuilder`] that takes a `bool`: the setter of one flag, or the setter of one of the nine
-/// groups of flags. Each variant links to its setter.
+/// A setter of [`NumberFormatBuilder`] that takes a `bool`. It sets one flag, or all flags of one of the nine groups
+/// of flags. Each variant links to its setter.
 #[derive(Debug, Clone, Copy, PartialEq, Eq, Hash, PartialOrd, Ord)]
 #[non_exhaustive]
 pub enum FlagSetter {

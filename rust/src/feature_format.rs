@@ -31,15 +31,15 @@ impl<const FORMAT: u128> NumberFormat<FORMAT> {
         NumberFormat
     }
 
-    /// Returns the view as a [`FormatView`], a type that can also hold a word that is known only at run time.
+    /// Returns the view as a [`FormatView`], which can also hold a word that is known only at run time.
     #[must_use]
     #[inline(always)]
     pub const fn view(&self) -> FormatView {
         Self::VIEW
     }
 
-    /// Returns whether `byte` is a digit in the mantissa radix or in the exponent radix. A letter of either case can be
-    /// a digit.
+    /// Returns whether `byte` is a digit in the mantissa radix or in the exponent radix. The case of a letter does not
+    /// matter.
     #[must_use]
     #[inline(always)]
     pub const fn is_digit(&self, byte: u8) -> bool {
@@ -62,7 +62,7 @@ impl<const FORMAT: u128> NumberFormat<FORMAT> {
         Self::VIEW.is_base_suffix(byte)
     }
 
-    /// Returns a new builder. It does not depend on the word.
+    /// Returns a new builder. The builder does not depend on the word.
     #[must_use]
     #[inline(always)]
     pub const fn builder() -> NumberFormatBuilder {
@@ -254,8 +254,8 @@ fields! {
     /// True if the format allows digit separators in special values. In that case, a parser accepts `N__a_N_` as `NaN`.
     /// See the [setter][NumberFormatBuilder::special_digit_separator].
     SPECIAL_DIGIT_SEPARATOR special_digit_separator bool;
-    /// The [digit separator][NumberFormatBuilder::digit_separator], or 0 if it is absent. It has this value even if no
-    /// flag allows digit separators.
+    /// The [digit separator][NumberFormatBuilder::digit_separator], or 0 if it is absent. The flags that allow digit
+    /// separators do not change this value.
     DIGIT_SEPARATOR digit_separator u8;
     /// The [base prefix][NumberFormatBuilder::base_prefix], or 0 if it is absent.
     BASE_PREFIX base_prefix u8;

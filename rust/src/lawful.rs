@@ -95,8 +95,8 @@ impl Format {
         self.view
     }
 
-    /// Returns the [normal form][normal_form] of the format, which is the canonical word among all equivalent words.
-    /// The normal form is lawful too.
+    /// Returns the format's [normal form][normal_form]: the canonical word among all equivalent words. The normal form
+    /// is lawful too.
     #[must_use]
     pub const fn normal_form(&self) -> Self {
         match Format::new(normal_form(self.word())) {

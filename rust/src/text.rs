@@ -73,8 +73,8 @@ hexadecimal! {
     UpperHex Format;
 }
 
-/// Parses `NAME=VALUE`, split at the first `=`. The name and the value are parsed as in [`Edit::from_setting`]. The
-/// text that `Display` prints is parsed to the same edit.
+/// Parses `NAME=VALUE`, split at the first `=`. The name and the value are parsed as in [`Edit::from_setting`]. Parsing
+/// the text that `Display` prints gives the same edit.
 impl FromStr for Edit {
     type Err = SettingError;
 

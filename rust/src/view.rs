@@ -206,8 +206,8 @@ impl FormatView {
 
     // ROLES OF BYTES
 
-    /// Returns whether `byte` is a digit in the mantissa radix or in the exponent radix. A letter of either case can be
-    /// a digit.
+    /// Returns whether `byte` is a digit in the mantissa radix or in the exponent radix. The case of a letter does not
+    /// matter.
     #[must_use]
     #[inline(always)]
     pub const fn is_digit(&self, byte: u8) -> bool {
@@ -232,7 +232,7 @@ impl FormatView {
 
     // BUILDERS
 
-    /// Returns a new builder. It does not depend on the word.
+    /// Returns a new builder. The builder does not depend on the word.
     #[must_use]
     #[inline(always)]
     pub const fn builder() -> NumberFormatBuilder {

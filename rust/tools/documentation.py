@@ -396,7 +396,7 @@ def part(file, name):
 def definitions():
     """Returns the text of the module `definitions`: all definitions that the shown clauses cite."""
     head = (
-        "This module has the definitions that the clauses of the parts `Proved` use, directly or through other\n"
+        "This module has the definitions that the clauses in the sections `Proved` use, directly or through other\n"
         "definitions.\n\n"
         "`f x` is `f` applied to `x`. `.now` is the value behind a reference. In a clause, a builder is the record of\n"
         "its fields. Names such as `edits.Flag` or `rules.PunctuationDiffers` are variants of `Edit`, `FlagSetter`,\n"

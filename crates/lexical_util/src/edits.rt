@@ -86,8 +86,8 @@ pub use numbers::{
 };
 pub use text::{SettingError, byte_from_decimal};
 
-/// A setter of [`NumberFormatBuilder`] that takes a `bool`: the setter of one flag, or the setter of one of the nine
-/// groups of flags. The comment of a variant is the name of its setter.
+/// A setter of [`NumberFormatBuilder`] that takes a `bool`. It sets one flag, or all flags of one of the nine groups of
+/// flags. The comment of a variant is the name of its setter.
 #[derive(Debug, Clone, Copy, PartialEq, Eq, Hash)]
 pub enum FlagSetter {
     /// `required_integer_digits`

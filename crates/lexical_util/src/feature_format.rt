@@ -248,8 +248,8 @@ impl NumberFormat {
 
     // ROLES OF BYTES
 
-    /// Returns whether `byte` is a digit in the mantissa radix or in the exponent radix. A letter of either case can be
-    /// a digit.
+    /// Returns whether `byte` is a digit in the mantissa radix or in the exponent radix. The case of a letter does not
+    /// matter.
     #[inline(always)]
     pub const fn is_digit(&self, byte: u8) -> bool
         ensures { IsTrue result ↔ IsTrue (digits (raw self.now) byte) }
@@ -277,7 +277,7 @@ impl NumberFormat {
 
     // BUILDERS
 
-    /// Returns a new builder. It does not depend on the word.
+    /// Returns a new builder. The builder does not depend on the word.
     #[inline(always)]
     pub const fn builder() -> NumberFormatBuilder
         ensures { result ≡ new_record }

@@ -10,8 +10,8 @@ use crate::format_builder::{NonZeroU8, OptionU8};
 use crate::numeral::read_numeral;
 use core::fmt;
 
-/// The reason why a text is not a setting. A setting has the form `NAME=VALUE`: a setter has the name and takes the
-/// value.
+/// The reason why a text is not a setting. A setting has the form `NAME=VALUE`. `NAME` is the name of a setter, and
+/// `VALUE` is a value that the setter takes.
 ///
 /// The error message never repeats any part of the text, since the text may come from an untrusted file.
 #[derive(Debug, Clone, Copy, PartialEq, Eq, Hash)]

@@ -35,13 +35,13 @@ const fn is_separator_allowed_or_absent(format: u128) -> bool
 
 /// Returns edits that give a new builder the fields of `format`, and the number of edits that are needed for this.
 ///
-/// The array has one edit for each field, which sets the field to its value in `format`. The edits that change a new
-/// builder come first, and the returned number is the number of these edits. The other edits follow. In both parts, the
-/// edits are in the order of the bits that they write.
+/// The array has one edit for each field, which sets the field to its value in `format`. The needed edits, which change
+/// a new builder, come first. The returned number is the number of needed edits. The other edits follow. Both the
+/// needed edits and the other edits are in the order of the bits that they write.
 ///
-/// A new builder to which the edits of the first part are applied has exactly the fields of `format`. This is also true
-/// if all edits are applied. If [`is_built`] returns `true` for `format`, this builder packs its fields into `format`.
-/// In this case, no shorter list of single-field edits builds `format`.
+/// A new builder to which the needed edits are applied has exactly the fields of `format`. This is also true if all
+/// edits are applied. If [`is_built`] returns `true` for `format`, this builder packs its fields into `format`. In this
+/// case, no shorter list of single-field edits builds `format`.
 ///
 /// In plain Rust:
 ///
@@ -58,7 +58,7 @@ pub fn edits_of(format: u128) -> ([Edit; FIELD_COUNT], usize)
     ensures number { result.1 ≡ length (needed_writes (raw format)) }
     ensures legal { All IsLegal (all_writes result.0) }
 
-    // The edits of the first part give the fields of the word, and so do all edits.
+    // The needed edits give the fields of the word, and so do all edits.
     ensures first { after new_record (all_writes (take result.1 result.0)) ≡ raw format }
     ensures whole { after new_record (all_writes result.0) ≡ raw format }
     ensures builds { (pack (raw format) ≡ format) ↔ IsBuilt format }
@@ -75,7 +75,7 @@ pub fn edits_of(format: u128) -> ([Edit; FIELD_COUNT], usize)
     (edits, count)
 }
 
-/// Returns one edit for each field, which sets the field to its value in `format`. The edits are in the order of the
+/// Returns one edit for each field. The edit sets the field to its value in `format`. The edits are in the order of the
 /// bits that they write.
 pub const fn field_edits_of(format: u128) -> [Edit; FIELD_COUNT]
     ensures { result ≡ field_edits (raw format) }
