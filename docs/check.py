@@ -205,7 +205,7 @@ def listed(text):
     """Returns the sentence with the numbers of names and formats in names.txt if compare/README.md does not have it."""
     names = (TOP / "compare/names.txt").read_text().splitlines()
     formats = sum(" ready made " in name for name in names)
-    sentence = f"The names are the {len(names)} lines of `names.txt`, which include {formats} ready made formats."
+    sentence = f"The names are the {len(names)} lines of `names.txt`, which include {formats} ready-made formats."
     if sentence not in " ".join(text.split()):
         yield f"does not have: {sentence}"
 

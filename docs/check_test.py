@@ -95,7 +95,7 @@ PLANTS = [
     ("crates/lexical_c/src/version.rt", "result ≡ 0x", "result ≡ 0x1", "c/peltzivar.h: has not: the version "),
     ("compare/rust/src/exports.rs", "    flag(", "    flags(", "c/peltzivar.h: has other calls than compare/rust/src/"),
     ("compare/names.txt", "ascii const fn is_valid_letter(u8) -> bool\n", "",
-     "compare/README.md: does not have: The names are the 548 lines of `names.txt`, which include 145 ready made formats."),
+     "compare/README.md: does not have: The names are the 548 lines of `names.txt`, which include 145 ready-made formats."),
     ("rust/Cargo.toml", "\n[workspace]\n", "\n[lib]\ntest = false\n\n[workspace]\n",
      "rust/Cargo.toml: turns tests off: test = false"),
     (HEADER, "_SET_REQUIRED_FRACTION_DIGITS,", "_SET_REQUIRED,", "c/peltzivar.h: has not the setters in their order"),
