@@ -1,8 +1,8 @@
 //! Formats of your own: constants that are proved to be lawful.
 //!
-//! Each format has a constant and a law. The law is a function that does nothing, but whose contract states that the
-//! format is lawful. After a call to the law, you can pass the constant where a lawful format is required. Nothing is
-//! tested at run time.
+//! Each format has a constant and a law. The law is a function that does nothing. Its contract states that the format
+//! is lawful. After a call to the law, you can pass the constant where a lawful format is required. Nothing is tested
+//! at run time.
 
 ghost use Rattle.std.specs.Prelude.{◌≡◌, ◌≢◌, ◌↔◌, [], ◌∷◌, IfErr, IsTrue, bit_and, true, false};
 ghost use Rattle.std.specs.Result.{OkIff};
@@ -43,7 +43,8 @@ pub const EXPONENT: u8 = b'e';
 /// The exponent character of hexadecimal floats. It is not `e`, since `e` is a hexadecimal digit.
 pub const HEXADECIMAL_EXPONENT: u8 = b'p';
 
-/// Returns whether any digit separator flag of `word` is set. The law `layout_facts` states which flags the mask has.
+/// Returns whether any digit separator flag of `word` is set. The law `layout_facts` states which flags
+/// [`DIGIT_SEPARATOR_FLAG_MASK`] has.
 pub fn has_separator_flag(word: u128) -> bool
     ensures { IsTrue result ↔ (bit_and word (mask_of layout.digit_separator_flags) ≢ 0) }
 {

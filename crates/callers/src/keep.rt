@@ -10,7 +10,7 @@ use lexical_util::edits::migrate;
 use lexical_util::error::Error;
 use lexical_util::laws;
 
-/// Returns the normal form of the stored word `word`, which replaces it. Equivalent words have the same normal form.
+/// Returns the word that replaces the stored word `word`: its normal form. Equivalent words have the same normal form.
 ///
 /// # Errors
 ///

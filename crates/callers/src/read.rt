@@ -22,9 +22,9 @@ use lexical_util::format::{NumberFormat, check, mantissa_radix};
 ///
 /// # Errors
 ///
-/// If `text` is empty, returns `Empty(0)`. Otherwise, returns `InvalidDigit` with the index of the first byte that is
-/// neither a digit nor a skipped separator, or `Overflow` with the index of the first digit with which the number
-/// exceeds 64 bits, whichever byte comes first.
+/// If `text` is empty, returns `Empty(0)`. If a byte is neither a digit nor a skipped separator, returns `InvalidDigit`
+/// with its index. If a digit makes the number exceed 64 bits, returns `Overflow` with its index. The first such byte
+/// determines the error.
 pub fn read_digits(format: u128, text: &[u8]) -> Result<u64, Error>
     requires { Lawful format }
     ensures number { OkIff result (IsNumeral (raw format) text.now) (number_read (raw format) text.now) }

@@ -36,7 +36,7 @@ pub enum Role {
 /// Returns the role of `byte` in the numbers of `format`, or `None` if `byte` has no role.
 ///
 /// The format must be lawful, and must accept `exponent` as the exponent character and `decimal_point` as the decimal
-/// point. So no byte has two roles.
+/// point. These conditions ensure that no byte has two roles.
 pub fn role_of(format: u128, exponent: u8, decimal_point: u8, byte: u8) -> Option<Role>
     requires lawful { Lawful format }
     requires accepted { OptionsFit format exponent decimal_point }

@@ -26,99 +26,99 @@ pub use crate::format_flags::rules::{
 
 // FLAGS OTHER THAN DIGIT SEPARATOR FLAGS
 
-/// The [flag][lexical_builder::format_builder::NumberFormatBuilder::required_integer_digits].
+/// The mask of the [flag][lexical_builder::format_builder::NumberFormatBuilder::required_integer_digits].
 pub const REQUIRED_INTEGER_DIGITS: u128 = 0x1;
 
-/// The [flag][lexical_builder::format_builder::NumberFormatBuilder::required_fraction_digits].
+/// The mask of the [flag][lexical_builder::format_builder::NumberFormatBuilder::required_fraction_digits].
 pub const REQUIRED_FRACTION_DIGITS: u128 = 0x2;
 
-/// The [flag][lexical_builder::format_builder::NumberFormatBuilder::required_exponent_digits].
+/// The mask of the [flag][lexical_builder::format_builder::NumberFormatBuilder::required_exponent_digits].
 pub const REQUIRED_EXPONENT_DIGITS: u128 = 0x4;
 
-/// The [flag][lexical_builder::format_builder::NumberFormatBuilder::required_mantissa_digits].
+/// The mask of the [flag][lexical_builder::format_builder::NumberFormatBuilder::required_mantissa_digits].
 pub const REQUIRED_MANTISSA_DIGITS: u128 = 0x8;
 
 /// The mask of the [group][lexical_builder::format_builder::NumberFormatBuilder::required_digits].
 pub const REQUIRED_DIGITS: u128 = 0xF;
 
-/// The [flag][lexical_builder::format_builder::NumberFormatBuilder::no_positive_mantissa_sign].
+/// The mask of the [flag][lexical_builder::format_builder::NumberFormatBuilder::no_positive_mantissa_sign].
 pub const NO_POSITIVE_MANTISSA_SIGN: u128 = 0x10;
 
-/// The [flag][lexical_builder::format_builder::NumberFormatBuilder::required_mantissa_sign].
+/// The mask of the [flag][lexical_builder::format_builder::NumberFormatBuilder::required_mantissa_sign].
 pub const REQUIRED_MANTISSA_SIGN: u128 = 0x20;
 
-/// The [flag][lexical_builder::format_builder::NumberFormatBuilder::no_exponent_notation].
+/// The mask of the [flag][lexical_builder::format_builder::NumberFormatBuilder::no_exponent_notation].
 pub const NO_EXPONENT_NOTATION: u128 = 0x40;
 
-/// The [flag][lexical_builder::format_builder::NumberFormatBuilder::no_positive_exponent_sign].
+/// The mask of the [flag][lexical_builder::format_builder::NumberFormatBuilder::no_positive_exponent_sign].
 pub const NO_POSITIVE_EXPONENT_SIGN: u128 = 0x80;
 
-/// The [flag][lexical_builder::format_builder::NumberFormatBuilder::required_exponent_sign].
+/// The mask of the [flag][lexical_builder::format_builder::NumberFormatBuilder::required_exponent_sign].
 pub const REQUIRED_EXPONENT_SIGN: u128 = 0x100;
 
-/// The [flag][lexical_builder::format_builder::NumberFormatBuilder::no_exponent_without_fraction].
+/// The mask of the [flag][lexical_builder::format_builder::NumberFormatBuilder::no_exponent_without_fraction].
 pub const NO_EXPONENT_WITHOUT_FRACTION: u128 = 0x200;
 
-/// The [flag][lexical_builder::format_builder::NumberFormatBuilder::no_special].
+/// The mask of the [flag][lexical_builder::format_builder::NumberFormatBuilder::no_special].
 pub const NO_SPECIAL: u128 = 0x400;
 
-/// The [flag][lexical_builder::format_builder::NumberFormatBuilder::case_sensitive_special].
+/// The mask of the [flag][lexical_builder::format_builder::NumberFormatBuilder::case_sensitive_special].
 pub const CASE_SENSITIVE_SPECIAL: u128 = 0x800;
 
-/// The [flag][lexical_builder::format_builder::NumberFormatBuilder::no_integer_leading_zeros].
+/// The mask of the [flag][lexical_builder::format_builder::NumberFormatBuilder::no_integer_leading_zeros].
 pub const NO_INTEGER_LEADING_ZEROS: u128 = 0x1000;
 
-/// The [flag][lexical_builder::format_builder::NumberFormatBuilder::no_float_leading_zeros].
+/// The mask of the [flag][lexical_builder::format_builder::NumberFormatBuilder::no_float_leading_zeros].
 pub const NO_FLOAT_LEADING_ZEROS: u128 = 0x2000;
 
-/// The [flag][lexical_builder::format_builder::NumberFormatBuilder::required_exponent_notation].
+/// The mask of the [flag][lexical_builder::format_builder::NumberFormatBuilder::required_exponent_notation].
 pub const REQUIRED_EXPONENT_NOTATION: u128 = 0x4000;
 
-/// The [flag][lexical_builder::format_builder::NumberFormatBuilder::case_sensitive_exponent].
+/// The mask of the [flag][lexical_builder::format_builder::NumberFormatBuilder::case_sensitive_exponent].
 pub const CASE_SENSITIVE_EXPONENT: u128 = 0x8000;
 
-/// The [flag][lexical_builder::format_builder::NumberFormatBuilder::case_sensitive_base_prefix].
+/// The mask of the [flag][lexical_builder::format_builder::NumberFormatBuilder::case_sensitive_base_prefix].
 pub const CASE_SENSITIVE_BASE_PREFIX: u128 = 0x1_0000;
 
-/// The [flag][lexical_builder::format_builder::NumberFormatBuilder::case_sensitive_base_suffix].
+/// The mask of the [flag][lexical_builder::format_builder::NumberFormatBuilder::case_sensitive_base_suffix].
 pub const CASE_SENSITIVE_BASE_SUFFIX: u128 = 0x2_0000;
 
 // DIGIT SEPARATOR FLAGS
 
-/// The [flag][lexical_builder::format_builder::NumberFormatBuilder::integer_internal_digit_separator].
+/// The mask of the [flag][lexical_builder::format_builder::NumberFormatBuilder::integer_internal_digit_separator].
 pub const INTEGER_INTERNAL_DIGIT_SEPARATOR: u128 = 0x1_0000_0000;
 
-/// The [flag][lexical_builder::format_builder::NumberFormatBuilder::fraction_internal_digit_separator].
+/// The mask of the [flag][lexical_builder::format_builder::NumberFormatBuilder::fraction_internal_digit_separator].
 pub const FRACTION_INTERNAL_DIGIT_SEPARATOR: u128 = 0x2_0000_0000;
 
-/// The [flag][lexical_builder::format_builder::NumberFormatBuilder::exponent_internal_digit_separator].
+/// The mask of the [flag][lexical_builder::format_builder::NumberFormatBuilder::exponent_internal_digit_separator].
 pub const EXPONENT_INTERNAL_DIGIT_SEPARATOR: u128 = 0x4_0000_0000;
 
-/// The [flag][lexical_builder::format_builder::NumberFormatBuilder::integer_leading_digit_separator].
+/// The mask of the [flag][lexical_builder::format_builder::NumberFormatBuilder::integer_leading_digit_separator].
 pub const INTEGER_LEADING_DIGIT_SEPARATOR: u128 = 0x8_0000_0000;
 
-/// The [flag][lexical_builder::format_builder::NumberFormatBuilder::fraction_leading_digit_separator].
+/// The mask of the [flag][lexical_builder::format_builder::NumberFormatBuilder::fraction_leading_digit_separator].
 pub const FRACTION_LEADING_DIGIT_SEPARATOR: u128 = 0x10_0000_0000;
 
-/// The [flag][lexical_builder::format_builder::NumberFormatBuilder::exponent_leading_digit_separator].
+/// The mask of the [flag][lexical_builder::format_builder::NumberFormatBuilder::exponent_leading_digit_separator].
 pub const EXPONENT_LEADING_DIGIT_SEPARATOR: u128 = 0x20_0000_0000;
 
-/// The [flag][lexical_builder::format_builder::NumberFormatBuilder::integer_trailing_digit_separator].
+/// The mask of the [flag][lexical_builder::format_builder::NumberFormatBuilder::integer_trailing_digit_separator].
 pub const INTEGER_TRAILING_DIGIT_SEPARATOR: u128 = 0x40_0000_0000;
 
-/// The [flag][lexical_builder::format_builder::NumberFormatBuilder::fraction_trailing_digit_separator].
+/// The mask of the [flag][lexical_builder::format_builder::NumberFormatBuilder::fraction_trailing_digit_separator].
 pub const FRACTION_TRAILING_DIGIT_SEPARATOR: u128 = 0x80_0000_0000;
 
-/// The [flag][lexical_builder::format_builder::NumberFormatBuilder::exponent_trailing_digit_separator].
+/// The mask of the [flag][lexical_builder::format_builder::NumberFormatBuilder::exponent_trailing_digit_separator].
 pub const EXPONENT_TRAILING_DIGIT_SEPARATOR: u128 = 0x100_0000_0000;
 
-/// The [flag][lexical_builder::format_builder::NumberFormatBuilder::integer_consecutive_digit_separator].
+/// The mask of the [flag][lexical_builder::format_builder::NumberFormatBuilder::integer_consecutive_digit_separator].
 pub const INTEGER_CONSECUTIVE_DIGIT_SEPARATOR: u128 = 0x200_0000_0000;
 
-/// The [flag][lexical_builder::format_builder::NumberFormatBuilder::fraction_consecutive_digit_separator].
+/// The mask of the [flag][lexical_builder::format_builder::NumberFormatBuilder::fraction_consecutive_digit_separator].
 pub const FRACTION_CONSECUTIVE_DIGIT_SEPARATOR: u128 = 0x400_0000_0000;
 
-/// The [flag][lexical_builder::format_builder::NumberFormatBuilder::exponent_consecutive_digit_separator].
+/// The mask of the [flag][lexical_builder::format_builder::NumberFormatBuilder::exponent_consecutive_digit_separator].
 pub const EXPONENT_CONSECUTIVE_DIGIT_SEPARATOR: u128 = 0x800_0000_0000;
 
 /// The mask of the [group][lexical_builder::format_builder::NumberFormatBuilder::internal_digit_separator].
@@ -133,7 +133,7 @@ pub const TRAILING_DIGIT_SEPARATOR: u128 = 0x1C0_0000_0000;
 /// The mask of the [group][lexical_builder::format_builder::NumberFormatBuilder::consecutive_digit_separator].
 pub const CONSECUTIVE_DIGIT_SEPARATOR: u128 = 0xE00_0000_0000;
 
-/// The [flag][lexical_builder::format_builder::NumberFormatBuilder::special_digit_separator].
+/// The mask of the [flag][lexical_builder::format_builder::NumberFormatBuilder::special_digit_separator].
 pub const SPECIAL_DIGIT_SEPARATOR: u128 = 0x1000_0000_0000;
 
 // BYTES

@@ -35,11 +35,12 @@ pub enum Fact<'a> {
     Options(u128, u8, u8, bool),
     /// A word, edits, and the word after these edits.
     Edited(u128, Vec<Edit>, u128),
-    /// Setter calls of a new builder, the word that it packs into, and the error of that word.
+    /// Setter calls on a new builder, the word that they build, and the error of that word.
     Built(Vec<Edit>, u128, Error),
 }
 
-/// The fields of a word: its flags at their bits, and its bytes. The exponent bytes have their effective values.
+/// The fields of a word: its flags at their bits, and its bytes. An exponent byte that is 0 is replaced by the mantissa
+/// radix.
 #[derive(Clone, Copy, PartialEq, Eq)]
 pub struct Fields {
     pub flags: u128,

@@ -46,7 +46,7 @@ impl<'a> Parts<'a> {
         }
     }
 
-    /// Returns whether no part is left, and every part could be read.
+    /// Returns whether no part is left and every part could be read.
     pub fn are_read(&self) -> bool {
         self.is_read && self.rest.is_none()
     }
