@@ -82,7 +82,7 @@ pub enum Error {
     InvalidBasePrefix,
     /// The base suffix is a digit, a sign, or a byte that [`is_valid_ascii`][crate::ascii::is_valid_ascii] rejects.
     InvalidBaseSuffix,
-    /// Two of the following share a byte: the digit separator, the base prefix, the base suffix, the exponent
+    /// Two of the following are the same character: the digit separator, the base prefix, the base suffix, the exponent
     /// character and the decimal point. A base prefix, base suffix or exponent character that is a letter matches both
     /// cases of that letter unless a flag makes it case-sensitive.
     InvalidPunctuation,

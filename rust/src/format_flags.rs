@@ -253,7 +253,7 @@ const RESERVED_MASK: u128 = !(FLAG_MASK | DIGIT_SEPARATOR | !0 << BASE_PREFIX_SH
 // `exponent_base` and `exponent_radix` read their byte and the mantissa radix before they choose one of them, so that
 // the compiler needs no branch.
 
-/// Returns the digit separator of the word `format`, or 0 if it is absent. The result does not depend on whether a flag
+/// Returns the digit separator of `format`, or 0 if it is absent. The result does not depend on whether a flag
 /// allows a digit separator.
 #[must_use]
 #[inline(always)]
@@ -261,21 +261,21 @@ pub const fn digit_separator(format: u128) -> u8 {
     ((format & DIGIT_SEPARATOR) >> DIGIT_SEPARATOR_SHIFT) as u8
 }
 
-/// Returns the base prefix of the word `format`, or 0 if it is absent.
+/// Returns the base prefix of `format`, or 0 if it is absent.
 #[must_use]
 #[inline(always)]
 pub const fn base_prefix(format: u128) -> u8 {
     ((format & BASE_PREFIX) >> BASE_PREFIX_SHIFT) as u8
 }
 
-/// Returns the base suffix of the word `format`, or 0 if it is absent.
+/// Returns the base suffix of `format`, or 0 if it is absent.
 #[must_use]
 #[inline(always)]
 pub const fn base_suffix(format: u128) -> u8 {
     ((format & BASE_SUFFIX) >> BASE_SUFFIX_SHIFT) as u8
 }
 
-/// Returns the mantissa radix of the word `format`. The result is at most 255. If `format` is [lawful][Rule], the
+/// Returns the mantissa radix of `format`. The result is at most 255. If `format` is [lawful][Rule], the
 /// result is between 2 and 36.
 #[must_use]
 #[inline(always)]
@@ -283,7 +283,7 @@ pub const fn mantissa_radix(format: u128) -> u32 {
     ((format & MANTISSA_RADIX) >> MANTISSA_RADIX_SHIFT) as u32
 }
 
-/// Returns the exponent base of the word `format`, or the mantissa radix if the exponent base is 0. If `format` is
+/// Returns the exponent base of `format`, or the mantissa radix if the exponent base is 0. If `format` is
 /// [lawful][Rule], the result is between 2 and 36.
 #[must_use]
 #[inline(always)]
@@ -297,7 +297,7 @@ pub const fn exponent_base(format: u128) -> u32 {
     }
 }
 
-/// Returns the exponent radix of the word `format`, or the mantissa radix if the exponent radix is 0. If `format` is
+/// Returns the exponent radix of `format`, or the mantissa radix if the exponent radix is 0. If `format` is
 /// [lawful][Rule], the result is between 2 and 36.
 #[must_use]
 #[inline(always)]
@@ -313,8 +313,8 @@ pub const fn exponent_radix(format: u128) -> u32 {
 
 /// Returns the low 32 bits of `(format & mask) >> shift`, or the mantissa radix if they are 0.
 ///
-/// If `mask` and `shift` belong to one byte, such as [`EXPONENT_BASE`] and [`EXPONENT_BASE_SHIFT`], the result is that
-/// byte, or the mantissa radix if that byte is 0. `shift` must be between 0 and 127.
+/// If `mask` and `shift` belong to one of the six bytes, such as [`EXPONENT_BASE`] and [`EXPONENT_BASE_SHIFT`], the
+/// result is that byte, or the mantissa radix if that byte is 0. `shift` must be between 0 and 127.
 ///
 /// # Panics
 ///

@@ -9,9 +9,10 @@ use crate::format_flags::*;
 /// A rule that a format word keeps or breaks. A word that breaks no rule is *lawful*.
 ///
 /// The variants are in the order in which the rules are checked. The name of each variant states the condition that the
-/// rule imposes. *Punctuation* is a byte that [`is_valid_ascii`][crate::ascii::is_valid_ascii] accepts and that
-/// is neither a sign (`+` or `-`) nor a [digit][is_digit] of the format. An *absent* byte is 0. `Rule` does not
-/// implement `Display`. A [`Reason`][crate::reasons::Reason] explains why a word breaks a rule.
+/// rule imposes. A byte of 0 is *absent*. *Punctuation* is any byte that
+/// [`is_valid_ascii`][crate::ascii::is_valid_ascii] accepts, except signs (`+` and `-`) and [digits][is_digit]
+/// of the format. `Rule` does not implement `Display`. A [`Reason`][crate::reasons::Reason] explains why a word
+/// breaks a rule.
 #[derive(Debug, Clone, Copy, PartialEq, Eq, Hash, PartialOrd, Ord)]
 #[non_exhaustive]
 pub enum Rule {
@@ -27,7 +28,7 @@ pub enum Rule {
     BasePrefixIsPunctuation,
     /// The base suffix is absent or punctuation.
     BaseSuffixIsPunctuation,
-    /// The digit separator, the base prefix and the base suffix share no byte (see [`is_valid_punctuation`]).
+    /// The digit separator, the base prefix and the base suffix all differ (see [`is_valid_punctuation`]).
     PunctuationDiffers,
     /// Exponents are not both forbidden and required.
     ExponentFlagsAgree,
@@ -48,7 +49,7 @@ pub enum Rule {
     /// Consecutive digit separators are allowed in the exponent only if a digit separator is allowed between, before
     /// or after its digits.
     ExponentConsecutiveIsAllowed,
-    /// All reserved bits, which belong to no field, are 0.
+    /// All reserved bits, which hold neither a flag nor a byte, are 0.
     ReservedBitsAreZero,
 }
 
@@ -99,7 +100,7 @@ impl Rule {
         }
     }
 
-    /// Returns whether the word `format` keeps this rule.
+    /// Returns whether `format` keeps this rule.
     #[must_use]
     pub const fn is_kept(self, format: u128) -> bool {
         match self {
@@ -122,7 +123,7 @@ impl Rule {
         }
     }
 
-    /// Returns this rule if the word `format` breaks it, and `None` otherwise.
+    /// Returns this rule if `format` breaks it, and `None` otherwise.
     #[must_use]
     #[doc(hidden)]
     pub const fn if_broken(self, format: u128) -> Option<Rule> {
@@ -165,7 +166,7 @@ impl Rule {
     }
 }
 
-/// Returns the rules that the word `format` breaks. Each entry is `Some` of the rule at the same index in [`RULES`] if
+/// Returns the rules that `format` breaks. Each entry is `Some` of the rule at the same index in [`RULES`] if
 /// the word breaks that rule, and `None` otherwise.
 ///
 /// `broken_rules(format).into_iter().flatten()` iterates over the broken rules. The error of the first one is the

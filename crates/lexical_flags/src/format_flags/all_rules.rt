@@ -13,9 +13,10 @@ use lexical_base::error::Error;
 /// A rule that a format word keeps or breaks. A word that breaks no rule is *lawful*.
 ///
 /// The variants are in the order in which the rules are checked. The name of each variant states the condition that the
-/// rule imposes. *Punctuation* is a byte that [`is_valid_ascii`][lexical_base::ascii::is_valid_ascii] accepts and that
-/// is neither a sign (`+` or `-`) nor a [digit][is_digit] of the format. An *absent* byte is 0. `Rule` does not
-/// implement `Display`. A [`Reason`][lexical_util::reasons::Reason] explains why a word breaks a rule.
+/// rule imposes. A byte of 0 is *absent*. *Punctuation* is any byte that
+/// [`is_valid_ascii`][lexical_base::ascii::is_valid_ascii] accepts, except signs (`+` and `-`) and [digits][is_digit]
+/// of the format. `Rule` does not implement `Display`. A [`Reason`][lexical_util::reasons::Reason] explains why a word
+/// breaks a rule.
 #[derive(Debug, Clone, Copy, PartialEq, Eq, Hash)]
 pub enum Rule {
     /// The mantissa radix is between 2 and 36.
@@ -30,7 +31,7 @@ pub enum Rule {
     BasePrefixIsPunctuation,
     /// The base suffix is absent or punctuation.
     BaseSuffixIsPunctuation,
-    /// The digit separator, the base prefix and the base suffix share no byte (see [`is_valid_punctuation`]).
+    /// The digit separator, the base prefix and the base suffix all differ (see [`is_valid_punctuation`]).
     PunctuationDiffers,
     /// Exponents are not both forbidden and required.
     ExponentFlagsAgree,
@@ -51,7 +52,7 @@ pub enum Rule {
     /// Consecutive digit separators are allowed in the exponent only if a digit separator is allowed between, before
     /// or after its digits.
     ExponentConsecutiveIsAllowed,
-    /// All reserved bits, which belong to no field, are 0.
+    /// All reserved bits, which hold neither a flag nor a byte, are 0.
     ReservedBitsAreZero,
 }
 
@@ -102,7 +103,7 @@ impl Rule {
         }
     }
 
-    /// Returns whether the word `format` keeps this rule.
+    /// Returns whether `format` keeps this rule.
     pub const fn is_kept(self, format: u128) -> bool
         ensures { IsTrue result ↔ Holds self format }
     {
@@ -126,7 +127,7 @@ impl Rule {
         }
     }
 
-    /// Returns this rule if the word `format` breaks it, and `None` otherwise.
+    /// Returns this rule if `format` breaks it, and `None` otherwise.
     pub const fn if_broken(self, format: u128) -> Option<Rule>
         ensures { ReportsRule format self result }
     {
@@ -170,7 +171,7 @@ impl Rule {
     }
 }
 
-/// Returns the rules that the word `format` breaks. Each entry is `Some` of the rule at the same index in [`RULES`] if
+/// Returns the rules that `format` breaks. Each entry is `Some` of the rule at the same index in [`RULES`] if
 /// the word breaks that rule, and `None` otherwise.
 ///
 /// In plain Rust, `broken_rules(format).into_iter().flatten()` iterates over the broken rules. The error of

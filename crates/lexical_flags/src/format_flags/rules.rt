@@ -50,11 +50,11 @@ const fn larger(a: u32, b: u32) -> u32
     if a < b { b } else { a }
 }
 
-/// Returns whether `byte` is a digit of the mantissa radix or of the exponent radix of the word `format`.
+/// Returns whether `byte` is a digit of the mantissa radix or of the exponent radix of `format`.
 ///
-/// Letters of either case are digits: in radix 16, both `f` and `F` are. If the exponent radix is 0, only the mantissa
-/// radix determines the result. The exponent base never does. `format` may be any word. `lexical-util` has no such
-/// function.
+/// Letters of either case are digits: in radix 16, both `f` and `F` are. If the exponent radix is 0, the mantissa radix
+/// replaces it. The exponent base does not affect the result. `format` need not be [lawful][Rule]. `lexical-util` has
+/// no such function.
 #[inline(always)]
 pub const fn is_digit(format: u128, byte: u8) -> bool
     ensures { IsTrue result ↔ IsTrue (digits (raw format) byte) }
@@ -179,10 +179,10 @@ pub(crate) const fn is_valid_exponent_radix(format: u128) -> bool
 
 // PUNCTUATION
 
-/// Returns whether the digit separator of the word `format` is absent or punctuation.
+/// Returns whether the digit separator of `format` is absent or punctuation.
 ///
-/// An absent byte is 0. *Punctuation* is a byte that [`is_valid_ascii`][lexical_base::ascii::is_valid_ascii]
-/// accepts and that is neither a sign (`+` or `-`) nor a [digit][is_digit] of `format`.
+/// A byte of 0 is *absent*. *Punctuation* is any byte that [`is_valid_ascii`][lexical_base::ascii::is_valid_ascii]
+/// accepts, except signs (`+` and `-`) and [digits][is_digit] of `format`.
 ///
 /// The flags do not affect the result: a digit is rejected even if no flag allows a separator, and 0 is accepted even
 /// if a flag allows one.
@@ -193,10 +193,10 @@ pub const fn is_valid_digit_separator(format: u128) -> bool
     is_absent_or_punctuation(format, digit_separator(format))
 }
 
-/// Returns whether the base prefix of the word `format` is absent or punctuation.
+/// Returns whether the base prefix of `format` is absent or punctuation.
 ///
-/// An absent byte is 0. *Punctuation* is a byte that [`is_valid_ascii`][lexical_base::ascii::is_valid_ascii]
-/// accepts and that is neither a sign (`+` or `-`) nor a [digit][is_digit] of `format`.
+/// A byte of 0 is *absent*. *Punctuation* is any byte that [`is_valid_ascii`][lexical_base::ascii::is_valid_ascii]
+/// accepts, except signs (`+` and `-`) and [digits][is_digit] of `format`.
 #[inline(always)]
 pub const fn is_valid_base_prefix(format: u128) -> bool
     ensures { IsTrue result ↔ Holds rules.BasePrefixIsPunctuation format }
@@ -204,10 +204,10 @@ pub const fn is_valid_base_prefix(format: u128) -> bool
     is_absent_or_punctuation(format, base_prefix(format))
 }
 
-/// Returns whether the base suffix of the word `format` is absent or punctuation.
+/// Returns whether the base suffix of `format` is absent or punctuation.
 ///
-/// An absent byte is 0. *Punctuation* is a byte that [`is_valid_ascii`][lexical_base::ascii::is_valid_ascii]
-/// accepts and that is neither a sign (`+` or `-`) nor a [digit][is_digit] of `format`.
+/// A byte of 0 is *absent*. *Punctuation* is any byte that [`is_valid_ascii`][lexical_base::ascii::is_valid_ascii]
+/// accepts, except signs (`+` and `-`) and [digits][is_digit] of `format`.
 #[inline(always)]
 pub const fn is_valid_base_suffix(format: u128) -> bool
     ensures { IsTrue result ↔ Holds rules.BaseSuffixIsPunctuation format }
@@ -215,13 +215,13 @@ pub const fn is_valid_base_suffix(format: u128) -> bool
     is_absent_or_punctuation(format, base_suffix(format))
 }
 
-/// Returns whether the digit separator, the base prefix and the base suffix of the word `format` share no byte.
+/// Returns whether the digit separator, the base prefix and the base suffix of `format` all differ.
 ///
-/// A byte that is 0 is absent and is not compared. A base prefix that is a letter matches both cases of that letter
-/// unless [`CASE_SENSITIVE_BASE_PREFIX`] is set. Likewise, a base suffix that is a letter matches both cases unless
-/// [`CASE_SENSITIVE_BASE_SUFFIX`] is set. So the prefix `h` and the suffix `H` share a byte unless both flags are set.
-/// The digit separator is always case-sensitive. `lexical-util` compares the raw bytes, so it always accepts the prefix
-/// `h` with the suffix `H`.
+/// A byte of 0 is absent, and is not compared. A base prefix that is a letter matches both cases of that letter unless
+/// [`CASE_SENSITIVE_BASE_PREFIX`] is set. Likewise, a base suffix that is a letter matches both cases unless
+/// [`CASE_SENSITIVE_BASE_SUFFIX`] is set. So the prefix `h` and the suffix `H` do not count as different unless both
+/// flags are set. The digit separator is always case-sensitive. `lexical-util` compares the raw bytes, so it always
+/// accepts the prefix `h` with the suffix `H`.
 #[inline(always)]
 pub const fn is_valid_punctuation(format: u128) -> bool
     ensures { IsTrue result ↔ Holds rules.PunctuationDiffers format }
@@ -276,11 +276,12 @@ const fn is_disjoint_from_format_roles(format: u128, byte: u8, case_sensitive: b
 /// numbers of this format.
 ///
 /// Each must be a byte that [`is_valid_ascii`][lexical_base::ascii::is_valid_ascii] accepts and that is neither a sign
-/// (`+` or `-`) nor a [digit][is_digit] of the format. So neither may be 0. Neither may share a byte with the other,
-/// the digit separator, the base prefix or the base suffix. If the exponent character is a letter, it matches both
-/// cases of that letter unless [`CASE_SENSITIVE_EXPONENT`] is set. The base prefix and the base suffix are compared as
-/// in [`is_valid_punctuation`]. The decimal point is always case-sensitive. Every [lawful][Rule] format accepts at
-/// least one pair. With each pair that it accepts, no byte plays two roles. `lexical-util` compares the raw bytes.
+/// (`+` or `-`) nor a [digit][is_digit] of `format`. So neither may be 0. Neither may equal the other, the digit
+/// separator, the base prefix or the base suffix. If the exponent character is a letter, it matches both cases of that
+/// letter unless [`CASE_SENSITIVE_EXPONENT`] is set. The base prefix and the base suffix are compared as in
+/// [`is_valid_punctuation`]. The decimal point is always case-sensitive. Every [lawful][Rule] format accepts at least
+/// one pair. With a pair that it accepts, no byte has two meanings in a number. `lexical-util` compares the raw bytes,
+/// so a letter there matches only its own case.
 ///
 /// In plain Rust:
 ///
@@ -312,8 +313,8 @@ pub const fn is_valid_options_punctuation(format: u128, exponent: u8, decimal_po
 ///
 /// 1. If the exponent character is a digit, a sign, or not allowed ASCII, the result is `InvalidExponentSymbol`.
 /// 2. Otherwise, if the decimal point is a digit, a sign, or not allowed ASCII, the result is `InvalidDecimalPoint`.
-/// 3. Otherwise, if they share a byte with each other, the digit separator, the base prefix or the base suffix, the
-///    result is `InvalidPunctuation`.
+/// 3. Otherwise, if one of them equals the other, the digit separator, the base prefix or the base suffix, the result
+///    is `InvalidPunctuation`.
 ///
 /// `lexical-util` has no such function.
 pub const fn options_error(format: u128, exponent: u8, decimal_point: u8) -> Error
@@ -342,7 +343,7 @@ const fn first_options_error(format: u128, exponent: u8, decimal_point: u8) -> E
 
 // FLAGS
 
-/// Returns `false` if both [`NO_EXPONENT_NOTATION`] and [`REQUIRED_EXPONENT_NOTATION`] are set in the word
+/// Returns `false` if both [`NO_EXPONENT_NOTATION`] and [`REQUIRED_EXPONENT_NOTATION`] are set in
 /// `format`, and `true` otherwise.
 #[inline(always)]
 pub const fn is_valid_exponent_flags(format: u128) -> bool
@@ -410,7 +411,8 @@ pub(crate) const fn is_valid_exponent_consecutive_flags(format: u128) -> bool
     format & EXPONENT_DIGIT_SEPARATOR_FLAG_MASK != EXPONENT_CONSECUTIVE_DIGIT_SEPARATOR
 }
 
-/// Returns whether all reserved bits of `format`, which belong to no field, are 0. `lexical-util` has no such function.
+/// Returns whether all reserved bits of `format` are 0. The reserved bits hold neither a flag nor a byte.
+/// `lexical-util` has no such function.
 #[inline(always)]
 pub const fn is_clean(format: u128) -> bool
     ensures { IsTrue result ↔ IsClean format }
@@ -508,7 +510,7 @@ const fn first_broken(format: u128) -> Error
     first_broken_reserved(format)
 }
 
-/// Returns the error of the first radix of the word `format` that is not between 2 and 36, or `Success` if all are.
+/// Returns the error of the first radix of `format` that is not between 2 and 36, or `Success` if all are.
 ///
 /// The order is mantissa radix, exponent base, exponent radix. If the exponent base or the exponent radix is 0, the
 /// mantissa radix is tested instead.
@@ -529,7 +531,7 @@ pub const fn radix_error_impl(format: u128) -> Error
     }
 }
 
-/// Returns the error of the first rule that the word `format` breaks, or `Success` if it is lawful, that is, if it
+/// Returns the error of the first rule that `format` breaks, or `Success` if it is lawful, that is, if it
 /// breaks no rule.
 ///
 /// The rules are checked in this order. Each rule is followed by its error:
@@ -541,7 +543,7 @@ pub const fn radix_error_impl(format: u128) -> Error
 /// 4. The digit separator is valid ([`is_valid_digit_separator`]): `InvalidDigitSeparator`.
 /// 5. The base prefix is valid ([`is_valid_base_prefix`]): `InvalidBasePrefix`.
 /// 6. The base suffix is valid ([`is_valid_base_suffix`]): `InvalidBaseSuffix`.
-/// 7. The digit separator, the base prefix and the base suffix share no byte ([`is_valid_punctuation`]):
+/// 7. The digit separator, the base prefix and the base suffix all differ ([`is_valid_punctuation`]):
 ///    `InvalidPunctuation`.
 /// 8. [`NO_EXPONENT_NOTATION`] and [`REQUIRED_EXPONENT_NOTATION`] are not both set: `InvalidExponentFlags`.
 /// 9. [`NO_POSITIVE_MANTISSA_SIGN`] and [`REQUIRED_MANTISSA_SIGN`] are not both set: `InvalidMantissaSign`.
