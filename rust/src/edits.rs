@@ -199,7 +199,7 @@ pub enum FlagSetter {
     /// Sets all flags that allow consecutive digit separators. See
     /// [`consecutive_digit_separator`][crate::format_builder::NumberFormatBuilder::consecutive_digit_separator].
     ConsecutiveDigitSeparator,
-    /// Sets all flags that allow digit separators. See
+    /// Sets all flags that allow digit separators, including the flag that allows them in special values. See
     /// [`digit_separator_flags`][crate::format_builder::NumberFormatBuilder::digit_separator_flags].
     DigitSeparatorFlags,
     /// Sets all flags that allow digit separators in the integer part. See

@@ -225,7 +225,7 @@ pub const FLAG_MASK: u128 = 0x1FFF_0003_FFFF;
 /// separators, except [`CASE_SENSITIVE_EXPONENT`] and [`SPECIAL_DIGIT_SEPARATOR`].
 pub const INTERFACE_FLAG_MASK: u128 = 0xFFF_0000_63CF;
 
-/// The mask of all flags that allow digit separators. See the
+/// The mask of all flags that allow digit separators, including the flag that allows them in special values. See the
 /// [setter][crate::format_builder::NumberFormatBuilder::digit_separator_flags].
 pub const DIGIT_SEPARATOR_FLAG_MASK: u128 = 0x1FFF_0000_0000;
 

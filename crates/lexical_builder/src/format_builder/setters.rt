@@ -17,9 +17,9 @@ impl NumberFormatBuilder {
 
     /// Sets the digit separator: the byte that separates groups of digits, such as the `_` in `1_000`.
     ///
-    /// The digit separator flags define where it is allowed. It is packed only if one of them is set. In a lawful
-    /// format, it is punctuation: allowed ASCII (see `is_valid_ascii`) that is neither a sign nor a digit of the
-    /// mantissa or the exponent.
+    /// The digit separator flags define where the digit separator is allowed. If none of these flags is set, the digit
+    /// separator is not packed into the word. In a lawful format, it is punctuation: allowed ASCII (see
+    /// `is_valid_ascii`) that is neither a sign nor a digit of the mantissa or the exponent.
     #[inline(always)]
     pub const fn digit_separator(self, character: OptionU8) -> Self
         ensures { result ≡ after self (write_byte layout.digit_separator (byte_of_option character) ∷ []) }
@@ -27,7 +27,7 @@ impl NumberFormatBuilder {
         self.with_byte(DIGIT_SEPARATOR, byte_or_zero(character))
     }
 
-    /// Sets the mantissa radix. This is another name for `mantissa_radix`.
+    /// Sets the mantissa radix. This method is the same as [`mantissa_radix`][Self::mantissa_radix].
     #[inline(always)]
     pub const fn radix(self, radix: u8) -> Self
         ensures { result ≡ after self (write_byte layout.mantissa_radix radix ∷ []) }
@@ -37,8 +37,8 @@ impl NumberFormatBuilder {
 
     /// Sets the mantissa radix: the radix of the integer and fraction digits.
     ///
-    /// It is also used in place of an absent exponent base or exponent radix. In a lawful format, it is between 2 and
-    /// 36.
+    /// It is also used in place of an absent exponent base or exponent radix. In a lawful format, the mantissa radix is
+    /// between 2 and 36.
     #[inline(always)]
     pub const fn mantissa_radix(self, radix: u8) -> Self
         ensures { result ≡ after self (write_byte layout.mantissa_radix radix ∷ []) }
@@ -399,7 +399,7 @@ impl NumberFormatBuilder {
         self.with_flags(flags::SPECIAL_DIGIT_SEPARATOR, flag)
     }
 
-    /// Sets all flags that allow digit separators. One of them allows digit separators in special values.
+    /// Sets all flags that allow digit separators, including the flag that allows them in special values.
     #[inline(always)]
     pub const fn digit_separator_flags(self, flag: bool) -> Self
         ensures { result ≡ after self (write_flags layout.digit_separator_flags flag) }
