@@ -1,4 +1,4 @@
-//! Literals of a small assembler: one format that is known when the program is compiled, and one that its user sets.
+//! Parses the literals of a small assembler. One format is known at compile time, and the user sets the other one.
 //!
 //!     cargo run --example face_program
 
@@ -7,7 +7,7 @@ use peltzivar::format::{NumberFormat, NumberFormatBuilder, STANDARD};
 use peltzivar::{Edit, Error, FlagSetter, Format, FormatView, Rule, SettingError};
 use std::collections::BTreeSet;
 
-/// `0x00_ff`. A format that is not lawful does not compile.
+/// Hexadecimal numbers such as `0x00_ff`. A format that is not lawful does not compile.
 const HEXADECIMAL: u128 = NumberFormatBuilder::new()
     .mantissa_radix(16)
     .base_prefix(NonZeroU8::new(b'x'))
@@ -15,10 +15,10 @@ const HEXADECIMAL: u128 = NumberFormatBuilder::new()
     .integer_internal_digit_separator(true)
     .build_or_panic();
 
-/// The same, checked once, when the program is compiled.
+/// The same format, which is checked once, at compile time.
 const CHECKED: Format = Format::of::<HEXADECIMAL>();
 
-/// The value of a literal. It takes nothing but lawful formats: no byte of the text has two meanings.
+/// Returns the value of a literal. Only lawful formats are accepted, so no byte of the text has two roles.
 fn value(text: &str, format: impl Into<Format>) -> Option<u64> {
     let format: Format = format.into();
     let prefix = ['0', char::from(format.base_prefix())];
@@ -40,13 +40,14 @@ fn value(text: &str, format: impl Into<Format>) -> Option<u64> {
     Some(value)
 }
 
-/// Returns the number of digits in a text, for any view: lawful or not, known at compile time or at run time.
+/// Returns the number of digits in a text. The view may have any word, lawful or not, known at compile time or at run
+/// time.
 fn digits(text: &str, view: impl Into<FormatView>) -> usize {
     let view = view.into();
     text.bytes().filter(|byte| view.is_digit(*byte)).count()
 }
 
-/// The format of settings, or each thing that is wrong with them, behind the numbers of its lines.
+/// Returns the format that settings describe, or their problems, each with the numbers of the lines that cause it.
 fn read(settings: &str) -> Result<Format, Vec<String>> {
     let mut problems = Vec::new();
     let mut edits: Vec<(usize, Edit)> = Vec::new();
@@ -83,7 +84,7 @@ fn read(settings: &str) -> Result<Format, Vec<String>> {
     Err(problems)
 }
 
-/// The same literals in another radix, whose exponents follow it, from a finished format.
+/// Returns the format in another radix. An absent exponent base or exponent radix follows the new radix.
 fn in_radix(format: Format, radix: u8) -> Result<Format, Error> {
     NumberFormatBuilder::from(format)
         .mantissa_radix(radix)
@@ -91,7 +92,7 @@ fn in_radix(format: Format, radix: u8) -> Result<Format, Error> {
 }
 
 fn main() -> Result<(), Box<dyn std::error::Error>> {
-    // A format that is known when the program is compiled: as a type, as a value, as a word.
+    // A format that is known at compile time, as a type, as a value and as a word.
     assert_eq!(
         value("0xff_ff", NumberFormat::<HEXADECIMAL>::new()),
         Some(0xFFFF)
@@ -103,7 +104,7 @@ fn main() -> Result<(), Box<dyn std::error::Error>> {
         3 + 2
     );
 
-    // Settings that are right, and settings that are wrong.
+    // Valid settings, and settings with problems.
     let format = read("mantissa_radix=2\nbase_prefix='b'\nno_special=true")
         .map_err(|problems| problems.join("\n"))?;
     assert_eq!(value("0b101", format), Some(5));
@@ -119,13 +120,15 @@ fn main() -> Result<(), Box<dyn std::error::Error>> {
             "{4}: no number can have the digit separator '_': no flag allows one",
         ]
     );
-    // One cause has one sentence: the absent exponent bytes follow the mantissa radix and have no reason of their own.
+    // A single cause has a single sentence. The absent exponent bytes follow the mantissa radix, and have no reason of
+    // their own.
     assert_eq!(
         read("mantissa_radix=37").unwrap_err(),
         ["{1}: the mantissa radix 37 is not between 2 and 36"]
     );
 
-    // Derived formats: the fields as they are written, or with the exponent filled first.
+    // Derived formats: `from` keeps the fields as they are, and `rebuild` first sets absent exponent bytes to the
+    // mantissa radix.
     let octal = in_radix(CHECKED, 8)?;
     assert_eq!(
         (octal.radix(), octal.exponent_base(), octal.exponent_radix()),
@@ -151,7 +154,7 @@ fn main() -> Result<(), Box<dyn std::error::Error>> {
     assert_eq!(octal.edits().collect::<NumberFormatBuilder>(), octal.into());
     assert_eq!(in_radix(CHECKED, 37), Err(Error::InvalidMantissaRadix));
 
-    // A word that came from elsewhere, and all that is wrong with it.
+    // A word from another source, and all its problems.
     let view: FormatView = "0x00000A2B00000000000000008000003C".parse()?;
     assert_eq!(view.check(), Err(Error::InvalidBaseSuffix));
     let sentences: Vec<String> = view.reasons().map(|reason| format!("{reason}")).collect();
@@ -178,7 +181,7 @@ fn main() -> Result<(), Box<dyn std::error::Error>> {
          broken_rules: [BaseSuffixIsPunctuation, MantissaSignFlagsAgree, ReservedBitsAreZero] }"
     );
 
-    // Text and hexadecimal digits, of formats and of settings, there and back.
+    // Formats and settings as text and hexadecimal digits, in both directions.
     assert_eq!(format!("{octal}").parse(), Ok(octal));
     assert_eq!(
         format!("{CHECKED:#x} {CHECKED:X}"),

@@ -458,8 +458,9 @@ pub const fn normal_form(format: u128) -> u128 {
 
 /// Returns the [normal form][normal_form] of `format` if that form is [lawful][flags::Rule].
 ///
-/// Use this function for words that `lexical-util` stored, or that this crate stored before its rules changed. A word
-/// with reserved bits or with a digit separator that no flag allows is accepted, since its normal form has neither.
+/// Use this function for words that `lexical-util` stored, or that this crate stored before its rules changed. Reserved
+/// bits that are set, and a digit separator that no flag allows, are not errors, since the normal form does not have
+/// them.
 ///
 /// # Errors
 ///

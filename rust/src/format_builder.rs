@@ -350,7 +350,8 @@ impl NumberFormatBuilder {
         (self.flags, self.bytes)
     }
 
-    /// Sets each flag whose bit in a format word is set in `mask` to `value`. The other bits of `mask` have no effect.
+    /// Sets every flag in `mask` to `value`. A flag is in `mask` if its bit in a format word is 1 in `mask`. The other
+    /// bits of `mask` have no effect.
     #[must_use]
     #[inline(always)]
     #[doc(hidden)]

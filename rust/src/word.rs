@@ -1,7 +1,7 @@
 // Made by rust/tools/erase.py from crates/lexical_util/src/format.rt: change that file.
 
-//! The standard format, the view and the checks of a word that is a value, and all names of
-//! `format_flags` and `format_builder`.
+//! The standard format, the view of a format word, two functions that check a word, and all names of `format_flags` and
+//! `format_builder`.
 
 use crate::error::Error;
 pub use crate::format_builder::{NonZeroU8, NumberFormatBuilder, OptionU8};

@@ -353,7 +353,8 @@ impl NumberFormatBuilder {
         (self.flags, self.bytes)
     }
 
-    /// Sets each flag whose bit in a format word is set in `mask` to `value`. The other bits of `mask` have no effect.
+    /// Sets every flag in `mask` to `value`. A flag is in `mask` if its bit in a format word is 1 in `mask`. The other
+    /// bits of `mask` have no effect.
     #[inline(always)]
     pub const fn with_flags(mut self, mask: u128, value: bool) -> Self
         ensures { result ≡ after self (write_flags (flags_with mask) value) }

@@ -1,5 +1,5 @@
-//! The standard format, the view and the checks of a word that is a value, and all names of
-//! `format_flags` and `format_builder`.
+//! The standard format, the view of a format word, two functions that check a word, and all names of `format_flags` and
+//! `format_builder`.
 
 ghost use Rattle.std.specs.Prelude.{◌≡◌, ◌↔◌, IsTrue};
 ghost use Rattle.lexical_flags.specs.Rules.{Lawful, IsErrorOf};

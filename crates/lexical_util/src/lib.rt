@@ -1,7 +1,8 @@
 //! Number formats in a `u128`: their fields, and the calls that build, edit and check them.
 //!
-//! This crate re-exports the modules of the three crates below, under the names of the files of `lexical-util`, so that
-//! code depends only on this crate. It also re-exports their definitions in `specs`, and their laws in [`laws`].
+//! This crate re-exports the modules of `lexical_base`, `lexical_flags` and `lexical_builder` under the module names of
+//! `lexical-util`, so that a program needs only this crate. It also re-exports the definitions of these crates in
+//! `specs`, and their laws in [`laws`].
 #![tactic(auto)]
 
 pub mod edits;
