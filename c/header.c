@@ -1,5 +1,5 @@
-/* Tests that peltzivar.h fits the library: the order of fields, and each call once. Its expected values come from the
- * layout that the header describes, and from lexical-util 1.0.7. */
+/* Tests that peltzivar.h agrees with the library: the order of the fields, and each function at least once. The
+ * expected values come from the layout that the header describes, and from lexical-util 1.0.7. */
 #include "peltzivar.h"
 
 #include <stdio.h>
@@ -21,12 +21,12 @@ static bool is_word(peltzivar_word word, uint64_t high, uint64_t low) {
     return word.high == high && word.low == low;
 }
 
-/* Returns whether this whole text was written with its final 0, and nothing after it. */
+/* Returns whether the whole text and its null terminator were written, and nothing after them. */
 static bool is_text(const char *wanted, size_t len, const char *text) {
     return len == strlen(wanted) && strcmp(wanted, text) == 0 && text[len + 1] == '#';
 }
 
-/* The initialisers are constant at file scope, alone and in an array. */
+/* The initialisers are constant expressions: they can be used at file scope and in an array. */
 static peltzivar_fields start = PELTZIVAR_NEW_FIELDS_INIT;
 static const peltzivar_word starts[] = {PELTZIVAR_STANDARD_INIT, {1, 2}, PELTZIVAR_STANDARD_INIT};
 
@@ -41,7 +41,7 @@ static void test_constants(void) {
     CHECK(peltzivar_version() == PELTZIVAR_VERSION_NUMBER);
 }
 
-/* Each byte of the fields at its bits, and each flag. */
+/* Each byte and each flag of the fields is at its bits in the word. */
 static void test_fields(void) {
     const peltzivar_edit edits[] = {
         {PELTZIVAR_SET_DIGIT_SEPARATOR, 1}, {PELTZIVAR_SET_BASE_PREFIX, 2}, {PELTZIVAR_SET_BASE_SUFFIX, 3},
@@ -93,8 +93,8 @@ static void test_words(void) {
     CHECK(peltzivar_is_built(PELTZIVAR_STANDARD) && !peltzivar_is_built(RESERVED));
 }
 
-/* Two calls are not always one call with the edits of both: the first drops a separator that no flag allows yet, and
- * the second fills an exponent byte that the first set to 0. */
+/* Two calls do not always give the same word as one call with both lists of edits: the first call drops a digit
+ * separator that no flag allows yet, and the second call fills an exponent byte that the first call set to 0. */
 static void test_two_calls(void) {
     const peltzivar_edit separator[] = {
         {PELTZIVAR_SET_DIGIT_SEPARATOR, '_'}, {PELTZIVAR_SET_INTEGER_INTERNAL_DIGIT_SEPARATOR, 1}};
@@ -110,7 +110,7 @@ static void test_two_calls(void) {
     CHECK(peltzivar_edit_word(word, &radix[1], 1, &word) && is_word(word, 0x0A0A100000000000, 0xC));
 }
 
-/* An array of PELTZIVAR_FIELD_COUNT edits is written to its last entry, and no further. */
+/* peltzivar_edits_of writes exactly PELTZIVAR_FIELD_COUNT edits. */
 static void test_edits_of(void) {
     peltzivar_edit edits[PELTZIVAR_FIELD_COUNT + 64];
     memset(edits, '#', sizeof edits);
@@ -151,7 +151,7 @@ static void test_rules(void) {
     CHECK(peltzivar_radix_from_flags(hexadecimal, mask, 128) == UINT32_MAX);
 }
 
-/* The bytes that are the base prefix and the base suffix: a letter in both cases, unless its flag is set. */
+/* The base prefix and the base suffix match both cases of a letter unless their flag is set. */
 static void test_affixes(void) {
     static const struct {
         peltzivar_word word;
@@ -173,7 +173,8 @@ static void test_affixes(void) {
     }
 }
 
-/* The smallest word that breaks each of the rules 4 to 8 (docs/FORMAT.md) is refused only by the test of that rule. */
+/* For each of the rules 4 to 8 of docs/FORMAT.md, only the test of the rule refuses the smallest word that breaks
+ * it. */
 static void test_one_rule_each(void) {
     bool (*const tests[])(peltzivar_word) = {
         peltzivar_is_valid_digit_separator, peltzivar_is_valid_base_prefix,     peltzivar_is_valid_base_suffix,
@@ -188,7 +189,7 @@ static void test_one_rule_each(void) {
     }
 }
 
-/* For each rule the smallest word that breaks it, and why (docs/FORMAT.md). */
+/* The smallest word that breaks each rule, and the reason, as in docs/FORMAT.md. */
 static void test_reasons(void) {
     static const char needs[] = " requires an internal, leading or trailing flag for the same part of the number";
     static const struct {
@@ -219,7 +220,7 @@ static void test_reasons(void) {
     for (uint8_t rule = 0; rule < PELTZIVAR_RULE_COUNT; rule++) {
         const peltzivar_word word = rows[rule].word;
         snprintf(wanted, sizeof wanted, "%s%s", rows[rule].why, rows[rule].end);
-        /* The first reason of an exponent byte is the mantissa radix that it follows. */
+        /* For the rule of an exponent byte, the first slot is for a reason that blames the mantissa radix. */
         const bool is_second = rule == PELTZIVAR_RULE_EXPONENT_BASE_IN_RANGE ||
                                rule == PELTZIVAR_RULE_EXPONENT_RADIX_IN_RANGE;
         int slots = 0;
@@ -257,7 +258,7 @@ static void test_reasons(void) {
     CHECK(is_word(peltzivar_rule_mask(PELTZIVAR_RULE_COUNT), 0, 0) && is_word(peltzivar_rule_mask(UINT8_MAX), 0, 0));
 }
 
-/* The slot of the reason with this text; PELTZIVAR_CANDIDATE_COUNT if no slot has it. */
+/* Returns the slot of the reason with this text, or PELTZIVAR_CANDIDATE_COUNT if no slot has this reason. */
 static uint8_t slot_of(peltzivar_word word, const char *reason) {
     char text[PELTZIVAR_TEXT_SIZE];
     uint8_t index = 0;
@@ -269,7 +270,7 @@ static uint8_t slot_of(peltzivar_word word, const char *reason) {
     return index;
 }
 
-/* Masks of reasons, and the edits that mend them. */
+/* Tests the masks of reasons, and the edits that mend fields. */
 static void test_blame(void) {
     static const uint8_t mantissa = PELTZIVAR_FIELD_COUNT - 3, prefix = PELTZIVAR_FIELD_COUNT - 5;
     const peltzivar_word radix = {0xC, 0x0000250000000000}, based = {0xC, 0x0008250000000000};
@@ -289,7 +290,7 @@ static void test_blame(void) {
     CHECK(peltzivar_word_reason_mend(based, slot_of(based, sentence), mantissa, edits) == 2);
     CHECK(peltzivar_edit_word(based, edits, 2, &word) && is_word(word, 0x00080A0000000000, 0xC));
 
-    /* The radix is 10 already. */
+    /* The mantissa radix is 10 already. */
     const uint8_t of_five = slot_of(five, "the digit separator '5' is a digit in radix 10");
     CHECK(is_word(peltzivar_word_reason_mask(five, of_five), 0x0000FF00000000FF, 0));
     CHECK(peltzivar_word_reason_mend(five, of_five, mantissa, edits) == 0);
@@ -315,7 +316,7 @@ static void test_blame(void) {
     CHECK(is_word(peltzivar_word_reason_mask(RESERVED, of_bits), 0, 0x80000000));
 }
 
-/* The notes on fields: each in its slot, with its mask. */
+/* Tests the notes on fields: each note is in its slot and has its mask. */
 static void test_notes(void) {
     static const struct {
         peltzivar_edit edits[2];
@@ -337,7 +338,7 @@ static void test_notes(void) {
          "case_sensitive_base_suffix changes nothing: there is no base suffix", {0x20000, 0xFF00000000}},
         {{{PELTZIVAR_SET_CASE_SENSITIVE_BASE_SUFFIX, 1}, {PELTZIVAR_SET_BASE_SUFFIX, '~'}}, 2,
          "case_sensitive_base_suffix changes nothing: the base suffix '~' is not a letter", {0x20000, 0xFF00000000}},
-        /* A reason blames the prefix, so it has no note. */
+        /* A reason blames the base prefix, so the note on it is omitted. */
         {{{PELTZIVAR_SET_CASE_SENSITIVE_BASE_PREFIX, 1}, {PELTZIVAR_SET_BASE_PREFIX, '5'}}, 1, "", {0, 0}},
     };
     char text[PELTZIVAR_TEXT_SIZE];
@@ -418,7 +419,7 @@ static void test_texts(void) {
     CHECK(is_text("exponent_base", peltzivar_setter_name(PELTZIVAR_SET_EXPONENT_BASE, text, sizeof text), text));
 }
 
-/* Settings as text, and the bits that an edit writes. */
+/* Tests settings as text, and the bits that an edit writes. */
 static void test_settings(void) {
     static const struct {
         const char *text;
@@ -479,7 +480,7 @@ static void test_settings(void) {
     CHECK(is_word(peltzivar_edit_mask((peltzivar_edit){PELTZIVAR_SET_EXPONENT_RADIX + 1, 1}), 0, 0));
 }
 
-/* The sentence of a refused setting. */
+/* Tests the reasons why settings are refused. */
 static void test_setting_errors(void) {
     static const struct {
         const char *text, *sentence;
@@ -504,7 +505,7 @@ static void test_setting_errors(void) {
     CHECK(strcmp(text, "no_special") == 0 && text[11] == '#');
 }
 
-/* A word as text, the word of a text, and a word as Rust code. */
+/* Tests a word as text, the word of a text, and a word as Rust code. */
 static void test_word_texts(void) {
     const peltzivar_word word = {0x12ab, 0x0A0A10000000005F};
     char text[PELTZIVAR_SOURCE_SIZE];
@@ -530,13 +531,13 @@ static void test_word_texts(void) {
     memset(text, '#', sizeof text);
     const char *code = "NumberFormatBuilder::new().mantissa_radix(16).build_unchecked()";
     CHECK(is_text(code, peltzivar_source((peltzivar_word){0xC, 0x0000100000000000}, text, sizeof text), text));
-    /* The longest text: each flag that a new builder does not have, neither of those that it has, and large bytes. */
+    /* The longest text: each flag differs from its default, and each byte has three decimal digits. */
     const peltzivar_word longest = {0x00001FFF0003FFF3, 0xFFFFFFFFFF0000FF};
     CHECK(peltzivar_source(longest, text, 0) == 1294 && strcmp(code, text) == 0);
     CHECK(peltzivar_source(longest, text, sizeof text) == strlen(text) && strlen(text) == 1294);
 }
 
-/* A flag setter has its flag, a group setter is set if any of its flags is, and other setters have no flag. */
+/* A flag setter reads its flag, a group setter is set if any of its flags is set, and other setters have no flag. */
 static void test_flag(void) {
     for (uint8_t flag = 0; flag < PELTZIVAR_SET_REQUIRED_DIGITS; flag++) {
         const peltzivar_edit set = {flag, 1};
@@ -554,7 +555,7 @@ static void test_flag(void) {
     }
 }
 
-/* A null pointer with a length of 0 is an empty array. */
+/* A null pointer with a length of 0 is accepted as an empty array. */
 static void test_null(void) {
     peltzivar_fields fields = PELTZIVAR_NEW_FIELDS;
     peltzivar_word word = {1, 2};

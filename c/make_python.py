@@ -1,6 +1,6 @@
 #!/usr/bin/env python3
-"""Writes the parts of peltzivar.py that come from peltzivar.h, each between the lines `# Made: ..` and `# End`. The
-sentences on fields come from docs/FORMAT.md. docs/check.py tests that the parts are up to date."""
+"""Writes the parts of peltzivar.py that come from peltzivar.h. Each part is between the lines `# Made: ..` and `# End`.
+The sentences on fields come from docs/FORMAT.md. docs/check.py tests that the parts are up to date."""
 import pathlib
 import re
 import sys
@@ -25,12 +25,12 @@ TYPES = {
 
 
 def defined(name):
-    """Returns what the header defines a constant as."""
+    """Returns the definition of a constant in the header."""
     return re.search(rf"^#define PELTZIVAR_{name} (.+)$", HEADER, re.M)[1]
 
 
 def enumerators(prefix):
-    """Returns the names behind a prefix in their order. Their numbers count up from 0."""
+    """Returns the names with a prefix, without the prefix, in order. Their numbers are 0, 1, 2 and so on."""
     return re.findall(rf"^    PELTZIVAR_{prefix}_([A-Z_]+)\b", HEADER, re.M)
 
 
@@ -52,9 +52,9 @@ def enums():
     """Returns the enumerations."""
     errors = sorted((number, name.removeprefix("PELTZIVAR_")) for name, number in check_header.outcomes())
     return [
-        *enum("Setter", "A setter: its name in capital letters, and its number.", enumerate(enumerators("SET"))),
-        *enum("Rule", "A rule, in the order in which the rules are tried.", enumerate(enumerators("RULE"))),
-        *enum("Error", "An error, or success, which is 0.", errors),
+        *enum("Setter", "The number of each setter. The name of a member is the name of the setter in uppercase.", enumerate(enumerators("SET"))),
+        *enum("Rule", "The number of each rule, in the order in which the rules are checked.", enumerate(enumerators("RULE"))),
+        *enum("Error", "The number of each error, and of success, which is 0.", errors),
     ]
 
 
@@ -65,7 +65,7 @@ def enum(name, meaning, members):
 
 
 def calls():
-    """Returns the structures, and the result and the arguments of each call."""
+    """Returns the structures, and the result type and the argument types of each function."""
     lines = []
     for body, struct in re.findall(r"typedef struct { (.*?) } (\w+);", CODE):
         lines += ["", "", f"class {STRUCTS[struct]}(Structure):", "    _fields_ = ["]
@@ -112,7 +112,7 @@ def getter(name, kind, value, meaning):
 
 
 def made(text):
-    """Returns the text of the module with the parts that are made."""
+    """Returns the text of the module with its generated parts."""
     for part in (constants, enums, calls, getters):
         pattern = rf"^( *)(# Made: {part.__name__}\n).*?^( *# End\n)"
         indent, begin, end = re.search(pattern, text, re.M | re.S).groups()

@@ -1,4 +1,4 @@
-"""Number formats in words of 128 bits: built, read, checked and edited.
+"""Builds, reads, checks and edits number formats, which are 128-bit words.
 
     >>> from peltzivar import Format
     >>> format = Format.of(mantissa_radix=16, base_prefix="x")
@@ -7,11 +7,12 @@
     >>> print(format)
     0x0000100078000000000000000000000C
 
-This file needs the shared library of peltzivar.h, and no other package. Copy both to the folder of a program, or install
-the library, or name its path in PELTZIVAR_LIBRARY. Importing this file fails with an ImportError without it.
+This module needs the shared library of peltzivar.h, but no other package. Copy the library to the folder of this
+module, or install it, or set PELTZIVAR_LIBRARY to its path. If the library is not found, importing this module raises
+an ImportError.
 
-A word is lawful if it keeps all rules. `FormatView` is any word and `Format` a lawful one. docs/FORMAT.md of the
-repository describes fields and rules; peltzivar.h describes the calls.
+A word is lawful if it keeps all rules. A `FormatView` holds any word, and a `Format` holds a lawful word. In the
+repository, docs/FORMAT.md describes the fields and the rules.
 """
 
 from __future__ import annotations
@@ -42,7 +43,7 @@ _SOURCE_SIZE = 2048
 
 
 class Setter(IntEnum):
-    """A setter: its name in capital letters, and its number."""
+    """The number of each setter. The name of a member is the name of the setter in uppercase."""
 
     REQUIRED_INTEGER_DIGITS = 0
     REQUIRED_FRACTION_DIGITS = 1
@@ -94,7 +95,7 @@ class Setter(IntEnum):
 
 
 class Rule(IntEnum):
-    """A rule, in the order in which the rules are tried."""
+    """The number of each rule, in the order in which the rules are checked."""
 
     MANTISSA_RADIX_IN_RANGE = 0
     EXPONENT_BASE_IN_RANGE = 1
@@ -115,7 +116,7 @@ class Rule(IntEnum):
 
 
 class Error(IntEnum):
-    """An error, or success, which is 0."""
+    """The number of each error, and of success, which is 0."""
 
     SUCCESS = 0
     OVERFLOW = 1
@@ -265,7 +266,7 @@ _CALLS: Dict[str, Tuple[Any, List[Any]]] = {
 
 
 def _load() -> CDLL:
-    """Finds the library, declares its calls, and checks its version."""
+    """Loads the library, checks its version and declares its functions."""
     version = f"{_MAJOR}.{_MINOR}"
     names = (f"libpeltzivar_c.so.{version}", "libpeltzivar_c.so", "libpeltzivar_c.dylib", "peltzivar_c.dll")
     given = os.environ.get("PELTZIVAR_LIBRARY")
@@ -283,7 +284,7 @@ def _load() -> CDLL:
             f"the shared library of peltzivar.h {version} does not load ({why}): name its path in PELTZIVAR_LIBRARY, "
             f"put it beside {__file__}, or install it where the system's loader finds it"
         )
-    # The first call is the version, so the message for a library of another version names the version.
+    # The first call is `peltzivar_version`, so the message for a library of another version names that version.
     for name, (result, arguments) in _CALLS.items():
         call = getattr(library, name, None)
         if call is None:
@@ -296,7 +297,7 @@ def _load() -> CDLL:
 
 _library = _load()
 
-# The value of a setting: of a flag setter a bool, of a byte setter an ASCII character, a number, or None for absent.
+# The value of a setting. A flag setter takes a bool. A byte setter takes an ASCII character, a number, or None (absent).
 Value = Union[bool, int, str, None]
 View = TypeVar("View", bound="FormatView")
 
@@ -324,11 +325,12 @@ def _character(byte: int) -> Optional[str]:
 
 
 class Edit:
-    """A setting: a setter and its argument, from a text NAME=VALUE such as `Edit("digit_separator='_'")`.
+    """An edit: a setter and its value, parsed from a text NAME=VALUE such as `Edit("digit_separator='_'")`.
 
-    A flag setter takes `true` or `false`. A byte setter takes an ASCII character between two `'`, a number of up to
-    three decimal digits, or `0x` and up to two hexadecimal digits, and `none` if the byte may be absent. No blank is
-    skipped. Raises ValueError if the text is not a setting.
+    A flag setter or a group setter takes `true` or `false`. A byte setter takes one ASCII character in single quotes,
+    one to three decimal digits, or `0x` followed by one or two hexadecimal digits. Every byte setter except
+    `mantissa_radix` and `radix` also takes `none`. Spaces are not skipped. Raises ValueError if the text is not a
+    setting.
     """
 
     __slots__ = ("_edit",)
@@ -341,7 +343,7 @@ class Edit:
 
     @classmethod
     def of(cls, name: str, value: Value) -> Edit:
-        """Returns the edit of a setter's name and a value, such as `Edit.of("digit_separator", "_")`."""
+        """Returns the edit with this setter name and this value, such as `Edit.of("digit_separator", "_")`."""
         if isinstance(value, bool):
             return cls(f"{name}={str(value).lower()}")
         if isinstance(value, str):
@@ -361,7 +363,7 @@ class Edit:
 
     @property
     def value(self) -> Value:
-        """The argument: a bool, an ASCII character, a number, or None."""
+        """The value: a bool, an ASCII character, a number, or None."""
         setter, value = Setter(self._edit.setter), int(self._edit.value)
         if setter < Setter.DIGIT_SEPARATOR:
             return bool(value)
@@ -370,7 +372,7 @@ class Edit:
 
     @property
     def mask(self) -> int:
-        """The bits of a word that the edit writes."""
+        """A mask of the bits of a word that the edit writes."""
         return _joined(_library.peltzivar_edit_mask(self._edit))
 
     def __str__(self) -> str:
@@ -390,9 +392,9 @@ class Edit:
 
 
 class Reason(NamedTuple):
-    """One cause of broken rules: its sentence, the bits of a word that it blames, and the rules that it breaks.
+    """A reason why a word breaks rules: its text, a mask of the bits that it blames, and the rules.
 
-    An edit is to blame if its mask has a bit in common with the mask.
+    An edit may be to blame if its mask has a bit in common with this mask.
     """
 
     text: str
@@ -404,7 +406,7 @@ class Reason(NamedTuple):
 
 
 class Note(NamedTuple):
-    """A field that is set and changes no number that can be written: its sentence, and the bits that it describes."""
+    """A note on fields that have no effect: its text, and a mask of the bits of these fields."""
 
     text: str
     mask: int
@@ -414,7 +416,7 @@ class Note(NamedTuple):
 
 
 class FormatError(ValueError):
-    """A word is not lawful: `view` is its view, and `reasons` has each cause."""
+    """Raised if a word is not lawful. `view` is the view of the word, and `reasons` has each reason."""
 
     def __init__(self, view: FormatView) -> None:
         super().__init__(view)
@@ -426,7 +428,7 @@ class FormatError(ValueError):
 
 
 class FormatView:
-    """A format word, lawful or not. `int(view)` is the word, and `str(view)` its text.
+    """A view of a format word, lawful or not. `int(view)` is the word, and `str(view)` is its text.
 
     Raises ValueError if the word is negative or has more than 128 bits.
     """
@@ -440,19 +442,19 @@ class FormatView:
 
     @classmethod
     def of(cls: Type[View], *settings: Union[Edit, str], **fields: Value) -> View:
-        """Returns the view of the word that settings make, in their order. Other fields have their defaults.
+        """Applies the settings to the default fields in order, and returns a view of the word.
 
             FormatView.of(mantissa_radix=16, base_prefix="x")
             FormatView.of("mantissa_radix=16", "base_prefix='x'")
 
-        A digit separator that no flag allows is dropped; `notes_of` reports it. Raises ValueError if a setting is not
-        one.
+        A digit separator that no flag allows is dropped, and `notes_of` reports it. Raises ValueError if a setting is
+        invalid.
         """
         return cls(_joined(_library.peltzivar_pack(_fields_of(settings, fields))))
 
     @classmethod
     def parse(cls: Type[View], text: str) -> View:
-        """Returns the view of the word in a text: `0x` and 1 to 32 hexadecimal digits. Raises ValueError otherwise."""
+        """Parses `0x` followed by 1 to 32 hexadecimal digits. Raises ValueError if the text has another form."""
         word, digits = _Word(), text.encode("utf-8", "surrogatepass")
         if error := _library.peltzivar_word_of_text(digits, len(digits), word):
             raise ValueError(f"{text!r} is not a format word: {_text(_library.peltzivar_description, error)}")
@@ -693,44 +695,45 @@ class FormatView:
     # End
 
     def is_digit(self, character: str) -> bool:
-        """Returns whether a character is a digit of the mantissa radix or of the exponent radix."""
+        """Returns whether a character is a digit in the mantissa radix or the exponent radix."""
         return self._is(_library.peltzivar_is_digit, character)
 
     def is_base_prefix(self, character: str) -> bool:
-        """Returns whether a character is the base prefix: a letter in both cases, unless the prefix is case-sensitive."""
+        """Returns whether the base prefix matches a character. A letter matches both cases unless it is case-sensitive."""
         return self._is(_library.peltzivar_is_base_prefix, character)
 
     def is_base_suffix(self, character: str) -> bool:
-        """Returns whether a character is the base suffix: a letter in both cases, unless the suffix is case-sensitive."""
+        """Returns whether the base suffix matches a character. A letter matches both cases unless it is case-sensitive."""
         return self._is(_library.peltzivar_is_base_suffix, character)
 
     def edit(self: View, *settings: Union[Edit, str], **fields: Value) -> View:
-        """Returns the view of the word after settings, in their order.
+        """Applies the settings to the word in order, and returns a view of the new word.
 
-        Absent exponent bytes become the mantissa radix first, and a digit separator that no flag allows is dropped. So
-        pass a separator and its flags in one call. Raises ValueError if a setting is not one, and FormatError if the
-        view is a `Format` and the new word is not lawful.
+        Before the settings are applied, the mantissa radix replaces an absent exponent base or exponent radix. After
+        they are applied, a digit separator that no flag allows is dropped. So set a digit separator and its flags in
+        one call. Raises ValueError if a setting is invalid, and FormatError if this view is a `Format` but the new word
+        is not lawful.
         """
         edits, word = _edits_of(settings, fields), _Word()
         _library.peltzivar_edit_word(self._halves(), edits, len(edits), word)
         return type(self)(_joined(word))
 
     def edits(self) -> Tuple[Edit, ...]:
-        """Returns the fewest edits of single fields that make the fields of the word, in the order of their bits."""
+        """Returns an edit for each field of the word that differs from its default, in the order of the bits."""
         edits = (_Edit * _FIELD_COUNT)()
         count = _library.peltzivar_edits_of(self._halves(), edits)
         return tuple(Edit._of_numbers(edit) for edit in edits[:count])
 
     def normal_form(self: View) -> View:
-        """Returns the normal form: the canonical word among all equivalent words."""
+        """Returns the normal form of the word. Equivalent words have the same normal form."""
         return type(self)(_joined(_library.peltzivar_normal_form(self._halves())))
 
     def check(self) -> Format:
-        """Returns the format. Raises FormatError if the word is not lawful."""
+        """Returns the word as a `Format`. Raises FormatError if the word is not lawful."""
         return Format(self._word)
 
     def error(self) -> Error:
-        """Returns the error of the first rule that the word breaks, or `Error.SUCCESS` if it is lawful."""
+        """Returns the error of the first rule that the word breaks, or `Error.SUCCESS` if the word is lawful."""
         return Error(_library.peltzivar_format_error(self._halves()))
 
     def reasons(self) -> Tuple[Reason, ...]:
@@ -740,11 +743,11 @@ class FormatView:
         return tuple(self._reason(index, text) for index, text in enumerate(texts) if text)
 
     def notes(self) -> Tuple[Note, ...]:
-        """Returns a note on each field that is set and changes no number that can be written."""
+        """Returns the notes on fields of the word that have no effect."""
         return _notes(self._fields())
 
     def source(self) -> str:
-        """Returns the Rust code that builds the word."""
+        """Returns Rust code that sets the fields of the word and packs them."""
         return _text(_library.peltzivar_source, self._halves(), size=_SOURCE_SIZE)
 
     def _halves(self) -> _Word:
@@ -788,7 +791,7 @@ class FormatView:
 
 
 class Format(FormatView):
-    """A lawful format: a view whose word keeps all rules. Raises FormatError if the word is not lawful."""
+    """A view of a lawful word. Raises FormatError if the word is not lawful."""
 
     __slots__ = ()
 
@@ -799,7 +802,7 @@ class Format(FormatView):
 
 
 def notes_of(*settings: Union[Edit, str], **fields: Value) -> Tuple[Note, ...]:
-    """Returns the notes on settings, also on a digit separator that no flag allows, which no word keeps."""
+    """Returns the notes on the fields that settings write, also on a digit separator that `FormatView.of` drops."""
     return _notes(_fields_of(settings, fields))
 
 
@@ -811,14 +814,14 @@ def _notes(fields: _Fields) -> Tuple[Note, ...]:
 
 
 def _edits_of(settings: Iterable[Union[Edit, str]], fields: Dict[str, Value]) -> Any:
-    """Returns settings as an array of edits."""
+    """Returns the edits of settings as an array."""
     edits = [it if isinstance(it, Edit) else Edit(it) for it in settings]
     edits += [Edit.of(name, value) for name, value in fields.items()]
     return (_Edit * len(edits))(*(edit._edit for edit in edits))
 
 
 def _fields_of(settings: Iterable[Union[Edit, str]], fields: Dict[str, Value]) -> _Fields:
-    """Returns new fields after settings."""
+    """Applies settings to the default fields, and returns the new fields."""
     made, edits = _Fields(*_NEW_FIELDS), _edits_of(settings, fields)
     _library.peltzivar_edit_fields(made, edits, len(edits))
     return made

@@ -12,15 +12,15 @@
 #include <stdlib.h>
 #include <string.h>
 
-/* A setting: its setter, the number of its line, and the bits that it writes and that no later line writes. */
+/* A setting: its setter, the number of its line, and each bit that it writes and that no later line writes. */
 typedef struct {
     uint8_t setter;
     size_t line;
     peltzivar_word left;
 } setting;
 
-/* The settings that have bits left, at most one for each setter. `fields` has the values that all lines set, and
- * `status` is the exit status. */
+/* `settings` has the settings that have bits left, at most one for each setter. `fields` has the values that the lines
+ * read so far have set. `status` is the exit status. */
 static setting settings[PELTZIVAR_SET_EXPONENT_RADIX + 2];
 static size_t count;
 static peltzivar_fields fields = PELTZIVAR_NEW_FIELDS_INIT;

@@ -1,12 +1,12 @@
-/* Tests settings.c on random files. Each line consists of pieces with a known meaning, so that it is known which lines
- * cannot be read, what is printed of them, and which fields the others write.
+/* Tests settings.c on random files. Each line consists of pieces with a known meaning. So the test knows which lines
+ * cannot be read, what settings.c prints for them, and which fields the other lines write.
  *
- *     ./settings_test FILE NUMBER     writes the file so often */
+ *     ./settings_test FILE NUMBER     writes and tests FILE as often as NUMBER states */
 #define _POSIX_C_SOURCE 200809L
 #include <inttypes.h>
 #include <stdio.h>
 
-/* What settings.c prints to standard output. */
+/* The text that settings.c prints to standard output. */
 static FILE *printed;
 #undef stdout
 #define stdout printed
@@ -18,9 +18,10 @@ static FILE *printed;
 
 enum { MOST_LINES = 3000, MOST_BYTES = 20000 };
 
-/* A random file, what has to be printed of it, the fields that its settings write, the edit of each line, the last line
- * that writes each bit of a word, of how many bits each line is the last, whether a setting of that line is left, and
- * whether there is no problem. */
+/* `file` is a random file, and `wanted` is the expected output. `fields` has the fields that the settings write, and
+ * `edits` has the edit of each line. `writers` has the last line that writes each bit of a word, and `left` has the
+ * number of these bits for each line. `is_left` states whether the setting of a line is left. `is_read` is false if a
+ * problem was found. */
 static struct {
     FILE *file, *wanted;
     peltzivar_fields fields;
@@ -43,7 +44,8 @@ static void write_blanks(void) {
     while (below(3) == 0) fputc(" \t\r"[below(3)], made.file);
 }
 
-/* Writes a line with this name and value, or only the name, and adds what has to be printed if it cannot be read. */
+/* Writes a line with this name and value, or with only the name. Adds the expected output if the line cannot be
+ * read. */
 static void write_setting(
     size_t line, const char *name, size_t name_len, const char *value, size_t value_len, const char *why) {
     char *text;
@@ -74,7 +76,7 @@ static void write_setting(
     free(text);
 }
 
-/* Notes the bits that a line writes, and adds the sentences of the lines of which it leaves nothing. */
+/* Records the bits that a line writes. Adds a sentence for each earlier line that has no bits left. */
 static void want_setting(size_t line) {
     char name[PELTZIVAR_TEXT_SIZE];
     const peltzivar_word mask = peltzivar_edit_mask(made.edits[line]);
@@ -170,7 +172,7 @@ static void write_line(size_t line, bool has_bad) {
     if (below(3) == 0) fputc('\r', made.file);
 }
 
-/* Adds a sentence after the lines that have to be named for a mask: the last that writes each of its bits. */
+/* Adds a sentence after the lines that a mask blames: for each bit of the mask, the last line that writes it. */
 static void want_located(peltzivar_word mask, const char *sentence) {
     static bool named[MOST_LINES + 1];
     size_t lines = 0, last = 0;
@@ -190,7 +192,7 @@ static void want_located(peltzivar_word mask, const char *sentence) {
     fprintf(made.wanted, ": %s", sentence);
 }
 
-/* Returns whether a word keeps each rule that another keeps, and each that only the reason in a slot breaks. */
+/* Returns whether a word keeps each rule that another word keeps or breaks only for the reason in a slot. */
 static bool is_mended(peltzivar_word mended, peltzivar_word word, uint8_t index) {
     for (uint8_t rule = 0; rule < PELTZIVAR_RULE_COUNT; rule++) {
         bool has_other = false;
@@ -202,7 +204,7 @@ static bool is_mended(peltzivar_word mended, peltzivar_word word, uint8_t index)
     return true;
 }
 
-/* Adds the settings of single fields that mend a reason: those that clear a flag or a byte, or set a radix to 10. */
+/* Adds the settings of single fields that mend a reason. They clear a flag or a byte, or set a radix to 10. */
 static void want_mends(peltzivar_word word, uint8_t index) {
     const peltzivar_word mask = peltzivar_word_reason_mask(word, index);
     const bool has_exponent = made.fields.exponent_base && made.fields.exponent_radix;
@@ -223,7 +225,7 @@ static void want_mends(peltzivar_word word, uint8_t index) {
     }
 }
 
-/* Adds what has to be printed of the fields, and returns the status. */
+/* Adds the expected output for the fields, and returns the expected status. */
 static int want_format(void) {
     char text[PELTZIVAR_TEXT_SIZE];
     const peltzivar_word word = peltzivar_pack(&made.fields);
@@ -261,7 +263,7 @@ static void write_file(const char *path) {
     fclose(made.file);
 }
 
-/* Reads a random file, and returns whether status and text are right. A file that is not read right stays. */
+/* Tests a random file, and returns whether the status and the output are right. If they are not, the file is kept. */
 static bool is_right(char *file) {
     char *arguments[] = {"settings", file}, *text, *wanted;
     size_t text_len, wanted_len;
