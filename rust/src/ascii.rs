@@ -1,11 +1,11 @@
 // Made by rust/tools/erase.py from crates/lexical_base/src/ascii.rt: change that file.
 
-//! Functions that test whether bytes are ASCII that a number format may use, or ASCII letters.
+//! Functions that test for ASCII characters that a number format may use, and for ASCII letters.
 
 use crate::chunks::{Chunks, SplitChunks};
 use crate::lanes::Simd;
 
-/// Returns whether the byte `c` is *allowed ASCII*: an ASCII byte that a number format may use.
+/// Returns whether the byte `c` is *allowed ASCII*: an ASCII character that a number format may use.
 ///
 /// The allowed bytes are the control characters 9 to 13 (tab, line feed, vertical tab, form feed, carriage return), the
 /// space, and the visible characters `!` to `~`. The result is `false` for every other byte, including 127 (delete) and

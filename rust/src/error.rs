@@ -1,8 +1,8 @@
 // Made by rust/tools/erase.py from crates/lexical_base/src/error.rt: change that file.
 
-//! Parse errors, format errors and option errors.
+//! The type [`Error`], which has parse errors, format errors and option errors.
 //!
-//! A parser or a checker returns an [`Error`], which is [`Error::Success`] if nothing is wrong.
+//! A parser or a checker returns an [`Error`]. It is [`Error::Success`] if nothing is wrong.
 
 use core::fmt;
 

@@ -1,4 +1,4 @@
-//! Functions that test whether bytes are ASCII that a number format may use, or ASCII letters.
+//! Functions that test for ASCII characters that a number format may use, and for ASCII letters.
 
 ghost use Rattle.std.specs.Prelude.{◌≡◌, ◌↔◌, ◌-◌, ◌≤◌, ◌&&◌, nat_le, IsTrue};
 ghost use Rattle.std.specs.List.{AllPass, list_all};
@@ -7,7 +7,7 @@ ghost use Rattle.lexical_base.specs.Private.{in_two_ranges, AreTwoRanges};
 
 use std::simd::prelude::*;
 
-/// Returns whether the byte `c` is *allowed ASCII*: an ASCII byte that a number format may use.
+/// Returns whether the byte `c` is *allowed ASCII*: an ASCII character that a number format may use.
 ///
 /// The allowed bytes are the control characters 9 to 13 (tab, line feed, vertical tab, form feed, carriage return), the
 /// space, and the visible characters `!` to `~`. The result is `false` for every other byte, including 127 (delete) and

@@ -1,6 +1,6 @@
-//! Parse errors, format errors and option errors.
+//! The type [`Error`], which has parse errors, format errors and option errors.
 //!
-//! A parser or a checker returns an [`Error`], which is [`Error::Success`] if nothing is wrong. This crate only defines
+//! A parser or a checker returns an [`Error`]. It is [`Error::Success`] if nothing is wrong. This crate only defines
 //! the errors. The crates that depend on it return them.
 
 ghost use Rattle.std.specs.Prelude.{◌≡◌, ◌↔◌, ◌<◌, ◌+◌, length, IsTrue, IsSome, IfSome, IsErr, OnOk, Some};
