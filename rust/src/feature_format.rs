@@ -144,115 +144,116 @@ macro_rules! methods {
 }
 
 fields! {
-    /// True if the format requires digits before the decimal point. In that case, a parser refuses `.5`. See the
-    /// [setter][NumberFormatBuilder::required_integer_digits].
+    /// This is true if the format requires digits before the decimal point. In that case, a parser refuses `.5`. See
+    /// the [setter][NumberFormatBuilder::required_integer_digits].
     REQUIRED_INTEGER_DIGITS required_integer_digits bool;
-    /// True if the format requires digits after a decimal point. In that case, a parser refuses `1.` but accepts `1`.
-    /// See the [setter][NumberFormatBuilder::required_fraction_digits].
+    /// This is true if the format requires digits after a decimal point. In that case, a parser refuses `1.` but
+    /// accepts `1`. See the [setter][NumberFormatBuilder::required_fraction_digits].
     REQUIRED_FRACTION_DIGITS required_fraction_digits bool;
-    /// True if the format requires digits after an exponent character. In that case, a parser refuses `1e`. See the
-    /// [setter][NumberFormatBuilder::required_exponent_digits].
+    /// This is true if the format requires digits after an exponent character. In that case, a parser refuses `1e`. See
+    /// the [setter][NumberFormatBuilder::required_exponent_digits].
     REQUIRED_EXPONENT_DIGITS required_exponent_digits bool;
-    /// True if the format requires a digit in the mantissa of a float. In that case, a parser refuses `.`. See the
-    /// [setter][NumberFormatBuilder::required_mantissa_digits].
+    /// This is true if the format requires a digit in the mantissa of a float. In that case, a parser refuses `.`. See
+    /// the [setter][NumberFormatBuilder::required_mantissa_digits].
     REQUIRED_MANTISSA_DIGITS required_mantissa_digits bool;
-    /// True if any of the flags that require digits is set. See the [setter][NumberFormatBuilder::required_digits].
+    /// This is true if any of the flags that require digits is set. See the
+    /// [setter][NumberFormatBuilder::required_digits].
     REQUIRED_DIGITS required_digits bool;
-    /// True if the format forbids a `+` before an integer or a float. In that case, a parser refuses `+1` but accepts
-    /// `-1`. See the [setter][NumberFormatBuilder::no_positive_mantissa_sign].
+    /// This is true if the format forbids a `+` before an integer or a float. In that case, a parser refuses `+1` but
+    /// accepts `-1`. See the [setter][NumberFormatBuilder::no_positive_mantissa_sign].
     NO_POSITIVE_MANTISSA_SIGN no_positive_mantissa_sign bool;
-    /// True if the format requires a sign before an integer or a float. In that case, a parser refuses `1`, and a
-    /// writer writes `+1`. See the [setter][NumberFormatBuilder::required_mantissa_sign].
+    /// This is true if the format requires a sign before an integer or a float. In that case, a parser refuses `1`, and
+    /// a writer writes `+1`. See the [setter][NumberFormatBuilder::required_mantissa_sign].
     REQUIRED_MANTISSA_SIGN required_mantissa_sign bool;
-    /// True if the format forbids an exponent in a float. In that case, a parser refuses `1e5`, and a writer writes all
-    /// digits instead. See the [setter][NumberFormatBuilder::no_exponent_notation].
+    /// This is true if the format forbids an exponent in a float. In that case, a parser refuses `1e5`, and a writer
+    /// writes all digits instead. See the [setter][NumberFormatBuilder::no_exponent_notation].
     NO_EXPONENT_NOTATION no_exponent_notation bool;
-    /// True if the format forbids a `+` in the exponent. In that case, a parser refuses `1e+5` but accepts `1e5` and
-    /// `1e-5`. See the [setter][NumberFormatBuilder::no_positive_exponent_sign].
+    /// This is true if the format forbids a `+` in the exponent. In that case, a parser refuses `1e+5` but accepts
+    /// `1e5` and `1e-5`. See the [setter][NumberFormatBuilder::no_positive_exponent_sign].
     NO_POSITIVE_EXPONENT_SIGN no_positive_exponent_sign bool;
-    /// True if the format requires a sign in the exponent. In that case, a parser refuses `1e5`, and a writer writes
-    /// `1e+5`. See the [setter][NumberFormatBuilder::required_exponent_sign].
+    /// This is true if the format requires a sign in the exponent. In that case, a parser refuses `1e5`, and a writer
+    /// writes `1e+5`. See the [setter][NumberFormatBuilder::required_exponent_sign].
     REQUIRED_EXPONENT_SIGN required_exponent_sign bool;
-    /// True if the format requires a decimal point before an exponent. In that case, a parser refuses `1e5` but accepts
-    /// `1.0e5`. See the [setter][NumberFormatBuilder::no_exponent_without_fraction].
+    /// This is true if the format requires a decimal point before an exponent. In that case, a parser refuses `1e5` but
+    /// accepts `1.0e5`. See the [setter][NumberFormatBuilder::no_exponent_without_fraction].
     NO_EXPONENT_WITHOUT_FRACTION no_exponent_without_fraction bool;
-    /// True if the format forbids all special values. In that case, a parser refuses `NaN` and `inf`. See the
+    /// This is true if the format forbids all special values. In that case, a parser refuses `NaN` and `inf`. See the
     /// [setter][NumberFormatBuilder::no_special].
     NO_SPECIAL no_special bool;
-    /// True if special values are case-sensitive. In that case, a parser refuses `nan` when the spelling of NaN is `NaN`.
-    /// See the [setter][NumberFormatBuilder::case_sensitive_special].
+    /// This is true if special values are case-sensitive. In that case, a parser refuses `nan` when the spelling of NaN
+    /// is `NaN`. See the [setter][NumberFormatBuilder::case_sensitive_special].
     CASE_SENSITIVE_SPECIAL case_sensitive_special bool;
-    /// True if the format forbids leading zeros in an integer. In that case, a parser refuses the integer `01` but
-    /// accepts `0`. See the [setter][NumberFormatBuilder::no_integer_leading_zeros].
+    /// This is true if the format forbids leading zeros in an integer. In that case, a parser refuses the integer
+    /// `01` but accepts `0`. See the [setter][NumberFormatBuilder::no_integer_leading_zeros].
     NO_INTEGER_LEADING_ZEROS no_integer_leading_zeros bool;
-    /// True if the format forbids leading zeros in a float. In that case, a parser refuses `01.0` but accepts `0.1`.
-    /// See the [setter][NumberFormatBuilder::no_float_leading_zeros].
+    /// This is true if the format forbids leading zeros in a float. In that case, a parser refuses `01.0` but accepts
+    /// `0.1`. See the [setter][NumberFormatBuilder::no_float_leading_zeros].
     NO_FLOAT_LEADING_ZEROS no_float_leading_zeros bool;
-    /// True if the format requires an exponent in a float. In that case, a parser refuses `1.0`, and a writer writes
-    /// every float with an exponent. See the [setter][NumberFormatBuilder::required_exponent_notation].
+    /// This is true if the format requires an exponent in a float. In that case, a parser refuses `1.0`, and a writer
+    /// writes every float with an exponent. See the [setter][NumberFormatBuilder::required_exponent_notation].
     REQUIRED_EXPONENT_NOTATION required_exponent_notation bool;
-    /// True if the exponent character is case-sensitive. In that case, a parser refuses `1E5` when the exponent
+    /// This is true if the exponent character is case-sensitive. In that case, a parser refuses `1E5` when the exponent
     /// character is `e`. See the [setter][NumberFormatBuilder::case_sensitive_exponent].
     CASE_SENSITIVE_EXPONENT case_sensitive_exponent bool;
-    /// True if the base prefix is case-sensitive. In that case, a parser refuses `0X1F` when the base prefix is `x`.
-    /// See the [setter][NumberFormatBuilder::case_sensitive_base_prefix].
+    /// This is true if the base prefix is case-sensitive. In that case, a parser refuses `0X1F` when the base prefix is
+    /// `x`. See the [setter][NumberFormatBuilder::case_sensitive_base_prefix].
     CASE_SENSITIVE_BASE_PREFIX case_sensitive_base_prefix bool;
-    /// True if the base suffix is case-sensitive. In that case, a parser refuses `1FH` when the base suffix is `h`. See
-    /// the [setter][NumberFormatBuilder::case_sensitive_base_suffix].
+    /// This is true if the base suffix is case-sensitive. In that case, a parser refuses `1FH` when the base suffix is
+    /// `h`. See the [setter][NumberFormatBuilder::case_sensitive_base_suffix].
     CASE_SENSITIVE_BASE_SUFFIX case_sensitive_base_suffix bool;
-    /// True if the format allows a digit separator between integer digits. In that case, a parser accepts `1_2`. See
-    /// the [setter][NumberFormatBuilder::integer_internal_digit_separator].
+    /// This is true if the format allows a digit separator between integer digits. In that case, a parser accepts
+    /// `1_2`. See the [setter][NumberFormatBuilder::integer_internal_digit_separator].
     INTEGER_INTERNAL_DIGIT_SEPARATOR integer_internal_digit_separator bool;
-    /// True if the format allows a digit separator between fraction digits. In that case, a parser accepts `0.1_2`. See
-    /// the [setter][NumberFormatBuilder::fraction_internal_digit_separator].
+    /// This is true if the format allows a digit separator between fraction digits. In that case, a parser accepts
+    /// `0.1_2`. See the [setter][NumberFormatBuilder::fraction_internal_digit_separator].
     FRACTION_INTERNAL_DIGIT_SEPARATOR fraction_internal_digit_separator bool;
-    /// True if the format allows a digit separator between exponent digits. In that case, a parser accepts `1e1_2`. See
-    /// the [setter][NumberFormatBuilder::exponent_internal_digit_separator].
+    /// This is true if the format allows a digit separator between exponent digits. In that case, a parser accepts
+    /// `1e1_2`. See the [setter][NumberFormatBuilder::exponent_internal_digit_separator].
     EXPONENT_INTERNAL_DIGIT_SEPARATOR exponent_internal_digit_separator bool;
-    /// True if any of the flags that allow a digit separator between digits is set. See the
+    /// This is true if any of the flags that allow a digit separator between digits is set. See the
     /// [setter][NumberFormatBuilder::internal_digit_separator].
     INTERNAL_DIGIT_SEPARATOR internal_digit_separator bool;
-    /// True if the format allows a digit separator before the integer digits. In that case, a parser accepts `_12`. See
-    /// the [setter][NumberFormatBuilder::integer_leading_digit_separator].
+    /// This is true if the format allows a digit separator before the integer digits. In that case, a parser accepts
+    /// `_12`. See the [setter][NumberFormatBuilder::integer_leading_digit_separator].
     INTEGER_LEADING_DIGIT_SEPARATOR integer_leading_digit_separator bool;
-    /// True if the format allows a digit separator before the fraction digits. In that case, a parser accepts `0._12`.
-    /// See the [setter][NumberFormatBuilder::fraction_leading_digit_separator].
+    /// This is true if the format allows a digit separator before the fraction digits. In that case, a parser accepts
+    /// `0._12`. See the [setter][NumberFormatBuilder::fraction_leading_digit_separator].
     FRACTION_LEADING_DIGIT_SEPARATOR fraction_leading_digit_separator bool;
-    /// True if the format allows a digit separator before the exponent digits. In that case, a parser accepts `1e_12`.
-    /// See the [setter][NumberFormatBuilder::exponent_leading_digit_separator].
+    /// This is true if the format allows a digit separator before the exponent digits. In that case, a parser accepts
+    /// `1e_12`. See the [setter][NumberFormatBuilder::exponent_leading_digit_separator].
     EXPONENT_LEADING_DIGIT_SEPARATOR exponent_leading_digit_separator bool;
-    /// True if any of the flags that allow a digit separator before digits is set. See the
+    /// This is true if any of the flags that allow a digit separator before digits is set. See the
     /// [setter][NumberFormatBuilder::leading_digit_separator].
     LEADING_DIGIT_SEPARATOR leading_digit_separator bool;
-    /// True if the format allows a digit separator after the integer digits. In that case, a parser accepts `12_`. See
-    /// the [setter][NumberFormatBuilder::integer_trailing_digit_separator].
+    /// This is true if the format allows a digit separator after the integer digits. In that case, a parser accepts
+    /// `12_`. See the [setter][NumberFormatBuilder::integer_trailing_digit_separator].
     INTEGER_TRAILING_DIGIT_SEPARATOR integer_trailing_digit_separator bool;
-    /// True if the format allows a digit separator after the fraction digits. In that case, a parser accepts `0.12_`.
-    /// See the [setter][NumberFormatBuilder::fraction_trailing_digit_separator].
+    /// This is true if the format allows a digit separator after the fraction digits. In that case, a parser accepts
+    /// `0.12_`. See the [setter][NumberFormatBuilder::fraction_trailing_digit_separator].
     FRACTION_TRAILING_DIGIT_SEPARATOR fraction_trailing_digit_separator bool;
-    /// True if the format allows a digit separator after the exponent digits. In that case, a parser accepts `1e12_`.
-    /// See the [setter][NumberFormatBuilder::exponent_trailing_digit_separator].
+    /// This is true if the format allows a digit separator after the exponent digits. In that case, a parser accepts
+    /// `1e12_`. See the [setter][NumberFormatBuilder::exponent_trailing_digit_separator].
     EXPONENT_TRAILING_DIGIT_SEPARATOR exponent_trailing_digit_separator bool;
-    /// True if any of the flags that allow a digit separator after digits is set. See the
+    /// This is true if any of the flags that allow a digit separator after digits is set. See the
     /// [setter][NumberFormatBuilder::trailing_digit_separator].
     TRAILING_DIGIT_SEPARATOR trailing_digit_separator bool;
-    /// True if the format allows consecutive digit separators in the integer part. In that case, a parser accepts `1__2`
-    /// if it accepts `1_2`, `__12` if it accepts `_12`, and `12__` if it accepts `12_`. See the
+    /// This is true if the format allows consecutive digit separators in the integer part. In that case, a parser
+    /// accepts `1__2` if it accepts `1_2`, `__12` if it accepts `_12`, and `12__` if it accepts `12_`. See the
     /// [setter][NumberFormatBuilder::integer_consecutive_digit_separator].
     INTEGER_CONSECUTIVE_DIGIT_SEPARATOR integer_consecutive_digit_separator bool;
-    /// True if the format allows consecutive digit separators in the fraction. In that case, a parser accepts `0.1__2`
-    /// if it accepts `0.1_2`, `0.__12` if it accepts `0._12`, and `0.12__` if it accepts `0.12_`. See the
+    /// This is true if the format allows consecutive digit separators in the fraction. In that case, a parser accepts
+    /// `0.1__2` if it accepts `0.1_2`, `0.__12` if it accepts `0._12`, and `0.12__` if it accepts `0.12_`. See the
     /// [setter][NumberFormatBuilder::fraction_consecutive_digit_separator].
     FRACTION_CONSECUTIVE_DIGIT_SEPARATOR fraction_consecutive_digit_separator bool;
-    /// True if the format allows consecutive digit separators in the exponent. In that case, a parser accepts `1e1__2`
-    /// if it accepts `1e1_2`, `1e__12` if it accepts `1e_12`, and `1e12__` if it accepts `1e12_`. See the
+    /// This is true if the format allows consecutive digit separators in the exponent. In that case, a parser accepts
+    /// `1e1__2` if it accepts `1e1_2`, `1e__12` if it accepts `1e_12`, and `1e12__` if it accepts `1e12_`. See the
     /// [setter][NumberFormatBuilder::exponent_consecutive_digit_separator].
     EXPONENT_CONSECUTIVE_DIGIT_SEPARATOR exponent_consecutive_digit_separator bool;
-    /// True if any of the flags that allow consecutive digit separators is set. See the
+    /// This is true if any of the flags that allow consecutive digit separators is set. See the
     /// [setter][NumberFormatBuilder::consecutive_digit_separator].
     CONSECUTIVE_DIGIT_SEPARATOR consecutive_digit_separator bool;
-    /// True if the format allows digit separators in special values. In that case, a parser accepts `N__a_N_` as `NaN`.
-    /// See the [setter][NumberFormatBuilder::special_digit_separator].
+    /// This is true if the format allows digit separators in special values. In that case, a parser accepts `N__a_N_`
+    /// as `NaN`. See the [setter][NumberFormatBuilder::special_digit_separator].
     SPECIAL_DIGIT_SEPARATOR special_digit_separator bool;
     /// The [digit separator][NumberFormatBuilder::digit_separator], or 0 if it is absent. The flags that allow digit
     /// separators do not change this value.
@@ -304,7 +305,7 @@ methods! {
     digit_separator_flags u128;
     /// Returns the bitwise AND of the word and [`EXPONENT_FLAG_MASK`][crate::format_flags::EXPONENT_FLAG_MASK].
     exponent_flags u128;
-    /// Returns the flags that allow digit separators in the integer. All other bits of the result are 0.
+    /// Returns the flags that allow digit separators in the integer part. All other bits of the result are 0.
     integer_digit_separator_flags u128;
     /// Returns the flags that allow digit separators in the fraction. All other bits of the result are 0.
     fraction_digit_separator_flags u128;

@@ -36,8 +36,8 @@ impl FormatView {
     /// one [`Mend`] for each field that the reason blames. A mend clears a flag or a byte, or sets the mantissa radix
     /// to 10.
     ///
-    /// After [`edit_word`][crate::edits::edit_word] applies the edits of one mend, the word keeps each rule that it
-    /// kept before, and each rule that only this reason broke.
+    /// If [`edit_word`][crate::edits::edit_word] applies the edits of one mend, the new word keeps each rule that the
+    /// old word kept, and each rule that was broken only for this reason.
     ///
     /// ```
     /// use peltzivar::{edits::edit_word, Format, FormatView};

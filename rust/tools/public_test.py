@@ -270,7 +270,7 @@ def sentences():
     for name, comment in constant.items():
         texts = (" ".join(it.replace("///", "").split()) for it in ((runtime[0] | runtime[1])[name], comment))
         # A constant is not returned.
-        texts = (re.sub("^True if ", "Whether ", re.split(r"(?<=\.) ", it)[0]) for it in texts)
+        texts = (re.sub("^This is true if ", "Whether ", re.split(r"(?<=\.) ", it)[0]) for it in texts)
         texts = (re.sub(r"^Returns |(?<=\]\[)[\w:]*::(?=\w)", "", it) for it in texts)
         wanted, got = (it.casefold() for it in texts)
         if name == "radix":

@@ -331,7 +331,7 @@ impl FormatView {
         self.format & flags::EXPONENT_FLAG_MASK
     }
 
-    /// Returns the flags that allow digit separators in the integer. All other bits of the result are 0.
+    /// Returns the flags that allow digit separators in the integer part. All other bits of the result are 0.
     #[must_use]
     #[inline(always)]
     pub const fn integer_digit_separator_flags(&self) -> u128 {

@@ -348,7 +348,7 @@ impl NumberFormat {
         self.format & flags::EXPONENT_FLAG_MASK
     }
 
-    /// Returns the flags that allow digit separators in the integer. All other bits of the result are 0.
+    /// Returns the flags that allow digit separators in the integer part. All other bits of the result are 0.
     #[inline(always)]
     pub const fn integer_digit_separator_flags(&self) -> u128
         ensures bits { result ≡ bits_of self.now layout.integer_digit_separator_flags }
