@@ -19,7 +19,7 @@ pub const MAX_MENDING_EDITS: usize = 3;
 /// byte, or they set the mantissa radix to 10 unless it is 10 already. If they set the mantissa radix, an absent
 /// exponent base or exponent radix stays absent. Apply the edits with [`edit_word`]. The new word keeps the rules that
 /// the old word kept, and the rules that were broken only for this reason. [`edit_word`] also drops a digit separator
-/// that no flag allows, but the separator does not count as mended if that is all that happens.
+/// if no flag allows one, but that does not count as mending the separator.
 #[must_use]
 #[doc(hidden)]
 pub fn mend(format: u128, reason: &Reason, field: &Edit) -> ([Edit; MAX_MENDING_EDITS], usize) {
