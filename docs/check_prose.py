@@ -91,14 +91,14 @@ def example():
     word = int(re.search(r"^The word `0x(\w{32})` has", check_format.PAGE, re.M)[1], 16)
     fields = {name: word >> int(first) & 255 for first, _, name, _ in check_format.BYTES}
     bits = [int(bit) for bit, _, _ in check_format.FLAGS if word >> int(bit) & 1]
-    high, low = listed([bit for bit in bits if bit >= 32]), listed([bit for bit in bits if bit < 32])
+    high, low = listed([bit for bit in bits if bit >= 32]), [bit for bit in bits if bit < 32]
     shown = [f"the {it.replace('_', ' ')} (`{fields[it]:02X}`)" for it in reversed(fields) if fields[it]]
     return (
-        f"The word `0x{word:032X}` has mantissa radix {fields['mantissa_radix']} and allows the digit separator "
+        f"The word `0x{word:032X}` has the mantissa radix {fields['mantissa_radix']} and allows "
         f"`{fields['digit_separator']:c}` between digits. From left to right, its nonzero fields are "
-        f"{', '.join(shown)}, flags {high} (`{word >> 32 & 0xFFFFFFFF:X}`), and flags {low} "
-        f"(`{word & 0xFFFFFFFF:X}`). Flags {high} allow a separator between digits. Flags {low} require digits "
-        "after the exponent character and in the mantissa."
+        f"{', '.join(shown)}, flags {high} (`{word >> 32 & 0xFFFFFFFF:X}`), and flags {listed(low)} "
+        f"(`{word & 0xFFFFFFFF:X}`). Flags {high} allow a separator between digits. Flag {low[0]} requires "
+        f"digits after the exponent character, and flag {low[1]} requires them in the mantissa."
     )
 
 
