@@ -4,7 +4,7 @@
 # - over a copy of the plain Rust that has the rules of lexical-util, the driver of compare/ has the counts of README.md,
 #   and the driver of bench/ compiles. A difference is reported;
 # - names.py reads the names of lexical-util in the plain Rust;
-# - `bench/run --against` and `bench/sizes.sh` work with a cargo that builds nothing.
+# - `compare/run`, `bench/run --against` and `bench/sizes.sh` work with a cargo that builds nothing.
 #
 # The last line is `N passed, M failed, K skipped`. The exit status is 1 if a row failed, or if there are fewer rows than
 # before.
@@ -36,9 +36,9 @@ like() {
         /fn is_clean/,/^}/s/^    .*/    let _ = format; true/' "$src/format_flags/rules.rs"
 }
 
-# copies FOLDER: copies the sources of lexical-util from a folder.
+# copies FOLDER: copies the sources of lexical-util from a folder, and prints what is then there.
 copies() {
-    UPSTREAM=$1 bash -c '. ./prepare.sh; prepare_work; prepare_upstream'
+    UPSTREAM=$1 bash -c '. ./prepare.sh; prepare_work; prepare_upstream' && (cd "$WORK/upstream/src" && echo ./*)
 }
 
 # drivers: copies the libraries and the drivers, and compiles the drivers.
@@ -79,12 +79,92 @@ driver() {
         bash -o pipefail -c "'$CARGO_TARGET_DIR/debug/driver' --only 'and digits' | tail -n 1"
 }
 
-# reads: names.py reads at least as many names of lexical-util in the plain Rust as before, which has most of them.
-reads() {
-    mkdir "$top/names"
-    cp names.py "$top/names" && "$top/names/names.py" --list &&
-        [ "$(LC_ALL=C comm -12 <(LC_ALL=C sort names.txt) <(LC_ALL=C sort "$top/names/names.txt") | wc -l)" -ge "$1" ]
+# lists: names.py reads the public names of a module, and no others.
+lists() {
+    local module names=$top/names
+    mkdir -p "$names"/{compare,src}
+    cp names.py "$names/compare"
+    for module in ascii digit error feature_format format format_builder format_flags; do
+        : > "$names/src/$module.rs"
+    done
+    cat > "$names/src/error.rs" << 'END'
+//! - [`READY_MADE`]
+pub use crate::digit::*;
+// pub fn comment() {}
+const PRIVATE: u8 = 1;
+pub const PUBLIC: u8 = 1;
+fn private() {}
+#[deprecated = "old"]
+pub fn old(byte: u8, text: &[u8]) -> Option<u8> {}
+pub const fn word<const FORMAT: u128>() {}
+pub type Byte = Option<num::NonZeroU8>;
+#[derive(Clone, Copy)]
+#[non_exhaustive]
+pub enum Kind {
+    One(usize),
+    Two,
 }
+impl Kind {
+    pub const fn is_one(&self) -> bool { true }
+    fn is_private(&self) {}
+    is_error_type!(is_two, Two);
+}
+impl fmt::Display for Kind {
+    pub fn fmt() {}
+}
+impl<const FORMAT: u128> View<FORMAT> {
+    pub fn of(mut self, other: Self) -> Self {}
+}
+END
+    UPSTREAM=$names "$names/compare/names.py" --list && cat "$names/compare/names.txt"
+}
+listed="error ready made READY_MADE
+error all of digit
+error type Byte = Option<NonZeroU8>
+error non_exhaustive enum Kind
+error impl Clone for Kind
+error impl Copy for Kind
+error variant Kind::One(usize)
+error variant Kind::Two
+error deprecated fn old(u8, &[u8]) -> Option<u8>
+error const fn word::<STANDARD>() -> ()
+error const PUBLIC: u8
+error const fn Kind::is_one(&Kind) -> bool
+error const fn Kind::is_two(&Kind) -> bool
+error impl Display for Kind
+error fn View<STANDARD>::of(View<STANDARD>, View<STANDARD>) -> View<STANDARD>"
+
+# differs: names.py refuses a page without these rows, of names that the plain Rust does not have or has otherwise.
+differs() {
+    ln -s "$rust" "$top/names/rust"
+    cat > "$top/names/compare/names.txt" << 'END'
+ascii const fn gone(u8) -> bool
+ascii struct Gone
+ascii fn is_valid_ascii(u8, u8) -> bool
+ascii const fn is_valid_letter(u8, u8) -> bool
+digit const fn char_is_digit(u8, u32) -> u8
+digit const fn char_to_digit_const::<STANDARD>(u8, u32) -> Option<u32>
+digit all of gone
+digit deprecated const fn char_to_digit(u8, u32) -> Option<u32>
+error impl Gone for Error
+error impl Iterator for Error
+error variant Error::Gone
+error const Error: u8
+format const GONE: u8
+format const fn Gone::new() -> u8
+gone struct Gone
+END
+    env -u UPSTREAM "$top/names/compare/names.py" --check README.md 2> /dev/null
+}
+
+differing="README.md has another table than this one, of compare/names.py:
+| \`lexical-util\` 1.0.7 | Here |
+|---|---|
+| \`ascii::gone\`, \`ascii::Gone\`, \`digit::gone\`, \`error::Error\`, \`error::Error\`, \`error::Error::Gone\`,\
+ \`error::u8\`, \`format::u8\`, \`format::Gone::new\`, \`gone::Gone\` | is not here |
+| \`ascii::is_valid_ascii\`, \`ascii::is_valid_letter\`, \`digit::char_to_digit_const::<STANDARD>\` | another signature |
+| \`digit::char_is_digit\` returns \`u8\` | returns \`bool\` |
+| \`digit::char_to_digit\` is deprecated | not deprecated |"
 
 # fake: a cargo that builds nothing. It makes files of known sizes, and a driver that prints the next line of the file
 # `rows`. A package is built three times for its time, and the first takes longest.
@@ -101,7 +181,7 @@ head -c 66000 /dev/zero > "$release/libpeltzivar_c.so"
 head -c 6000 /dev/zero > "$release/numfmt"
 cat > "$release/driver" << DRIVER
 #!/bin/sh
-echo "\$@" >> $FAKE/options
+echo "\$@\${PROVED:+ \${PROVED##*/} \${PLAIN##*/} \${NUMFMT##*/} \${HEADER##*/}}" >> $FAKE/options
 head -n 1 $FAKE/rows
 sed -i 1d $FAKE/rows
 DRIVER
@@ -132,7 +212,20 @@ sizes() {
     ../bench/sizes.sh 2> /dev/null | sed -E 's/\| 0\.[0-4][0-9] /| short /g; $d'
 }
 
-# scripts: the scripts of bench/ with this cargo.
+# compared: compare/run.sh with this cargo, and with a cc that does nothing.
+compared() {
+    mkdir "$FAKE/cc"
+    printf '#!/bin/sh\necho "cc $*" >> %s\n' "$FAKE/calls" > "$FAKE/cc/cc"
+    chmod +x "$FAKE/cc/cc"
+    echo "some section" > "$FAKE/rows"
+    : > "$FAKE/calls"
+    : > "$FAKE/options"
+    PATH=$FAKE/cc:$PATH ARCHIVE=$top/some.a ./run.sh --seed 2 2> /dev/null
+    grep -v '^build' "$FAKE/calls"
+    cat "$FAKE/options"
+}
+
+# scripts: the scripts with this cargo.
 scripts() {
     fake
     against 0 "some row 100.000 105.000 1.05 1.00" 101 105 100 107 103 106 104 109 100 106
@@ -144,11 +237,17 @@ scripts() {
         "$(sed -n 's/^build //p' "$FAKE/calls" | tail -n +3 | uniq -c | xargs)" "builds of bench/sizes.sh"
     compares "1000 build_or_panic 1000 build_strict" \
         "$(grep -ohE 'build_or_panic|build_strict' "$WORK"/formats-*/src/lib.rs | uniq -c | xargs)" "formats of bench/sizes.sh"
+    prints 0 "some section
+cc -shared -o $WORK/proved.so -Wl,--whole-archive $top/some.a -Wl,--no-whole-archive
+--seed 2 proved.so libpeltzivar_c.so numfmt peltzivar.h" compared
 }
 prints 2 "$top has no src/ascii.rs" copies "$top"
 prints 2 "../rust/lexical-util has no src/ascii.rs" copies ../rust/lexical-util
-prints 0 "note: $rust/Cargo.toml does not have version 1.0.7" copies "$rust"
+prints 0 "note: $rust/Cargo.toml does not have version 1.0.7
+./ascii.rs ./digit.rs ./error.rs ./feature_format.rs ./format.rs ./format_builder.rs ./format_flags.rs ./lib.rs" \
+    copies "$rust"
 needing cargo driver
-needing python3 passes reads 201
+needing python3 prints 0 "$listed" lists
+needing cargo needing python3 prints 1 "$differing" differs
 needing git needing cc scripts
-counted 20
+counted 22

@@ -230,6 +230,10 @@ fn edits_make_the_fields_of_their_word() {
             assert_eq!(edit.to_string().parse(), Ok(edit));
         }
     }
+    // A list may be longer than the list of fields.
+    let many: Vec<Edit> = (0..=255).map(Edit::Radix).collect();
+    let builder: NumberFormatBuilder = many.iter().collect();
+    assert_eq!(builder.get_mantissa_radix(), 255);
 }
 
 /// A panic has the description of the first broken rule, and the first reason, also where the reason prints any byte.

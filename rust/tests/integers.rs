@@ -34,8 +34,10 @@ const HEXADECIMAL: u128 = SEPARATED
     .base_suffix(NonZeroU8::new(b'h'))
     .integer_digit_separator_flags(true)
     .build_or_panic();
-const CASED: u128 = NumberFormatBuilder::rebuild(HEXADECIMAL)
+const CASED_PREFIX: u128 = NumberFormatBuilder::rebuild(HEXADECIMAL)
     .case_sensitive_base_prefix(true)
+    .build_or_panic();
+const CASED_SUFFIX: u128 = NumberFormatBuilder::rebuild(HEXADECIMAL)
     .case_sensitive_base_suffix(true)
     .build_or_panic();
 
@@ -136,9 +138,12 @@ fn base_prefix_and_base_suffix() {
             "1hh" Err(InvalidDigit(2)), Err(InvalidDigit(2));
             "00x1" Err(InvalidDigit(2)), Err(InvalidDigit(2));
         }
-        CASED {
-            "0xfFh" Ok(255), Ok(255);
+        CASED_PREFIX {
+            "0xfFH" Ok(255), Ok(255);
             "0Xff" Err(InvalidDigit(1)), Err(InvalidDigit(1));
+        }
+        CASED_SUFFIX {
+            "0XfFh" Ok(255), Ok(255);
             "0xffH" Err(InvalidDigit(4)), Err(InvalidDigit(4));
         }
     }

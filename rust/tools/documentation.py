@@ -270,7 +270,7 @@ class Comments:
 
     def paragraph(self, lines, width):
         text = old = " ".join(lines)
-        for phrase, new in sorted(PHRASES, key=lambda it: -len(it[0])):
+        for phrase, new in PHRASES:
             if phrase in text:
                 self.used.add(phrase)
                 text = text.replace(phrase, new)

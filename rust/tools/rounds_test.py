@@ -1,8 +1,8 @@
 #!/usr/bin/env python3
 """Tests that each loop of the tests in rust/ has a round: a copy of the tests prints a line for each of the first 1,000
-rounds of a loop. So no loop is over an empty table, and no row is dropped unseen.
+rounds of a loop. So no loop is over an empty table, and no row and no assertion is dropped unseen.
 
-The last line is `N passed, M failed`: the number of rounds, and of loops without one.
+The last line is `N passed, M failed`: the number of rounds and of assertions, and of loops without a round.
 """
 import collections
 import pathlib
@@ -36,20 +36,22 @@ def with_rounds(text, name, loops):
 
 
 def main():
-    loops = []
+    loops, asserts = [], 0
     with tempfile.TemporaryDirectory() as temporary:
         top = pathlib.Path(temporary)
         shutil.copytree(RUST, top / "rust", ignore=shutil.ignore_patterns("target"))
         # The tests read files of crates/.
         (top / "crates").symlink_to(RUST.parent / "crates")
         for path in sorted((top / "rust").rglob("*.rs")):
-            path.write_text(with_rounds(path.read_text(), f"{path.relative_to(top)}", loops))
+            text, name = path.read_text(), f"{path.relative_to(top)}"
+            asserts += len(re.findall(r"\bassert\w*!\(", text)) if "/tests" in name else 0
+            path.write_text(with_rounds(text, name, loops))
         words = "cargo test --offline --quiet --lib --bins --tests -- --nocapture".split()
         run = subprocess.run(words, cwd=top / "rust", capture_output=True, text=True)
     rounds = collections.Counter(re.findall(r"^round (.*)$", run.stdout, re.M))
     failed = [f"no round: {it}" for it in loops if not rounds[it]]
     failed += [run.stdout + run.stderr] if run.returncode else []
-    print(*failed, f"{sum(rounds.values())} passed, {len(failed)} failed", sep="\n")
+    print(*failed, f"{sum(rounds.values()) + asserts} passed, {len(failed)} failed", sep="\n")
     return bool(failed)
 
 

@@ -1,5 +1,5 @@
 //! Memory to which a call only writes. C may leave this memory uninitialised, so no reference to a value may point to
-//! it. A value is written through a raw pointer, and a text is written as bytes that may be uninitialised.
+//! it. A value is written through a raw pointer. An array or a text is written as values that may be uninitialised.
 
 use core::mem::MaybeUninit;
 
@@ -26,10 +26,10 @@ impl<T, const N: usize> Out<[T; N]> {
     ///
     /// Panics if the array has no such index.
     pub fn write_at(&mut self, index: usize, value: T) {
-        assert!(index < N);
-        // SAFETY: C passed the pointer, and it points to an array of this type, as the comment of the type states. The
-        // index is in range.
-        unsafe { self.0.cast::<T>().add(index).write(value) }
+        // SAFETY: C passed the pointer, and it points to an array of this type, as the comment of the type states. Here
+        // its values may be uninitialised.
+        let array = unsafe { &mut *self.0.cast::<[MaybeUninit<T>; N]>() };
+        array[index].write(value);
     }
 }
 
