@@ -8,23 +8,23 @@
  *
  * The flags in bits 32 to 44 are the digit separator flags. The exponent base and the exponent radix are the exponent
  * bytes. A byte other than the mantissa radix is absent if it is 0. If an exponent byte is absent, the mantissa radix
- * is used in its place. An edit writes a value to one flag, to each flag of a group, or to one byte. The setter of the
+ * is used in its place. An edit writes a value to one flag, to a group of flags, or to one byte. The setter of the
  * edit selects the flag, the group or the byte.
  *
  * A word is lawful if it keeps all of the 16 rules below (PELTZIVAR_RULE_*). In the repository, docs/FORMAT.md
  * describes each field and each rule, and the program c/settings.c shows how to check a settings file.
  *
- * Words, edits, numbers and bytes may have any value. A pointer that is passed with a length must point to an array of
- * at least that many elements, but it may be null if the length is 0. Any other pointer must point to an object of the
- * declared type, or to an array of at least the declared size. All input must be initialised. This includes *fields in
- * peltzivar_edit_fields, which is both input and output. Memory that a function only writes need not be initialised.
- * Memory that a function writes must not overlap memory that another argument points to. No function allocates memory,
- * retains a pointer or sets errno. Several threads may call these functions at the same time, provided that no call
- * writes memory that another call reads or writes.
+ * An argument that is a word, an edit, a number or a byte may have any value. A pointer that is passed with a length
+ * must point to an array of at least that many elements, but it may be null if the length is 0. Any other pointer must
+ * point to an object of the declared type, or to an array of at least the declared size. All input must be
+ * initialised. This includes *fields in peltzivar_edit_fields, since *fields is both input and output. Memory that a
+ * function only writes need not be initialised. Memory that a function writes must not overlap memory that another
+ * argument points to. No function allocates memory, retains a pointer or sets errno. Several threads may call these
+ * functions at the same time, provided that no call writes memory that another call reads or writes.
  *
  * A bit of a word has the same meaning in every version of the library. A new minor version may add a flag. The
  * setters and the bits of `flags` in peltzivar_fields are then renumbered. Therefore, store words and setter names
- * rather than setter numbers and peltzivar_fields. Use a header and a library of the same version. */
+ * rather than setter numbers and peltzivar_fields. Use the header and the library of the same version. */
 #ifndef PELTZIVAR_H
 #define PELTZIVAR_H
 
@@ -52,8 +52,8 @@
 #endif
 #endif
 
-/* PELTZIVAR_MUST_USE makes compilers warn if a caller ignores the result of a function. The result of such a function
- * is an error, or states whether the function wrote its output. */
+/* PELTZIVAR_MUST_USE makes compilers warn if a caller ignores the result of a function. Such a function returns an
+ * error, or it returns whether it wrote its output. */
 #ifndef PELTZIVAR_MUST_USE
 #if defined(__cplusplus) && __cplusplus >= 201703L
 #define PELTZIVAR_MUST_USE [[nodiscard]]
@@ -104,8 +104,8 @@ static const peltzivar_word PELTZIVAR_STANDARD = PELTZIVAR_STANDARD_INIT;
 static const peltzivar_fields PELTZIVAR_NEW_FIELDS = PELTZIVAR_NEW_FIELDS_INIT;
 
 /* peltzivar_setter_of_name returns PELTZIVAR_NO_SETTER if no setter has the name. peltzivar_char_to_digit returns
- * PELTZIVAR_NO_DIGIT if the byte is not a digit. peltzivar_digit_to_char returns PELTZIVAR_NO_CHAR if the number has
- * no digit character. */
+ * PELTZIVAR_NO_DIGIT if the byte is not a digit of the radix. peltzivar_digit_to_char returns PELTZIVAR_NO_CHAR if the
+ * number has no digit character. */
 #define PELTZIVAR_NO_SETTER 255
 #define PELTZIVAR_NO_DIGIT UINT32_MAX
 #define PELTZIVAR_NO_CHAR 0
@@ -226,10 +226,10 @@ enum {
     PELTZIVAR_INVALID_POSITIVE_EXPONENT_BREAK = 48
 };
 
-/* Each rule has a number. The rules are checked in this order. The comment on each rule states what the rule requires.
- * docs/FORMAT.md numbers the rules from 1, so its rule n is rule n - 1 here. The allowed ASCII bytes are the bytes 9
- * to 13 and 32 to 126. Punctuation is any allowed ASCII byte except the signs (+ and -) and the digits of the mantissa
- * radix and of the exponent radix. An absent exponent_base or exponent_radix means the mantissa radix. */
+/* Each rule has a number. The rules are checked in the order of their numbers. The comment on each rule states what
+ * the rule requires. docs/FORMAT.md numbers the rules from 1, so its rule n is rule n - 1 here. The allowed ASCII
+ * bytes are the bytes 9 to 13 and 32 to 126. Punctuation is any allowed ASCII byte except the signs (+ and -) and the
+ * digits of the mantissa radix and of the exponent radix. An absent exponent byte means the mantissa radix. */
 enum {
     PELTZIVAR_RULE_MANTISSA_RADIX_IN_RANGE = 0, /* mantissa_radix is between 2 and 36. */
     PELTZIVAR_RULE_EXPONENT_BASE_IN_RANGE, /* exponent_base is between 2 and 36. */
@@ -271,9 +271,8 @@ enum {
 #define PELTZIVAR_MAX_MENDING_EDITS 3
 #define PELTZIVAR_MAX_NOTES 3
 
-/* A buffer of PELTZIVAR_SOURCE_SIZE bytes can hold any text that peltzivar_source writes, including the null
- * terminator. A buffer of PELTZIVAR_TEXT_SIZE bytes can hold any text that another function writes, including the null
- * terminator. */
+/* A buffer of PELTZIVAR_SOURCE_SIZE bytes can hold any text of peltzivar_source and its null terminator. A buffer of
+ * PELTZIVAR_TEXT_SIZE bytes can hold any other text and its null terminator. */
 #define PELTZIVAR_TEXT_SIZE 256
 #define PELTZIVAR_SOURCE_SIZE 2048
 
@@ -292,7 +291,7 @@ PELTZIVAR_API uint32_t peltzivar_version(void);
 
 /* FIELDS */
 
-/* Returns the fields of a word. In the result, the mantissa radix replaces an absent exponent byte. */
+/* Returns the fields of a word. In the result, the mantissa radix replaces each absent exponent byte. */
 PELTZIVAR_API peltzivar_fields peltzivar_fields_of(peltzivar_word format);
 
 /* Applies the edits to *fields in order and returns true. If an edit has an unknown setter, returns false and leaves
@@ -319,13 +318,13 @@ PELTZIVAR_MUST_USE PELTZIVAR_API peltzivar_error peltzivar_build_strict(
 
 /* Applies the edits to the fields of a word in order, packs the fields as peltzivar_pack does, writes the new word to
  * *out and returns true. If an edit has an unknown setter, returns false and leaves *out unchanged. Before the edits
- * are applied, the mantissa radix replaces an absent exponent byte. After they are applied, packing may drop the digit
- * separator. Therefore, two calls do not always give the same word as one call with both lists of edits. Edit the
- * digit separator and its flags in the same call. */
+ * are applied, the mantissa radix replaces each absent exponent byte. After they are applied, packing may drop the
+ * digit separator. Therefore, two calls do not always give the same word as one call with both lists of edits. Edit
+ * the digit separator and its flags in the same call. */
 PELTZIVAR_MUST_USE PELTZIVAR_API bool peltzivar_edit_word(
     peltzivar_word format, const peltzivar_edit *edits, size_t len, peltzivar_word *out);
 
-/* Returns the normal form of a word. The normal form has the same fields, except that the mantissa radix replaces an
+/* Returns the normal form of a word. The normal form has the same fields, except that the mantissa radix replaces each
  * absent exponent byte, and that the digit separator is 0 if no digit separator flag is set. All reserved bits of the
  * normal form are 0. */
 PELTZIVAR_API peltzivar_word peltzivar_normal_form(peltzivar_word format);
@@ -410,10 +409,10 @@ PELTZIVAR_API bool peltzivar_flag(peltzivar_word format, uint8_t setter);
 
 /* REASONS
  *
- * A reason states why a word breaks one or more rules. For example, the base prefix is a digit. A word has
- * PELTZIVAR_CANDIDATE_COUNT slots for reasons. The slots are numbered from 0. Each slot holds one reason or is empty.
- * All slots are empty if and only if the word is lawful. An index that no slot has is treated as the index of an empty
- * slot. peltzivar_word_reason writes the text of a reason. */
+ * A reason states why a word breaks one or more rules. One reason, for example, is that the base prefix is a digit. A
+ * word has PELTZIVAR_CANDIDATE_COUNT slots for reasons. The slots are numbered from 0. Each slot holds one reason or
+ * is empty. All slots are empty if and only if the word is lawful. An index that no slot has is treated as the
+ * index of an empty slot. peltzivar_word_reason writes the text of a reason. */
 
 /* Returns a mask of the bits that the reason in a slot blames. The mask is 0 if the slot is empty. In a list of
  * edits that builds the word, an edit is to blame if it writes one of these bits and no later edit writes that bit
@@ -528,8 +527,8 @@ PELTZIVAR_API size_t peltzivar_source(peltzivar_word format, char *text, size_t 
 PELTZIVAR_API size_t peltzivar_description(peltzivar_error error, char *text, size_t len);
 
 /* Writes the full text of an error, such as "lexical parse error: 'numeric overflow occurred' at index 7". The full
- * text consists of the kind of the error, its description and, for a parse error, the index. For any other error, the
- * index is ignored. The full text of PELTZIVAR_SUCCESS is only its description. */
+ * text consists of the kind of the error, its description and, for a parse error, the index that is passed. For any
+ * other error, the index is ignored. The full text of PELTZIVAR_SUCCESS is only its description. */
 PELTZIVAR_API size_t peltzivar_text(peltzivar_error error, size_t index, char *text, size_t len);
 
 /* Writes one of the reasons why a word breaks a rule, such as "the base prefix 'b' is a digit in radix 16". The index
