@@ -4,9 +4,9 @@
 #     UPSTREAM=folder bench/run [--rounds N] [--only TEXT]
 #     UPSTREAM=folder bench/run --against COMMIT [--rounds N] [--only TEXT]
 #
-# With --against, the old and the new program run five times in turns, and the least time of each row is compared. The
-# exit status is 1 if a row takes more than 1.05 of the commit's time. Then --only selects the rows whose names begin with
-# the text.
+# With --against, the old and the new program run five times in turn, and the least times of each row are compared. The
+# exit status is 1 if a row takes more than 1.05 times as long as in the commit. With --against, --only selects the rows
+# whose names begin with the text.
 #
 # PROCESSORS  the processors to build for, as RATTLE:RUST; default "x86-64-v2:x86-64-v2 x86-64-v3:x86-64-v3"
 set -euo pipefail
@@ -29,8 +29,8 @@ plain_driver() {
     cp "$driver" "$2"
 }
 
-# compared FILE: from lines `SIDE plain: ..` of drivers, the least times of each row and their ratio; and the same ratio of
-# the crate's loops, which are the same code on both sides.
+# compared FILE: reads lines `SIDE plain: ..` that the drivers printed. Prints the least times of each row on both sides
+# and their ratio. Also prints this ratio for the loops over the crate, which are the same code on both sides.
 compared() {
     awk '
         function keep(key, time) { if (!(key in least) || time < least[key]) least[key] = time }
@@ -65,7 +65,7 @@ against() {
     rm -rf "$work/tree"
     mkdir -p "$work/tree"
     git -C "$repository" archive "$1" rust compare bench | tar -x -C "$work/tree"
-    # Both are measured alike, also if the commit's driver takes another time or prints fewer places.
+    # Both programs measure in the same way, even if the commit's driver takes other times or prints fewer decimals.
     cp "$here/rust/src/measure.rs" "$work/tree/bench/rust/src/"
     sed -i 's/{:>10.2} {:>10.2}/{:>10.3} {:>10.3}/' "$work/tree/bench/rust/src/main.rs"
     shift

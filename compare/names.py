@@ -2,12 +2,12 @@
 """Finds the public names of lexical-util 1.0.7 that differ in rust/.
 
     compare/names.py                   prints them as a table
-    compare/names.py --check PAGE      compares the table with the one in the page; the status is 1 if they differ
+    compare/names.py --check PAGE      compares the table with the table in the page. The status is 1 if they differ
     compare/names.py --list            reads the names from the folder UPSTREAM into names.txt
 
 The names of the seven modules of lexical-util are the lines of names.txt. If UPSTREAM is set, the lines are compared with
-its sources. The compiler finds the differences: a program over rust/ uses each name once, as it can be used with
-lexical-util. A use that does not compile is removed, and the rest is compiled again.
+its sources. The compiler finds the differences: a program over rust/ uses each name once, in a way that lexical-util
+allows. If a use does not compile, it is removed, and the rest is compiled again.
 """
 import os
 import pathlib
@@ -21,7 +21,7 @@ LIST = HERE / "names.txt"
 MODULES = ["ascii", "digit", "error", "feature_format", "format", "format_builder", "format_flags"]
 HEAD = ["| `lexical-util` 1.0.7 | Here |", "|---|---|"]
 
-# A value of each type that a function of the crate takes.
+# A value for each type that a function of lexical-util takes.
 VALUES = {
     "u8": "0u8",
     "u32": "2u32",
@@ -110,7 +110,7 @@ def types(text):
 
 
 def of_module(text):
-    """Returns the public names of a module, a line each."""
+    """Returns the public names of a module, one per line."""
     names = [f"ready made {it}" for it in sorted(set(re.findall(r"^(?://! )?- \[`([A-Z0-9_]+)`\]", text, re.M)))]
     impls, rest = blocks(without_comments(text))
     names += [f"all of {it}" for it in re.findall(r"pub use crate::(\w+)::\*;", rest) if it in MODULES]
@@ -153,7 +153,7 @@ def values(text):
 
 
 def use_of(module, name, names):
-    """Returns an item that uses a name as it can be used with the crate."""
+    """Returns an item that uses a name in a way that lexical-util allows."""
     if found := re.fullmatch(r"(deprecated )?(const )?fn ([^(]+)\(([^)]*)\) -> (.+)", name):
         _, const, function, arguments, result = found.groups()
         path = path_of(module, function)
@@ -198,7 +198,7 @@ def messages(items, folder):
 
 
 def differences(names):
-    """Returns each name that differs here, with its form there and here."""
+    """Returns each name that differs, with its form in lexical-util and its form here."""
     found = {}
     with tempfile.TemporaryDirectory() as temporary:
         folder = pathlib.Path(temporary)
@@ -251,7 +251,7 @@ def there(name):
 
 
 def table(found):
-    """Returns the rows of the table: names that differ alike share one."""
+    """Returns the rows of the table. Names with the same difference share a row."""
     rows, alike = [], {}
     for name, text in found:
         path, _, result = there(name)
@@ -288,7 +288,7 @@ def main():
         return 1
     found = table(differences(names))
     if arguments[:1] == ["--check"]:
-        # The page has one row more, which states what the rules of both differ in.
+        # The page has one more row, for the rules that differ.
         if "\n".join([*found, "| the rules of 1.0.7 |"]) in pathlib.Path(arguments[1]).read_text():
             return 0
         print(f"{arguments[1]} has another table than this one, of compare/names.py:")

@@ -1,5 +1,5 @@
 # shellcheck shell=bash
-# Shared by compare/run.sh and bench/run.sh: sourced, not run. It needs UPSTREAM, and takes WORK.
+# compare/run.sh, bench/run.sh and bench/sizes.sh source this file. It needs UPSTREAM, and accepts WORK.
 #
 # UPSTREAM  the sources of lexical-util 1.0.7: its folder, or a folder with its files as src--src--NAME.rs.txt
 # WORK      a folder to work in and keep; by default a new temporary one, which is removed
@@ -55,8 +55,8 @@ prepare_project() {
     grep -E '^(#|lexical_(base|flags|builder|util)\b)' "$repository/crates.txt" > "$work/project/crates.txt"
 }
 
-# Adds the static library $1 from folder $2 to the copy. Its files end in .rt.in, since the gate takes no .rt file of
-# a crate that crates.txt does not list.
+# Adds the static library $1 from folder $2 to the copy. Its files end in .rt.in, because `rt ci` refuses the .rt files
+# of a crate that crates.txt does not list.
 add_library() {
     mkdir -p "$work/project/crates/$1/src"
     local file
@@ -97,7 +97,7 @@ prepare_drivers() {
 # Builds the driver of folder $1 for processor $2. The driver of bench/ links the static libraries that were built for
 # processor $3.
 #
-# No jump crosses a border of 32 bytes: otherwise rows of bench/ move with the addresses of their code.
+# No jump crosses a 32-byte boundary. Otherwise, the times of rows in bench/ would depend on addresses of code.
 build_driver() {
     local flags="-C target-cpu=$2 -C llvm-args=-x86-branches-within-32B-boundaries"
     prepare_drivers

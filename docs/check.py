@@ -1,10 +1,10 @@
 #!/usr/bin/env python3
 """Compares the pages with the repository, prints each difference, and ends with status 1 if there is one.
 
-- Each link between pages has a file and a heading to lead to.
-- Each block of code is a piece of a file; `..` replaces lines that it leaves out.
+- Each link in a page leads to a file, and to a heading of this file if the link names one.
+- Each block of code is a part of a file. `..` replaces lines that are left out.
 - Each name with a `_` or `::`, except in the changelog, is in some code, and so is each word of FORMAT.md.
-- check_places.py compares the sources that pages name, and the names that pages have in a source.
+- check_places.py checks that the sources that pages name exist, and have the names that pages place in them.
 - check_format.py compares FORMAT.md, check_header.py the header of C, and check_clauses.py the clauses in PROVED.md.
 - c/peltzivar.py is what c/make_python.py writes.
 - check_prose.py compares sentences: the fields of FORMAT's example, exit statuses, and the least version of Rust. It
@@ -14,15 +14,15 @@
 - A format word outside of a block of code can be pasted: it has no `_`.
 - The numbers of flags, fields, rules, reserved bits and outcomes in pages are right, and so are the numbers of rows in the
   eraser's tables. So are the counts of names in compare/README.md.
-- Each file of a folder must-fail/ is an edit. The numbers of edits and tests are not below the last ones.
+- Each file of a folder must-fail/ is an edit. The numbers of edits and tests are not below the least ones.
 - No line of code or proof has over 160 columns, and at most 150 have over 120. In pages, only lines of tables and code
   have over 120 columns.
 - No proof reaches a fact by two positions.
 - The pages have at most 1,400 lines, and README 800 words; its ratios of time are in bench/README.md.
-- README has a command of cargo that runs something, one that runs all tests, and `rt ci`; `.ci/run` calls its tests.
-- `.ci/run`, or a script that it calls, calls each script that is a test by its name. Each script of shell fails if a
-  command does: it begins with `set -e`, or ends with the count of failures.
-- No manifest in rust/ turns tests off, except for capi's, which has none.
+- README has a cargo command that runs an example, one that runs all tests, and `rt ci`. `.ci/run` calls these tests.
+- `.ci/run`, or a script that it calls, calls each script whose name ends in `test`. Each shell script fails if one of
+  its commands fails: it begins with `set -e`, or ends with the count of failures.
+- No manifest in rust/ disables tests, except for the manifest of capi, which has none.
 
 The last line counts the lines of the pages, the words of README, the transcripts (which the tests of numfmt, of rust/
 and of c/ run, except for lines `$ cc ..`), the blocks of code (which are compared here), and the lines of prose that

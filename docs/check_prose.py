@@ -8,7 +8,7 @@ import re
 import check_format
 
 TOP = check_format.CRATES.parent
-# Constructions that stumble a reader, each with an expression that finds it in a line of a page or a comment.
+# Constructions that make a reader stumble, each with an expression that finds it in a line of a page or a comment.
 PATTERNS = [
     ("exactly if", r"\bexactly (if|then|where)\b"),
     ("is no X", r"\b(is|are|was|be) no [a-z]"),

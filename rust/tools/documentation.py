@@ -1,4 +1,4 @@
-"""Changes of erase.py in the documentation of the library, so that it does not mention the sources in Rattle.
+"""The part of erase.py that changes the documentation of the library, so that it does not mention the Rattle sources.
 
 PROVED lists the calls whose documentation shows their clauses, with a sentence for each clause. A name between
 backquotes becomes a link if the page `definitions` has it. PHRASES are removed or replaced, and no match of FOREIGN may
@@ -14,7 +14,7 @@ CRATES = pathlib.Path(__file__).resolve().parent.parent.parent / "crates"
 sys.path.append(str(CRATES.parent / "docs"))
 import definitions as model
 
-# For each file the calls whose documentation shows their clauses, and what each clause states.
+# For each file, the calls whose documentation shows their clauses, and a sentence for each clause.
 PROVED = {
     "format_builder.rt": {
         "build_unchecked": {
@@ -132,7 +132,7 @@ PROVED = {
     },
 }
 
-# Texts of documentation comments, also across line ends, and their replacements.
+# Texts in documentation comments, which may contain line ends, and their replacements.
 PHRASES = [
     ("In plain Rust:", ""),
     ("In plain Rust, `broken_rules(format)", "`broken_rules(format)"),

@@ -31,7 +31,7 @@ CRATES = RUST.parent / "crates"
 # The beginning of each generated file.
 MADE = "// Made by rust/tools/erase.py"
 
-# For each crate the folder of its files in plain Rust, the root of their paths, and the standard library that they use.
+# For each crate, the folder of its files in plain Rust, the root of their paths, and the standard library that they use.
 LIBRARY = ("src", "crate", "core")
 PLACES = {
     "lexical_base": LIBRARY,
@@ -42,7 +42,7 @@ PLACES = {
     "numfmt": ("numfmt/src", "peltzivar", "std"),
 }
 
-# The files without counterpart: roots, which are written by hand, laws, examples, and a type that core has.
+# Files without a counterpart in plain Rust: roots, which are written by hand, laws, examples, and a type that core has.
 IN_CORE = "format_builder/non_zero.rt"
 LEFT_OUT = re.compile(rf"(lib|main|laws|examples)\.rt|{IN_CORE}|laws/.*")
 
@@ -51,7 +51,7 @@ LEFT_OUT = re.compile(rf"(lib|main|laws|examples)\.rt|{IN_CORE}|laws/.*")
 MODULES = {"format": "word", "feature_format": "view"}
 VIEW = ("NumberFormat", "FormatView")
 
-# Texts that plain Rust replaces: the file, the text, and the replacement. Both have as many lines.
+# Texts that plain Rust replaces: the file, the text, and the replacement. The text and its replacement have the same number of lines.
 COMPARED = "#[derive(Clone, Copy, PartialEq, Eq, Hash)]"
 PUT_DECIMAL = """let has_front = n >= 10;
     if has_front {
@@ -69,7 +69,7 @@ SUBSTITUTIONS = [
     ("error.rt", "use std::cmp::Ordering;", ""),
     ("error.rt", "#[derive(Clone, Copy, Debug)]", "#[derive(Clone, Copy, Debug, PartialEq, Eq, PartialOrd, Ord, Hash)]"),
     ("short_text.rt", "#[derive(Drop)]", "#[derive(Clone, Copy)]"),
-    # The digits of a number are put by one call.
+    # One call writes all digits of a number.
     ("short_text.rt", PUT_DECIMAL, "out.put(crate::decimal::Decimal::new(n).text())" + "\n" * PUT_DECIMAL.count("\n")),
     ("sink.rt", "impl<W: fmt::Write> Sink for fmt::Formatter<W> {", "impl Sink for fmt::Formatter<'_> {"),
     ("format_builder.rt", "#[derive(Drop)]", COMPARED),
@@ -84,7 +84,7 @@ SUBSTITUTIONS = [
     ("texts.rt", "out[count] = 0;", "out[count].write(0);"),
 ]
 
-# Texts that plain Rust replaces in every file, as often as they occur.
+# Texts that plain Rust replaces in every file, wherever they occur.
 EVERYWHERE = [
     (".as_chunks::<", ".split_chunks::<"),
     ("fn fmt<W: fmt::Write>(&self, f: &mut fmt::Formatter<W>)", "fn fmt(&self, f: &mut fmt::Formatter<'_>)"),
@@ -143,7 +143,7 @@ DERIVED = {
 # Words that begin an item that plain Rust would lose if a file without counterpart had it.
 ITEM_WORDS = {"impl", "struct", "enum", "union", "trait", "static", "type", "macro_rules", "extern"}
 
-# Words that the plain Rust does not have: if one is left, a ghost form was not left out.
+# Words that plain Rust must not contain. If one is left, a ghost form was not removed.
 GHOST = {
     "ghost", "requires", "ensures", "tactic", "prove", "invariant", "measure", "Model", "Drop", "laws", "rt", "alloc",
     "decreases", "assume",

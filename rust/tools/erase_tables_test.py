@@ -16,7 +16,7 @@ sys.dont_write_bytecode = True
 import erase
 from erase_test import words_of
 
-# The file of each row in its order, what the row drops and what it adds.
+# The file of each row, in the order of the rows, and the words that the row drops and adds.
 ROWS = [
     ("ascii.rt", "std simd prelude *", "crate chunks { Chunks , SplitChunks } ; use crate lanes :: Simd"),
     ("ascii.rt", "& [ [ u8 ; ] ]", "Chunks < ' _ , >"),
@@ -176,7 +176,7 @@ def run(folder, arguments, substitutions, everywhere, growing):
 
 
 def runs(folder):
-    """Each run, what it has to print, and what it prints."""
+    """Each run, the expected output, and the actual output."""
     copied = ("rust/tools/erase.py", "rust/tools/documentation.py", "rust/rustfmt.toml", "docs/definitions.py")
     files = REPOSITORY | {name: (erase.RUST.parent / name).read_text() for name in copied}
     for name, text in files.items():

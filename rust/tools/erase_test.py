@@ -141,7 +141,7 @@ def with_attributes(words, name):
 
 
 def wanted_words(path, place):
-    """The words that the made file of a source has to have."""
+    """The words that the generated file of a source must have."""
     text = path.read_text()
     for file, old, new in erase.SUBSTITUTIONS:
         if file == path.name:
@@ -234,7 +234,7 @@ def are_same(wanted, made):
 
 
 def pairs():
-    """Each source with its made file, and its place."""
+    """Each source with its generated file, and its path."""
     for crate, place in erase.PLACES.items():
         top = erase.CRATES / crate / "src"
         for path in sorted(top.rglob("*.rt")):
@@ -253,7 +253,7 @@ def made_files():
 
 
 def faults(made, chance):
-    """Some faults in the words of a made file: a word less, a word twice, a statement less."""
+    """Some faults in the words of a generated file: a missing word, a repeated word, a missing statement."""
     names = [at for at, word in enumerate(made) if word[0].isalnum()]
     for at in chance.sample(names, min(8, len(names))):
         yield f"without {made[at]} at {at}", made[:at] + made[at + 1 :]
