@@ -1,10 +1,10 @@
 """Compares the clauses that PROVED.md names with the contracts in crates/*/src.
 
 A row of a table describes the functions that its first cell names in backquotes, as `name`, `Type::name` or `name` of `Type`,
-or by a name of CALLED. A row of two cells has their clauses in brackets. A paragraph that begins with a name in bold does, too:
-it describes the functions that it names before its verb. Each clause that it names is one of theirs, and each of theirs is
-named. Each named clause of a public function of the libraries is named somewhere. The page names the public functions of the
-libraries that have preconditions (`requires`).
+or by a name of CALLED. A row of two cells has their clauses in brackets. A paragraph that begins with a name in bold describes
+the functions that it names before its verb, and also has their clauses in brackets. A row or paragraph must name exactly the
+clauses of its functions. Each named clause of a public function of the libraries must be named somewhere. The page must name
+the public functions of the libraries that have preconditions (`requires`).
 """
 import pathlib
 import re
@@ -22,7 +22,7 @@ CALLED = {
     "flag groups": "flags interface_flags digit_separator_flags exponent_flags integer_digit_separator_flags"
     " fraction_digit_separator_flags exponent_digit_separator_flags",
 }
-# Rows that leave out clauses of their functions, with the reason.
+# Rows that do not name all clauses of their functions, with the reason.
 PARTIAL = {
     "`laws::layout_facts`": "one clause a fact, all described together",
 }
@@ -107,7 +107,7 @@ def preconditions():
 
 
 def clauses():
-    """Returns what differs."""
+    """Returns the differences."""
     yield from preconditions()
     known, told, seen = list(functions()), set(), set()
     for section, cells in rows("PROVED.md"):

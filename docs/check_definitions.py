@@ -1,5 +1,5 @@
 #!/usr/bin/env python3
-"""What has to be believed of each headline call: the definitions that its contract cites, and those that these cite.
+"""Finds the definitions to trust for each headline call: its contract cites them, or one of these definitions does.
 
     docs/check_definitions.py                   prints the files of each call, with its definitions and lines
     docs/check_definitions.py edit_word --text  prints its definitions and its contract, to be read from top to bottom
@@ -36,7 +36,7 @@ CALLS = {
     "options": ["is_valid_options_punctuation", "options_error"],
     "migrate": ["migrate"],
 }
-# The most lines of one call, and of all together.
+# The maximum number of lines of one call, and of all calls together.
 MOST = {"edit_word": 300, "all": 570}
 # The files at the top of specs/ that no headline call reaches, each with the reason.
 APART = {
@@ -81,12 +81,12 @@ def needed(call):
 
 
 def lines(file, names):
-    """Returns how many lines these definitions and the first comment of their file have."""
+    """Returns the number of lines that these definitions and the first comment of their file have."""
     return len(FILES[file].header) + sum(len(FILES[file].lines[name]) for name in names)
 
 
 def total(call):
-    """Returns how many lines a headline call needs."""
+    """Returns the number of lines that a headline call needs."""
     return sum(lines(*it) for it in needed(call).items())
 
 
@@ -142,7 +142,7 @@ def tables():
 
 
 def page():
-    """Returns PROVED.md with the tables of today."""
+    """Returns PROVED.md with the current tables."""
     text = PAGE.read_text()
     for name, table in tables().items():
         text = re.sub(rf"(<!-- {name} -->\n).*?(?=<!-- end -->)", lambda it: it[1] + table, text, flags=re.S)
@@ -150,7 +150,7 @@ def page():
 
 
 def definitions():
-    """Returns what is wrong."""
+    """Returns the findings."""
     found = [f"{short(file)}.{name}: what is {it.name}?" for file in FILES for name in FILES[file].lines
              for it in cites(Item(file, name)) if it.file == "unknown name"]
     found += [*(it for call in CALLS for it in unfit(call)), *misplaced()]
@@ -161,7 +161,7 @@ def definitions():
 
 
 def show(call):
-    """Prints how many definitions and lines of each file a headline call needs."""
+    """Prints the number of definitions and lines of each file that a headline call needs."""
     print(f"{call}: {sum(map(len, needed(call).values()))} definitions, {total(call)} lines")
     for file, names in needed(call).items():
         print(f"    {short(file):28} {len(names):3} definitions {lines(file, names):4} lines")

@@ -50,7 +50,7 @@ def rows():
 
 
 def counts():
-    """Returns how many there are of what the pages count."""
+    """Returns the number of each thing that pages count."""
     error = (CRATES / "lexical_base/src/error.rt").read_text()
     outcomes = re.search(r"pub enum Error \{(.*?)^\}", error, re.M | re.S)[1]
     return {
@@ -118,7 +118,7 @@ def pointers():
 
 
 def demand(number, error, word):
-    """Returns what a rule demands, by its error and the smallest word that breaks it."""
+    """Returns the condition of a rule, from its error and the smallest word that breaks it."""
     field = re.sub(r"(?<=[a-z])(?=[A-Z])", " ", error).lower()
     flags = [str(bit) for bit in bits_of(int(word, 16)) if bit < 64]
     if int(number) <= 3:
@@ -145,7 +145,7 @@ def cells():
 
 
 def drawing():
-    """Returns whether the drawing has other bits than the tables."""
+    """Yields a finding if the drawing has other bits than the tables."""
     drawn = list(cells())
     flags = [int(bit) for bit, _, _ in FLAGS]
     low, high = [bit for bit in flags if bit < 32], [bit for bit in flags if bit >= 32]
@@ -157,7 +157,7 @@ def drawing():
 
 
 def format_page():
-    """Returns what differs."""
+    """Returns the differences."""
     yield from (*tables(), *meanings(), *first_lines(), *pointers(), *drawing())
     for number, text, error, word in RULES:
         if demand(number, error, word) != text:

@@ -1,8 +1,9 @@
-"""Finds sources that a page names and that are not there, and names that are not in the file where the page has them.
+"""Finds sources that a page names but that do not exist, and names that are not in the file where a page places them.
 
-A page names a source by the end of its path, as `specs/Edits.antt`, or a file of definitions or lemmas without its end,
-as `Edits`. It has a name there if it writes `name` in `file`, in `file` `name`, `file.name` or `file.{name, other}`. The
-last two also mean what the file re-exports, and for a file that lexical_util has, or re-exports, that file.
+A page names a source by the end of its path, such as `specs/Edits.antt`, or a file of definitions or lemmas without its
+suffix, such as `Edits`. It places a name in a file if it writes `name` in `file`, in `file` `name`, `file.name` or
+`file.{name, other}`. The last two forms also include names that the file re-exports. They mean the file of lexical_util,
+if it has or re-exports a file with this name.
 """
 import re
 
@@ -22,7 +23,7 @@ def sources():
 
 
 def ending(place, texts):
-    """Returns the paths that end as a page writes one, which may leave out `.antt`."""
+    """Returns the paths that end with a path in a page, which may lack `.antt`."""
     return [path for path in texts if path.endswith((f"/{place}", f"/{place}.antt"))]
 
 
@@ -43,7 +44,7 @@ def exports(file, name):
 
 
 def misplaced(text):
-    """Returns what differs in a page."""
+    """Returns the differences in a page."""
     texts, flat = sources(), " ".join(re.sub(r"^```.*?^```", "", text, flags=re.M | re.S).split())
     for file in sorted(set(re.findall(r"`([\w/]+\.(?:antt|rt))`", flat))):
         if not ending(file, texts) and not OWN.search(file):

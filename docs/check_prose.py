@@ -1,7 +1,7 @@
-"""Sentences of the pages that differ from the sources: flags and fields in FORMAT, exit statuses, the least Rust.
+"""Finds sentences of pages that differ from the sources: flags and fields in FORMAT, exit statuses, the least Rust.
 
-And constructions that neither a page nor a comment has (PATTERNS and AT_START), except for the lines that KEPT lists
-with a reason.
+Also finds constructions that no page and no comment may have (PATTERNS and AT_START), except for the lines that KEPT
+lists with a reason.
 """
 import re
 
@@ -36,17 +36,17 @@ PATTERNS = [
     ("setters of flags", r"\b([Ee]rrors?|[Rr]ules?|[Ss]etters?|[Gg]etters?|[Rr]easons?) of (a |an |the )?(parsing|formats?|options|flags?|bytes?|punctuation|radixes|reserved bits|groups?)\b"),
     ("the Rust crate", r"\bthe Rust crate\b|\bempty (exponent )?(base|radix|bytes?)\b"),
 ]
-# Wider expressions for the line with which a comment, a docstring or a paragraph begins.
+# Wider expressions for the first line of a comment, a docstring or a paragraph.
 AT_START = {
     "a comment from its middle": r"^ *(//[/!]?|--|/?\*|#|\"\"\")? *(and|those|that|the same|such|before|after|but) ",
     "what or who first": r"(^|[.:;|(] |//[/!]? |-- |# |\"\"\")(What|Who|That which|Of) ",
     "how many or whether": r"^ *(//[/!]? |-- |/?\* |# |\"\"\")([Hh]ow (many|a|the)|[Ww]hether) ",
 }
-# The files with prose, by their folders. check.py has the pages.
+# The files with prose, by folder. check.py lists the pages.
 PROSE = [("crates", "*.rt"), ("crates", "*.antt"), ("rust", "*.rs"), ("c", "*.[ch]"), ("bench", "*.rs"), ("bench", "*.in"),
          ("compare", "*.rs"), ("explorer", "*.js"), ("explorer", "*.rs"), (".", "*.sh"), (".ci", "run"),
          ("docs", "*.py"), ("c", "*.py"), ("compare", "*.py"), ("crates", "*.py"), ("rust", "*.py")]  # fmt: skip
-# The lines that stay: the file, the construction, a piece of the line, and the reason.
+# The lines that may keep a construction: the file, the construction, a part of the line, and the reason.
 KEPT = [
     ("README.md", "a comment from its middle", "Rust with *contracts* that state", "emphasis"),
     ("README.md", "the Rust crate", "the Rust crate `lexical-util` 1.0.7", "names the crate"),
@@ -65,19 +65,19 @@ KEPT = [
     ("explorer/number.js", "is no X", "if there is no such radix", "there is no .."),
     ("rust/tests/details.rs", "a comment from its middle", "//! and numbers of rules,", "a line within a sentence"),
 ]  # fmt: skip
-# The most lines that stay.
+# The maximum number of such lines.
 MOST_KEPT = 60
 LEAST = re.search(r'^rust-version = "(.*)"$', (TOP / "rust/Cargo.toml").read_text(), re.M)[1]
 
 
 def listed(words):
-    """Words as a list, such as `1, 2 and 3`."""
+    """Returns words as a list, such as `1, 2 and 3`."""
     words = [str(word) for word in words]
     return f"{', '.join(words[:-1])} and {words[-1]}"
 
 
 def case_flags():
-    """The sentences with the flags by which a letter has one case."""
+    """Returns the sentences with the flags that make a letter case-sensitive."""
     bits = {name: bit for bit, name, _ in check_format.FLAGS}
     prefix, suffix, exponent = [bits[f"case_sensitive_{it}"] for it in ("base_prefix", "base_suffix", "exponent")]
     return (
@@ -87,7 +87,7 @@ def case_flags():
 
 
 def example():
-    """The sentences with the fields of the example's word, which has neither prefix nor suffix."""
+    """Returns the sentences with the fields of the example's word, which has neither a prefix nor a suffix."""
     word = int(re.search(r"^The word `0x(\w{32})` has", check_format.PAGE, re.M)[1], 16)
     fields = {name: word >> int(first) & 255 for first, _, name, _ in check_format.BYTES}
     bits = [int(bit) for bit, _, _ in check_format.FLAGS if word >> int(bit) & 1]
@@ -103,7 +103,7 @@ def example():
 
 
 def statuses():
-    """The parts of the sentences with the exit statuses."""
+    """Yields the parts of the sentences with the exit statuses."""
     responses = (check_format.CRATES / "numfmt/specs/Response.antt").read_text()
     program = (check_format.CRATES / "numfmt/src/program.rt").read_text()
     status = dict(re.findall(r"^status_of \((.*)\) = (\d)$", responses, re.M))
@@ -114,7 +114,7 @@ def statuses():
 
 
 def prose(name, text):
-    """Returns what differs in a page."""
+    """Returns the differences in a page."""
     flat = " ".join(text.split())
     if name == "FORMAT.md":
         yield from (f"does not have: {it}" for it in (case_flags(), example(), *statuses()) if it not in flat)
@@ -156,7 +156,7 @@ def found_in(path):
 
 
 def constructions(pages):
-    """Returns the constructions that KEPT does not list, with its rows that no line has, and the number of lines kept."""
+    """Returns the constructions that KEPT does not list, the rows of KEPT without a line, and the number of kept lines."""
     paths = {*pages, *(path for folder, pattern in PROSE for path in (TOP / folder).rglob(pattern))}
     wrong, unused, kept = [], list(KEPT), 0
     for path in sorted(path for path in paths if not {"out", "target"} & set(path.parts)):

@@ -1,6 +1,5 @@
 #!/usr/bin/env python3
-"""Tests docs/check.py and c/header_test.py: in a copy of the repository each row of PLANTS is a fault, and all have to
-be named.
+"""Tests docs/check.py and c/header_test.py: they must name each fault of PLANTS in a copy of the repository.
 
 The last line is `N passed, M failed`, and the status is 1 if a fault is not named.
 """
@@ -11,11 +10,11 @@ import sys
 import tempfile
 
 TOP = pathlib.Path(__file__).resolve().parent.parent
-# The least number of faults.
+# The minimum number of faults.
 LEAST = 99
 COPIED = ["*.md", "crates.txt", ".ci", "bench", "c", "compare", "crates", "docs", "explorer", "rust"]
 
-# A file, a piece of it (`None`: its end, also of a new file), its replacement, and the text that must be printed.
+# A file, a part of it (`None`: its end, also of a new file), the replacement, and the text that must be printed.
 FLAGS, FORMAT, DIGIT = "crates/lexical_flags/src/format_flags.rt", "docs/FORMAT.md", "crates/lexical_base/src/digit.rt"
 DIGITS, SPECS, HEADER = "crates/lexical_base/specs/Digits.antt", "crates/lexical_util/specs", "c/peltzivar.h"
 EDITS, UTIL = "crates/lexical_util/src/edits.rt", "Rattle.lexical_util.specs"
