@@ -216,7 +216,7 @@ pub enum FlagSetter {
 /// A call of a [`NumberFormatBuilder`] setter, stored as a value. An edit holds the setter and its argument.
 #[derive(Debug, Clone, Copy, PartialEq, Eq, Hash, PartialOrd, Ord)]
 pub enum Edit {
-    /// Sets a flag, or every flag of a group, to the `bool`.
+    /// Sets a flag, or every flag of a group, to the given value.
     Flag(FlagSetter, bool),
     /// Sets the digit separator. `None` means that the format has no digit separator.
     DigitSeparator(OptionU8),

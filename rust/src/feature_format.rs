@@ -275,8 +275,8 @@ fields! {
 methods! {
     /// Returns whether the word is lawful, that is, whether it keeps all the rules that [`error`][Self::error] checks.
     is_valid bool;
-    /// Returns the error of the first rule that the word breaks, in the order of [`Rule`][crate::format_flags::Rule],
-    /// or `Success` if it is lawful.
+    /// Returns the error of the first rule that the word breaks, in the order of the variants of
+    /// [`Rule`][crate::format_flags::Rule], or `Success` if the word is lawful.
     error Error;
     /// Returns whether the mantissa radix, the exponent base and the exponent radix are all between 2 and 36. An
     /// exponent base or exponent radix of 0 means the mantissa radix.

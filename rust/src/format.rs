@@ -1,4 +1,4 @@
-//! All names related to number formats in one module, as in `lexical-util`. These are the names of
+//! This module has all names related to number formats, as in `lexical-util`. These are the names of
 //! [`format_builder`][crate::format_builder] and [`format_flags`][crate::format_flags], and the types that read a
 //! format word.
 //!

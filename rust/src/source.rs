@@ -6,7 +6,7 @@ use crate::edits::{edits_of, Argument, Edit};
 use crate::error::{Piece, ShortText, Sink, EMPTY_PIECE};
 use core::fmt;
 
-/// A format word that is printed as Rust code: an expression that builds the word.
+/// A format word that is printed as Rust code. The code is an expression that builds the word.
 ///
 /// The expression creates a new builder, calls a setter for each field in which the word differs from this builder, and
 /// packs the fields. Any word can be printed. The expression evaluates to the word if and only if

@@ -62,8 +62,8 @@ impl FormatView {
         self.error().is_success()
     }
 
-    /// Returns the error of the first rule that the word breaks, in the order of [`Rule`][crate::format_flags::Rule],
-    /// or `Success` if it is lawful.
+    /// Returns the error of the first rule that the word breaks, in the order of the variants of
+    /// [`Rule`][crate::format_flags::Rule], or `Success` if the word is lawful.
     ///
     /// # Proved
     ///

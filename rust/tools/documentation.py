@@ -155,8 +155,8 @@ PHRASES = [
      "Prints which values the setter takes, or why the text is not a setting."),
     ("Prints what [`Edit::text`] returns.",
      "Prints the edit as `NAME=VALUE`, such as `mantissa_radix=16`, `no_special=true` or `digit_separator=none`."),
-    ("[`format_error_impl`], or `Success` if it is lawful.",
-     "[`Rule`][crate::format_flags::Rule], or `Success` if it is lawful."),
+    ("[`format_error_impl`], or `Success` if the word is lawful.",
+     "the variants of [`Rule`][crate::format_flags::Rule], or `Success` if the word is lawful."),
     ("The word is a value, which may be known only at run time. In `lexical-util`, the word is a const generic argument"
      " of the type instead, and each field is also an associated constant.",
      "The word may be known only at run time. For a word that is known at compile time,"

@@ -35,7 +35,7 @@ ADDED = [
     "If 36 or more,", "Panics if 36 or more.", "Panics if not range and enabled. If they are disabled, the result is unspecified.",
     "Each links to", "which values the setter takes, or why the text is not a setting.",
     "the edit as `NAME=VALUE`, such as `mantissa_radix=16`, `no_special=true` or `digit_separator=none`.",
-    "[`Rule`][crate::format_flags::Rule],",
+    "the variants of [`Rule`][crate::format_flags::Rule],",
     "For a that known at compile time, [`NumberFormat`][crate::feature_format::NumberFormat] also has as a Views are"
     " compared, ordered and hashed by their words. [`same_format`][crate::edits::same_format] returns whether two"
     " words are equivalent.",

@@ -96,8 +96,8 @@ impl NumberFormat {
         self.error().is_success()
     }
 
-    /// Returns the error of the first rule that the word breaks, in the order of
-    /// [`format_error_impl`], or `Success` if it is lawful.
+    /// Returns the error of the first rule that the word breaks, in the order of [`format_error_impl`], or `Success` if
+    /// the word is lawful.
     #[inline(always)]
     pub const fn error(&self) -> Error
         ensures first { IsErrorOf self.now result }
