@@ -21,7 +21,7 @@
 - The pages have at most 1,400 lines, and README 800 words; its ratios of time are in bench/README.md.
 - README has a cargo command that runs an example, one that runs all tests, and `rt ci`. `.ci/run` calls these tests.
 - `.ci/run`, or a script that it calls, calls each script whose name ends in `test`. Each shell script fails if one of
-  its commands fails: it begins with `set -e`, or ends with the count of failures.
+  its commands fails: it begins with `set -e`, or ends with the count of failures and has `cd .. || exit`.
 - No manifest in rust/ disables tests, except for the manifest of capi, which has none.
 
 The last line counts the lines of the pages, the words of README, the transcripts (which the tests of numfmt, of rust/
@@ -261,6 +261,9 @@ def lenient():
             is_strict = re.match(r"set -\w*e|exec ", first) or re.match(r'counted |\[ "\$failed" -eq 0 \]$', lines[-1])
             if not is_strict and "# shellcheck shell=bash" not in lines[:2]:
                 yield f"{path.relative_to(TOP)}: a failure of a command is not a failure of the script"
+            for line in lines:
+                if line.startswith("cd ") and not line.endswith(" || exit") and not first.startswith("set -e"):
+                    yield f"{path.relative_to(TOP)}: the script can end before its last line: {line}"
 
 
 def texts_of_pages():

@@ -11,7 +11,7 @@ import tempfile
 
 TOP = pathlib.Path(__file__).resolve().parent.parent
 # The minimum number of faults.
-LEAST = 99
+LEAST = 100
 COPIED = ["*.md", "crates.txt", ".ci", "bench", "c", "compare", "crates", "docs", "explorer", "rust"]
 
 # A file, a part of it (`None`: its end, also of a new file), the replacement, and the text that must be printed.
@@ -138,6 +138,8 @@ PLANTS = [
     ("docs/check_prose.py", "KEPT = [", "KEPT = [('README.md', 'alone', 'planted', ''),",
      "docs/check_prose.py: KEPT has a line that is not found: README.md, alone, planted"),
     ("docs/check_prose.py", "MOST_KEPT = ", "MOST_KEPT = 1 #", " lines are kept, more than 1\n"),
+    ("c/test.sh", 'cd "$(dirname "$0")" || exit', 'cd "$(dirname "$0")" && exit',
+     'c/test.sh: the script can end before its last line: cd "$(dirname "$0")" && exit'),
     ("bench/run.sh", "set -euo", "set -uo", "bench/run.sh: a failure of a command is not a failure of the script"),
     ("c/test.sh", "\ncounted ", "\necho ", "c/test.sh: a failure of a command is not a failure of the script"),
     ("explorer/build", "set -euo", "set -uo", "explorer/build: a failure of a command is not a failure of the script"),

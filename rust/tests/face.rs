@@ -207,6 +207,14 @@ fn a_mend_keeps_rules_and_mends_those_that_only_its_reason_broke() {
     assert!(mended > 10_000);
 }
 
+/// A word that breaks each rule has up to 18 reasons: each byte is a sign, and each two bytes clash.
+#[test]
+fn a_word_has_all_its_reasons() {
+    let view = FormatView::new(0x2525252B_2B00002B_00001E00_80004DF0);
+    assert!(view.broken_rules().eq(Rule::ALL.iter().copied()));
+    assert_eq!(view.reasons().count(), 18);
+}
+
 #[test]
 fn edits_make_the_fields_of_their_word() {
     for word in words() {
