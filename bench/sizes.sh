@@ -1,6 +1,6 @@
 #!/usr/bin/env bash
-# Measures what the plain Rust and lexical-util 1.0.7 cost to build: a cold build, 1,000 constant formats in one crate,
-# and the sizes of the shared library and of numfmt. A time is the least of three.
+# Measures the plain Rust and lexical-util 1.0.7: the time of a cold build, the time to build 1,000 constant formats in
+# one crate, and the sizes of the shared library and of numfmt. Each time is the least of three.
 #
 #     UPSTREAM=folder bench/sizes.sh
 set -euo pipefail
@@ -9,8 +9,8 @@ here=$(cd "$(dirname "${BASH_SOURCE[0]}")" && pwd)
 . "$here/../compare/prepare.sh"
 export CARGO_NET_OFFLINE=true CARGO_INCREMENTAL=0 CARGO_TERM_QUIET=true
 
-# seconds FOLDER PACKAGE: the least time in which a package is built, out of three. The package is cleaned before each,
-# and its dependencies are not.
+# seconds FOLDER PACKAGE: prints the least of three build times of a package. Before each build, the package is cleaned,
+# but its dependencies are not.
 seconds() {
     local start
     cd "$1"
@@ -23,7 +23,7 @@ seconds() {
     done | awk '{ time = $2 - $1; if (NR == 1 || time < least) least = time } END { printf "%.2f", least }'
 }
 
-# formats NAME BUILD: writes a crate of 1,000 constant formats, each the result of a builder's call, over a package.
+# formats NAME BUILD: writes a crate of 1,000 constant formats. Each one is built by the call BUILD of package NAME.
 formats() {
     mkdir -p "$work/formats-$1/src"
     cat > "$work/formats-$1/Cargo.toml" <<< "[package]

@@ -156,7 +156,7 @@ def found_in(path):
 
 
 def constructions(pages):
-    """Returns the constructions that KEPT does not list, the rows of KEPT without a line, and the number of kept lines."""
+    """Returns constructions that KEPT does not list, the rows of KEPT without a line, and the number of kept lines."""
     paths = {*pages, *(path for folder, pattern in PROSE for path in (TOP / folder).rglob(pattern))}
     wrong, unused, kept = [], list(KEPT), 0
     for path in sorted(path for path in paths if not {"out", "target"} & set(path.parts)):
