@@ -78,7 +78,7 @@
 //!
 //! ## `part`
 //!
-//! `part word s n` is the number in the n bits of `word` from bit s up.
+//! `part word s n` is the number in the `n` bits of `word` from bit `s` up.
 //!
 //! ```text
 //! part : ℕ → ℕ → ℕ → ℕ
@@ -272,7 +272,7 @@
 //!
 //! ## `IsClean`
 //!
-//! `IsClean word` holds if the reserved bits of `word`, the bits of no field, are 0.
+//! `IsClean word` holds if the reserved bits of `word`, which belong to no field, are 0.
 //!
 //! ```text
 //! record IsClean (word : ℕ) : Type 0 where

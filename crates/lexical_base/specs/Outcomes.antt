@@ -158,7 +158,7 @@ class_of error =
     else if nat_lt (rank_of error) (19 + 17 + 12) then classes.Options
     else classes.Success
 
--- `start_of_class class` is the text with which `Display` begins if the outcome is in the class `class`.
+-- `start_of_class class` is the text with which `Display` begins for an outcome of the class `class`.
 abbrev pub start_of_class : Class → List ℕ
 start_of_class classes.Parse = codes "lexical parse error: "
 start_of_class classes.Format = codes "lexical number format error: "

@@ -4,7 +4,7 @@ use Rattle.lexical_flags.specs.Layout.{Flag, Byte}
 use Rattle.lexical_flags.specs.Layout as layout
 use Rattle.lexical_flags.specs.declared.format_flags.TheConstants as constants
 
--- `flag_constant f` is the constant of the program that is the mask of the flag `f`.
+-- `flag_constant f` is the constant of the code that is the mask of the flag `f`.
 abbrev pub flag_constant : Flag → ℕ
 flag_constant layout.required_integer_digits = constants.REQUIRED_INTEGER_DIGITS
 flag_constant layout.required_fraction_digits = constants.REQUIRED_FRACTION_DIGITS
@@ -38,7 +38,7 @@ flag_constant layout.fraction_consecutive_digit_separator = constants.FRACTION_C
 flag_constant layout.exponent_consecutive_digit_separator = constants.EXPONENT_CONSECUTIVE_DIGIT_SEPARATOR
 flag_constant layout.special_digit_separator = constants.SPECIAL_DIGIT_SEPARATOR
 
--- `byte_constant b` is the constant of the program that is the mask of the byte `b`.
+-- `byte_constant b` is the constant of the code that is the mask of the byte `b`.
 abbrev pub byte_constant : Byte → ℕ
 byte_constant layout.digit_separator = constants.DIGIT_SEPARATOR
 byte_constant layout.base_prefix = constants.BASE_PREFIX
@@ -47,7 +47,7 @@ byte_constant layout.mantissa_radix = constants.MANTISSA_RADIX
 byte_constant layout.exponent_base = constants.EXPONENT_BASE
 byte_constant layout.exponent_radix = constants.EXPONENT_RADIX
 
--- `byte_shift b` is the constant of the program that is the lowest bit of the byte `b`.
+-- `byte_shift b` is the constant of the code that is the lowest bit of the byte `b`.
 abbrev pub byte_shift : Byte → ℤ
 byte_shift layout.digit_separator = constants.DIGIT_SEPARATOR_SHIFT
 byte_shift layout.base_prefix = constants.BASE_PREFIX_SHIFT

@@ -1,7 +1,7 @@
 -- The flags and bytes of a format word, and their bits.
 use Rattle.std.specs.Prelude.{ℕ, ◌≡◌, ◌/◌, ◌%◌, ◌^◌, List, [], ◌∷◌, ◌++◌}
 
--- `part word s n` is the number in the n bits of `word` from bit s up.
+-- `part word s n` is the number in the `n` bits of `word` from bit `s` up.
 abbrev pub part : ℕ → ℕ → ℕ → ℕ
 part word s n = word / 2 ^ s % 2 ^ n
 
@@ -158,7 +158,7 @@ flags = base_flags ++ digit_separator_flags
 abbrev pub bytes : List Byte
 bytes = digit_separator ∷ base_prefix ∷ base_suffix ∷ mantissa_radix ∷ exponent_base ∷ exponent_radix ∷ []
 
--- `IsClean word` holds if the reserved bits of `word`, the bits of no field, are 0.
+-- `IsClean word` holds if the reserved bits of `word`, which belong to no field, are 0.
 pub record IsClean (word : ℕ) : Type 0 where
   pub below_separator_flags : part word 18 14 ≡ 0
   pub below_separator : part word 45 19 ≡ 0

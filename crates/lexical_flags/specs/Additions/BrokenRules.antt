@@ -38,7 +38,7 @@ bytes_read rules.BaseSuffixIsPunctuation = layout.base_suffix ∷ layout.mantiss
 bytes_read rules.PunctuationDiffers = layout.digit_separator ∷ layout.base_prefix ∷ layout.base_suffix ∷ []
 bytes_read _ = []
 
--- `mask_read rule` is the mask of the bits that `rule` reads: the bits of its fields, or the reserved bits.
+-- `mask_read rule` is the mask of the bits that `rule` reads: the bits of certain fields, or the reserved bits.
 abbrev pub mask_read : Rule → ℕ
 mask_read rules.ReservedBitsAreZero = reserved_mask
 mask_read rule = mask_of (flags_read rule) + sum_by byte_mask (bytes_read rule)

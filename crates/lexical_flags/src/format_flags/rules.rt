@@ -220,8 +220,8 @@ pub const fn is_valid_base_suffix(format: u128) -> bool
 /// A byte of 0 is absent, and is not compared. A base prefix that is a letter matches both cases of that letter unless
 /// [`CASE_SENSITIVE_BASE_PREFIX`] is set. Likewise, a base suffix that is a letter matches both cases unless
 /// [`CASE_SENSITIVE_BASE_SUFFIX`] is set. So the prefix `h` and the suffix `H` do not count as different unless both
-/// flags are set. The digit separator is always case-sensitive. `lexical-util` compares the raw bytes, so it always
-/// accepts the prefix `h` with the suffix `H`.
+/// flags are set. The digit separator is always case-sensitive. `lexical-util` compares the raw bytes, so it accepts
+/// the prefix `h` with the suffix `H` regardless of the flags.
 #[inline(always)]
 pub const fn is_valid_punctuation(format: u128) -> bool
     ensures { IsTrue result ↔ Holds rules.PunctuationDiffers format }
