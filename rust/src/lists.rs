@@ -12,8 +12,8 @@ impl FormatView {
         broken_rules(self.word()).into_iter().flatten()
     }
 
-    /// Returns the reasons why the word is not lawful, in the order of the rules that they break. The iterator is empty
-    /// if and only if the word is lawful.
+    /// Returns the reasons why the word is not lawful, in the order of the first rule that is broken for each reason.
+    /// The iterator is empty if and only if the word is lawful.
     ///
     /// A reason why several rules are broken is returned only once. An absent exponent base or exponent radix follows
     /// the mantissa radix, so it is never a reason itself.
