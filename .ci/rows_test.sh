@@ -5,7 +5,8 @@
 # - each script that uses it, where no compiler is installed: it skips as many rows as it counts;
 # - docs/check_test.py, over checks that find nothing: it reports each status that is not 1;
 # - run, over programs that do nothing: it calls each test, and fails if one fails;
-# - the commands of rust/tools/test.sh: each is called, and its row fails if it fails.
+# - the commands of rust/tools/test.sh: each is called, and its row fails if it fails;
+# - the options and arguments in the commands of c/test.sh.
 #
 # The last line is `N passed, M failed`.
 set -u
@@ -205,5 +206,60 @@ for STATUS in 1 0; do
     printf 'rust/tools/test.sh, over tools that end with %s:\n%s\n' $STATUS "$got"
     diff "$work/commands" "$work/log"
 done
+
+# The commands of c/test.sh, in a copy with tools that log them and print nothing. A program that such a tool writes is also
+# one. Each of these texts is in this number of commands. With these tools, this number of rows passes.
+copy=$work/c
+mkdir -p "$copy"/{.ci,docs,rust,tools}
+cp rows.sh "$copy/.ci"
+cp -r ../c "$copy"
+cp ../docs/C-AND-PYTHON.md "$copy/docs"
+echo 'version = "1.2.3"' > "$copy/rust/Cargo.toml"
+cat > "$copy/tools/cc" << 'END'
+#!/bin/sh
+echo "$CARGO_PROFILE_RELEASE_DEBUG_ASSERTIONS $CARGO_PROFILE_RELEASE_OVERFLOW_CHECKS ${0##*/} $*" >> "$LOG"
+while [ $# -gt 1 ]; do
+    [ "$1" != -o ] || cp "$0" "$2"
+    [ "$1" != -W ] || exit 1
+    shift
+done
+END
+chmod +x "$copy/tools/cc"
+for tool in clang clang++ g++ gcc cargo cmake make mypy nm pkg-config python3 readelf valgrind; do
+    cp "$copy/tools/cc" "$copy/tools/$tool"
+done
+for tool in chmod cmp cut diff mv; do ln -s "$(command -v $tool)" "$copy/tools"; done
+cat > "$work/counts" << 'END'
+101 passed
+42 -Wall -Wextra -Wpedantic -Wconversion -Wshadow -Werror
+8 -fsanitize=address -fsanitize=undefined -fno-sanitize-recover=all
+8 valgrind -q --error-exitcode=9 --leak-check=full
+4 random.txt 10000
+2 random.txt 50
+87 true true
+161 false false
+8 -O2
+5 make -q -W ../rust/
+2 settings_compare.py
+1 500 ../rust/examples/
+2 -m unittest ./peltzivar_test.py
+1 header_test.py --comments
+1 mypy --strict
+4 nm -gD --defined-only
+6 make install
+10 header.cpp
+24 header.c
+2 -std=c89
+4 -std=c2x
+END
+: > "$work/log"
+got=$(env -u CI LOG="$work/log" PATH="$copy/tools:$work/few" "$copy/c/test.sh" 2>&1)
+while read -r number text; do
+    tried=$((tried + 1))
+    if [ "$text" = passed ]; then found=$(sed -n '$s/ passed.*//p' <<< "$got"); else found=$(grep -cF -- "$text" "$work/log"); fi
+    [ "$found" = "$number" ] && continue
+    failed=$((failed + 1))
+    printf 'c/test.sh, commands with %s: %s, not %s\n' "$text" "$found" "$number"
+done < "$work/counts"
 echo "$((tried - failed)) passed, $failed failed"
 [ "$failed" -eq 0 ]

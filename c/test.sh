@@ -92,7 +92,7 @@ line 5: \\xef\\xbb\\xbfradix=2: the line is not ASCII
 line 6: base_prefix\\x0d=\\x09256: base_prefix takes a character such as '_', a number from 0 to 255, or \`none\`
 line 7: \\x0bradix\\x0b=\\x0b1 6\\x0b: unknown setting name; did you mean radix?
 line 8: dix\\x00=8: unknown setting name"
-printf 'radix = 2\r\nno_special=true\r\n\r\nspecial_digit_separator=true\r' > "$work/crlf.txt"
+printf 'radix = 2\r\nno_special=\ftrue\r\n\f\r\nspecial_digit_separator=true\r' > "$work/crlf.txt"
 either="mend: no_special=false; mend: special_digit_separator=false"
 crlf="lines 2, 4: no_special and special_digit_separator cannot both be set; $either"
 {
@@ -210,7 +210,8 @@ sources() {
     passes faulty 's/_t base_suffix;/_t base_prefix2;/' 's/uint8_t base_prefix;/uint16_t base_prefix;/' \
         's/setter, value;/value, setter;/' 's/low, high;/high, low;/' 's/_OVERFLOW = 1,/_OVERFLOW = 2,/' \
         's/^typedef uint32_t peltzivar_error/typedef int peltzivar_error/' 's/MAX_NOTES 3/MAX_NOTES 4/' \
-        's/_COUNT (\(.*\) + 6)/_COUNT \1 + 6/'
+        's/_COUNT (\(.*\) + 6)/_COUNT \1 + 6/' 's/uint8_t base_suffix;/int8_t base_suffix;/' \
+        's/uint8_t exponent_radix;/uint8_t exponent_radix, other;/'
     passes ./header_test.py --comments
 }
 
@@ -295,6 +296,20 @@ built() {
 alike() {
     passes cargo build --offline --quiet --manifest-path ../rust/Cargo.toml --example settings &&
         passes ./settings_compare.py "$1" "$CARGO_TARGET_DIR/debug/examples/settings" 500 ../rust/examples/*.txt
+    passes differing "$1"
+}
+
+# differing PROGRAM: settings_compare.py finds programs that print fewer findings than this one, or end with another status.
+differing() {
+    local change
+    # The program is a script, whose variables are its own.
+    # shellcheck disable=SC2016
+    for change in "grep -v '^line '; exit \$status" "grep -v '^lines '; exit \$status" 'cat; exit 3'; do
+        printf '#!/bin/sh\ngot=$("%s" "$1")\nstatus=$?\nprintf "%%s\\n" "$got" | %s\n' "$1" "$change" > "$work/other"
+        chmod +x "$work/other"
+        ./settings_compare.py "$1" "$work/other" 20 | grep -x Rust: || return
+        ./settings_compare.py "$work/other" "$1" 20 | grep -x Rust: || return
+    done
 }
 
 # memory ARCHIVE: the programs in C under valgrind.
@@ -349,6 +364,11 @@ hides() {
     ! grep -laF -- "$@"
 }
 
+# fails COMMAND..: the test of this command finds a fault.
+fails() {
+    ! "$@"
+}
+
 # dynamic NAME ENTRY FILE: the entry of the dynamic section has this name, or is absent if NAME is empty.
 dynamic() {
     compares "$1" "$(readelf -d "$3" | sed -n "s/.*($2).*\[\(.*peltzivar.*\)\]/\1/p")" "$2 of $3"
@@ -397,22 +417,29 @@ rebuilds() {
 
 # installed: what `make install` writes, and `make uninstall` removes.
 installed() {
-    local prefix=$work/prefix top version soname files setting
+    local prefix=$work/prefix top version soname lines files setting
     top=$(cd .. && pwd -P)
     version=$(sed -n 's/^version = "\(.*\)"/\1/p' ../rust/Cargo.toml)
     soname=libpeltzivar_c.so.${version%.*}
+    lines="Name: peltzivar Description: number formats in a word of 128 bits: built, read, checked and edited"
+    lines+=" Version: $version Libs: -L\${libdir} -lpeltzivar_c Cflags: -I\${includedir}"
     export BUILD=$work/make PKG_CONFIG_PATH=$prefix/lib/pkgconfig
     passes env CARGO_PROFILE_RELEASE_DEBUG=1 make install PREFIX="$prefix" || return
     # Each file can be read by all, whatever the umask is.
-    passes bash -c 'umask 077; make install "$@"' make PREFIX=/usr LIBDIR=/usr/lib/here INCLUDEDIR=/srv/include \
-        DESTDIR="$work/root"
+    # It can be installed again, in the place of what is there.
+    for _ in 1 2; do
+        passes bash -c 'umask 077; make install "$@"' make PREFIX=/usr LIBDIR=/usr/lib/here INCLUDEDIR=/srv/include \
+            DESTDIR="$work/root"
+    done
     compares "644 libpeltzivar_c.a 644 peltzivar.h 644 peltzivar.pc 755 libpeltzivar_c.so.$version" \
         "$(find "$work/root" -type f -printf '%m %f\n' | LC_ALL=C sort | xargs)" modes
     files=(./srv/include/peltzivar.h ./usr/lib/here/libpeltzivar_c.{a,so} ./usr/lib/here/"$soname"{,".${version##*.}"}
         ./usr/lib/here/pkgconfig/peltzivar.pc)
     compares "${files[*]}" "$(cd "$work/root" && find ./* ! -type d | LC_ALL=C sort | xargs)" make install DESTDIR=..
-    compares "prefix=/usr libdir=\${prefix}/lib/here includedir=/srv/include" \
-        "$(grep -E '^[a-z]+=' "$work/root/usr/lib/here/pkgconfig/peltzivar.pc" | xargs)" peltzivar.pc
+    compares "prefix=/usr libdir=\${prefix}/lib/here includedir=/srv/include $lines" \
+        "$(xargs < "$work/root/usr/lib/here/pkgconfig/peltzivar.pc")" peltzivar.pc
+    compares "prefix=$prefix libdir=\${prefix}/lib includedir=\${prefix}/include $lines" \
+        "$(xargs < "$prefix/lib/pkgconfig/peltzivar.pc")" peltzivar.pc
     passes make uninstall PREFIX=/usr LIBDIR=/usr/lib/here INCLUDEDIR=/srv/include DESTDIR="$work/root"
     compares "" "$(find "$work/root" ! -type d)" make uninstall
     for setting in PREFIX LIBDIR INCLUDEDIR; do
@@ -421,7 +448,9 @@ installed() {
     passes rebuilds
     rm -rf "$work/make"
     passes hides "$top" "$prefix"/lib/* "$prefix"/lib/pkgconfig/*
+    passes fails hides peltzivar "$prefix"/lib/*.so
     needing nm passes exports "$prefix/lib/libpeltzivar_c.so"
+    needing nm passes fails exports "$work/object"
     needing readelf dynamic "$soname" SONAME "$prefix/lib/libpeltzivar_c.so"
     needing readelf passes bash -c "readelf -d '$prefix/lib/libpeltzivar_c.so' | grep 'NEEDED.*libc\.'"
     mkdir "$work/elsewhere"
@@ -448,4 +477,4 @@ done
 needing python3 alike "$work/settings"
 needing python3 pythons "$work/false/release/libpeltzivar_c.so"
 needing make installed
-counted 274
+counted 279

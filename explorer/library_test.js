@@ -103,13 +103,14 @@ function compareWritten({ library }, lines) {
     return edits.length;
 }
 
-/* Compares the words of the recipes. */
+/* Compares the words of the recipes, and returns how many there are. */
 function compareRecipes({ library, data }, text) {
     const words = data.recipes.map(({ name, settings }) => {
         const edits = settings.map(([setting]) => library.parseEdit(setting).edit);
         return `${library.wordText(library.build(edits))} ${name}`;
     });
     same(words, text.trim().split("\n"), "recipes");
+    return words.length;
 }
 
 async function main([recipes]) {
@@ -119,7 +120,8 @@ async function main([recipes]) {
     const [tried, tooLarge] = compareRecorded(recorded, lines);
     console.log(`${tried} recorded results kept; not tried, since an index has over 32 bits: ${tooLarge}`);
     console.log(`${compareWritten(recorded, lines)} edits of a field change its bits only`);
-    if (recipes) compareRecipes(recorded, fs.readFileSync(recipes, "utf8"));
+    if (!recipes) return;
+    console.log(`${compareRecipes(recorded, fs.readFileSync(recipes, "utf8"))} recipes build their words`);
 }
 
 main(process.argv.slice(2)).catch((error) => {

@@ -38,10 +38,14 @@ checks() {
     stale "$wasm" rust/src/lib.rs 'mod chunks;' 'mod chunks; const ONE: u8 = 1;'
     stale "$wasm" rust/capi/src/lib.rs 'mod bytes;' 'mod bytes; const ONE: u8 = 1;'
     stale "$wasm" explorer/index.html 'AGFzbQ' 'AGFzbR'
+    stale "$wasm" explorer/build.py '-Copt-level=s' '-Copt-level=z'
+    stale "$wasm" explorer/shim.rs 'if a != b' 'if b != a'
+    stale "$wasm" rust/Cargo.toml '[package]' '[package] #'
     stale "$rest" docs/FORMAT.md '| false | refuses ' '| false | accepts '
     stale "$rest" rust/examples/recipes.rs '// refuses ' '// accepts '
     stale "$rest" explorer/page.css '#ffffff' '#fffffe'
     stale "$rest" explorer/index.html '<title>' '<title> '
+    prints 1 "usage: explorer/build [--check | --install]" "$work/copy/explorer/build" --chekc
     printf '/*%060000d*/\n' 0 >> "$work/copy/explorer/page.css"
     passes bash -c "! '$work/copy/explorer/build' 2> '$work/size' && grep ' bytes, more than 200000$' '$work/size'"
 }
@@ -67,7 +71,7 @@ END
     chmod +x "$work/tools/apt-get"
     cp "$work/tools/apt-get" "$work/tools/sudo"
     passes bash -c "! PATH='$work/tools':\$PATH ./build --install > '$work/asked' 2> /dev/null &&
-        grep -x 'install .* rustc-web=1\.85\* rust-web-src=1\.85\* lld' '$work/asked'"
+        grep -x 'install --yes --no-install-recommends rustc-web=1\.85\* rust-web-src=1\.85\* lld' '$work/asked'"
 }
 
 # shim: the functions of shim.rs return what Rust's own arithmetic does.
@@ -81,7 +85,8 @@ shim() {
 results() {
     passes bash -c "cargo run --quiet --manifest-path ../rust/Cargo.toml --example recipes > '$work/recipes'"
     prints 0 "20115 recorded results kept; not tried, since an index has over 32 bits: 19
-7661 edits of a field change its bits only" node ./library_test.js "$work/recipes"
+7661 edits of a field change its bits only
+17 recipes build their words" node ./library_test.js "$work/recipes"
 }
 
 # codes: the code that is shown builds the word that is shown. Settings are tried by Node.js.
@@ -132,4 +137,4 @@ needing cargo shim
 needing node needing cargo results
 needing node needing cargo codes
 needing python3-selenium needing chromium needing chromedriver browser
-counted 24
+counted 28
