@@ -211,7 +211,7 @@ sources() {
         's/setter, value;/value, setter;/' 's/low, high;/high, low;/' 's/_OVERFLOW = 1,/_OVERFLOW = 2,/' \
         's/^typedef uint32_t peltzivar_error/typedef int peltzivar_error/' 's/MAX_NOTES 3/MAX_NOTES 4/' \
         's/_COUNT (\(.*\) + 6)/_COUNT \1 + 6/' 's/uint8_t base_suffix;/int8_t base_suffix;/' \
-        's/uint8_t exponent_radix;/uint8_t exponent_radix, other;/'
+        's/setter, value;/setter, value, other;/'
     passes ./header_test.py --comments
 }
 

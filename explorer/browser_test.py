@@ -8,6 +8,7 @@ import functools
 import http.server
 import os
 import pathlib
+import re
 import sys
 import threading
 
@@ -223,6 +224,7 @@ def a_clash_has_a_reason(page):
     same(page.texts(".reason .link"), ["base_prefix", "mantissa_radix"])
     blamed = [it.get_attribute("data-field") for it in page.all(".field.blamed")]
     same(sorted(blamed), ["base_prefix", "mantissa_radix"])
+    same(page.texts(".reason .key"), ["To blame", "Mend by"])
 
 
 def a_link_leads_to_its_control(page):
@@ -344,6 +346,11 @@ def a_note_marks_the_flags_that_are_set(page):
     links = page.texts("#notes .link")
     same(links[-1], "digit_separator")
     same([page.find(f"#{name}").is_selected() for name in links[:-1]], [True] * (len(links) - 1))
+
+
+def the_standard_format_is_no_recipe(page):
+    page.click("#standard")
+    same((page.value("#recipe"), page.text("#recipe-panel"), page.text("#recipe-changed")), ("", "", ""))
 
 
 def code_is_shown_in_each_language(page):
@@ -470,6 +477,12 @@ def a_byte_is_shown_with_its_numbers(page):
         same((page.value(f"#{name}"), page.text(f".byte-row[data-field={name}] .other")), wanted)
 
 
+def only_a_visible_byte_is_shown_as_a_character(page):
+    for byte, text in ((32, "32"), (33, "!"), (126, "~"), (127, "127")):
+        page.load(f"#exponent={byte}")
+        same((page.value("#exponent"), page.text(".byte-row[data-field=exponent] .other")), (text, f"{byte} = 0x{byte:02X}"))
+
+
 def options_that_share_a_byte_do_not_fit(page):
     page.load(f"#word={STANDARD}&exponent=46&point=46")
     same(page.text("#options-error"), "Exponent character and decimal point do not fit the format.")
@@ -486,6 +499,40 @@ def a_hint_has_the_bits_and_the_meaning_of_a_field(page):
     for name, wanted in rows.items():
         page.run("document.getElementById(arguments[0]).focus()", name)
         same(page.text("#hint"), f"{name} {wanted}")
+
+
+def each_field_is_in_its_section_and_has_the_colour_of_its_part(page):
+    sections = """return [...document.querySelectorAll("#flags fieldset")].map((it) => [
+        it.querySelector("legend").textContent, ...[...it.querySelectorAll("input")].map((box) => box.id)].join(" "))"""
+    same(page.run(sections), [
+        "Digits required_digits required_integer_digits required_fraction_digits required_exponent_digits"
+        " required_mantissa_digits no_integer_leading_zeros no_float_leading_zeros",
+        "Signs no_positive_mantissa_sign required_mantissa_sign no_positive_exponent_sign required_exponent_sign",
+        "Exponent no_exponent_notation no_exponent_without_fraction required_exponent_notation case_sensitive_exponent",
+        "NaN and infinity no_special case_sensitive_special",
+        "Base prefix and suffix case_sensitive_base_prefix case_sensitive_base_suffix",
+    ])
+    parts = {"digit_separator": "separator", "base_prefix": "base", "base_suffix": "base", "mantissa_radix": "digits"}
+    parts |= {"exponent_base": "exponent", "exponent_radix": "exponent", "required_mantissa_sign": "sign"}
+    parts |= {"no_special": "special", "case_sensitive_base_prefix": "base", "no_exponent_notation": "exponent"}
+    for name, part in parts.items():
+        same(page.classes(f"label[for={name}] .dot"), ["dot", part])
+        same(part in page.classes(f".bit[data-field={name}]"), True)
+
+
+def the_texts_of_format_are_shown(page):
+    text = (PAGE.parents[1] / "docs/FORMAT.md").read_text().replace("`", "")
+    table = text.partition("## What a format cannot express\n")[2].partition("\n## ")[0]
+    rows = [line[2:-2].split(" | ") for line in table.splitlines() if line.startswith("| ")]
+    cells = "return [...document.querySelectorAll('#limits tr')].map((it) => [...it.cells].map((cell) => cell.textContent))"
+    same(page.run(cells), rows[1:])
+    same(page.text("#texts") in " ".join(text.split()) and page.text("#texts").startswith("In these texts, "), True)
+
+
+def the_policy_allows_only_the_page_itself(page):
+    policy = page.find("meta[http-equiv=Content-Security-Policy]").get_attribute("content")
+    rules = ["default-src 'none'", "script-src 'sha256-' 'wasm-unsafe-eval'", "style-src 'sha256-'", "img-src data:"]
+    same(re.sub(r"sha256-[\w+/=]+", "sha256-", policy).split("; "), [*rules, "base-uri 'none'", "form-action 'none'"])
 
 
 def each_section_has_the_name_of_its_heading(page):
@@ -650,6 +697,7 @@ STEPS = [
     a_recipe_brings_its_exponent_character,
     a_changed_recipe_is_no_longer_chosen,
     a_note_marks_the_flags_that_are_set,
+    the_standard_format_is_no_recipe,
     code_is_shown_in_each_language,
     tabs_follow_the_arrows,
     code_is_copied,
@@ -661,8 +709,12 @@ STEPS = [
     a_number_has_what_its_format_allows,
     each_field_has_a_part_of_the_number,
     a_byte_is_shown_with_its_numbers,
+    only_a_visible_byte_is_shown_as_a_character,
     options_that_share_a_byte_do_not_fit,
     a_hint_has_the_bits_and_the_meaning_of_a_field,
+    each_field_is_in_its_section_and_has_the_colour_of_its_part,
+    the_texts_of_format_are_shown,
+    the_policy_allows_only_the_page_itself,
     each_section_has_the_name_of_its_heading,
     each_id_names_one_element,
     the_page_has_the_classes_of_its_style,
