@@ -4,12 +4,12 @@
 //!
 //! | Command | Prints |
 //! |---|---|
-//! | none | the fields of the standard format |
+//! | (no command) | the fields of the standard format |
 //! | `show WORD` | the fields of the word |
 //! | `edit WORD NAME=VALUE ..` | the word after the edits; without edits, its normal form |
 //! | `check WORD` | the error of the first rule that the word breaks, or success |
 //! | `same A B` | whether the two words are equivalent: `same` or `different` |
-//! | `options WORD E P` | whether the exponent byte E and the point byte P fit the word: `accepted` or `refused` |
+//! | `options WORD E P` | whether E fits the word as exponent byte and P as point byte: `accepted` or `refused` |
 //! | `migrate WORD` | the normal form of an old word, or the error of the normal form |
 //! | `source WORD` | the builder expression with the fewest single-field setter calls that give the word's fields |
 //! | `explain WORD` | each reason why the word breaks rules: errors, fields to blame, edits that mend them; the notes |
