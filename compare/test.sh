@@ -173,7 +173,7 @@ fake() {
     mkdir "$FAKE"
     cat > "$FAKE/cargo" << 'END'
 #!/usr/bin/env bash
-echo "$1 ${PWD##*/}" >> "$FAKE/calls"
+echo "$1 ${PWD##*/} ${!#}" >> "$FAKE/calls"
 [ "$(cut -d' ' -f1 "$FAKE/calls" | tail -n 4 | xargs)" != "build build clean build" ] || sleep 0.6
 release=${CARGO_TARGET_DIR:-target}/release
 mkdir -p "$release"
@@ -221,8 +221,7 @@ compared() {
     : > "$FAKE/calls"
     : > "$FAKE/options"
     PATH=$FAKE/cc:$PATH ARCHIVE=$top/some.a ./run.sh --seed 2 2> /dev/null
-    grep -v '^build' "$FAKE/calls"
-    cat "$FAKE/options"
+    cat "$FAKE/calls" "$FAKE/options"
 }
 
 # scripts: the scripts with this cargo.
@@ -234,10 +233,13 @@ scripts() {
     : > "$FAKE/calls"
     prints 0 "$sizes" sizes
     compares "4 rust 4 upstream 4 formats-peltzivar 4 formats-upstream" \
-        "$(sed -n 's/^build //p' "$FAKE/calls" | tail -n +3 | uniq -c | xargs)" "builds of bench/sizes.sh"
+        "$(sed -nE 's/^build (.*) .*/\1/p' "$FAKE/calls" | tail -n +3 | uniq -c | xargs)" "builds of bench/sizes.sh"
     compares "1000 build_or_panic 1000 build_strict" \
         "$(grep -ohE 'build_or_panic|build_strict' "$WORK"/formats-*/src/lib.rs | uniq -c | xargs)" "formats of bench/sizes.sh"
     prints 0 "some section
+build rust numfmt
+build rust --quiet
+build rust peltzivar-capi
 cc -shared -o $WORK/proved.so -Wl,--whole-archive $top/some.a -Wl,--no-whole-archive
 --seed 2 proved.so libpeltzivar_c.so numfmt peltzivar.h" compared
 }
