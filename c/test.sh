@@ -460,6 +460,13 @@ installed() {
     popd > /dev/null || exit
 }
 
+# sonames: build.rs gives the library a name with the minor version for ELF, and none for another format.
+sonames() {
+    CARGO_PKG_VERSION_MAJOR=1 CARGO_PKG_VERSION_MINOR=2 rustc --edition 2021 ../rust/capi/build.rs -o "$work/script" &&
+        CARGO_CFG_UNIX='' "$work/script" | grep -qF 'soname,libpeltzivar_c.so.1.2' &&
+        ! CARGO_CFG_UNIX='' CARGO_CFG_TARGET_VENDOR=apple "$work/script" | grep soname && ! "$work/script" | grep soname
+}
+
 if [ "$given" ]; then
     passes cc -shared -o "$work/library.so" -Wl,--whole-archive "$given" -Wl,--no-whole-archive &&
         library "$given" "$work/library.so"
@@ -468,6 +475,7 @@ if [ "$given" ]; then
 fi
 compilers
 has cargo || lacking=cargo
+passes sonames
 for checks in true false; do
     export CARGO_TARGET_DIR=$work/$checks
     export CARGO_PROFILE_RELEASE_DEBUG_ASSERTIONS=$checks CARGO_PROFILE_RELEASE_OVERFLOW_CHECKS=$checks
@@ -477,4 +485,4 @@ done
 needing python3 alike "$work/settings"
 needing python3 pythons "$work/false/release/libpeltzivar_c.so"
 needing make installed
-counted 279
+counted 280

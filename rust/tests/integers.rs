@@ -30,6 +30,8 @@ const ANYWHERE: u128 = SEPARATED
     .build_or_panic();
 const HEXADECIMAL: u128 = SEPARATED
     .mantissa_radix(16)
+    .exponent_base(NonZeroU8::new(2))
+    .exponent_radix(NonZeroU8::new(10))
     .base_prefix(NonZeroU8::new(b'x'))
     .base_suffix(NonZeroU8::new(b'h'))
     .integer_digit_separator_flags(true)

@@ -46,7 +46,7 @@ fn main() {
 END
 patch="[patch.crates-io]
 lexical-util = { path = \"$rust/lexical-util\" }"
-package patched "lexical-util = { version = \"1.0.7\", features = [\"std\", \"format\", \"radix\"] }" "$patch" < "$work/renamed/src/main.rs"
+package patched "lexical-util = { version = \"=1.0.7\", features = [\"std\", \"format\", \"radix\"] }" "$patch" < "$work/renamed/src/main.rs"
 for name in renamed patched; do
     (cd "$work/$name" && cargo run --quiet)
 done
