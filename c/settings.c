@@ -120,10 +120,14 @@ static void print_format(void) {
     if (!status && peltzivar_text_of_word(word, text, sizeof text)) printf("%s\n", text);
     for (uint8_t index = 0; index < PELTZIVAR_CANDIDATE_COUNT; index++) {
         if (!peltzivar_word_reason(word, index, text, sizeof text)) continue;
-        print_located(peltzivar_word_reason_mask(word, index), text, "");
+        const peltzivar_word blamed = peltzivar_word_reason_mask(word, index);
+        print_located(blamed, text, "");
         for (uint8_t field = 0; field < PELTZIVAR_FIELD_COUNT; field++) {
-            /* The first edit mends the field. The other edits only keep exponent bytes absent. */
+            /* The first edit mends the field. The other edits only keep exponent bytes absent. An edit of a field that
+             * the reason does not blame is ignored, since it does not remove the reason. */
             if (!peltzivar_word_reason_mend(word, index, field, edits)) continue;
+            const peltzivar_word mask = peltzivar_edit_mask(edits[0]);
+            if (!((mask.low & blamed.low) | (mask.high & blamed.high))) continue;
             peltzivar_text_of_edit(edits[0], text, sizeof text);
             printf("; mend: %s", text);
         }

@@ -98,7 +98,11 @@ static void want_setting(size_t line) {
 /* Writes a line whose setting can be read. */
 static void write_good(size_t line) {
     static const char *const forms[] = {"%zu", "%03zu", "0x%zx", "0x%02zX"};
-    const size_t setter = below(PELTZIVAR_SET_EXPONENT_RADIX + 1), value = below(2) ? below(256) : 0;
+    /* Characters are often the same, so that they clash. */
+    const bool is_character = below(4) == 0;
+    const size_t setters = PELTZIVAR_SET_EXPONENT_RADIX + 1;
+    const size_t setter = is_character ? PELTZIVAR_SET_DIGIT_SEPARATOR + below(3) : below(setters);
+    const size_t value = is_character && below(4) ? '_' : below(2) ? below(256) : 0;
     const bool is_flag = setter < PELTZIVAR_SET_DIGIT_SEPARATOR;
     const bool is_radix = setter == PELTZIVAR_SET_MANTISSA_RADIX || setter == PELTZIVAR_SET_RADIX;
     char name[PELTZIVAR_TEXT_SIZE], text[8];

@@ -114,6 +114,16 @@ special_digit_separator = true
 END
 unlawful="lines 1, 2: the base prefix 'b' is a digit in radix 16; mend: base_prefix=none; mend: radix=10
 lines 3, 4: no_special and special_digit_separator cannot both be set; $either"
+cat > "$work/clashes.txt" << 'END'
+digit_separator = '_'
+base_prefix = '_'
+base_suffix = '_'
+internal_digit_separator = true
+END
+separator="the digit separator '_'" prefix="the base prefix '_'" suffix="the base suffix '_'"
+clashes="lines 1, 2: $separator and $prefix are the same; mend: digit_separator=none; mend: base_prefix=none
+lines 1, 3: $separator and $suffix are the same; mend: digit_separator=none; mend: base_suffix=none
+lines 2, 3: $prefix and $suffix are the same; mend: base_prefix=none; mend: base_suffix=none"
 cat > "$work/twice.txt" << 'END'
 radix = 16
 internal_digit_separator = true
@@ -148,6 +158,7 @@ settings() {
     prints 1 "$unreadable" "$1" "$work/unreadable.txt"
     prints 1 "$bytes" "$1" "$work/bytes.txt"
     prints 1 "$crlf" "$1" "$work/crlf.txt"
+    prints 1 "$clashes" "$1" "$work/clashes.txt"
     prints 1 "$twice" "$1" "$work/twice.txt"
     prints 1 "$mistakes" "$1" ../rust/examples/mistakes.txt
     prints 1 "$long" "$1" "$work/long.txt"
