@@ -134,6 +134,12 @@ error const fn Kind::is_two(&Kind) -> bool
 error impl Display for Kind
 error fn View<STANDARD>::of(View<STANDARD>, View<STANDARD>) -> View<STANDARD>"
 
+# stale: names.py compares the list with the sources.
+stale() {
+    sed -i 's/::Two/::Ten/' "$top/names/compare/names.txt"
+    UPSTREAM=$top/names "$top/names/compare/names.py"
+}
+
 # differs: names.py refuses a page without these rows, of names that the plain Rust does not have or has otherwise.
 differs() {
     ln -s "$rust" "$top/names/rust"
@@ -236,6 +242,7 @@ scripts() {
         "$(sed -nE 's/^build (.*) .*/\1/p' "$FAKE/calls" | tail -n +3 | uniq -c | xargs)" "builds of bench/sizes.sh"
     compares "1000 build_or_panic 1000 build_strict" \
         "$(grep -ohE 'build_or_panic|build_strict' "$WORK"/formats-*/src/lib.rs | uniq -c | xargs)" "formats of bench/sizes.sh"
+    passes env PATH="${PATH#*:}" cargo check --quiet --manifest-path "$WORK/formats-peltzivar/Cargo.toml"
     prints 0 "some section
 build rust numfmt
 build rust --quiet
@@ -250,6 +257,7 @@ prints 0 "note: $rust/Cargo.toml does not have version 1.0.7
     copies "$rust"
 needing cargo driver
 needing python3 prints 0 "$listed" lists
+needing python3 prints 1 "names.txt is not what UPSTREAM has: compare/names.py --list" stale
 needing cargo needing python3 prints 1 "$differing" differs
-needing git needing cc scripts
-counted 22
+needing git needing cc needing cargo scripts
+counted 24
