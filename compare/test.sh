@@ -197,11 +197,13 @@ END
     PATH=$FAKE:$PATH
 }
 
-# against STATUS WORDS TIME..: `bench/run --against` ends with the status, and its row with these words, if the drivers
-# print these times of the library in turns.
+# against STATUS WORDS NAME NAME TIME..: `bench/run --against` ends with the status, and its last row has these words, if
+# the drivers print, in turns, rows with these names and these times of the library.
 against() {
-    local got
-    printf 'plain: some row %s 2.000 1.00 1.00 to 1.00\n' "${@:3}" > "$FAKE/rows"
+    local got time names=("$3" "$4") row=0
+    for time in "${@:5}"; do
+        echo "plain: some ${names[row++ % 2]} $time 2.000 1.00 1.00 to 1.00"
+    done > "$FAKE/rows"
     got=$(PROCESSORS=any:any ../bench/run.sh --against HEAD --only some --rounds 3 2>&1 | tail -n 1
         echo "status ${PIPESTATUS[0]}")
     compares "$2 status $1" "$(xargs <<< "$got")" bench/run --against HEAD
@@ -233,8 +235,9 @@ compared() {
 # scripts: the scripts with this cargo.
 scripts() {
     fake
-    against 0 "some row 100.000 105.000 1.05 1.00" 101 105 100 107 103 106 104 109 100 106
-    against 1 "some row 100.000 106.000 1.06 1.00 slower" 101 107 100 107 103 106 104 109 100 106
+    against 0 "some row 100.000 105.000 1.05 1.00" row row 101 107 103 106 104 109 102 108 100 105
+    against 1 "some row 100.000 106.000 1.06 1.00 slower" row row 101 107 103 108 104 109 102 107 100 106
+    against 0 "some new: on one side only" old new 101 107 103 108 104 109 102 107 100 106
     compares "--only plain: --only plain: some --rounds 3" "$(uniq "$FAKE/options" | xargs)" options
     : > "$FAKE/calls"
     prints 0 "$sizes" sizes
@@ -260,4 +263,4 @@ needing python3 prints 0 "$listed" lists
 needing python3 prints 1 "names.txt is not what UPSTREAM has: compare/names.py --list" stale
 needing cargo needing python3 prints 1 "$differing" differs
 needing git needing cc needing cargo scripts
-counted 24
+counted 25

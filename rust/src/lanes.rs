@@ -119,5 +119,6 @@ mod tests {
             }
         }
         assert_eq!(Simd::<u8, 3>::splat(7).0, [7; 3]);
+        assert!(Simd::from_array([1, 0, 1]).simd_gt(Simd::splat(0)).any());
     }
 }
