@@ -73,7 +73,7 @@ PLANTS = [
     ("docs/check_clauses.py", "PARTIAL = {", "PARTIAL = {'planted': '',",
      "docs/PROVED.md: check_clauses.py has no row: planted"),
     ("rust/tools/erase.py", "EVERYWHERE = [", "EVERYWHERE = [('', ''),", " texts, not "),
-    ("rust/tools/erase.py", "\n# Names that stay public", "\nITEMS = [*ITEMS, ('', '')]\n#", " items in place, not "),
+    ("rust/tools/erase.py", "\n# Names that stay public", "\nITEMS = [*ITEMS, ('', '')]\n#", " items that define, not "),
     ("docs/DIFFERENCES.md", "| `numeral` | `read_numeral` |", "| `numeral` | `planted` |",
      "docs/DIFFERENCES.md: not public in numeral: planted"),
     ("docs/DIFFERENCES.md", " others ", " other ", "docs/DIFFERENCES.md: there are "),

@@ -1,4 +1,4 @@
--- Rules, and the slots of reasons, notes and fields, by their indices.
+-- The numbers by which C identifies rules, reasons, notes and fields.
 use Rattle.std.specs.Prelude.{ℕ, Option, None, Some, List, [], map, get_or, slice_get}
 use Rattle.lexical_util.specs.Record.{Record, pack, raw}
 use Rattle.lexical_util.specs.Additions.FieldEdits.{field_edits}

@@ -1,4 +1,4 @@
--- Texts that are written into a buffer with a final 0.
+-- Texts that are written into a buffer and NUL-terminated.
 use Rattle.std.specs.Prelude.{ℕ, ◌≡◌, List, [], ◌∷◌, length, take, drop, ◌++◌}
 
 -- `written_over text buffer` is `buffer` after as much of `text` as fits, and a final 0, was written from its start. An

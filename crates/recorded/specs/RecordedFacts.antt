@@ -1,4 +1,4 @@
--- The recorded results, stated in the definitions of the libraries.
+-- The recorded results, stated in terms of the libraries' definitions.
 use Rattle.recorded.specs.declared.fact.Fact.{Fact}
 use Rattle.recorded.specs.declared.fact.Fact.TheVariants as facts
 use Rattle.recorded.specs.declared.fact.Fields.{Fields}

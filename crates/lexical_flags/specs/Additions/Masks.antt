@@ -1,4 +1,4 @@
--- Masks as sums of powers of two, for `mask`, and the flags of two masks, for `interface_flags` and `exponent_flags`.
+-- Masks as sums of powers of two, for `mask`. The flags in a mask, for `interface_flags` and `exponent_flags`.
 use Rattle.std.specs.Prelude.{ℕ, ◌+◌, ◌-◌, ◌*◌, ◌^◌, List, [], ◌∷◌, ◌++◌, sum_by}
 use Rattle.lexical_flags.specs.Layout.{Flag, Byte, bit, shift}
 use Rattle.lexical_flags.specs.Layout as layout

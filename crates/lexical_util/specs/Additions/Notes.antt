@@ -1,4 +1,4 @@
--- The fields that are set and change no number that can be written, for `notes` and `notes_of_fields`.
+-- The fields that are set but do not affect how numbers can be written, for `notes` and `notes_of_fields`.
 use Rattle.std.specs.Prelude.{ℕ, ◌≡◌, ◌↔◌, ◌==◌, ◌&&◌, not, if◌then◌else◌, Bool, List, [], ◌∷◌, ◌++◌, map}
 use Rattle.std.specs.Prelude.{bit_and, bit_or}
 use Rattle.std.specs.List.{AllByRecursion, list_any}
