@@ -1,8 +1,8 @@
 #!/usr/bin/env bash
 # Tests compare/ and bench/ without the sources of lexical-util, and without the kit:
 #
-# - over a copy of the plain Rust that has the rules of lexical-util, the driver of compare/ has the counts of README.md,
-#   and the driver of bench/ compiles. A difference is reported;
+# - over a copy of the plain Rust that has the rules of lexical-util, the driver of compare/ has the counts of README.md
+#   and the recorded results, and the driver of bench/ compiles. A difference is reported;
 # - names.py reads the names of lexical-util in the plain Rust;
 # - `compare/run`, `bench/run --against` and `bench/sizes.sh` work with a cargo that builds nothing.
 #
@@ -72,6 +72,8 @@ driver() {
     section "single bits and pairs of bits"
     section "masked radixes"
     section "options"
+    passes "$CARGO_TARGET_DIR/debug/driver" --record "$top/results"
+    passes diff ../crates/recorded/data/results.txt "$top/results"
     # Another crate, which writes two digits the other way in each of 307 radixes: this is reported.
     sed -i 's/WXYZ/WXZY/' "$WORK/upstream/src/digit.rs"
     passes cargo build --quiet --manifest-path "$WORK/compare/rust/Cargo.toml"
@@ -263,4 +265,4 @@ needing python3 prints 0 "$listed" lists
 needing python3 prints 1 "names.txt is not what UPSTREAM has: compare/names.py --list" stale
 needing cargo needing python3 prints 1 "$differing" differs
 needing git needing cc needing cargo scripts
-counted 25
+counted 27
