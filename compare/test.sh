@@ -3,7 +3,7 @@
 #
 # - over a copy of the plain Rust that has the rules of lexical-util, the driver of compare/ has the counts of README.md
 #   and the recorded results, and the driver of bench/ compiles. A difference is reported;
-# - names.py reads the names of lexical-util in the plain Rust;
+# - names.py lists the public names of a module, and the names that the plain Rust does not have, or has otherwise;
 # - `compare/run`, `bench/run --against` and `bench/sizes.sh` work with a cargo that builds nothing.
 #
 # The last line is `N passed, M failed, K skipped`. The exit status is 1 if a row failed, or if there are fewer rows than
