@@ -426,6 +426,12 @@ rebuilds() {
     done
 }
 
+# refuses NAME: `make install` ends with an error if this path is not absolute.
+refuses() {
+    ! make install PREFIX="$work/none" "$1=relative" DESTDIR="$work/root/" 2> "$work/error" &&
+        grep -x 'PREFIX must be an absolute path' "$work/error"
+}
+
 # installed: what `make install` writes, and `make uninstall` removes.
 installed() {
     local prefix=$work/prefix top version soname lines files setting
@@ -453,8 +459,9 @@ installed() {
         "$(xargs < "$prefix/lib/pkgconfig/peltzivar.pc")" peltzivar.pc
     passes make uninstall PREFIX=/usr LIBDIR=/usr/lib/here INCLUDEDIR=/srv/include DESTDIR="$work/root"
     compares "" "$(find "$work/root" ! -type d)" make uninstall
+    compares "PREFIX = /usr/local" "$(env -u PREFIX make -pn | grep '^PREFIX = ')" make PREFIX
     for setting in PREFIX LIBDIR INCLUDEDIR; do
-        passes bash -c '! make install "$@"' make PREFIX="$work/none" $setting=relative DESTDIR="$work/root/"
+        passes refuses $setting
     done
     passes rebuilds
     rm -rf "$work/make"
@@ -481,7 +488,7 @@ sonames() {
 if [ "$given" ]; then
     passes cc -shared -o "$work/library.so" -Wl,--whole-archive "$given" -Wl,--no-whole-archive &&
         library "$given" "$work/library.so"
-    counted 87
+    counted 89
     exit
 fi
 compilers
@@ -496,4 +503,4 @@ done
 needing python3 alike "$work/settings"
 needing python3 pythons "$work/false/release/libpeltzivar_c.so"
 needing make installed
-counted 280
+counted 285

@@ -152,7 +152,9 @@ def drawing():
     known = [(name.replace("_", " "), int(last), int(first)) for first, last, name, _ in BYTES]
     known += [("separator flags", high[-1], high[0]), ("other flags", low[-1], low[0])]
     follow = [first for _, first, _ in drawn] == [127] + [last - 1 for _, _, last in drawn[:-1]]
-    if not follow or sorted(known) != sorted(cell for cell in drawn if cell[0] != "reserved"):
+    if not follow:
+        yield "the drawing does not have each bit once"
+    if sorted(known) != sorted(cell for cell in drawn if cell[0] != "reserved"):
         yield "the drawing has other bits than the tables"
 
 

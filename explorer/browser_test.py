@@ -141,6 +141,7 @@ def a_flag_is_set_by_the_keyboard(page):
 
 
 def a_change_is_taken_back(page):
+    same(page.find("#changes li:first-child .undo").get_attribute("aria-label"), "back to no_special=false")
     page.click("#changes li:first-child .undo")
     same(page.word(), "0x00000A0000000000000000000000300C")
 
@@ -311,6 +312,11 @@ def reserved_bits_have_a_reason(page):
     same(page.text("#verdict"), "Lawful")
 
 
+def two_reasons_are_counted(page):
+    page.load("#word=0x00000A00000000000000000080000C00")
+    same((page.text("#verdict"), len(page.all(".reason"))), ("Not lawful: 2 reasons", 2))
+
+
 def the_normal_form_is_used(page):
     page.load(f"#word={STANDARD}")
     same(page.text("#normal code"), "0x0A0A0A0000000000000000000000000C")
@@ -379,6 +385,7 @@ def tabs_follow_the_arrows(page):
 def code_is_copied(page):
     page.click("#copy-code")
     page.wait(lambda: page.text("#copy-code") == "copied")
+    page.wait(lambda: page.text("#copy-code") == "Copy")
     page.type("#word", Keys.CONTROL + "v")
     same(page.value("#word").startswith("use core::num::NonZeroU8;"), True)
     page.find("#word").send_keys(Keys.TAB)
@@ -430,6 +437,8 @@ def the_bits_of_a_word_are_shown(page):
     same([", ".join(row) for row in page.run(read, ".run")], [titles for _, titles in rows])
     same(page.run(read, ".number"), [["127", "96"], ["95", "64"], ["63", "32"], ["31", "0"]])
     same(page.find("#bits").get_attribute("aria-label"), f"The bits of {MIXED}")
+    edges = "return [...document.querySelectorAll('.bit')].map((it) => it.classList.contains('edge'))"
+    same([127 - index for index, is_edge in enumerate(page.run(edges)) if is_edge], sorted([*range(7, 128, 8), 44, 17])[::-1])
 
 
 def a_number_has_what_its_format_allows(page):
@@ -556,6 +565,11 @@ def the_page_has_the_classes_of_its_style(page):
         const used = [...document.querySelectorAll("[class]")].flatMap((it) => [...it.classList]);
         return [styled.filter((it) => !used.includes(it)), [...new Set(used)].filter((it) => !styled.includes(it))]"""
     same(page.run(others), [[], ["column", "use"]])
+
+
+def what_changes_is_announced(page):
+    roles = {"verdict": "status", "options": "status", "base_prefix-problem": "status", "word-problem": "alert"}
+    same({name: page.find(f"#{name}").get_attribute("role") for name in roles}, roles)
 
 
 def the_options_have_labels(page):
@@ -692,6 +706,7 @@ STEPS = [
     a_refused_word_stays_until_escape,
     any_text_can_be_pasted,
     reserved_bits_have_a_reason,
+    two_reasons_are_counted,
     the_normal_form_is_used,
     a_recipe_is_taken,
     a_recipe_brings_its_exponent_character,
@@ -718,6 +733,7 @@ STEPS = [
     each_section_has_the_name_of_its_heading,
     each_id_names_one_element,
     the_page_has_the_classes_of_its_style,
+    what_changes_is_announced,
     the_options_have_labels,
     each_text_has_contrast_with_its_ground,
     all_controls_have_names,

@@ -33,8 +33,7 @@ END
 checks() {
     passes ./build --check
     tar --exclude=out --exclude=target -C .. -c c crates docs explorer rust | tar -x -C "$work/copy"
-    printf '\n// A comment.\n' >> "$work/copy/rust/src/lib.rs"
-    passes "$work/copy/explorer/build" --check
+    passes bash -c "sed -i '\$a // A comment.' '$work/copy/rust/src/lib.rs' && '$work/copy/explorer/build' --check"
     stale "$wasm" rust/src/lib.rs 'mod chunks;' 'mod chunks; const ONE: u8 = 1;'
     stale "$wasm" rust/capi/src/lib.rs 'mod bytes;' 'mod bytes; const ONE: u8 = 1;'
     stale "$wasm" explorer/index.html 'AGFzbQ' 'AGFzbR'
