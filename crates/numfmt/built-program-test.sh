@@ -15,7 +15,7 @@
 #                                      Rust's std opens /dev/null in place of a closed output, and aborts if memory fails
 # shellcheck disable=SC2016 # the backquotes in patterns come from pages
 set -u
-program=${1:+$(realpath -m "$1")} least=4108
+program=${1:+$(realpath -m "$1")} least=4113
 cd "$(dirname "$0")" || exit
 # shellcheck source=../../.ci/rows.sh
 . ../../.ci/rows.sh
