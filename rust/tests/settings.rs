@@ -92,7 +92,7 @@ fn problems_have_exactly_their_lines() {
         (b"\tradix\t16", &[r"line 1: radix\x0916: expected NAME=VALUE"]),
         // Bytes that are not ASCII, also not UTF-8, and control characters.
         (b"\xEF\xBB\xBFradix=16", &[r"line 1: \xef\xbb\xbfradix=16: the line is not ASCII"]),
-        (b"\xFF\0\x1B", &[r"line 1: \xff\x00\x1b: the line is not ASCII"]),
+        (b"\xFF\0\x1B\x7F", &[r"line 1: \xff\x00\x1b\x7f: the line is not ASCII"]),
     ];
     for (file, problems) in rows {
         assert_eq!(found(file), problems, "{}", file.escape_ascii());
@@ -161,6 +161,7 @@ fn the_nearest_name_is_suggested() {
     ];
     for (name, question) in rows {
         let problem = format!("line 1: {name}=1: {}{question}", refusal("a=1"));
-        assert_eq!(found(format!("{name}=1").as_bytes()), [problem]);
+        let file = format!("{name}=1");
+        assert_eq!(format_of(file.as_bytes()), (None, vec![problem]));
     }
 }
