@@ -464,92 +464,92 @@ class FormatView:
 
     @property
     def required_integer_digits(self) -> bool:
-        """If true, a parser refuses `.5`."""
+        """If true, a parser rejects `.5`."""
         return self._flag(Setter.REQUIRED_INTEGER_DIGITS)
 
     @property
     def required_fraction_digits(self) -> bool:
-        """If true, a parser refuses `1.` but accepts `1`."""
+        """If true, a parser rejects `1.` but accepts `1`."""
         return self._flag(Setter.REQUIRED_FRACTION_DIGITS)
 
     @property
     def required_exponent_digits(self) -> bool:
-        """If true, a parser refuses `1e`."""
+        """If true, a parser rejects `1e`."""
         return self._flag(Setter.REQUIRED_EXPONENT_DIGITS)
 
     @property
     def required_mantissa_digits(self) -> bool:
-        """If true, a parser refuses `.`."""
+        """If true, a parser rejects `.`."""
         return self._flag(Setter.REQUIRED_MANTISSA_DIGITS)
 
     @property
     def no_positive_mantissa_sign(self) -> bool:
-        """If true, a parser refuses `+1` but accepts `-1`."""
+        """If true, a parser rejects `+1` but accepts `-1`."""
         return self._flag(Setter.NO_POSITIVE_MANTISSA_SIGN)
 
     @property
     def required_mantissa_sign(self) -> bool:
-        """If true, a parser refuses `1`."""
+        """If true, a parser rejects `1`."""
         return self._flag(Setter.REQUIRED_MANTISSA_SIGN)
 
     @property
     def no_exponent_notation(self) -> bool:
-        """If true, a parser refuses `1e5`."""
+        """If true, a parser rejects `1e5`."""
         return self._flag(Setter.NO_EXPONENT_NOTATION)
 
     @property
     def no_positive_exponent_sign(self) -> bool:
-        """If true, a parser refuses `1e+5` but accepts `1e5` and `1e-5`."""
+        """If true, a parser rejects `1e+5` but accepts `1e5` and `1e-5`."""
         return self._flag(Setter.NO_POSITIVE_EXPONENT_SIGN)
 
     @property
     def required_exponent_sign(self) -> bool:
-        """If true, a parser refuses `1e5`."""
+        """If true, a parser rejects `1e5`."""
         return self._flag(Setter.REQUIRED_EXPONENT_SIGN)
 
     @property
     def no_exponent_without_fraction(self) -> bool:
-        """If true, a parser refuses `1e5` but accepts `1.0e5`."""
+        """If true, a parser rejects `1e5` but accepts `1.0e5`."""
         return self._flag(Setter.NO_EXPONENT_WITHOUT_FRACTION)
 
     @property
     def no_special(self) -> bool:
-        """If true, a parser refuses `NaN` and `inf`."""
+        """If true, a parser rejects `NaN` and `inf`."""
         return self._flag(Setter.NO_SPECIAL)
 
     @property
     def case_sensitive_special(self) -> bool:
-        """If true, a parser refuses `nan` when the spelling of NaN is `NaN`."""
+        """If true, a parser rejects `nan` when the spelling of NaN is `NaN`."""
         return self._flag(Setter.CASE_SENSITIVE_SPECIAL)
 
     @property
     def no_integer_leading_zeros(self) -> bool:
-        """If true, a parser refuses the integer `01` but accepts `0`."""
+        """If true, a parser rejects the integer `01` but accepts `0`."""
         return self._flag(Setter.NO_INTEGER_LEADING_ZEROS)
 
     @property
     def no_float_leading_zeros(self) -> bool:
-        """If true, a parser refuses `01.0` but accepts `0.1`."""
+        """If true, a parser rejects `01.0` but accepts `0.1`."""
         return self._flag(Setter.NO_FLOAT_LEADING_ZEROS)
 
     @property
     def required_exponent_notation(self) -> bool:
-        """If true, a parser refuses `1.0`."""
+        """If true, a parser rejects `1.0`."""
         return self._flag(Setter.REQUIRED_EXPONENT_NOTATION)
 
     @property
     def case_sensitive_exponent(self) -> bool:
-        """If true, a parser refuses `1E5` when the exponent character is `e`."""
+        """If true, a parser rejects `1E5` when the exponent character is `e`."""
         return self._flag(Setter.CASE_SENSITIVE_EXPONENT)
 
     @property
     def case_sensitive_base_prefix(self) -> bool:
-        """If true, a parser refuses `0X1F` when the base prefix is `x`."""
+        """If true, a parser rejects `0X1F` when the base prefix is `x`."""
         return self._flag(Setter.CASE_SENSITIVE_BASE_PREFIX)
 
     @property
     def case_sensitive_base_suffix(self) -> bool:
-        """If true, a parser refuses `1FH` when the base suffix is `h`."""
+        """If true, a parser rejects `1FH` when the base suffix is `h`."""
         return self._flag(Setter.CASE_SENSITIVE_BASE_SUFFIX)
 
     @property

@@ -500,7 +500,7 @@ def options_that_share_a_byte_do_not_fit(page):
 
 def a_hint_has_the_bits_and_the_meaning_of_a_field(page):
     rows = {
-        "no_special": "bit 10: if set, a parser refuses NaN and inf",
+        "no_special": "bit 10: if set, a parser rejects NaN and inf",
         "required_digits": "bits 0, 1, 2, 3: flags that require digits",
         "exponent_radix": "bits 120 to 127: the radix of the exponent digits; 0 means the mantissa radix",
         "point": "not in the word: the decimal point, an option of the parser",
@@ -535,7 +535,7 @@ def the_texts_of_format_are_shown(page):
     rows = [line[2:-2].split(" | ") for line in table.splitlines() if line.startswith("| ")]
     cells = "return [...document.querySelectorAll('#limits tr')].map((it) => [...it.cells].map((cell) => cell.textContent))"
     same(page.run(cells), rows[1:])
-    same(page.text("#texts") in " ".join(text.split()) and page.text("#texts").startswith("In these texts, "), True)
+    same(page.text("#texts") in " ".join(text.split()) and page.text("#texts").startswith("In these examples, "), True)
 
 
 def the_policy_allows_only_the_page_itself(page):

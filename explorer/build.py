@@ -69,9 +69,9 @@ def limits():
 
 
 def texts():
-    """Returns the sentence on the bytes in the texts of the tables."""
-    found = re.search(r"In these texts, [^`]*(`.`[^`.]*)+\.", " ".join(check_format.PAGE.split()))
-    return found[0] if found else sys.exit("docs/FORMAT.md: no sentence on the texts of the tables")
+    """Returns the sentence on the bytes in the examples of the tables."""
+    found = re.search(r"In these examples, [^`]*(`.`[^`.]*)+\.", " ".join(check_format.PAGE.split()))
+    return found[0] if found else sys.exit("docs/FORMAT.md: no sentence on the examples of the tables")
 
 
 def setting(call):

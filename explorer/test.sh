@@ -40,8 +40,8 @@ checks() {
     stale "$wasm" explorer/build.py '-Copt-level=s' '-Copt-level=z'
     stale "$wasm" explorer/shim.rs 'if a != b' 'if b != a'
     stale "$wasm" rust/Cargo.toml '[package]' '[package] #'
-    stale "$rest" docs/FORMAT.md '| false | refuses ' '| false | accepts '
-    stale "$rest" rust/examples/recipes.rs '// refuses ' '// accepts '
+    stale "$rest" docs/FORMAT.md '| false | rejects ' '| false | accepts '
+    stale "$rest" rust/examples/recipes.rs '// rejects ' '// accepts '
     stale "$rest" explorer/page.css '#ffffff' '#fffffe'
     stale "$rest" explorer/index.html '<title>' '<title> '
     prints 1 "usage: explorer/build [--check | --install]" "$work/copy/explorer/build" --chekc

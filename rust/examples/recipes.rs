@@ -1,8 +1,8 @@
 //! Formats of programming languages, as constants that you can copy. The comment of a constant names the section of the
 //! grammar that the format follows, and states what a format cannot express. The comment of a setter has a text that is
-//! accepted or refused because of the setter.
+//! accepted or rejected because of the setter.
 //!
-//! No format refuses `-`, and no format requires its base prefix or suffix. docs/FORMAT.md describes what to do
+//! No format rejects `-`, and no format requires its base prefix or suffix. docs/FORMAT.md describes what to do
 //! instead.
 //!
 //!     cargo run --example recipes -- HEX
@@ -14,35 +14,35 @@ use peltzivar::format::{is_valid_options_punctuation, NumberFormatBuilder};
 pub const RUST_HEX_INTEGER: u128 = NumberFormatBuilder::new()
     .mantissa_radix(16) // digits 0-9, a-f and A-F
     .base_prefix(NonZeroU8::new(b'x')) // accepts `0x1F`
-    .case_sensitive_base_prefix(true) // refuses `0X1F`
+    .case_sensitive_base_prefix(true) // rejects `0X1F`
     .digit_separator(NonZeroU8::new(b'_')) // the byte, which the flags below allow
     .integer_digit_separator_flags(true) // accepts `0x1_F`, `0x_1F`, `0x1F_` and `0x1__F`
-    .no_positive_mantissa_sign(true) // refuses `+0x1F`
+    .no_positive_mantissa_sign(true) // rejects `+0x1F`
     .build_or_panic();
 
 /// JSON's numbers (RFC 8259, 6. Numbers).
 pub const JSON: u128 = NumberFormatBuilder::new()
-    .required_digits(true) // refuses `.5`, `1.`, `1e` and `.`
-    .no_positive_mantissa_sign(true) // refuses `+1`
-    .no_integer_leading_zeros(true) // refuses `01`
-    .no_float_leading_zeros(true) // refuses `01.0`
-    .no_special(true) // refuses `NaN` and `inf`
+    .required_digits(true) // rejects `.5`, `1.`, `1e` and `.`
+    .no_positive_mantissa_sign(true) // rejects `+1`
+    .no_integer_leading_zeros(true) // rejects `01`
+    .no_float_leading_zeros(true) // rejects `01.0`
+    .no_special(true) // rejects `NaN` and `inf`
     .build_or_panic();
 
 /// TOML's floats and decimal integers (TOML 1.0.0, Integer and Float).
 pub const TOML: u128 = NumberFormatBuilder::new()
-    .required_digits(true) // refuses `.5`, `1.`, `1e` and `.`
-    .no_integer_leading_zeros(true) // refuses `01`
-    .no_float_leading_zeros(true) // refuses `01.0`
-    .case_sensitive_special(true) // refuses `NaN` and `Inf`, not `nan` and `inf`
+    .required_digits(true) // rejects `.5`, `1.`, `1e` and `.`
+    .no_integer_leading_zeros(true) // rejects `01`
+    .no_float_leading_zeros(true) // rejects `01.0`
+    .case_sensitive_special(true) // rejects `NaN` and `Inf`, not `nan` and `inf`
     .digit_separator(NonZeroU8::new(b'_')) // the byte, which the flags below allow
     .internal_digit_separator(true) // accepts `1_0.0_1e1_0`, not `1__0`, `_1` or `1_`
     .build_or_panic();
 
 /// C's decimal floating constants (C23, Floating constants). A format cannot accept both `1.0f` and `1.0L`.
 pub const C_FLOAT: u128 = NumberFormatBuilder::new()
-    .no_positive_mantissa_sign(true) // refuses `+1.0`, in which `+` is an operator
-    .no_special(true) // refuses `NAN` and `INFINITY`, which are macros
+    .no_positive_mantissa_sign(true) // rejects `+1.0`, in which `+` is an operator
+    .no_special(true) // rejects `NAN` and `INFINITY`, which are macros
     .digit_separator(NonZeroU8::new(b'\'')) // the byte; leave out these two lines for C17
     .internal_digit_separator(true) // accepts `1'000.5`
     .build_or_panic();
@@ -54,19 +54,19 @@ pub const C_HEX_FLOAT: u128 = NumberFormatBuilder::new()
     .exponent_base(NonZeroU8::new(2)) // `p3` means 2^3
     .exponent_radix(NonZeroU8::new(10)) // the digits after `p` are decimal
     .base_prefix(NonZeroU8::new(b'x')) // accepts `0x1p3` and `0X1p3`
-    .required_exponent_notation(true) // refuses `0x1.8`
-    .no_positive_mantissa_sign(true) // refuses `+0x1p3`
-    .no_special(true) // refuses `NAN` and `INFINITY`
+    .required_exponent_notation(true) // rejects `0x1.8`
+    .no_positive_mantissa_sign(true) // rejects `+0x1p3`
+    .no_special(true) // rejects `NAN` and `INFINITY`
     .digit_separator(NonZeroU8::new(b'\'')) // the byte; leave out these two lines for C17
     .internal_digit_separator(true) // accepts `0x1'000p3`
     .build_or_panic();
 
 /// Python's floats and decimal integers (Language Reference 3.12, 2.4.5 and 2.4.6). A format cannot accept `00` and
-/// refuse `01`.
+/// reject `01`.
 pub const PYTHON: u128 = NumberFormatBuilder::new()
-    .no_positive_mantissa_sign(true) // refuses `+1`, in which `+` is an operator
-    .no_integer_leading_zeros(true) // refuses `01`, not `01.0`
-    .no_special(true) // refuses `nan` and `inf`, which are names
+    .no_positive_mantissa_sign(true) // rejects `+1`, in which `+` is an operator
+    .no_integer_leading_zeros(true) // rejects `01`, not `01.0`
+    .no_special(true) // rejects `nan` and `inf`, which are names
     .digit_separator(NonZeroU8::new(b'_')) // the byte, which the flags below allow
     .internal_digit_separator(true) // accepts `1_0.0_1e1_0`, not `1__0`, `_1` or `1_`
     .build_or_panic();
@@ -75,7 +75,7 @@ pub const PYTHON: u128 = NumberFormatBuilder::new()
 pub const PYTHON_HEX_INTEGER: u128 = NumberFormatBuilder::new()
     .mantissa_radix(16) // digits 0-9, a-f and A-F
     .base_prefix(NonZeroU8::new(b'x')) // accepts `0x1F` and `0X1F`
-    .no_positive_mantissa_sign(true) // refuses `+0x1F`
+    .no_positive_mantissa_sign(true) // rejects `+0x1F`
     .digit_separator(NonZeroU8::new(b'_')) // the byte, which the flags below allow
     .integer_internal_digit_separator(true) // accepts `0x1_F`, not `0x1__F` or `0x1F_`
     .integer_leading_digit_separator(true) // accepts `0x_1F`
@@ -84,21 +84,21 @@ pub const PYTHON_HEX_INTEGER: u128 = NumberFormatBuilder::new()
 /// Java's floats and decimal integers (Language Specification 21, 3.10.1 and 3.10.2). A format cannot accept
 /// `1L`, `1f` and `1d`.
 pub const JAVA: u128 = NumberFormatBuilder::new()
-    .no_positive_mantissa_sign(true) // refuses `+1`, in which `+` is an operator
-    .no_integer_leading_zeros(true) // refuses `01`, which is octal, not `01.0`
-    .no_special(true) // refuses `NaN`, which is a name
+    .no_positive_mantissa_sign(true) // rejects `+1`, in which `+` is an operator
+    .no_integer_leading_zeros(true) // rejects `01`, which is octal, not `01.0`
+    .no_special(true) // rejects `NaN`, which is a name
     .digit_separator(NonZeroU8::new(b'_')) // the byte, which the flags below allow
     .internal_digit_separator(true) // accepts `1_0.0_1e1_0`, not `_1` or `1_`
     .consecutive_digit_separator(true) // accepts `1__0`
     .build_or_panic();
 
-/// JavaScript's decimal literals in strict code (ECMA-262, Numeric Literals). A format cannot accept `1n` but refuse
+/// JavaScript's decimal literals in strict code (ECMA-262, Numeric Literals). A format cannot accept `1n` but reject
 /// `1.5n`.
 pub const JAVASCRIPT: u128 = NumberFormatBuilder::new()
-    .no_positive_mantissa_sign(true) // refuses `+1`, in which `+` is an operator
-    .no_integer_leading_zeros(true) // refuses `01`
-    .no_float_leading_zeros(true) // refuses `01.0`
-    .no_special(true) // refuses `NaN` and `Infinity`, which are names
+    .no_positive_mantissa_sign(true) // rejects `+1`, in which `+` is an operator
+    .no_integer_leading_zeros(true) // rejects `01`
+    .no_float_leading_zeros(true) // rejects `01.0`
+    .no_special(true) // rejects `NaN` and `Infinity`, which are names
     .digit_separator(NonZeroU8::new(b'_')) // the byte, which the flags below allow
     .internal_digit_separator(true) // accepts `1_0.0_1e1_0`, not `1__0`, `_1` or `1_`
     .build_or_panic();
@@ -109,37 +109,37 @@ pub const GO_HEX_FLOAT: u128 = NumberFormatBuilder::new()
     .exponent_base(NonZeroU8::new(2)) // `p3` means 2^3
     .exponent_radix(NonZeroU8::new(10)) // the digits after `p` are decimal
     .base_prefix(NonZeroU8::new(b'x')) // accepts `0x1p3` and `0X1p3`
-    .required_exponent_notation(true) // refuses `0x1.8`
-    .no_positive_mantissa_sign(true) // refuses `+0x1p3`
-    .no_special(true) // refuses `NaN` and `Inf`, which are names
+    .required_exponent_notation(true) // rejects `0x1.8`
+    .no_positive_mantissa_sign(true) // rejects `+0x1p3`
+    .no_special(true) // rejects `NaN` and `Inf`, which are names
     .digit_separator(NonZeroU8::new(b'_')) // the byte, which the flags below allow
     .internal_digit_separator(true) // accepts `0x1_0.0_8p1_0`, not `0x1__0p0` or `0x1_p0`
     .integer_leading_digit_separator(true) // accepts `0x_1p0`
     .build_or_panic();
 
-/// Ada's decimal literals (Reference Manual 2012, 2.4.1). A format cannot accept `1.0E-3` but refuse `1E-3`.
+/// Ada's decimal literals (Reference Manual 2012, 2.4.1). A format cannot accept `1.0E-3` but reject `1E-3`.
 pub const ADA: u128 = NumberFormatBuilder::new()
-    .required_digits(true) // refuses `.5`, `1.`, `1e` and `.`
-    .no_positive_mantissa_sign(true) // refuses `+1`, in which `+` is an operator
-    .no_special(true) // refuses `NaN` and `inf`, which are names
+    .required_digits(true) // rejects `.5`, `1.`, `1e` and `.`
+    .no_positive_mantissa_sign(true) // rejects `+1`, in which `+` is an operator
+    .no_special(true) // rejects `NaN` and `inf`, which are names
     .digit_separator(NonZeroU8::new(b'_')) // the byte, which the flags below allow
     .internal_digit_separator(true) // accepts `1_0.0_1E1_0`, not `1__0`, `_1` or `1_`
     .build_or_panic();
 
 /// SQL's signed numeric literals (ISO/IEC 9075-2:2016, 5.3 <literal>).
 pub const SQL: u128 = NumberFormatBuilder::new()
-    .no_special(true) // refuses `NaN` and `inf`
+    .no_special(true) // rejects `NaN` and `inf`
     .build_or_panic();
 
 /// Numbers in CSV, as spreadsheets write cells of the format `#,##0.00`, in quotes (RFC 4180): `"1,234.50"`. A format
 /// cannot require groups of three digits. For `1.234,50` use the separator `.` and the decimal point `,`.
 pub const SPREADSHEET_CSV: u128 = NumberFormatBuilder::new()
-    .required_digits(true) // refuses `.50`, `1.` and `.`
-    .no_positive_mantissa_sign(true) // refuses `+1.00`
-    .no_exponent_notation(true) // refuses `1.5e3`
-    .no_integer_leading_zeros(true) // refuses `01`
-    .no_float_leading_zeros(true) // refuses `01.00`
-    .no_special(true) // refuses `NaN` and `inf`
+    .required_digits(true) // rejects `.50`, `1.` and `.`
+    .no_positive_mantissa_sign(true) // rejects `+1.00`
+    .no_exponent_notation(true) // rejects `1.5e3`
+    .no_integer_leading_zeros(true) // rejects `01`
+    .no_float_leading_zeros(true) // rejects `01.00`
+    .no_special(true) // rejects `NaN` and `inf`
     .digit_separator(NonZeroU8::new(b',')) // the byte, which the flag below allows
     .integer_internal_digit_separator(true) // accepts `1,234.50`, not `0.123,4`
     .build_or_panic();
@@ -147,7 +147,7 @@ pub const SPREADSHEET_CSV: u128 = NumberFormatBuilder::new()
 /// Fortran's signed integers and reals (ISO/IEC 1539-1:2018, 7.4.3). A format cannot accept both `1E3` and `1D3`,
 /// or a kind as in `1.0_8`.
 pub const FORTRAN: u128 = NumberFormatBuilder::new()
-    .no_special(true) // refuses `NaN` and `inf`
+    .no_special(true) // rejects `NaN` and `inf`
     .build_or_panic();
 
 /// Swift's hexadecimal floats (The Swift Programming Language, Lexical Structure, Floating-Point Literals).
@@ -156,11 +156,11 @@ pub const SWIFT_HEX_FLOAT: u128 = NumberFormatBuilder::new()
     .exponent_base(NonZeroU8::new(2)) // `p3` means 2^3
     .exponent_radix(NonZeroU8::new(10)) // the digits after `p` are decimal
     .base_prefix(NonZeroU8::new(b'x')) // accepts `0x1p3`
-    .case_sensitive_base_prefix(true) // refuses `0X1p3`
-    .required_digits(true) // refuses `0x.8p3`, `0x1.p3` and `0x1p`
-    .required_exponent_notation(true) // refuses `0x1.8`
-    .no_positive_mantissa_sign(true) // refuses `+0x1p3`
-    .no_special(true) // refuses `nan` and `inf`, which are names
+    .case_sensitive_base_prefix(true) // rejects `0X1p3`
+    .required_digits(true) // rejects `0x.8p3`, `0x1.p3` and `0x1p`
+    .required_exponent_notation(true) // rejects `0x1.8`
+    .no_positive_mantissa_sign(true) // rejects `+0x1p3`
+    .no_special(true) // rejects `nan` and `inf`, which are names
     .digit_separator(NonZeroU8::new(b'_')) // the byte, which the flags below allow
     .internal_digit_separator(true) // accepts `0x1_0.0_8p1_0`, not `0x_1p0`
     .trailing_digit_separator(true) // accepts `0x1_.8_p3_`
@@ -169,17 +169,17 @@ pub const SWIFT_HEX_FLOAT: u128 = NumberFormatBuilder::new()
 
 /// Haskell's floats and decimal integers (Haskell 2010 Report, 2.5).
 pub const HASKELL: u128 = NumberFormatBuilder::new()
-    .required_digits(true) // refuses `.5`, `1.`, `1e` and `.`
-    .no_positive_mantissa_sign(true) // refuses `+1`, in which `+` is an operator
-    .no_special(true) // refuses `NaN` and `inf`
+    .required_digits(true) // rejects `.5`, `1.`, `1e` and `.`
+    .no_positive_mantissa_sign(true) // rejects `+1`, in which `+` is an operator
+    .no_special(true) // rejects `NaN` and `inf`
     .build_or_panic();
 
 /// NASM's hexadecimal integers with a suffix (NASM manual, Numeric Constants). A format cannot accept `0FFh` but
-/// refuse `FFh`, which is a name.
+/// reject `FFh`, which is a name.
 pub const NASM_HEX_INTEGER: u128 = NumberFormatBuilder::new()
     .mantissa_radix(16) // digits 0-9, a-f and A-F
     .base_suffix(NonZeroU8::new(b'h')) // accepts `0C8h` and `0C8H`
-    .no_positive_mantissa_sign(true) // refuses `+1h`, in which `+` is an operator
+    .no_positive_mantissa_sign(true) // rejects `+1h`, in which `+` is an operator
     .digit_separator(NonZeroU8::new(b'_')) // the byte, which the flag below allows
     .integer_internal_digit_separator(true) // accepts `0C8_00h`
     .build_or_panic();

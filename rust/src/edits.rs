@@ -78,64 +78,64 @@ pub use text::{byte_from_decimal, SettingError};
 #[derive(Debug, Clone, Copy, PartialEq, Eq, Hash, PartialOrd, Ord)]
 #[non_exhaustive]
 pub enum FlagSetter {
-    /// Sets whether the format requires digits before the decimal point. If so, a parser refuses `.5`. See
+    /// Sets whether the format requires digits before the decimal point. If so, a parser rejects `.5`. See
     /// [`required_integer_digits`][crate::format_builder::NumberFormatBuilder::required_integer_digits].
     RequiredIntegerDigits,
-    /// Sets whether the format requires digits after a decimal point. If so, a parser refuses `1.` but accepts `1`.
+    /// Sets whether the format requires digits after a decimal point. If so, a parser rejects `1.` but accepts `1`.
     /// See [`required_fraction_digits`][crate::format_builder::NumberFormatBuilder::required_fraction_digits].
     RequiredFractionDigits,
-    /// Sets whether the format requires digits after an exponent character. If so, a parser refuses `1e`. See
+    /// Sets whether the format requires digits after an exponent character. If so, a parser rejects `1e`. See
     /// [`required_exponent_digits`][crate::format_builder::NumberFormatBuilder::required_exponent_digits].
     RequiredExponentDigits,
-    /// Sets whether the format requires a digit in the mantissa of a float. If so, a parser refuses `.`. See
+    /// Sets whether the format requires a digit in the mantissa of a float. If so, a parser rejects `.`. See
     /// [`required_mantissa_digits`][crate::format_builder::NumberFormatBuilder::required_mantissa_digits].
     RequiredMantissaDigits,
-    /// Sets whether the format forbids a `+` before an integer or a float. If so, a parser refuses `+1` but accepts
+    /// Sets whether the format forbids a `+` before an integer or a float. If so, a parser rejects `+1` but accepts
     /// `-1`. See [`no_positive_mantissa_sign`][crate::format_builder::NumberFormatBuilder::no_positive_mantissa_sign].
     NoPositiveMantissaSign,
-    /// Sets whether the format requires a sign before an integer or a float. If so, a parser refuses `1`, and a writer
+    /// Sets whether the format requires a sign before an integer or a float. If so, a parser rejects `1`, and a writer
     /// writes `+1`. See
     /// [`required_mantissa_sign`][crate::format_builder::NumberFormatBuilder::required_mantissa_sign].
     RequiredMantissaSign,
-    /// Sets whether the format forbids an exponent in a float. If so, a parser refuses `1e5`, and a writer writes all
+    /// Sets whether the format forbids an exponent in a float. If so, a parser rejects `1e5`, and a writer writes all
     /// digits instead. See [`no_exponent_notation`][crate::format_builder::NumberFormatBuilder::no_exponent_notation].
     NoExponentNotation,
-    /// Sets whether the format forbids a `+` in the exponent. If so, a parser refuses `1e+5` but accepts `1e5` and
+    /// Sets whether the format forbids a `+` in the exponent. If so, a parser rejects `1e+5` but accepts `1e5` and
     /// `1e-5`. See
     /// [`no_positive_exponent_sign`][crate::format_builder::NumberFormatBuilder::no_positive_exponent_sign].
     NoPositiveExponentSign,
-    /// Sets whether the format requires a sign in the exponent. If so, a parser refuses `1e5`, and a writer writes
+    /// Sets whether the format requires a sign in the exponent. If so, a parser rejects `1e5`, and a writer writes
     /// `1e+5`. See [`required_exponent_sign`][crate::format_builder::NumberFormatBuilder::required_exponent_sign].
     RequiredExponentSign,
-    /// Sets whether the format requires a decimal point before an exponent. If so, a parser refuses `1e5` but accepts
+    /// Sets whether the format requires a decimal point before an exponent. If so, a parser rejects `1e5` but accepts
     /// `1.0e5`. See
     /// [`no_exponent_without_fraction`][crate::format_builder::NumberFormatBuilder::no_exponent_without_fraction].
     NoExponentWithoutFraction,
-    /// Sets whether the format forbids all special values. If so, a parser refuses `NaN` and `inf`. See
+    /// Sets whether the format forbids all special values. If so, a parser rejects `NaN` and `inf`. See
     /// [`no_special`][crate::format_builder::NumberFormatBuilder::no_special].
     NoSpecial,
-    /// Sets whether special values are case-sensitive. If so, a parser refuses `nan` when the spelling of NaN is
+    /// Sets whether special values are case-sensitive. If so, a parser rejects `nan` when the spelling of NaN is
     /// `NaN`. See [`case_sensitive_special`][crate::format_builder::NumberFormatBuilder::case_sensitive_special].
     CaseSensitiveSpecial,
-    /// Sets whether the format forbids leading zeros in an integer. If so, a parser refuses the integer `01` but
+    /// Sets whether the format forbids leading zeros in an integer. If so, a parser rejects the integer `01` but
     /// accepts `0`. See
     /// [`no_integer_leading_zeros`][crate::format_builder::NumberFormatBuilder::no_integer_leading_zeros].
     NoIntegerLeadingZeros,
-    /// Sets whether the format forbids leading zeros in a float. If so, a parser refuses `01.0` but accepts `0.1`. See
+    /// Sets whether the format forbids leading zeros in a float. If so, a parser rejects `01.0` but accepts `0.1`. See
     /// [`no_float_leading_zeros`][crate::format_builder::NumberFormatBuilder::no_float_leading_zeros].
     NoFloatLeadingZeros,
-    /// Sets whether the format requires an exponent in a float. If so, a parser refuses `1.0`, and a writer writes
+    /// Sets whether the format requires an exponent in a float. If so, a parser rejects `1.0`, and a writer writes
     /// every float with an exponent. See
     /// [`required_exponent_notation`][crate::format_builder::NumberFormatBuilder::required_exponent_notation].
     RequiredExponentNotation,
-    /// Sets whether the exponent character is case-sensitive. If so, a parser refuses `1E5` when the exponent
+    /// Sets whether the exponent character is case-sensitive. If so, a parser rejects `1E5` when the exponent
     /// character is `e`. See
     /// [`case_sensitive_exponent`][crate::format_builder::NumberFormatBuilder::case_sensitive_exponent].
     CaseSensitiveExponent,
-    /// Sets whether the base prefix is case-sensitive. If so, a parser refuses `0X1F` when the base prefix is `x`. See
+    /// Sets whether the base prefix is case-sensitive. If so, a parser rejects `0X1F` when the base prefix is `x`. See
     /// [`case_sensitive_base_prefix`][crate::format_builder::NumberFormatBuilder::case_sensitive_base_prefix].
     CaseSensitiveBasePrefix,
-    /// Sets whether the base suffix is case-sensitive. If so, a parser refuses `1FH` when the base suffix is `h`. See
+    /// Sets whether the base suffix is case-sensitive. If so, a parser rejects `1FH` when the base suffix is `h`. See
     /// [`case_sensitive_base_suffix`][crate::format_builder::NumberFormatBuilder::case_sensitive_base_suffix].
     CaseSensitiveBaseSuffix,
     /// Sets whether the format allows a digit separator between integer digits. If so, a parser accepts `1_2`. See

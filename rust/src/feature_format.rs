@@ -144,61 +144,61 @@ macro_rules! methods {
 }
 
 fields! {
-    /// This is true if the format requires digits before the decimal point. In that case, a parser refuses `.5`. See
+    /// This is true if the format requires digits before the decimal point. In that case, a parser rejects `.5`. See
     /// the [setter][NumberFormatBuilder::required_integer_digits].
     REQUIRED_INTEGER_DIGITS required_integer_digits bool;
-    /// This is true if the format requires digits after a decimal point. In that case, a parser refuses `1.` but
+    /// This is true if the format requires digits after a decimal point. In that case, a parser rejects `1.` but
     /// accepts `1`. See the [setter][NumberFormatBuilder::required_fraction_digits].
     REQUIRED_FRACTION_DIGITS required_fraction_digits bool;
-    /// This is true if the format requires digits after an exponent character. In that case, a parser refuses `1e`. See
+    /// This is true if the format requires digits after an exponent character. In that case, a parser rejects `1e`. See
     /// the [setter][NumberFormatBuilder::required_exponent_digits].
     REQUIRED_EXPONENT_DIGITS required_exponent_digits bool;
-    /// This is true if the format requires a digit in the mantissa of a float. In that case, a parser refuses `.`. See
+    /// This is true if the format requires a digit in the mantissa of a float. In that case, a parser rejects `.`. See
     /// the [setter][NumberFormatBuilder::required_mantissa_digits].
     REQUIRED_MANTISSA_DIGITS required_mantissa_digits bool;
     /// This is true if any of the flags that require digits is set. See the
     /// [setter][NumberFormatBuilder::required_digits].
     REQUIRED_DIGITS required_digits bool;
-    /// This is true if the format forbids a `+` before an integer or a float. In that case, a parser refuses `+1` but
+    /// This is true if the format forbids a `+` before an integer or a float. In that case, a parser rejects `+1` but
     /// accepts `-1`. See the [setter][NumberFormatBuilder::no_positive_mantissa_sign].
     NO_POSITIVE_MANTISSA_SIGN no_positive_mantissa_sign bool;
-    /// This is true if the format requires a sign before an integer or a float. In that case, a parser refuses `1`, and
+    /// This is true if the format requires a sign before an integer or a float. In that case, a parser rejects `1`, and
     /// a writer writes `+1`. See the [setter][NumberFormatBuilder::required_mantissa_sign].
     REQUIRED_MANTISSA_SIGN required_mantissa_sign bool;
-    /// This is true if the format forbids an exponent in a float. In that case, a parser refuses `1e5`, and a writer
+    /// This is true if the format forbids an exponent in a float. In that case, a parser rejects `1e5`, and a writer
     /// writes all digits instead. See the [setter][NumberFormatBuilder::no_exponent_notation].
     NO_EXPONENT_NOTATION no_exponent_notation bool;
-    /// This is true if the format forbids a `+` in the exponent. In that case, a parser refuses `1e+5` but accepts
+    /// This is true if the format forbids a `+` in the exponent. In that case, a parser rejects `1e+5` but accepts
     /// `1e5` and `1e-5`. See the [setter][NumberFormatBuilder::no_positive_exponent_sign].
     NO_POSITIVE_EXPONENT_SIGN no_positive_exponent_sign bool;
-    /// This is true if the format requires a sign in the exponent. In that case, a parser refuses `1e5`, and a writer
+    /// This is true if the format requires a sign in the exponent. In that case, a parser rejects `1e5`, and a writer
     /// writes `1e+5`. See the [setter][NumberFormatBuilder::required_exponent_sign].
     REQUIRED_EXPONENT_SIGN required_exponent_sign bool;
-    /// This is true if the format requires a decimal point before an exponent. In that case, a parser refuses `1e5` but
+    /// This is true if the format requires a decimal point before an exponent. In that case, a parser rejects `1e5` but
     /// accepts `1.0e5`. See the [setter][NumberFormatBuilder::no_exponent_without_fraction].
     NO_EXPONENT_WITHOUT_FRACTION no_exponent_without_fraction bool;
-    /// This is true if the format forbids all special values. In that case, a parser refuses `NaN` and `inf`. See the
+    /// This is true if the format forbids all special values. In that case, a parser rejects `NaN` and `inf`. See the
     /// [setter][NumberFormatBuilder::no_special].
     NO_SPECIAL no_special bool;
-    /// This is true if special values are case-sensitive. In that case, a parser refuses `nan` when the spelling of NaN
+    /// This is true if special values are case-sensitive. In that case, a parser rejects `nan` when the spelling of NaN
     /// is `NaN`. See the [setter][NumberFormatBuilder::case_sensitive_special].
     CASE_SENSITIVE_SPECIAL case_sensitive_special bool;
-    /// This is true if the format forbids leading zeros in an integer. In that case, a parser refuses the integer
+    /// This is true if the format forbids leading zeros in an integer. In that case, a parser rejects the integer
     /// `01` but accepts `0`. See the [setter][NumberFormatBuilder::no_integer_leading_zeros].
     NO_INTEGER_LEADING_ZEROS no_integer_leading_zeros bool;
-    /// This is true if the format forbids leading zeros in a float. In that case, a parser refuses `01.0` but accepts
+    /// This is true if the format forbids leading zeros in a float. In that case, a parser rejects `01.0` but accepts
     /// `0.1`. See the [setter][NumberFormatBuilder::no_float_leading_zeros].
     NO_FLOAT_LEADING_ZEROS no_float_leading_zeros bool;
-    /// This is true if the format requires an exponent in a float. In that case, a parser refuses `1.0`, and a writer
+    /// This is true if the format requires an exponent in a float. In that case, a parser rejects `1.0`, and a writer
     /// writes every float with an exponent. See the [setter][NumberFormatBuilder::required_exponent_notation].
     REQUIRED_EXPONENT_NOTATION required_exponent_notation bool;
-    /// This is true if the exponent character is case-sensitive. In that case, a parser refuses `1E5` when the exponent
+    /// This is true if the exponent character is case-sensitive. In that case, a parser rejects `1E5` when the exponent
     /// character is `e`. See the [setter][NumberFormatBuilder::case_sensitive_exponent].
     CASE_SENSITIVE_EXPONENT case_sensitive_exponent bool;
-    /// This is true if the base prefix is case-sensitive. In that case, a parser refuses `0X1F` when the base prefix is
+    /// This is true if the base prefix is case-sensitive. In that case, a parser rejects `0X1F` when the base prefix is
     /// `x`. See the [setter][NumberFormatBuilder::case_sensitive_base_prefix].
     CASE_SENSITIVE_BASE_PREFIX case_sensitive_base_prefix bool;
-    /// This is true if the base suffix is case-sensitive. In that case, a parser refuses `1FH` when the base suffix is
+    /// This is true if the base suffix is case-sensitive. In that case, a parser rejects `1FH` when the base suffix is
     /// `h`. See the [setter][NumberFormatBuilder::case_sensitive_base_suffix].
     CASE_SENSITIVE_BASE_SUFFIX case_sensitive_base_suffix bool;
     /// This is true if the format allows a digit separator between integer digits. In that case, a parser accepts

@@ -20,19 +20,19 @@ pub use crate::format_flags::rules::{
 
 // FLAGS OTHER THAN DIGIT SEPARATOR FLAGS
 
-/// The flag that requires digits before the decimal point. If it is set, a parser refuses `.5`. See the
+/// The flag that requires digits before the decimal point. If it is set, a parser rejects `.5`. See the
 /// [setter][crate::format_builder::NumberFormatBuilder::required_integer_digits].
 pub const REQUIRED_INTEGER_DIGITS: u128 = 0x1;
 
-/// The flag that requires digits after a decimal point. If it is set, a parser refuses `1.` but accepts `1`. See the
+/// The flag that requires digits after a decimal point. If it is set, a parser rejects `1.` but accepts `1`. See the
 /// [setter][crate::format_builder::NumberFormatBuilder::required_fraction_digits].
 pub const REQUIRED_FRACTION_DIGITS: u128 = 0x2;
 
-/// The flag that requires digits after an exponent character. If it is set, a parser refuses `1e`. See the
+/// The flag that requires digits after an exponent character. If it is set, a parser rejects `1e`. See the
 /// [setter][crate::format_builder::NumberFormatBuilder::required_exponent_digits].
 pub const REQUIRED_EXPONENT_DIGITS: u128 = 0x4;
 
-/// The flag that requires a digit in the mantissa of a float. If it is set, a parser refuses `.`. See the
+/// The flag that requires a digit in the mantissa of a float. If it is set, a parser rejects `.`. See the
 /// [setter][crate::format_builder::NumberFormatBuilder::required_mantissa_digits].
 pub const REQUIRED_MANTISSA_DIGITS: u128 = 0x8;
 
@@ -40,59 +40,59 @@ pub const REQUIRED_MANTISSA_DIGITS: u128 = 0x8;
 /// [setter][crate::format_builder::NumberFormatBuilder::required_digits].
 pub const REQUIRED_DIGITS: u128 = 0xF;
 
-/// The flag that forbids a `+` before an integer or a float. If it is set, a parser refuses `+1` but accepts `-1`. See
+/// The flag that forbids a `+` before an integer or a float. If it is set, a parser rejects `+1` but accepts `-1`. See
 /// the [setter][crate::format_builder::NumberFormatBuilder::no_positive_mantissa_sign].
 pub const NO_POSITIVE_MANTISSA_SIGN: u128 = 0x10;
 
-/// The flag that requires a sign before an integer or a float. If it is set, a parser refuses `1`, and a writer writes
+/// The flag that requires a sign before an integer or a float. If it is set, a parser rejects `1`, and a writer writes
 /// `+1`. See the [setter][crate::format_builder::NumberFormatBuilder::required_mantissa_sign].
 pub const REQUIRED_MANTISSA_SIGN: u128 = 0x20;
 
-/// The flag that forbids an exponent in a float. If it is set, a parser refuses `1e5`, and a writer writes all digits
+/// The flag that forbids an exponent in a float. If it is set, a parser rejects `1e5`, and a writer writes all digits
 /// instead. See the [setter][crate::format_builder::NumberFormatBuilder::no_exponent_notation].
 pub const NO_EXPONENT_NOTATION: u128 = 0x40;
 
-/// The flag that forbids a `+` in the exponent. If it is set, a parser refuses `1e+5` but accepts `1e5` and `1e-5`.
+/// The flag that forbids a `+` in the exponent. If it is set, a parser rejects `1e+5` but accepts `1e5` and `1e-5`.
 /// See the [setter][crate::format_builder::NumberFormatBuilder::no_positive_exponent_sign].
 pub const NO_POSITIVE_EXPONENT_SIGN: u128 = 0x80;
 
-/// The flag that requires a sign in the exponent. If it is set, a parser refuses `1e5`, and a writer writes `1e+5`.
+/// The flag that requires a sign in the exponent. If it is set, a parser rejects `1e5`, and a writer writes `1e+5`.
 /// See the [setter][crate::format_builder::NumberFormatBuilder::required_exponent_sign].
 pub const REQUIRED_EXPONENT_SIGN: u128 = 0x100;
 
-/// The flag that requires a decimal point before an exponent. If it is set, a parser refuses `1e5` but accepts
+/// The flag that requires a decimal point before an exponent. If it is set, a parser rejects `1e5` but accepts
 /// `1.0e5`. See the [setter][crate::format_builder::NumberFormatBuilder::no_exponent_without_fraction].
 pub const NO_EXPONENT_WITHOUT_FRACTION: u128 = 0x200;
 
-/// The flag that forbids all special values. If it is set, a parser refuses `NaN` and `inf`. See the
+/// The flag that forbids all special values. If it is set, a parser rejects `NaN` and `inf`. See the
 /// [setter][crate::format_builder::NumberFormatBuilder::no_special].
 pub const NO_SPECIAL: u128 = 0x400;
 
-/// The flag that makes special values case-sensitive. If it is set, a parser refuses `nan` when the spelling of NaN is
+/// The flag that makes special values case-sensitive. If it is set, a parser rejects `nan` when the spelling of NaN is
 /// `NaN`. See the [setter][crate::format_builder::NumberFormatBuilder::case_sensitive_special].
 pub const CASE_SENSITIVE_SPECIAL: u128 = 0x800;
 
-/// The flag that forbids leading zeros in an integer. If it is set, a parser refuses the integer `01` but accepts `0`.
+/// The flag that forbids leading zeros in an integer. If it is set, a parser rejects the integer `01` but accepts `0`.
 /// See the [setter][crate::format_builder::NumberFormatBuilder::no_integer_leading_zeros].
 pub const NO_INTEGER_LEADING_ZEROS: u128 = 0x1000;
 
-/// The flag that forbids leading zeros in a float. If it is set, a parser refuses `01.0` but accepts `0.1`. See the
+/// The flag that forbids leading zeros in a float. If it is set, a parser rejects `01.0` but accepts `0.1`. See the
 /// [setter][crate::format_builder::NumberFormatBuilder::no_float_leading_zeros].
 pub const NO_FLOAT_LEADING_ZEROS: u128 = 0x2000;
 
-/// The flag that requires an exponent in a float. If it is set, a parser refuses `1.0`, and a writer writes every
+/// The flag that requires an exponent in a float. If it is set, a parser rejects `1.0`, and a writer writes every
 /// float with an exponent. See the [setter][crate::format_builder::NumberFormatBuilder::required_exponent_notation].
 pub const REQUIRED_EXPONENT_NOTATION: u128 = 0x4000;
 
-/// The flag that makes the exponent character case-sensitive. If it is set, a parser refuses `1E5` when the exponent
+/// The flag that makes the exponent character case-sensitive. If it is set, a parser rejects `1E5` when the exponent
 /// character is `e`. See the [setter][crate::format_builder::NumberFormatBuilder::case_sensitive_exponent].
 pub const CASE_SENSITIVE_EXPONENT: u128 = 0x8000;
 
-/// The flag that makes the base prefix case-sensitive. If it is set, a parser refuses `0X1F` when the base prefix is
+/// The flag that makes the base prefix case-sensitive. If it is set, a parser rejects `0X1F` when the base prefix is
 /// `x`. See the [setter][crate::format_builder::NumberFormatBuilder::case_sensitive_base_prefix].
 pub const CASE_SENSITIVE_BASE_PREFIX: u128 = 0x1_0000;
 
-/// The flag that makes the base suffix case-sensitive. If it is set, a parser refuses `1FH` when the base suffix is
+/// The flag that makes the base suffix case-sensitive. If it is set, a parser rejects `1FH` when the base suffix is
 /// `h`. See the [setter][crate::format_builder::NumberFormatBuilder::case_sensitive_base_suffix].
 pub const CASE_SENSITIVE_BASE_SUFFIX: u128 = 0x2_0000;
 

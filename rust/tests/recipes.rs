@@ -234,7 +234,7 @@ fn setters_have_the_effects_in_their_comments() {
                         assert_eq!(is_number(word, exponent, words), verb, "{name}: {words}")
                     }
                     _ if words.contains("accepts") => verb = Some(true),
-                    _ if words.contains("refuses") => verb = Some(false),
+                    _ if words.contains("rejects") => verb = Some(false),
                     _ if words.contains(", not") => verb = verb.map(|verb| !verb),
                     _ => (),
                 }

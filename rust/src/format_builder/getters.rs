@@ -53,7 +53,7 @@ impl NumberFormatBuilder {
         NonZeroU8::new(self.bytes[BASE_SUFFIX])
     }
 
-    /// Returns whether the format requires digits before the decimal point. If so, a parser refuses `.5`. See the
+    /// Returns whether the format requires digits before the decimal point. If so, a parser rejects `.5`. See the
     /// [setter][Self::required_integer_digits].
     #[must_use]
     #[inline(always)]
@@ -61,7 +61,7 @@ impl NumberFormatBuilder {
         self.has_flag(flags::REQUIRED_INTEGER_DIGITS)
     }
 
-    /// Returns whether the format requires digits after a decimal point. If so, a parser refuses `1.` but accepts `1`.
+    /// Returns whether the format requires digits after a decimal point. If so, a parser rejects `1.` but accepts `1`.
     /// See the [setter][Self::required_fraction_digits].
     #[must_use]
     #[inline(always)]
@@ -69,7 +69,7 @@ impl NumberFormatBuilder {
         self.has_flag(flags::REQUIRED_FRACTION_DIGITS)
     }
 
-    /// Returns whether the format requires digits after an exponent character. If so, a parser refuses `1e`. See the
+    /// Returns whether the format requires digits after an exponent character. If so, a parser rejects `1e`. See the
     /// [setter][Self::required_exponent_digits].
     #[must_use]
     #[inline(always)]
@@ -77,7 +77,7 @@ impl NumberFormatBuilder {
         self.has_flag(flags::REQUIRED_EXPONENT_DIGITS)
     }
 
-    /// Returns whether the format requires a digit in the mantissa of a float. If so, a parser refuses `.`. See the
+    /// Returns whether the format requires a digit in the mantissa of a float. If so, a parser rejects `.`. See the
     /// [setter][Self::required_mantissa_digits].
     #[must_use]
     #[inline(always)]
@@ -85,7 +85,7 @@ impl NumberFormatBuilder {
         self.has_flag(flags::REQUIRED_MANTISSA_DIGITS)
     }
 
-    /// Returns whether the format forbids a `+` before an integer or a float. If so, a parser refuses `+1` but accepts
+    /// Returns whether the format forbids a `+` before an integer or a float. If so, a parser rejects `+1` but accepts
     /// `-1`. See the [setter][Self::no_positive_mantissa_sign].
     #[must_use]
     #[inline(always)]
@@ -93,7 +93,7 @@ impl NumberFormatBuilder {
         self.has_flag(flags::NO_POSITIVE_MANTISSA_SIGN)
     }
 
-    /// Returns whether the format requires a sign before an integer or a float. If so, a parser refuses `1`, and a
+    /// Returns whether the format requires a sign before an integer or a float. If so, a parser rejects `1`, and a
     /// writer writes `+1`. See the [setter][Self::required_mantissa_sign].
     #[must_use]
     #[inline(always)]
@@ -101,7 +101,7 @@ impl NumberFormatBuilder {
         self.has_flag(flags::REQUIRED_MANTISSA_SIGN)
     }
 
-    /// Returns whether the format forbids an exponent in a float. If so, a parser refuses `1e5`, and a writer writes
+    /// Returns whether the format forbids an exponent in a float. If so, a parser rejects `1e5`, and a writer writes
     /// all digits instead. See the [setter][Self::no_exponent_notation].
     #[must_use]
     #[inline(always)]
@@ -109,7 +109,7 @@ impl NumberFormatBuilder {
         self.has_flag(flags::NO_EXPONENT_NOTATION)
     }
 
-    /// Returns whether the format forbids a `+` in the exponent. If so, a parser refuses `1e+5` but accepts `1e5` and
+    /// Returns whether the format forbids a `+` in the exponent. If so, a parser rejects `1e+5` but accepts `1e5` and
     /// `1e-5`. See the [setter][Self::no_positive_exponent_sign].
     #[must_use]
     #[inline(always)]
@@ -117,7 +117,7 @@ impl NumberFormatBuilder {
         self.has_flag(flags::NO_POSITIVE_EXPONENT_SIGN)
     }
 
-    /// Returns whether the format requires a sign in the exponent. If so, a parser refuses `1e5`, and a writer writes
+    /// Returns whether the format requires a sign in the exponent. If so, a parser rejects `1e5`, and a writer writes
     /// `1e+5`. See the [setter][Self::required_exponent_sign].
     #[must_use]
     #[inline(always)]
@@ -125,7 +125,7 @@ impl NumberFormatBuilder {
         self.has_flag(flags::REQUIRED_EXPONENT_SIGN)
     }
 
-    /// Returns whether the format requires a decimal point before an exponent. If so, a parser refuses `1e5` but
+    /// Returns whether the format requires a decimal point before an exponent. If so, a parser rejects `1e5` but
     /// accepts `1.0e5`. See the [setter][Self::no_exponent_without_fraction].
     #[must_use]
     #[inline(always)]
@@ -133,7 +133,7 @@ impl NumberFormatBuilder {
         self.has_flag(flags::NO_EXPONENT_WITHOUT_FRACTION)
     }
 
-    /// Returns whether the format forbids all special values. If so, a parser refuses `NaN` and `inf`. See the
+    /// Returns whether the format forbids all special values. If so, a parser rejects `NaN` and `inf`. See the
     /// [setter][Self::no_special].
     #[must_use]
     #[inline(always)]
@@ -141,7 +141,7 @@ impl NumberFormatBuilder {
         self.has_flag(flags::NO_SPECIAL)
     }
 
-    /// Returns whether special values are case-sensitive. If so, a parser refuses `nan` when the spelling of NaN is
+    /// Returns whether special values are case-sensitive. If so, a parser rejects `nan` when the spelling of NaN is
     /// `NaN`. See the [setter][Self::case_sensitive_special].
     #[must_use]
     #[inline(always)]
@@ -149,7 +149,7 @@ impl NumberFormatBuilder {
         self.has_flag(flags::CASE_SENSITIVE_SPECIAL)
     }
 
-    /// Returns whether the format forbids leading zeros in an integer. If so, a parser refuses the integer `01` but
+    /// Returns whether the format forbids leading zeros in an integer. If so, a parser rejects the integer `01` but
     /// accepts `0`. See the [setter][Self::no_integer_leading_zeros].
     #[must_use]
     #[inline(always)]
@@ -157,7 +157,7 @@ impl NumberFormatBuilder {
         self.has_flag(flags::NO_INTEGER_LEADING_ZEROS)
     }
 
-    /// Returns whether the format forbids leading zeros in a float. If so, a parser refuses `01.0` but accepts `0.1`.
+    /// Returns whether the format forbids leading zeros in a float. If so, a parser rejects `01.0` but accepts `0.1`.
     /// See the [setter][Self::no_float_leading_zeros].
     #[must_use]
     #[inline(always)]
@@ -165,7 +165,7 @@ impl NumberFormatBuilder {
         self.has_flag(flags::NO_FLOAT_LEADING_ZEROS)
     }
 
-    /// Returns whether the format requires an exponent in a float. If so, a parser refuses `1.0`, and a writer writes
+    /// Returns whether the format requires an exponent in a float. If so, a parser rejects `1.0`, and a writer writes
     /// every float with an exponent. See the [setter][Self::required_exponent_notation].
     #[must_use]
     #[inline(always)]
@@ -173,7 +173,7 @@ impl NumberFormatBuilder {
         self.has_flag(flags::REQUIRED_EXPONENT_NOTATION)
     }
 
-    /// Returns whether the exponent character is case-sensitive. If so, a parser refuses `1E5` when the exponent
+    /// Returns whether the exponent character is case-sensitive. If so, a parser rejects `1E5` when the exponent
     /// character is `e`. See the [setter][Self::case_sensitive_exponent].
     #[must_use]
     #[inline(always)]
@@ -181,7 +181,7 @@ impl NumberFormatBuilder {
         self.has_flag(flags::CASE_SENSITIVE_EXPONENT)
     }
 
-    /// Returns whether the base prefix is case-sensitive. If so, a parser refuses `0X1F` when the base prefix is `x`.
+    /// Returns whether the base prefix is case-sensitive. If so, a parser rejects `0X1F` when the base prefix is `x`.
     /// See the [setter][Self::case_sensitive_base_prefix].
     #[must_use]
     #[inline(always)]
@@ -189,7 +189,7 @@ impl NumberFormatBuilder {
         self.has_flag(flags::CASE_SENSITIVE_BASE_PREFIX)
     }
 
-    /// Returns whether the base suffix is case-sensitive. If so, a parser refuses `1FH` when the base suffix is `h`.
+    /// Returns whether the base suffix is case-sensitive. If so, a parser rejects `1FH` when the base suffix is `h`.
     /// See the [setter][Self::case_sensitive_base_suffix].
     #[must_use]
     #[inline(always)]

@@ -78,21 +78,21 @@ impl NumberFormatBuilder {
         self.with_byte(BASE_SUFFIX, byte_or_zero(base_suffix))
     }
 
-    /// Sets whether the format requires digits before the decimal point. If so, a parser refuses `.5`.
+    /// Sets whether the format requires digits before the decimal point. If so, a parser rejects `.5`.
     #[must_use]
     #[inline(always)]
     pub const fn required_integer_digits(self, flag: bool) -> Self {
         self.with_flags(flags::REQUIRED_INTEGER_DIGITS, flag)
     }
 
-    /// Sets whether the format requires digits after a decimal point. If so, a parser refuses `1.` but accepts `1`.
+    /// Sets whether the format requires digits after a decimal point. If so, a parser rejects `1.` but accepts `1`.
     #[must_use]
     #[inline(always)]
     pub const fn required_fraction_digits(self, flag: bool) -> Self {
         self.with_flags(flags::REQUIRED_FRACTION_DIGITS, flag)
     }
 
-    /// Sets whether the format requires digits after an exponent character. If so, a parser refuses `1e`. The default
+    /// Sets whether the format requires digits after an exponent character. If so, a parser rejects `1e`. The default
     /// is `true`.
     #[must_use]
     #[inline(always)]
@@ -100,8 +100,8 @@ impl NumberFormatBuilder {
         self.with_flags(flags::REQUIRED_EXPONENT_DIGITS, flag)
     }
 
-    /// Sets whether the format requires a digit in the mantissa of a float. If so, a parser refuses `.`. Otherwise, `.`
-    /// is parsed as 0. An empty text is always refused. The default is `true`.
+    /// Sets whether the format requires a digit in the mantissa of a float. If so, a parser rejects `.`. Otherwise, `.`
+    /// is parsed as 0. An empty string is always rejected. The default is `true`.
     #[must_use]
     #[inline(always)]
     pub const fn required_mantissa_digits(self, flag: bool) -> Self {
@@ -115,7 +115,7 @@ impl NumberFormatBuilder {
         self.with_flags(flags::REQUIRED_DIGITS, flag)
     }
 
-    /// Sets whether the format forbids a `+` before an integer or a float. If so, a parser refuses `+1` but accepts
+    /// Sets whether the format forbids a `+` before an integer or a float. If so, a parser rejects `+1` but accepts
     /// `-1`.
     #[must_use]
     #[inline(always)]
@@ -123,7 +123,7 @@ impl NumberFormatBuilder {
         self.with_flags(flags::NO_POSITIVE_MANTISSA_SIGN, flag)
     }
 
-    /// Sets whether the format requires a sign before an integer or a float. If so, a parser refuses `1`, and a writer
+    /// Sets whether the format requires a sign before an integer or a float. If so, a parser rejects `1`, and a writer
     /// writes `+1`.
     #[must_use]
     #[inline(always)]
@@ -131,7 +131,7 @@ impl NumberFormatBuilder {
         self.with_flags(flags::REQUIRED_MANTISSA_SIGN, flag)
     }
 
-    /// Sets whether the format forbids an exponent in a float. If so, a parser refuses `1e5`, and a writer writes all
+    /// Sets whether the format forbids an exponent in a float. If so, a parser rejects `1e5`, and a writer writes all
     /// digits instead.
     #[must_use]
     #[inline(always)]
@@ -139,7 +139,7 @@ impl NumberFormatBuilder {
         self.with_flags(flags::NO_EXPONENT_NOTATION, flag)
     }
 
-    /// Sets whether the format forbids a `+` in the exponent. If so, a parser refuses `1e+5` but accepts `1e5` and
+    /// Sets whether the format forbids a `+` in the exponent. If so, a parser rejects `1e+5` but accepts `1e5` and
     /// `1e-5`.
     #[must_use]
     #[inline(always)]
@@ -147,7 +147,7 @@ impl NumberFormatBuilder {
         self.with_flags(flags::NO_POSITIVE_EXPONENT_SIGN, flag)
     }
 
-    /// Sets whether the format requires a sign in the exponent. If so, a parser refuses `1e5`, and a writer writes
+    /// Sets whether the format requires a sign in the exponent. If so, a parser rejects `1e5`, and a writer writes
     /// `1e+5`.
     #[must_use]
     #[inline(always)]
@@ -155,7 +155,7 @@ impl NumberFormatBuilder {
         self.with_flags(flags::REQUIRED_EXPONENT_SIGN, flag)
     }
 
-    /// Sets whether the format requires a decimal point before an exponent. If so, a parser refuses `1e5` but accepts
+    /// Sets whether the format requires a decimal point before an exponent. If so, a parser rejects `1e5` but accepts
     /// `1.0e5`. No digit is required after that decimal point.
     #[must_use]
     #[inline(always)]
@@ -163,14 +163,14 @@ impl NumberFormatBuilder {
         self.with_flags(flags::NO_EXPONENT_WITHOUT_FRACTION, flag)
     }
 
-    /// Sets whether the format forbids all special values. If so, a parser refuses `NaN` and `inf`.
+    /// Sets whether the format forbids all special values. If so, a parser rejects `NaN` and `inf`.
     #[must_use]
     #[inline(always)]
     pub const fn no_special(self, flag: bool) -> Self {
         self.with_flags(flags::NO_SPECIAL, flag)
     }
 
-    /// Sets whether special values are case-sensitive. If so, a parser refuses `nan` when the spelling of NaN is `NaN`.
+    /// Sets whether special values are case-sensitive. If so, a parser rejects `nan` when the spelling of NaN is `NaN`.
     /// Otherwise, it accepts any case.
     #[must_use]
     #[inline(always)]
@@ -178,7 +178,7 @@ impl NumberFormatBuilder {
         self.with_flags(flags::CASE_SENSITIVE_SPECIAL, flag)
     }
 
-    /// Sets whether the format forbids leading zeros in an integer. If so, a parser refuses the integer `01` but
+    /// Sets whether the format forbids leading zeros in an integer. If so, a parser rejects the integer `01` but
     /// accepts `0`.
     #[must_use]
     #[inline(always)]
@@ -186,15 +186,15 @@ impl NumberFormatBuilder {
         self.with_flags(flags::NO_INTEGER_LEADING_ZEROS, flag)
     }
 
-    /// Sets whether the format forbids leading zeros in a float. If so, a parser refuses `01.0` but accepts `0.1`. It
-    /// also refuses `01` as a float.
+    /// Sets whether the format forbids leading zeros in a float. If so, a parser rejects `01.0` but accepts `0.1`. It
+    /// also rejects `01` as a float.
     #[must_use]
     #[inline(always)]
     pub const fn no_float_leading_zeros(self, flag: bool) -> Self {
         self.with_flags(flags::NO_FLOAT_LEADING_ZEROS, flag)
     }
 
-    /// Sets whether the format requires an exponent in a float. If so, a parser refuses `1.0`, and a writer writes
+    /// Sets whether the format requires an exponent in a float. If so, a parser rejects `1.0`, and a writer writes
     /// every float with an exponent.
     #[must_use]
     #[inline(always)]
@@ -202,7 +202,7 @@ impl NumberFormatBuilder {
         self.with_flags(flags::REQUIRED_EXPONENT_NOTATION, flag)
     }
 
-    /// Sets whether the exponent character is case-sensitive. If so, a parser refuses `1E5` when the exponent character
+    /// Sets whether the exponent character is case-sensitive. If so, a parser rejects `1E5` when the exponent character
     /// is `e`. Otherwise, it accepts both cases.
     #[must_use]
     #[inline(always)]
@@ -210,7 +210,7 @@ impl NumberFormatBuilder {
         self.with_flags(flags::CASE_SENSITIVE_EXPONENT, flag)
     }
 
-    /// Sets whether the base prefix is case-sensitive. If so, a parser refuses `0X1F` when the base prefix is `x`.
+    /// Sets whether the base prefix is case-sensitive. If so, a parser rejects `0X1F` when the base prefix is `x`.
     /// Otherwise, it accepts both cases.
     #[must_use]
     #[inline(always)]
@@ -218,7 +218,7 @@ impl NumberFormatBuilder {
         self.with_flags(flags::CASE_SENSITIVE_BASE_PREFIX, flag)
     }
 
-    /// Sets whether the base suffix is case-sensitive. If so, a parser refuses `1FH` when the base suffix is `h`.
+    /// Sets whether the base suffix is case-sensitive. If so, a parser rejects `1FH` when the base suffix is `h`.
     /// Otherwise, it accepts both cases.
     #[must_use]
     #[inline(always)]

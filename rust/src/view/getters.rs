@@ -8,7 +8,7 @@ use crate::format_flags as flags;
 impl FormatView {
     // FLAGS OTHER THAN DIGIT SEPARATOR FLAGS
 
-    /// Returns whether the format requires digits before the decimal point. If so, a parser refuses `.5`. See the
+    /// Returns whether the format requires digits before the decimal point. If so, a parser rejects `.5`. See the
     /// [setter][super::NumberFormatBuilder::required_integer_digits].
     #[must_use]
     #[inline(always)]
@@ -16,7 +16,7 @@ impl FormatView {
         has_any!(self, REQUIRED_INTEGER_DIGITS)
     }
 
-    /// Returns whether the format requires digits after a decimal point. If so, a parser refuses `1.` but accepts `1`.
+    /// Returns whether the format requires digits after a decimal point. If so, a parser rejects `1.` but accepts `1`.
     /// See the [setter][super::NumberFormatBuilder::required_fraction_digits].
     #[must_use]
     #[inline(always)]
@@ -24,7 +24,7 @@ impl FormatView {
         has_any!(self, REQUIRED_FRACTION_DIGITS)
     }
 
-    /// Returns whether the format requires digits after an exponent character. If so, a parser refuses `1e`. See the
+    /// Returns whether the format requires digits after an exponent character. If so, a parser rejects `1e`. See the
     /// [setter][super::NumberFormatBuilder::required_exponent_digits].
     #[must_use]
     #[inline(always)]
@@ -32,7 +32,7 @@ impl FormatView {
         has_any!(self, REQUIRED_EXPONENT_DIGITS)
     }
 
-    /// Returns whether the format requires a digit in the mantissa of a float. If so, a parser refuses `.`. See the
+    /// Returns whether the format requires a digit in the mantissa of a float. If so, a parser rejects `.`. See the
     /// [setter][super::NumberFormatBuilder::required_mantissa_digits].
     #[must_use]
     #[inline(always)]
@@ -48,7 +48,7 @@ impl FormatView {
         has_any!(self, REQUIRED_DIGITS)
     }
 
-    /// Returns whether the format forbids a `+` before an integer or a float. If so, a parser refuses `+1` but accepts
+    /// Returns whether the format forbids a `+` before an integer or a float. If so, a parser rejects `+1` but accepts
     /// `-1`. See the [setter][super::NumberFormatBuilder::no_positive_mantissa_sign].
     #[must_use]
     #[inline(always)]
@@ -56,7 +56,7 @@ impl FormatView {
         has_any!(self, NO_POSITIVE_MANTISSA_SIGN)
     }
 
-    /// Returns whether the format requires a sign before an integer or a float. If so, a parser refuses `1`, and a
+    /// Returns whether the format requires a sign before an integer or a float. If so, a parser rejects `1`, and a
     /// writer writes `+1`. See the [setter][super::NumberFormatBuilder::required_mantissa_sign].
     #[must_use]
     #[inline(always)]
@@ -64,7 +64,7 @@ impl FormatView {
         has_any!(self, REQUIRED_MANTISSA_SIGN)
     }
 
-    /// Returns whether the format forbids an exponent in a float. If so, a parser refuses `1e5`, and a writer writes
+    /// Returns whether the format forbids an exponent in a float. If so, a parser rejects `1e5`, and a writer writes
     /// all digits instead. See the [setter][super::NumberFormatBuilder::no_exponent_notation].
     #[must_use]
     #[inline(always)]
@@ -72,7 +72,7 @@ impl FormatView {
         has_any!(self, NO_EXPONENT_NOTATION)
     }
 
-    /// Returns whether the format forbids a `+` in the exponent. If so, a parser refuses `1e+5` but accepts `1e5` and
+    /// Returns whether the format forbids a `+` in the exponent. If so, a parser rejects `1e+5` but accepts `1e5` and
     /// `1e-5`. See the [setter][super::NumberFormatBuilder::no_positive_exponent_sign].
     #[must_use]
     #[inline(always)]
@@ -80,7 +80,7 @@ impl FormatView {
         has_any!(self, NO_POSITIVE_EXPONENT_SIGN)
     }
 
-    /// Returns whether the format requires a sign in the exponent. If so, a parser refuses `1e5`, and a writer writes
+    /// Returns whether the format requires a sign in the exponent. If so, a parser rejects `1e5`, and a writer writes
     /// `1e+5`. See the [setter][super::NumberFormatBuilder::required_exponent_sign].
     #[must_use]
     #[inline(always)]
@@ -88,7 +88,7 @@ impl FormatView {
         has_any!(self, REQUIRED_EXPONENT_SIGN)
     }
 
-    /// Returns whether the format requires a decimal point before an exponent. If so, a parser refuses `1e5` but
+    /// Returns whether the format requires a decimal point before an exponent. If so, a parser rejects `1e5` but
     /// accepts `1.0e5`. See the [setter][super::NumberFormatBuilder::no_exponent_without_fraction].
     #[must_use]
     #[inline(always)]
@@ -96,7 +96,7 @@ impl FormatView {
         has_any!(self, NO_EXPONENT_WITHOUT_FRACTION)
     }
 
-    /// Returns whether the format forbids all special values. If so, a parser refuses `NaN` and `inf`. See the
+    /// Returns whether the format forbids all special values. If so, a parser rejects `NaN` and `inf`. See the
     /// [setter][super::NumberFormatBuilder::no_special].
     #[must_use]
     #[inline(always)]
@@ -104,7 +104,7 @@ impl FormatView {
         has_any!(self, NO_SPECIAL)
     }
 
-    /// Returns whether special values are case-sensitive. If so, a parser refuses `nan` when the spelling of NaN is
+    /// Returns whether special values are case-sensitive. If so, a parser rejects `nan` when the spelling of NaN is
     /// `NaN`. See the [setter][super::NumberFormatBuilder::case_sensitive_special].
     #[must_use]
     #[inline(always)]
@@ -112,7 +112,7 @@ impl FormatView {
         has_any!(self, CASE_SENSITIVE_SPECIAL)
     }
 
-    /// Returns whether the format forbids leading zeros in an integer. If so, a parser refuses the integer `01` but
+    /// Returns whether the format forbids leading zeros in an integer. If so, a parser rejects the integer `01` but
     /// accepts `0`. See the [setter][super::NumberFormatBuilder::no_integer_leading_zeros].
     #[must_use]
     #[inline(always)]
@@ -120,7 +120,7 @@ impl FormatView {
         has_any!(self, NO_INTEGER_LEADING_ZEROS)
     }
 
-    /// Returns whether the format forbids leading zeros in a float. If so, a parser refuses `01.0` but accepts `0.1`.
+    /// Returns whether the format forbids leading zeros in a float. If so, a parser rejects `01.0` but accepts `0.1`.
     /// See the [setter][super::NumberFormatBuilder::no_float_leading_zeros].
     #[must_use]
     #[inline(always)]
@@ -128,7 +128,7 @@ impl FormatView {
         has_any!(self, NO_FLOAT_LEADING_ZEROS)
     }
 
-    /// Returns whether the format requires an exponent in a float. If so, a parser refuses `1.0`, and a writer writes
+    /// Returns whether the format requires an exponent in a float. If so, a parser rejects `1.0`, and a writer writes
     /// every float with an exponent. See the [setter][super::NumberFormatBuilder::required_exponent_notation].
     #[must_use]
     #[inline(always)]
@@ -136,7 +136,7 @@ impl FormatView {
         has_any!(self, REQUIRED_EXPONENT_NOTATION)
     }
 
-    /// Returns whether the exponent character is case-sensitive. If so, a parser refuses `1E5` when the exponent
+    /// Returns whether the exponent character is case-sensitive. If so, a parser rejects `1E5` when the exponent
     /// character is `e`. See the [setter][super::NumberFormatBuilder::case_sensitive_exponent].
     #[must_use]
     #[inline(always)]
@@ -144,7 +144,7 @@ impl FormatView {
         has_any!(self, CASE_SENSITIVE_EXPONENT)
     }
 
-    /// Returns whether the base prefix is case-sensitive. If so, a parser refuses `0X1F` when the base prefix is `x`.
+    /// Returns whether the base prefix is case-sensitive. If so, a parser rejects `0X1F` when the base prefix is `x`.
     /// See the [setter][super::NumberFormatBuilder::case_sensitive_base_prefix].
     #[must_use]
     #[inline(always)]
@@ -152,7 +152,7 @@ impl FormatView {
         has_any!(self, CASE_SENSITIVE_BASE_PREFIX)
     }
 
-    /// Returns whether the base suffix is case-sensitive. If so, a parser refuses `1FH` when the base suffix is `h`.
+    /// Returns whether the base suffix is case-sensitive. If so, a parser rejects `1FH` when the base suffix is `h`.
     /// See the [setter][super::NumberFormatBuilder::case_sensitive_base_suffix].
     #[must_use]
     #[inline(always)]
