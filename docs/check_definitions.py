@@ -124,7 +124,7 @@ def misplaced():
 
 def tables():
     """Returns the tables of PROVED.md: what each headline call needs, and the other files with their first comments."""
-    calls = "| Contract of | Files of `specs/`, with the lines needed | Lines |\n|---|---|---|\n"
+    calls = "| Contract of | Files in `specs/`, each with the number of lines to read | Total |\n|---|---|---|\n"
     for call in [*CALLS, "all"]:
         crates = {}
         for file, names in needed(call).items():
@@ -132,7 +132,7 @@ def tables():
         title = ", ".join(f"`{name}`" for name in CALLS.get(call, [])) or "all of these"
         places = ", ".join(f"`{crate}` ({', '.join(its)})" for crate, its in crates.items())
         calls += f"| {title} | {places} | {total(call)} |\n"
-    others, crates = "| Crate | Other files of `specs/`, with their first comments |\n|---|---|\n", {}
+    others, crates = "| Crate | Other files in `specs/`, each with its first comment |\n|---|---|\n", {}
     for file in FILES:
         if FILES[file].lines and file not in needed("all"):
             crate, _, place = short(file).partition(".")

@@ -1,4 +1,4 @@
--- The requests in the program's arguments, and the answers to them.
+-- The requests in the program's arguments, and the answers to these requests.
 use Rattle.std.specs.Prelude.{ℕ, ◌≡◌, ◌↔◌, IsTrue, if◌then◌else◌, List, [], ◌∷◌, length, find, codes, bytes_eq, nat_le}
 use Rattle.std.specs.Prelude.{Option, None, Some, Result, Ok, Err}
 use Rattle.std.specs.Result.{IsOkAnd, MatchResult}

@@ -1,4 +1,4 @@
--- The sentences of reasons and notes, for their `text`.
+-- The texts of reasons and notes, for `text` of `Reason` and `Note`.
 use Rattle.std.specs.Prelude.{ℕ, Option, Some, None, List, ◌++◌, codes, decimal}
 use Rattle.lexical_base.specs.Additions.ShortTexts.{hexadecimal, numbered_byte, quoted_byte}
 use Rattle.lexical_util.specs.Additions.SettingNumbers.{name_of_flags, argument_byte}

@@ -1,4 +1,4 @@
--- The reasons why a word breaks a rule, and the bits to blame, for `reasons`, `reasons_of` and the methods of `Reason`.
+-- The reasons why a word breaks a rule, and the bits that they blame, for `reasons`, `reasons_of` and `Reason`.
 use Rattle.std.specs.Prelude.{ℕ, ◌≡◌, ◌≢◌, ◌==◌, ◌&&◌, true, false, not, IsTrue, if◌then◌else◌, Bool, Option, None}
 use Rattle.std.specs.Prelude.{Some}
 use Rattle.std.specs.Prelude.{List, [], ◌∷◌, ◌++◌, drop, flat_map, map, take, bit_and, bit_or}

@@ -1,4 +1,4 @@
--- The builder expression of a format word, as Rust code, for `put_into` of `BuilderExpression`, `numfmt` and C.
+-- The builder expression of a format word, as Rust code, for `numfmt`, C and `put_into` of `BuilderExpression`.
 use Rattle.std.specs.Prelude.{ℕ, List, ◌++◌, Option, Some, None, codes, decimal, flat_map}
 use Rattle.lexical_flags.specs.Record.{raw}
 use Rattle.lexical_util.specs.Additions.FieldEdits.{needed_edits}
