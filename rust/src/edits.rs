@@ -1,6 +1,6 @@
 // Made by rust/tools/erase.py from crates/lexical_util/src/edits.rt: change that file.
 
-//! Edits, which are setter calls as values, and the normal form of a format word.
+//! Edits, which are setter calls stored as values, and the normal form of a format word.
 
 use crate::error::Error;
 use crate::format_builder::{NumberFormatBuilder, OptionU8};
@@ -184,36 +184,36 @@ pub enum FlagSetter {
     /// Sets whether the format allows digit separators in special values. If so, a parser accepts `N__a_N_` as `NaN`.
     /// See [`special_digit_separator`][crate::format_builder::NumberFormatBuilder::special_digit_separator].
     SpecialDigitSeparator,
-    /// Sets all flags that require digits. See
+    /// Sets or clears all flags that require digits. See
     /// [`required_digits`][crate::format_builder::NumberFormatBuilder::required_digits].
     RequiredDigits,
-    /// Sets all flags that allow a digit separator between digits. See
+    /// Sets or clears all flags that allow a digit separator between digits. See
     /// [`internal_digit_separator`][crate::format_builder::NumberFormatBuilder::internal_digit_separator].
     InternalDigitSeparator,
-    /// Sets all flags that allow a digit separator before digits. See
+    /// Sets or clears all flags that allow a digit separator before digits. See
     /// [`leading_digit_separator`][crate::format_builder::NumberFormatBuilder::leading_digit_separator].
     LeadingDigitSeparator,
-    /// Sets all flags that allow a digit separator after digits. See
+    /// Sets or clears all flags that allow a digit separator after digits. See
     /// [`trailing_digit_separator`][crate::format_builder::NumberFormatBuilder::trailing_digit_separator].
     TrailingDigitSeparator,
-    /// Sets all flags that allow consecutive digit separators. See
+    /// Sets or clears all flags that allow consecutive digit separators. See
     /// [`consecutive_digit_separator`][crate::format_builder::NumberFormatBuilder::consecutive_digit_separator].
     ConsecutiveDigitSeparator,
-    /// Sets all flags that allow digit separators, including the flag that allows them in special values. See
-    /// [`digit_separator_flags`][crate::format_builder::NumberFormatBuilder::digit_separator_flags].
+    /// Sets or clears all flags that allow digit separators, including the flag that allows them in special values.
+    /// See [`digit_separator_flags`][crate::format_builder::NumberFormatBuilder::digit_separator_flags].
     DigitSeparatorFlags,
-    /// Sets all flags that allow digit separators in the integer part. See
+    /// Sets or clears all flags that allow digit separators in the integer part. See
     /// [`integer_digit_separator_flags`][crate::format_builder::NumberFormatBuilder::integer_digit_separator_flags].
     IntegerDigitSeparatorFlags,
-    /// Sets all flags that allow digit separators in the fraction. See
+    /// Sets or clears all flags that allow digit separators in the fraction. See
     /// [`fraction_digit_separator_flags`][crate::format_builder::NumberFormatBuilder::fraction_digit_separator_flags].
     FractionDigitSeparatorFlags,
-    /// Sets all flags that allow digit separators in the exponent. See
+    /// Sets or clears all flags that allow digit separators in the exponent. See
     /// [`exponent_digit_separator_flags`][crate::format_builder::NumberFormatBuilder::exponent_digit_separator_flags].
     ExponentDigitSeparatorFlags,
 }
 
-/// A call of a [`NumberFormatBuilder`] setter, stored as a value. An edit holds the setter and its argument.
+/// A call to a [`NumberFormatBuilder`] setter, stored as a value. An edit holds the setter and its argument.
 #[derive(Debug, Clone, Copy, PartialEq, Eq, Hash, PartialOrd, Ord)]
 pub enum Edit {
     /// Sets a flag, or every flag of a group, to the given value.
@@ -224,14 +224,15 @@ pub enum Edit {
     BasePrefix(OptionU8),
     /// Sets the base suffix. `None` means that the format has no base suffix.
     BaseSuffix(OptionU8),
-    /// Sets the mantissa radix. Any number from 0 to 255 is accepted, but only a number between 2 and 36 is lawful.
+    /// Sets the mantissa radix. Any number from 0 to 255 is accepted, but in a lawful word, the mantissa radix is
+    /// between 2 and 36.
     MantissaRadix(u8),
     /// Sets the mantissa radix, as [`MantissaRadix`][Self::MantissaRadix] does. The setter `radix` is another name for
     /// the setter `mantissa_radix`.
     Radix(u8),
-    /// Sets the exponent base. `None` means that the exponent base follows the mantissa radix.
+    /// Sets the exponent base. `None` means that the mantissa radix is used in its place.
     ExponentBase(OptionU8),
-    /// Sets the exponent radix. `None` means that the exponent radix follows the mantissa radix.
+    /// Sets the exponent radix. `None` means that the mantissa radix is used in its place.
     ExponentRadix(OptionU8),
 }
 
@@ -298,8 +299,8 @@ const fn mask_of(setter: FlagSetter) -> u64 {
 /// Applies `edits` to `builder` in order, and returns the new builder.
 ///
 /// To build a new format, apply the edits to a new builder, and call
-/// [`build_strict`][NumberFormatBuilder::build_strict]. The exponent base and the exponent radix then follow the
-/// mantissa radix, unless an edit sets them.
+/// [`build_strict`][NumberFormatBuilder::build_strict]. If no edit sets the exponent base or the exponent radix, the
+/// mantissa radix is used in its place.
 ///
 /// # Proved
 ///
@@ -327,7 +328,8 @@ pub const fn apply_all(mut builder: NumberFormatBuilder, edits: &[Edit]) -> Numb
 /// Applies `edits` in order to a format word, which need not be [lawful][flags::Rule], and returns the new word.
 ///
 /// Use this function to change a finished format. An edit of the mantissa radix changes neither the exponent base nor
-/// the exponent radix, even if they followed the old mantissa radix. To build a new format, use [`apply_all`].
+/// the exponent radix, even if they were absent, so that the old mantissa radix was used in their place. To build a new
+/// format, use [`apply_all`].
 ///
 /// The new word is computed in four steps:
 ///
@@ -338,9 +340,9 @@ pub const fn apply_all(mut builder: NumberFormatBuilder, edits: &[Edit]) -> Numb
 /// 4. The digit separator is set to 0 if no flag allows one, and the fields are packed. The reserved bits, which hold
 ///    no field, are 0 in the new word.
 ///
-/// Pass all edits in one call. If you split them between two calls, the result can be a different word, for two
-/// reasons. The first call drops a digit separator if no flag allows one yet. The second call sets an exponent base or
-/// exponent radix to the mantissa radix if the first call set it to `None`.
+/// Pass all edits in one call. If you split them between two calls, the result can be a different word. The first call
+/// drops a digit separator if no flag allows one yet. The second call sets an exponent base or exponent radix to the
+/// mantissa radix if the first call set it to `None`.
 ///
 /// ```
 /// use peltzivar::edits::{edit_word, Edit, FlagSetter};
@@ -362,9 +364,9 @@ pub const fn apply_all(mut builder: NumberFormatBuilder, edits: &[Edit]) -> Numb
 ///   ([`trim`](crate::definitions#trim)).
 /// - The reserved bits of the result are 0 ([`IsClean`](crate::definitions#isclean)).
 /// - No other word whose reserved bits are 0 has these fields.
-/// - Any legal writes ([`IsLegal`](crate::definitions#islegal)) that give each field the same last value
-///   ([`SameWrites`](crate::definitions#samewrites)) have the same result. So edits of different fields can be in
-///   any order, and a group edit is equivalent to the edits of its flags in any order.
+/// - Any legal writes ([`IsLegal`](crate::definitions#islegal)) that give each field the same last value as the
+///   edits do ([`SameWrites`](crate::definitions#samewrites)) have the same result as the edits. So edits of
+///   different fields can be in any order, and a group edit is equivalent to the edits of its flags in any order.
 /// - Each value that an edit writes fits its field ([`IsLegal`](crate::definitions#islegal)).
 ///
 /// ```text

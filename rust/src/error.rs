@@ -1,8 +1,8 @@
 // Made by rust/tools/erase.py from crates/lexical_base/src/error.rt: change that file.
 
-//! The type [`Error`], which has parse errors, format errors and option errors.
+//! The type [`Error`], which represents parse errors, format errors and option errors.
 //!
-//! A parser or a checker returns an [`Error`]. It is [`Error::Success`] if nothing is wrong.
+//! A parser or a checker returns an [`Error`], which is [`Error::Success`] if nothing is wrong.
 
 use core::fmt;
 
@@ -13,10 +13,10 @@ use short_text::put_decimal;
 pub use short_text::{Piece, ShortText, EMPTY_PIECE};
 pub use sink::Sink;
 
-/// The outcome of a parser or a checker: one of 48 errors, or [`Error::Success`].
+/// The outcome of parsing or checking: one of 48 errors, or [`Error::Success`].
 ///
-/// A [parse error][Class::Parse] holds the index of the offending byte, counted from 0. The other variants hold
-/// nothing.
+/// A [parse error][Class::Parse] holds the index of the offending byte, counted from 0. The other variants hold no
+/// data.
 ///
 /// The *rank* of a variant is its index in the list of variants, from 0 to 48. Values are ordered by rank, then by the
 /// index that they hold. This order is total: two values compare as equal if and only if they are the same. Each of the
@@ -94,14 +94,14 @@ pub enum Error {
     InvalidExponentSign,
     /// A flag for special values (NaN and infinity) is set, but special values are forbidden.
     InvalidSpecial,
-    /// Consecutive digit separators are allowed in the integer, but a digit separator is not allowed between, before
-    /// or after its digits.
+    /// Consecutive digit separators are allowed in the integer part, but no digit separator is allowed
+    /// between, before or after its digits.
     InvalidConsecutiveIntegerDigitSeparator,
-    /// Consecutive digit separators are allowed in the fraction, but a digit separator is not allowed between, before
-    /// or after its digits.
+    /// Consecutive digit separators are allowed in the fraction, but no digit separator is allowed
+    /// between, before or after its digits.
     InvalidConsecutiveFractionDigitSeparator,
-    /// Consecutive digit separators are allowed in the exponent, but a digit separator is not allowed between, before
-    /// or after its digits.
+    /// Consecutive digit separators are allowed in the exponent, but no digit separator is allowed
+    /// between, before or after its digits.
     InvalidConsecutiveExponentDigitSeparator,
     /// A reserved bit is set. The reserved bits of a format hold neither a flag nor a byte.
     InvalidFlags,
@@ -121,7 +121,7 @@ pub enum Error {
     InfinityStringTooLong,
     /// The long infinity string is shorter than the short one.
     InfinityStringTooShort,
-    /// Two mutually exclusive float parse algorithms are requested.
+    /// Two mutually exclusive algorithms for parsing floats are requested.
     InvalidFloatParseAlgorithm,
     /// The radix is not supported.
     InvalidRadix,
@@ -205,7 +205,7 @@ const DESCRIPTIONS: [&str; 49] = [
 ];
 
 impl Error {
-    /// Returns the description of the outcome, in single quotes and without the index.
+    /// Returns the description of this [`Error`], in single quotes and without the index.
     ///
     /// See [`Error::index`] for the index, and `Display` for the whole text.
     #[must_use]
@@ -594,9 +594,9 @@ impl Error {
         }
     }
 
-    /// Returns the outcome whose [rank][Error::rank] is `rank`, or `None` if `rank` is 49 or more.
+    /// Returns the [`Error`] whose [rank][Error::rank] is `rank`, or `None` if `rank` is 49 or more.
     ///
-    /// If the outcome is a parse error, it holds `index`. Otherwise, `index` is ignored.
+    /// If it is a parse error, it holds `index`. Otherwise, `index` is ignored.
     #[must_use]
     #[inline(always)]
     #[doc(hidden)]
@@ -655,7 +655,7 @@ impl Error {
         }
     }
 
-    /// Returns the class of the outcome.
+    /// Returns the class of this [`Error`].
     #[must_use]
     pub const fn class(&self) -> Class {
         match self.rank() {
@@ -666,7 +666,7 @@ impl Error {
         }
     }
 
-    /// Puts the text of the outcome, as `Display` prints it, into the sink `out`. If the sink is a formatter, its
+    /// Puts the text of this [`Error`], as `Display` prints it, into the sink `out`. If the sink is a formatter, its
     /// options are ignored.
     ///
     /// # Errors
@@ -699,8 +699,8 @@ impl Class {
     }
 }
 
-/// Writes the class and the description, and for a parse error also the index. Writes only the description for
-/// [`Error::Success`].
+/// Writes the class and the description, and the index if this is a parse error. For [`Error::Success`], writes only
+/// the description.
 ///
 /// All options of the formatter, such as the width, are ignored. Returns an error if the formatter does.
 impl fmt::Display for Error {

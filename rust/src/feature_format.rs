@@ -266,9 +266,10 @@ fields! {
     MANTISSA_RADIX mantissa_radix u32;
     /// The mantissa radix, which is also available as [`MANTISSA_RADIX`][Self::MANTISSA_RADIX].
     RADIX radix u32;
-    /// The [exponent base][NumberFormatBuilder::exponent_base], or the mantissa radix if that byte is 0.
+    /// The [exponent base][NumberFormatBuilder::exponent_base], or the mantissa radix if the exponent base byte is 0.
     EXPONENT_BASE exponent_base u32;
-    /// The [exponent radix][NumberFormatBuilder::exponent_radix], or the mantissa radix if that byte is 0.
+    /// The [exponent radix][NumberFormatBuilder::exponent_radix], or the mantissa radix if the exponent radix byte is
+    /// 0.
     EXPONENT_RADIX exponent_radix u32;
 }
 

@@ -247,9 +247,9 @@ impl NumberFormatBuilder {
 
     /// Returns a builder with exactly the fields of a format word.
     ///
-    /// An exponent base or exponent radix of 0 stays absent, so it follows later changes of the mantissa radix. To set
-    /// it to the mantissa radix instead, call [`rebuild`][Self::rebuild]. The digit separator is kept even if no flag
-    /// allows one. The reserved bits, which hold no field, are dropped.
+    /// An exponent base or exponent radix of 0 stays absent, so a later change of the mantissa radix affects it too. To
+    /// set it to the mantissa radix instead, call [`rebuild`][Self::rebuild]. The digit separator is kept even if no
+    /// flag allows one. The reserved bits, which hold no field, are dropped.
     ///
     /// ```
     /// use peltzivar::format_builder::NumberFormatBuilder;
@@ -341,8 +341,9 @@ impl NumberFormatBuilder {
 
     /// Returns the flags and the bytes of the builder.
     ///
-    /// The first flag is at bit 0. The bytes are, in this order, the digit separator, the base prefix, the base suffix,
-    /// the mantissa radix, the exponent base and the exponent radix. An absent byte is 0.
+    /// Bits 0 to 30 of the first number are the flags, in the order of their bits in a format word. The bytes are, in
+    /// this order, the digit separator, the base prefix, the base suffix, the mantissa radix, the exponent base and the
+    /// exponent radix. An absent byte is 0.
     #[must_use]
     #[inline(always)]
     #[doc(hidden)]
@@ -350,8 +351,8 @@ impl NumberFormatBuilder {
         (self.flags, self.bytes)
     }
 
-    /// Sets every flag in `mask` to `value`. A flag is in `mask` if its bit in a format word is 1 in `mask`. The other
-    /// bits of `mask` have no effect.
+    /// Sets every flag in `mask` to `value`. A flag is in `mask` if the bit that holds the flag in a format word is 1
+    /// in `mask`. The other bits of `mask` have no effect.
     #[must_use]
     #[inline(always)]
     #[doc(hidden)]

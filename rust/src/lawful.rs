@@ -109,9 +109,9 @@ impl Format {
     ///
     /// # Errors
     ///
-    /// Returns [`Error::InvalidExponentSymbol`] if the exponent character is a sign, a digit or not [allowed ASCII].
-    /// Returns [`Error::InvalidDecimalPoint`] if the decimal point is a sign, a digit or not allowed ASCII. Returns
-    /// [`Error::InvalidPunctuation`] if one byte would play two roles.
+    /// Returns [`Error::InvalidExponentSymbol`] if the exponent character is a sign, a digit, or a byte that is not
+    /// [allowed ASCII]. Returns [`Error::InvalidDecimalPoint`] if the decimal point is a sign, a digit, or a byte that
+    /// is not allowed ASCII. Returns [`Error::InvalidPunctuation`] if one byte would play two roles.
     ///
     /// [allowed ASCII]: crate::ascii::is_valid_ascii
     pub const fn check_options(&self, exponent: u8, decimal_point: u8) -> Result<(), Error> {

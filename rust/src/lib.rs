@@ -51,7 +51,7 @@
 //!
 //! - `build_strict` returns a `Result`. In a constant, call `build_or_panic` instead.
 //! - A base prefix, base suffix or exponent character that is a letter matches both cases, unless a flag makes it
-//!   case-sensitive. A word with a reserved bit is not lawful.
+//!   case-sensitive. A word in which a reserved bit is set is not lawful.
 //! - The functions of [`ascii`] that test whole slices are not `const`, and `build` is not deprecated.
 //! - The prebuilt formats of `lexical-util`, such as `JSON`, are not included. To copy one, see `examples/recipes.rs`.
 //!

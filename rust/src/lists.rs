@@ -12,11 +12,11 @@ impl FormatView {
         broken_rules(self.word()).into_iter().flatten()
     }
 
-    /// Returns the reasons why the word is not lawful, in the order of the first rule that is broken for each reason.
-    /// The iterator is empty if and only if the word is lawful.
+    /// Returns the reasons why the word is not lawful, sorted by the rule that [`Reason::rule`] returns for each
+    /// reason. The iterator is empty if and only if the word is lawful.
     ///
-    /// A reason why several rules are broken is returned only once. An absent exponent base or exponent radix follows
-    /// the mantissa radix, so it is never a reason itself.
+    /// A reason why several rules are broken is returned only once. An absent exponent base or exponent radix is never
+    /// a reason itself, since the mantissa radix is used in its place.
     ///
     /// ```
     /// let view = peltzivar::FormatView::new(0x00002500_00000000_00000000_0000003C);
@@ -39,7 +39,7 @@ impl FormatView {
     }
 
     /// Returns the edits that give a new builder the fields of the word. There is one edit for each field in which the
-    /// word differs from a new builder, in the order of [`edits_of`].
+    /// word differs from a new builder. The edits are in the same order as those that [`edits_of`] returns.
     pub fn edits(&self) -> impl Iterator<Item = Edit> + Clone {
         let (edits, count) = edits_of(self.word());
         edits.into_iter().take(count)

@@ -28,13 +28,13 @@ pub const MAX_REASONS: usize = 3;
 pub const CANDIDATE_COUNT: usize = 24;
 
 /// A reason why a format word breaks one or more rules. A byte is identified by the [`Edit`] that sets it to its value
-/// in the word.
+/// in the word. A reason *blames* the bits on which it depends, which [`mask`][Self::mask] returns.
 #[derive(Debug, Clone, Copy, PartialEq, Eq, Hash)]
 #[non_exhaustive]
 pub enum Reason {
     /// The mantissa radix is not between 2 and 36. The first `bool` is `true` if the exponent base is absent, and the
-    /// second `bool` is `true` if the exponent radix is absent. An absent exponent base or exponent radix follows the
-    /// mantissa radix, so its rule is broken too.
+    /// second `bool` is `true` if the exponent radix is absent. The mantissa radix is used in place of an absent
+    /// exponent base or exponent radix, so the rule for the absent byte is broken too.
     MantissaRadixOutOfRange(u8, bool, bool),
     /// The exponent base or the exponent radix is present, but it is not between 2 and 36.
     OutOfRange(Edit),
@@ -58,12 +58,12 @@ pub enum Reason {
 }
 
 /// Returns the reasons why a format word breaks rules. Each reason that a word can have has its own slot, which is
-/// `None` if the word does not have this reason. The slots are in the order of the first rule that is broken for each
-/// reason. All slots are `None` if and only if the word is lawful.
+/// `None` if the word does not have this reason. The slots are sorted by the rule that [`Reason::rule`] returns for
+/// each reason. All slots are `None` if and only if the word is lawful.
 ///
-/// An absent exponent base or exponent radix follows the mantissa radix, so it is never a reason itself.
-/// [`Reason::breaks`] returns whether a rule is broken for a reason, and [`Reason::mask`] returns the bits that a
-/// reason blames.
+/// An absent exponent base or exponent radix is never a reason itself, since the mantissa radix is used in its place.
+/// [`Reason::breaks`] returns whether a word breaks a rule because of a reason, and [`Reason::mask`] returns the
+/// bits that a reason blames.
 #[must_use]
 #[doc(hidden)]
 pub const fn reasons(format: u128) -> [Option<Reason>; CANDIDATE_COUNT] {
@@ -101,9 +101,9 @@ pub const fn reasons(format: u128) -> [Option<Reason>; CANDIDATE_COUNT] {
 
 /// Returns the reasons why a format word breaks `rule`. All entries are `None` if and only if the word keeps the rule.
 ///
-/// A byte that is present but not punctuation has one of three reasons: it is not allowed ASCII, it is a sign, or it is
-/// a digit. [`Rule::PunctuationDiffers`] has one reason for each pair of bytes that clash. Every other rule has at most
-/// one reason.
+/// A byte that is present but not [punctuation][Rule] has one of three reasons: it is not allowed ASCII, it is a sign,
+/// or it is a digit. [`Rule::PunctuationDiffers`] has one reason for each pair of bytes that clash. Every other rule
+/// has at most one reason.
 #[must_use]
 #[doc(hidden)]
 pub const fn reasons_of(rule: Rule, format: u128) -> [Option<Reason>; MAX_REASONS] {

@@ -39,14 +39,14 @@ impl FromStr for Format {
     }
 }
 
-/// Prints the word as `0x` followed by 32 hexadecimal digits. [`FromStr`] parses this text to the same word.
+/// Prints the word as `0x` followed by 32 hexadecimal digits. [`FromStr`] parses this text into the same word.
 impl fmt::Display for FormatView {
     fn fmt(&self, f: &mut fmt::Formatter<'_>) -> fmt::Result {
         f.pad(core::str::from_utf8(&word_text(self.word())).unwrap_or_default())
     }
 }
 
-/// Prints the word as `0x` followed by 32 hexadecimal digits. [`FromStr`] parses this text to the same word.
+/// Prints the word as `0x` followed by 32 hexadecimal digits. [`FromStr`] parses this text into the same word.
 impl fmt::Display for Format {
     fn fmt(&self, f: &mut fmt::Formatter<'_>) -> fmt::Result {
         fmt::Display::fmt(&self.view(), f)

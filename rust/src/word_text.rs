@@ -32,7 +32,7 @@ pub fn parse_word(text: &str) -> Result<u128, Error> {
 }
 
 /// Returns `word` as text: `0x` followed by 32 hexadecimal digits with uppercase letters. [`parse_word`] parses this
-/// text to the same word.
+/// text into the same word.
 #[must_use]
 pub fn word_text(word: u128) -> [u8; 34] {
     let mut text = [b'0'; 34];

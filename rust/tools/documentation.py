@@ -44,8 +44,8 @@ PROVED = {
     "format_flags/rules.rt": {
         "is_valid_options_punctuation": {
             "accepted": "The result is true if and only if both bytes fit the format (`OptionsFit`).",
-            "roles": "For a `Lawful` word this holds if and only if both bytes are allowed ASCII, and no byte plays two"
-            " of the seven roles (`OptionsHaveOneRole`).",
+            "roles": "For a `Lawful` word, the result is true if and only if both bytes are allowed ASCII, and no"
+            " byte plays two of the seven roles (`OptionsHaveOneRole`).",
             "exists": "For each `Lawful` word there is a pair of bytes that fits (`SomeOptionsFit`).",
         },
     },
@@ -66,7 +66,8 @@ PROVED = {
             "whole": "All writes, applied to a new builder, also give the fields (`raw`) of the word.",
             "builds": "These fields pack (`pack`) into the word if and only if a builder can build the word"
             " (`IsBuilt`).",
-            "fewest": "No shorter list of legal writes (`IsLegal`) to a new builder builds the word.",
+            "fewest": "No list of legal writes (`IsLegal`) with fewer entries than the returned number builds the word"
+            " from a new builder.",
         },
     },
     "edits.rt": {
@@ -80,9 +81,9 @@ PROVED = {
             " order (`after`), and trimmed (`trim`).",
             "clean": "The reserved bits of the result are 0 (`IsClean`).",
             "unique": "No other word whose reserved bits are 0 has these fields.",
-            "same_writes": "Any legal writes (`IsLegal`) that give each field the same last value (`SameWrites`) have"
-            " the same result. So edits of different fields can be in any order, and a group edit is equivalent to the"
-            " edits of its flags in any order.",
+            "same_writes": "Any legal writes (`IsLegal`) that give each field the same last value as the edits do"
+            " (`SameWrites`) have the same result as the edits. So edits of different fields can be in any order, and a"
+            " group edit is equivalent to the edits of its flags in any order.",
             "legal": "Each value that an edit writes fits its field (`IsLegal`).",
         },
         "normal_form": {
@@ -313,7 +314,7 @@ class Comments:
     def variant(self, setter):
         """Returns the documentation of a variant of `FlagSetter`."""
         if flags := self.group(setter):
-            text = f"Sets all {flags}."
+            text = f"Sets or clears all {flags}."
         else:
             text = "Sets whether {}. If so, a parser {}.".format(*self.flag(setter))
         return f"{text} See [`{setter}`][crate::format_builder::NumberFormatBuilder::{setter}]."

@@ -44,7 +44,7 @@ pub const EXPONENT: u8 = b'e';
 pub const HEXADECIMAL_EXPONENT: u8 = b'p';
 
 /// Returns whether any digit separator flag of `word` is set. The law `layout_facts` states which flags
-/// [`DIGIT_SEPARATOR_FLAG_MASK`] has.
+/// [`DIGIT_SEPARATOR_FLAG_MASK`] contains.
 pub fn has_separator_flag(word: u128) -> bool
     ensures { IsTrue result ↔ (bit_and word (mask_of layout.digit_separator_flags) ≢ 0) }
 {
@@ -111,7 +111,7 @@ pub fn octal_facts()
     ensures options { OptionsFit OCTAL EXPONENT POINT }
 {}
 
-/// Reads `text` as a decimal number of 64 bits, which may have `_` between digits, such as `1_000`.
+/// Reads `text` as a decimal number that fits in 64 bits. It may have `_` between digits, as in `1_000`.
 ///
 /// # Errors
 ///

@@ -19,7 +19,7 @@ use lexical_util::laws;
 pub enum Role {
     /// A digit of the mantissa or of the exponent.
     Digit,
-    /// `+` or `-`.
+    /// A sign: `+` or `-`.
     Sign,
     /// The digit separator.
     Separator,

@@ -12,10 +12,10 @@ use crate::words::Word;
 use lexical_util::error::Error;
 use lexical_util::laws::flags::rule_facts;
 
-/// The number of an outcome: 0 for success, and the rank plus 1 for an error.
+/// The number that C uses for an [`Error`]: 0 for success, and the rank plus 1 for an error.
 pub type ErrorNumber = u32;
 
-/// Returns the number of an outcome.
+/// Returns the number that C uses for `error`.
 #[inline(always)]
 pub fn error_number(error: Error) -> ErrorNumber
     ensures value { result ≡ error_number error }
@@ -44,7 +44,8 @@ pub fn write_if_lawful(word: Result<u128, Error>, out: &mut Word) -> ErrorNumber
     }
 }
 
-/// Writes the description of an outcome, or an empty text if no outcome has this number.
+/// Writes the description of the error with the given number, or an empty text if no error has that number. Success has
+/// the number 0.
 #[unsafe(no_mangle)]
 pub extern "C" fn peltzivar_description(error: ErrorNumber, text: &mut [u8]) -> usize
     ensures text { error < outcome_count
@@ -57,8 +58,8 @@ pub extern "C" fn peltzivar_description(error: ErrorNumber, text: &mut [u8]) -> 
     }
 }
 
-/// Writes the text that `Display` prints for an outcome, or an empty text if no outcome has this number. A parse error
-/// has the index `index`.
+/// Writes the text that `Display` prints for the error with the given number, or an empty text if no error has that
+/// number. Success has the number 0. A parse error has the index `index`.
 #[unsafe(no_mangle)]
 pub extern "C" fn peltzivar_text(error: ErrorNumber, index: usize, text: &mut [u8]) -> usize
     ensures text { error < outcome_count → IsCodeOfSome (λ outcome. IsAt index outcome

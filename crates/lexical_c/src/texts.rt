@@ -1,4 +1,4 @@
-//! Functions that write null-terminated texts to buffers.
+//! Functions that write null-terminated text to buffers.
 
 ghost use Rattle.std.specs.Prelude.{◌≡◌, ◌+◌, ◌<◌, ◌≤◌, ◌++◌, List, [], length};
 ghost use Rattle.lexical_util.specs.Outcomes.{printed_text};
@@ -23,14 +23,14 @@ pub fn write_text(text: &[u8], out: &mut [u8]) -> usize
     text.len()
 }
 
-/// Writes an empty text, as [`write_text`] does.
+/// Writes an empty text to `out`, in the same way as [`write_text`].
 pub fn write_nothing(out: &mut [u8]) -> usize
     ensures { IsWritten [] result out.old out.new }
 {
     write_text(b"", out)
 }
 
-/// Writes a sentence, as [`write_text`] does.
+/// Writes a sentence to `out`, in the same way as [`write_text`].
 pub fn write_short_text(sentence: &ShortText, out: &mut [u8]) -> usize
     ensures { IsWritten sentence.now result out.old out.new }
 {
@@ -39,7 +39,7 @@ pub fn write_short_text(sentence: &ShortText, out: &mut [u8]) -> usize
     whole.write_to(out)
 }
 
-/// Writes the text that `Display` prints for an error, as [`write_text`] does.
+/// Writes the text that `Display` prints for an error to `out`, in the same way as [`write_text`].
 pub fn write_error(error: Error, out: &mut [u8]) -> usize
     ensures { IsWritten (printed_text error) result out.old out.new }
 {
@@ -48,7 +48,7 @@ pub fn write_error(error: Error, out: &mut [u8]) -> usize
     whole.write_to(out)
 }
 
-/// Writes the builder expression of a word, as [`write_text`] does.
+/// Writes the builder expression of a word to `out`, in the same way as [`write_text`].
 pub fn write_expression(expression: BuilderExpression, out: &mut [u8]) -> usize
     ensures text { IsWritten (source_text expression.0) result out.old out.new }
     ensures short { result < 2048 }

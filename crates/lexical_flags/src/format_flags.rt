@@ -1,10 +1,10 @@
 //! The layout of a format word: the bits of each flag and byte, and the functions that read them. This module
 //! re-exports the tests of the rules from `format_flags/rules.rt`.
 //!
-//! A format word is a `u128`. Its lower 64 bits hold 31 flags, which start at bit 0 and at bit 32. Its upper 64 bits
-//! hold six bytes: the digit separator, base prefix, base suffix, mantissa radix, exponent base and exponent radix. A
-//! *field* is a flag or one of these bytes. The other bits are *reserved*: they belong to no field. A word is *lawful*
-//! if it keeps every [`Rule`]. The reserved bits of a lawful word are 0.
+//! A format word is a `u128`. Its lower 64 bits hold 31 flags in two runs, which start at bit 0 and at bit 32. Its
+//! upper 64 bits hold six bytes: the digit separator, base prefix, base suffix, mantissa radix, exponent base and
+//! exponent radix. A *field* is a flag or one of these bytes. The other bits are *reserved*: they belong to no field. A
+//! word is *lawful* if it keeps every [`Rule`]. The reserved bits of a lawful word are 0.
 #![tactic(auto, using(crate::proofs::ByteParts::byte_parts))]
 
 ghost use Rattle.std.specs.Prelude.{◌≡◌, ◌/◌, ◌%◌, ◌^◌, ◌≤ℤ◌, ◌<ℤ◌, pos, unsigned_abs};
@@ -138,25 +138,25 @@ pub const SPECIAL_DIGIT_SEPARATOR: u128 = 0x1000_0000_0000;
 
 // BYTES
 
-/// The lowest bit of the digit separator byte.
+/// The index of the lowest bit of the digit separator byte.
 pub const DIGIT_SEPARATOR_SHIFT: i32 = 64;
 
 /// The mask of the [digit separator][lexical_builder::format_builder::NumberFormatBuilder::digit_separator].
 pub const DIGIT_SEPARATOR: u128 = 0x00000000_000000FF_00000000_00000000;
 
-/// The lowest bit of the base prefix byte.
+/// The index of the lowest bit of the base prefix byte.
 pub const BASE_PREFIX_SHIFT: i32 = 88;
 
 /// The mask of the [base prefix][lexical_builder::format_builder::NumberFormatBuilder::base_prefix].
 pub const BASE_PREFIX: u128 = 0x00000000_FF000000_00000000_00000000;
 
-/// The lowest bit of the base suffix byte.
+/// The index of the lowest bit of the base suffix byte.
 pub const BASE_SUFFIX_SHIFT: i32 = 96;
 
 /// The mask of the [base suffix][lexical_builder::format_builder::NumberFormatBuilder::base_suffix].
 pub const BASE_SUFFIX: u128 = 0x000000FF_00000000_00000000_00000000;
 
-/// The lowest bit of the mantissa radix byte.
+/// The index of the lowest bit of the mantissa radix byte.
 pub const MANTISSA_RADIX_SHIFT: i32 = 104;
 
 /// The mask of the [mantissa radix][lexical_builder::format_builder::NumberFormatBuilder::mantissa_radix].
@@ -168,13 +168,13 @@ pub const RADIX_SHIFT: i32 = 104;
 /// Another name for [`MANTISSA_RADIX`].
 pub const RADIX: u128 = 0x0000FF00_00000000_00000000_00000000;
 
-/// The lowest bit of the exponent base byte.
+/// The index of the lowest bit of the exponent base byte.
 pub const EXPONENT_BASE_SHIFT: i32 = 112;
 
 /// The mask of the [exponent base][lexical_builder::format_builder::NumberFormatBuilder::exponent_base].
 pub const EXPONENT_BASE: u128 = 0x00FF0000_00000000_00000000_00000000;
 
-/// The lowest bit of the exponent radix byte.
+/// The index of the lowest bit of the exponent radix byte.
 pub const EXPONENT_RADIX_SHIFT: i32 = 120;
 
 /// The mask of the [exponent radix][lexical_builder::format_builder::NumberFormatBuilder::exponent_radix].
@@ -188,14 +188,14 @@ pub const RADIX_MASK: u128 = 0xFF00FF00_00000000_00000000_00000000;
 /// The mask of all flags.
 pub const FLAG_MASK: u128 = 0x1FFF_0003_FFFF;
 
-/// The mask of the interface flags: the flags for required digits, exponents, leading zeros of floats and digit
-/// separators, except [`CASE_SENSITIVE_EXPONENT`] and [`SPECIAL_DIGIT_SEPARATOR`].
+/// The mask of the flags for exponents, leading zeros of floats, digit separators and required digits, except
+/// [`CASE_SENSITIVE_EXPONENT`] and [`SPECIAL_DIGIT_SEPARATOR`].
 pub const INTERFACE_FLAG_MASK: u128 = 0xFFF_0000_63CF;
 
 /// The mask of the [group][lexical_builder::format_builder::NumberFormatBuilder::digit_separator_flags].
 pub const DIGIT_SEPARATOR_FLAG_MASK: u128 = 0x1FFF_0000_0000;
 
-/// The mask of all exponent flags except [`CASE_SENSITIVE_EXPONENT`].
+/// The mask of all flags that affect exponents, except [`CASE_SENSITIVE_EXPONENT`].
 pub const EXPONENT_FLAG_MASK: u128 = 0x924_0000_43C4;
 
 /// The mask of the [group][lexical_builder::format_builder::NumberFormatBuilder::integer_digit_separator_flags].

@@ -1,4 +1,4 @@
-//! Edits, which are setter calls as values, and the normal form of a format word.
+//! Edits, which are setter calls stored as values, and the normal form of a format word.
 
 ghost use Rattle.std.specs.Prelude.{◌≡◌, ◌≢◌, ℕ, IfErr, IfOk, ◌<◌, ◌^◌, ◌↔◌, IsTrue, Bool, List, All};
 ghost use Rattle.std.specs.Result.{OkIff};
@@ -172,7 +172,7 @@ pub enum FlagSetter {
     ExponentDigitSeparatorFlags,
 }
 
-/// A call of a [`NumberFormatBuilder`] setter, stored as a value. An edit holds the setter and its argument.
+/// A call to a [`NumberFormatBuilder`] setter, stored as a value. An edit holds the setter and its argument.
 #[derive(Debug, Clone, Copy, PartialEq, Eq, Hash)]
 pub enum Edit {
     /// Sets a flag, or every flag of a group, to the given value.
@@ -183,14 +183,15 @@ pub enum Edit {
     BasePrefix(OptionU8),
     /// Sets the base suffix. `None` means that the format has no base suffix.
     BaseSuffix(OptionU8),
-    /// Sets the mantissa radix. Any number from 0 to 255 is accepted, but only a number between 2 and 36 is lawful.
+    /// Sets the mantissa radix. Any number from 0 to 255 is accepted, but in a lawful word, the mantissa radix is
+    /// between 2 and 36.
     MantissaRadix(u8),
     /// Sets the mantissa radix, as [`MantissaRadix`][Self::MantissaRadix] does. The setter `radix` is another name for
     /// the setter `mantissa_radix`.
     Radix(u8),
-    /// Sets the exponent base. `None` means that the exponent base follows the mantissa radix.
+    /// Sets the exponent base. `None` means that the mantissa radix is used in its place.
     ExponentBase(OptionU8),
-    /// Sets the exponent radix. `None` means that the exponent radix follows the mantissa radix.
+    /// Sets the exponent radix. `None` means that the mantissa radix is used in its place.
     ExponentRadix(OptionU8),
 }
 
@@ -262,8 +263,8 @@ const fn mask_of(setter: FlagSetter) -> u64
 /// Applies `edits` to `builder` in order, and returns the new builder.
 ///
 /// To build a new format, apply the edits to a new builder, and call
-/// [`build_strict`][NumberFormatBuilder::build_strict]. The exponent base and the exponent radix then follow the
-/// mantissa radix, unless an edit sets them.
+/// [`build_strict`][NumberFormatBuilder::build_strict]. If no edit sets the exponent base or the exponent radix, the
+/// mantissa radix is used in its place.
 #[inline(always)]
 pub const fn apply_all(mut builder: NumberFormatBuilder, edits: &[Edit]) -> NumberFormatBuilder
     ensures fields { result ≡ after builder (all_writes edits.now) }
@@ -280,7 +281,8 @@ pub const fn apply_all(mut builder: NumberFormatBuilder, edits: &[Edit]) -> Numb
 /// Applies `edits` in order to a format word, which need not be [lawful][flags::Rule], and returns the new word.
 ///
 /// Use this function to change a finished format. An edit of the mantissa radix changes neither the exponent base nor
-/// the exponent radix, even if they followed the old mantissa radix. To build a new format, use [`apply_all`].
+/// the exponent radix, even if they were absent, so that the old mantissa radix was used in their place. To build a new
+/// format, use [`apply_all`].
 ///
 /// The new word is computed in four steps:
 ///
@@ -291,9 +293,9 @@ pub const fn apply_all(mut builder: NumberFormatBuilder, edits: &[Edit]) -> Numb
 /// 4. The digit separator is set to 0 if no flag allows one, and the fields are packed. The reserved bits, which hold
 ///    no field, are 0 in the new word.
 ///
-/// Pass all edits in one call. If you split them between two calls, the result can be a different word, for two
-/// reasons. The first call drops a digit separator if no flag allows one yet. The second call sets an exponent base or
-/// exponent radix to the mantissa radix if the first call set it to `None`.
+/// Pass all edits in one call. If you split them between two calls, the result can be a different word. The first call
+/// drops a digit separator if no flag allows one yet. The second call sets an exponent base or exponent radix to the
+/// mantissa radix if the first call set it to `None`.
 ///
 /// In plain Rust:
 ///

@@ -226,8 +226,8 @@ impl NumberFormat {
         fourth.wrapping_mul(fourth)
     }
 
-    /// Returns the [exponent base][NumberFormatBuilder::exponent_base], or the mantissa radix if that byte is 0. In a
-    /// [lawful][flags::Rule] word, the result is between 2 and 36.
+    /// Returns the [exponent base][NumberFormatBuilder::exponent_base], or the mantissa radix if the exponent base byte
+    /// is 0. In a [lawful][flags::Rule] word, the result is between 2 and 36.
     #[inline(always)]
     pub const fn exponent_base(&self) -> u32
         ensures value { result ≡ effective_exponent_base (raw self.now) }
@@ -236,8 +236,8 @@ impl NumberFormat {
         flags::exponent_base(self.format)
     }
 
-    /// Returns the [exponent radix][NumberFormatBuilder::exponent_radix], or the mantissa radix if that byte is 0. In a
-    /// [lawful][flags::Rule] word, the result is between 2 and 36.
+    /// Returns the [exponent radix][NumberFormatBuilder::exponent_radix], or the mantissa radix if the exponent radix
+    /// byte is 0. In a [lawful][flags::Rule] word, the result is between 2 and 36.
     #[inline(always)]
     pub const fn exponent_radix(&self) -> u32
         ensures value { result ≡ effective_exponent_radix (raw self.now) }

@@ -1,4 +1,4 @@
-//! Parses numbers that are written as digits in a radix.
+//! Parses numbers that are written in a given radix.
 
 ghost use Rattle.std.specs.Prelude.{◌≤◌, IsTrue};
 ghost use Rattle.std.specs.Option.{SomeIff};
@@ -7,8 +7,8 @@ ghost use Rattle.lexical_util.specs.Additions.Numeral.{is_numeral};
 
 use lexical_base::digit::char_to_digit;
 
-/// Parses `digits` as a number in `radix`. Returns `None` if they are not 1 to `most` digits in this radix. The radix
-/// must be at most 16, and `most` must be at most 32, so that the number fits in a `u128`.
+/// Parses `digits` as a number in `radix`. Returns `None` unless `digits` consists of 1 to `most` digits in this radix.
+/// The radix must be at most 16, and `most` must be at most 32, so that the number fits in a `u128`.
 pub fn read_numeral(digits: &[u8], radix: u32, most: usize) -> Option<u128>
     requires radix { radix ≤ 16 }
     requires most { most ≤ 32 }

@@ -19,7 +19,7 @@ const MAX_EDITS: usize = 64;
 
 /// Returns the response to `args`, the program's arguments without its name. The response is the answer to the command,
 /// or the first reason to refuse the arguments. The reasons are tested in this order: an unknown command, a wrong
-/// number of arguments, too many edits, then each argument from left to right.
+/// number of arguments, too many edits, and then invalid arguments, from left to right.
 pub fn response_to(args: &[String]) -> Result<Answer, Refusal>
     ensures { Responds (request_of (map string_bytes args.now)) result }
 {

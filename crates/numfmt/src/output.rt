@@ -1,4 +1,5 @@
-//! The writer of the program, with predicates for what std's `Write` leaves open: a failed call and a flush.
+//! The writer of the program. Unlike std's `Write`, it has predicates that state if a call has failed and if all bytes
+//! are flushed.
 
 ghost use Rattle.std.specs.Prelude.{⊤, ℕ, IfSome, IsErr, List, OnOk, Option};
 ghost use Rattle.std.specs.Io.KnownBytes.{Appends, Keeps};

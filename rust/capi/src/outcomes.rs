@@ -6,10 +6,10 @@ use crate::texts::{write_error, write_nothing, write_text};
 use crate::words::Word;
 use peltzivar::error::Error;
 
-/// The number of an outcome: 0 for success, and the rank plus 1 for an error.
+/// The number that C uses for an [`Error`]: 0 for success, and the rank plus 1 for an error.
 pub type ErrorNumber = u32;
 
-/// Returns the number of an outcome.
+/// Returns the number that C uses for `error`.
 #[must_use]
 #[inline(always)]
 pub fn error_number(error: Error) -> ErrorNumber {
@@ -33,7 +33,8 @@ pub fn write_if_lawful(word: Result<u128, Error>, out: crate::outputs::Out<Word>
     }
 }
 
-/// Writes the description of an outcome, or an empty text if no outcome has this number.
+/// Writes the description of the error with the given number, or an empty text if no error has that number. Success has
+/// the number 0.
 // SAFETY: no other library has names that begin with `peltzivar_`.
 #[unsafe(no_mangle)]
 pub unsafe extern "C" fn peltzivar_description(
@@ -49,8 +50,8 @@ pub unsafe extern "C" fn peltzivar_description(
     }
 }
 
-/// Writes the text that `Display` prints for an outcome, or an empty text if no outcome has this number. A parse error
-/// has the index `index`.
+/// Writes the text that `Display` prints for the error with the given number, or an empty text if no error has that
+/// number. Success has the number 0. A parse error has the index `index`.
 // SAFETY: no other library has names that begin with `peltzivar_`.
 #[unsafe(no_mangle)]
 pub unsafe extern "C" fn peltzivar_text(

@@ -1,13 +1,14 @@
-//! Memory to which a call only writes. C may leave this memory uninitialised, so no reference to a value may point to
-//! it. A value is written through a raw pointer. An array or a text is written as values that may be uninitialised.
+//! Memory to which a call only writes. A C caller may leave this memory uninitialised, so no reference to a value may
+//! point to it. A value is written through a raw pointer. An array or a text is written through a slice whose elements
+//! may be uninitialised.
 
 use core::mem::MaybeUninit;
 
 /// A raw pointer to memory for one value. The value is never read. `write` consumes the pointer, so it writes at most
 /// once.
 ///
-/// No code here creates an `Out`, since each one is an argument that C passes. `c/peltzivar.h` requires a pointer to an
-/// object of this type, which nothing else reads or writes during the call.
+/// No code here creates an `Out`, since each one is an argument that a C caller passes. `c/peltzivar.h` requires a
+/// pointer to an object of this type, which nothing else reads or writes during the call.
 #[repr(transparent)]
 pub struct Out<T>(*mut T);
 
@@ -33,7 +34,7 @@ impl<T, const N: usize> Out<[T; N]> {
     }
 }
 
-/// Bytes that C passes, to which a text is written.
+/// A buffer, passed by a C caller, to which text is written.
 pub type Buffer = [MaybeUninit<u8>];
 
 /// Writes bytes to the start of a buffer.

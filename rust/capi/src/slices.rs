@@ -1,4 +1,5 @@
-//! Creates slices from a pointer and a length that C passes. A null pointer with length 0 becomes an empty slice.
+//! Creates slices from a pointer and a length that a C caller passes. A null pointer with length 0 becomes an empty
+//! slice.
 
 use crate::outputs::Buffer;
 use core::mem::MaybeUninit;
@@ -8,8 +9,8 @@ use core::slice;
 ///
 /// # Safety
 ///
-/// If `len` is not 0, `start` must point to `len` bytes or edits that C passes. Nothing may write to them during the
-/// call that passes them.
+/// If `len` is not 0, `start` must point to `len` bytes or edits that a C caller passes. Nothing may write to them
+/// during the call that passes them.
 pub unsafe fn of<'a, T>(start: *const T, len: usize) -> &'a [T] {
     if len == 0 {
         return &[];
@@ -23,8 +24,8 @@ pub unsafe fn of<'a, T>(start: *const T, len: usize) -> &'a [T] {
 ///
 /// # Safety
 ///
-/// If `len` is not 0, `start` must point to `len` bytes that C passes. Nothing else may read or write them during the
-/// call that passes them.
+/// If `len` is not 0, `start` must point to `len` bytes that a C caller passes. Nothing else may read or write them
+/// during the call that passes them.
 pub unsafe fn of_mut<'a>(start: *mut u8, len: usize) -> &'a mut Buffer {
     if len == 0 {
         return &mut [];

@@ -1,6 +1,6 @@
 // Made by rust/tools/erase.py from crates/lexical_c/src/texts.rt: change that file.
 
-//! Functions that write null-terminated texts to buffers.
+//! Functions that write null-terminated text to buffers.
 
 use core::fmt;
 use peltzivar::error::{Error, ShortText, Sink};
@@ -18,13 +18,13 @@ pub fn write_text(text: &[u8], out: &mut crate::outputs::Buffer) -> usize {
     text.len()
 }
 
-/// Writes an empty text, as [`write_text`] does.
+/// Writes an empty text to `out`, in the same way as [`write_text`].
 #[must_use]
 pub fn write_nothing(out: &mut crate::outputs::Buffer) -> usize {
     write_text(b"", out)
 }
 
-/// Writes a sentence, as [`write_text`] does.
+/// Writes a sentence to `out`, in the same way as [`write_text`].
 #[must_use]
 pub fn write_short_text(sentence: &ShortText, out: &mut crate::outputs::Buffer) -> usize {
     let mut whole = Text::new();
@@ -32,7 +32,7 @@ pub fn write_short_text(sentence: &ShortText, out: &mut crate::outputs::Buffer) 
     whole.write_to(out)
 }
 
-/// Writes the text that `Display` prints for an error, as [`write_text`] does.
+/// Writes the text that `Display` prints for an error to `out`, in the same way as [`write_text`].
 #[must_use]
 pub fn write_error(error: Error, out: &mut crate::outputs::Buffer) -> usize {
     let mut whole = Text::new();
@@ -40,7 +40,7 @@ pub fn write_error(error: Error, out: &mut crate::outputs::Buffer) -> usize {
     whole.write_to(out)
 }
 
-/// Writes the builder expression of a word, as [`write_text`] does.
+/// Writes the builder expression of a word to `out`, in the same way as [`write_text`].
 #[must_use]
 pub fn write_expression(expression: BuilderExpression, out: &mut crate::outputs::Buffer) -> usize {
     let mut whole = Text::new();

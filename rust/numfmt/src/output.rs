@@ -1,6 +1,7 @@
 // Made by rust/tools/erase.py from crates/numfmt/src/output.rt: change that file.
 
-//! The writer of the program, with predicates for what std's `Write` leaves open: a failed call and a flush.
+//! The writer of the program. Unlike std's `Write`, it has predicates that state if a call has failed and if all bytes
+//! are flushed.
 
 use std::fmt::Arguments;
 use std::io;

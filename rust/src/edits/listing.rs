@@ -1,6 +1,6 @@
 // Made by rust/tools/erase.py from crates/lexical_util/src/edits/listing.rt: change that file.
 
-//! The edits that build a word, and the test whether a builder can pack it.
+//! The edits that build a word, and a test of whether a builder can build it.
 
 use crate::edits::{Edit, FlagSetter, FIELD_COUNT};
 use crate::format_builder::NonZeroU8;
@@ -38,12 +38,12 @@ const fn is_separator_allowed_or_absent(format: u128) -> bool {
 /// Returns edits that give a new builder the fields of `format`, and the number of edits that are needed for this.
 ///
 /// The array has one edit for each field, which sets the field to its value in `format`. The needed edits, which change
-/// a new builder, come first. The returned number is the number of needed edits. The other edits follow. Both the
+/// a new builder, come first, and the other edits follow. The returned number is the number of needed edits. Both the
 /// needed edits and the other edits are in the order of the bits that they write.
 ///
 /// A new builder to which the needed edits are applied has exactly the fields of `format`. This is also true if all
 /// edits are applied. If [`is_built`] returns `true` for `format`, this builder packs its fields into `format`. In this
-/// case, no shorter list of single-field edits builds `format`.
+/// case, no list of single-field edits that is shorter than the list of needed edits builds `format`.
 ///
 /// ```
 /// use peltzivar::edits::{edits_of, Edit, FlagSetter};
@@ -70,7 +70,8 @@ const fn is_separator_allowed_or_absent(format: u128) -> bool {
 /// - All writes, applied to a new builder, also give the fields ([`raw`](crate::definitions#raw)) of the word.
 /// - These fields pack ([`pack`](crate::definitions#pack)) into the word if and only if a builder can build the
 ///   word ([`IsBuilt`](crate::definitions#isbuilt)).
-/// - No shorter list of legal writes ([`IsLegal`](crate::definitions#islegal)) to a new builder builds the word.
+/// - No list of legal writes ([`IsLegal`](crate::definitions#islegal)) with fewer entries than the returned
+///   number builds the word from a new builder.
 ///
 /// ```text
 /// ensures list { AllZip IsEditOf (needed_writes (raw format) ++ other_writes (raw format)) result.0 }

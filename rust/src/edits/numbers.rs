@@ -57,7 +57,7 @@ pub enum Argument {
     OptionalByte(OptionU8),
 }
 
-/// The kind of argument that a setter takes: a variant of [`Argument`].
+/// The kind of argument that a setter takes. Each kind has the same name as a variant of [`Argument`].
 #[derive(Debug, Clone, Copy, PartialEq, Eq, Hash)]
 #[doc(hidden)]
 pub enum ArgumentKind {
@@ -85,9 +85,9 @@ impl Argument {
 }
 
 impl ArgumentKind {
-    /// Returns the kind of argument that the setter with this number takes.
+    /// Returns the kind of argument that the setter with the given number takes.
     ///
-    /// If no setter has the number, returns [`ArgumentKind::OptionalByte`].
+    /// If no setter has that number, returns [`ArgumentKind::OptionalByte`].
     #[must_use]
     #[doc(hidden)]
     pub const fn of(number: u8) -> ArgumentKind {
@@ -129,8 +129,8 @@ impl FlagSetter {
 }
 
 impl Edit {
-    /// Returns the edit that calls the setter with this number and passes `argument`. Returns `None` if no setter has
-    /// the number, or if the setter takes another kind of argument.
+    /// Returns the edit that calls the setter with the given number and passes `argument`. Returns `None` if no setter
+    /// has that number, or if the setter takes another kind of argument.
     #[must_use]
     #[doc(hidden)]
     pub const fn new(number: u8, argument: Argument) -> Option<Edit> {
@@ -200,7 +200,7 @@ impl Edit {
         self.argument().byte()
     }
 
-    /// Returns the edit that calls the setter with this number, or `None` if no setter has the number.
+    /// Returns the edit that calls the setter with the given number, or `None` if no setter has that number.
     /// [`ArgumentKind::argument_of_byte`] converts `byte` to the argument.
     #[must_use]
     #[doc(hidden)]
@@ -208,7 +208,7 @@ impl Edit {
         Edit::new(number, ArgumentKind::of(number).argument_of_byte(byte))
     }
 
-    /// Returns the edit that calls the setter with this name, or `None` if no setter has the name.
+    /// Returns the edit that calls the setter with the given name, or `None` if no setter has that name.
     /// [`ArgumentKind::argument_of_byte`] converts `byte` to the argument.
     #[must_use]
     #[doc(hidden)]
@@ -231,7 +231,7 @@ impl Edit {
     }
 }
 
-/// Returns the name of the setter with this number, or `None` if no setter has the number.
+/// Returns the name of the setter with the given number, or `None` if no setter has that number.
 #[must_use]
 #[doc(hidden)]
 pub const fn setter_name_of_number(number: u8) -> Option<&'static str> {
@@ -242,7 +242,7 @@ pub const fn setter_name_of_number(number: u8) -> Option<&'static str> {
     }
 }
 
-/// Returns the number of the setter with this name, or `None` if no setter has the name.
+/// Returns the number of the setter with the given name, or `None` if no setter has that name.
 #[must_use]
 #[doc(hidden)]
 pub fn setter_number_of_name(name: &[u8]) -> Option<u8> {

@@ -1,6 +1,6 @@
 // Made by rust/tools/erase.py from crates/lexical_util/src/edits/text.rt: change that file.
 
-//! Settings, which are edits as text: `NAME=VALUE`.
+//! Settings, which are edits written as text: `NAME=VALUE`.
 
 use crate::digit::char_to_digit;
 use crate::edits::numbers::{DIGIT_SEPARATOR, EXPONENT_BASE, MANTISSA_RADIX};
@@ -10,7 +10,7 @@ use crate::format_builder::{NonZeroU8, OptionU8};
 use crate::numeral::read_numeral;
 use core::fmt;
 
-/// The reason why a text is not a setting. A setting has the form `NAME=VALUE`. `NAME` is the name of a setter, and
+/// The error for a text that is not a setting. A setting has the form `NAME=VALUE`. `NAME` is the name of a setter, and
 /// `VALUE` is a value that the setter takes.
 ///
 /// The error message never repeats any part of the text, since the text may come from an untrusted file.
@@ -19,7 +19,7 @@ pub enum SettingError {
     /// The text has no `=`.
     #[doc(hidden)]
     NoEquals,
-    /// No setter has the name.
+    /// No setter has the name before the `=`.
     #[doc(hidden)]
     UnknownName,
     /// The setter with this number does not take the value.

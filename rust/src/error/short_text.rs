@@ -9,7 +9,7 @@ use core::fmt;
 #[derive(Clone, Copy)]
 #[doc(hidden)]
 pub enum Piece {
-    /// A text, written unchanged.
+    /// Text that is written unchanged.
     Words(&'static str),
     /// A number, written in decimal.
     Number(usize),

@@ -1,10 +1,10 @@
 // Made by rust/tools/erase.py from crates/lexical_base/src/error/sink.rt: change that file.
 
-//! The trait [`Sink`]: a target into which a text is put, piece by piece.
+//! The trait [`Sink`]: a target into which text is put, piece by piece.
 
 use core::fmt;
 
-/// A target into which a text is put, piece by piece, such as a formatter or a buffer of your own.
+/// A target into which text is put, piece by piece, such as a formatter or a buffer of your own.
 ///
 /// Each implementation defines how a piece changes the sink, and what it means for the sink to have failed. A caller
 /// knows that a sink has failed only after a call to [`Sink::put`] that returned an error, and only until the next

@@ -25,14 +25,16 @@ impl NumberFormatBuilder {
         self.bytes[MANTISSA_RADIX]
     }
 
-    /// Returns the [exponent base][Self::exponent_base], or `None` if it follows the mantissa radix.
+    /// Returns the [exponent base][Self::exponent_base], or `None` if it is absent. In that case, the mantissa radix is
+    /// used in its place.
     #[must_use]
     #[inline(always)]
     pub const fn get_exponent_base(&self) -> OptionU8 {
         NonZeroU8::new(self.bytes[EXPONENT_BASE])
     }
 
-    /// Returns the [exponent radix][Self::exponent_radix], or `None` if it follows the mantissa radix.
+    /// Returns the [exponent radix][Self::exponent_radix], or `None` if it is absent. In that case, the mantissa radix
+    /// is used in its place.
     #[must_use]
     #[inline(always)]
     pub const fn get_exponent_radix(&self) -> OptionU8 {

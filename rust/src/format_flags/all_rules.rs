@@ -1,6 +1,7 @@
 // Made by rust/tools/erase.py from crates/lexical_flags/src/format_flags/all_rules.rt: change that file.
 
-//! The type [`Rule`] of the rules for format words, and the list of the rules that a word breaks.
+//! The type [`Rule`], whose values are the rules for format words, and a function that returns the rules that a word
+//! breaks.
 
 use crate::error::Error;
 use crate::format_flags::rules::*;
@@ -11,8 +12,8 @@ use crate::format_flags::*;
 /// The variants are in the order in which the rules are checked. The name of each variant states the condition that the
 /// rule imposes. A byte of 0 is *absent*. *Punctuation* is any byte that
 /// [`is_valid_ascii`][crate::ascii::is_valid_ascii] accepts, except signs (`+` and `-`) and [digits][is_digit]
-/// of the format. `Rule` does not implement `Display`. A [`Reason`][crate::reasons::Reason] explains why a word
-/// breaks a rule.
+/// of the format. `Rule` does not implement `Display`. To explain why a word breaks a rule, print a
+/// [`Reason`][crate::reasons::Reason].
 #[derive(Debug, Clone, Copy, PartialEq, Eq, Hash, PartialOrd, Ord)]
 #[non_exhaustive]
 pub enum Rule {
@@ -40,8 +41,8 @@ pub enum Rule {
     SpecialCaseFlagsAgree,
     /// Digit separators are allowed in special values (NaN and infinity) only if special values are allowed.
     SpecialSeparatorFlagsAgree,
-    /// Consecutive digit separators are allowed in the integer only if a digit separator is allowed between, before
-    /// or after its digits.
+    /// Consecutive digit separators are allowed in the integer part only if a digit separator is allowed
+    /// between, before or after its digits.
     IntegerConsecutiveIsAllowed,
     /// Consecutive digit separators are allowed in the fraction only if a digit separator is allowed between, before
     /// or after its digits.
@@ -135,8 +136,8 @@ impl Rule {
     }
 
     /// Returns the mask of the bits that this rule reads. For [`Rule::ReservedBitsAreZero`], these are the reserved
-    /// bits. For every other rule, they are the bits of the fields on which the rule depends. Two words that agree in
-    /// these bits both keep the rule or both break it.
+    /// bits. For every other rule, they are the bits of the fields on which the rule depends. Two words that have the
+    /// same values in these bits either both keep the rule or both break it.
     #[must_use]
     pub const fn mask(self) -> u128 {
         match self {
@@ -166,8 +167,8 @@ impl Rule {
     }
 }
 
-/// Returns the rules that `format` breaks. Each entry is `Some` of the rule at the same index in [`RULES`] if
-/// the word breaks that rule, and `None` otherwise.
+/// Returns the rules that `format` breaks. Each entry holds the rule at the same index in [`RULES`] if the word breaks
+/// this rule, and is `None` otherwise.
 ///
 /// `broken_rules(format).into_iter().flatten()` iterates over the broken rules. The error of the first one is the
 /// result of [`format_error_impl`].

@@ -1,6 +1,6 @@
 // Made by rust/tools/erase.py from crates/lexical_flags/src/format_flags/rules.rt: change that file.
 
-//! The functions that test the rules, and the error of the first rule that a word breaks.
+//! Functions that test the rules, and functions that return the error of the first rule that a word breaks.
 //!
 //! A word that breaks no rule is *lawful*. The view of a word calls it *valid*, as `lexical-util` does.
 
@@ -39,8 +39,8 @@ const fn larger(a: u32, b: u32) -> u32 {
 
 /// Returns whether `byte` is a digit of the mantissa radix or of the exponent radix of `format`.
 ///
-/// Letters of either case are digits: in radix 16, both `f` and `F` are. If the exponent radix is 0, the mantissa
-/// radix replaces it. The exponent base does not affect the result. `format` need not be [lawful][Rule].
+/// The case of a letter does not matter: in radix 16, both `f` and `F` are digits. If the exponent radix is 0, the
+/// mantissa radix replaces it. The exponent base does not affect the result. `format` need not be [lawful][Rule].
 #[must_use]
 #[inline(always)]
 pub const fn is_digit(format: u128, byte: u8) -> bool {
@@ -190,8 +190,8 @@ pub const fn is_valid_punctuation(format: u128) -> bool {
             && roles_disjoint(prefix, prefix_case, suffix, suffix_case))
 }
 
-/// Returns, for each pair of the digit separator, the base prefix and the base suffix, whether the two share a byte.
-/// The pairs are, in this order, separator and prefix, separator and suffix, and prefix and suffix. A word breaks
+/// Returns which pairs of the digit separator, the base prefix and the base suffix clash, that is, match the same byte.
+/// The pairs are, in this order: separator and prefix, separator and suffix, prefix and suffix. A word breaks
 /// [`Rule::PunctuationDiffers`] if and only if some entry is `true`.
 #[must_use]
 #[doc(hidden)]
@@ -219,16 +219,16 @@ const fn is_disjoint_from_format_roles(format: u128, byte: u8, case_sensitive: b
         && roles_disjoint_fast(byte, case_sensitive, base_suffix(format), suffix_case)
 }
 
-/// Returns whether `exponent` can be the exponent character and `decimal_point` the decimal point in
-/// numbers of this format.
+/// Returns whether `exponent` can be the exponent character, and `decimal_point` the decimal point, in numbers of this
+/// format.
 ///
 /// Each must be a byte that [`is_valid_ascii`][crate::ascii::is_valid_ascii] accepts and that is neither a sign
-/// (`+` or `-`) nor a [digit][is_digit] of `format`. So neither may be 0. Neither may equal the other, the digit
-/// separator, the base prefix or the base suffix. If the exponent character is a letter, it matches both cases of that
-/// letter unless [`CASE_SENSITIVE_EXPONENT`] is set. The base prefix and the base suffix are compared as in
-/// [`is_valid_punctuation`]. The decimal point is always case-sensitive. Every [lawful][Rule] format accepts at least
-/// one pair. With a pair that it accepts, no byte has two meanings in a number. `lexical-util` compares the raw bytes,
-/// so a letter there matches only its own case.
+/// (`+` or `-`) nor a [digit][is_digit] of `format`. So neither may be 0. The two must differ from each other, and from
+/// the digit separator, the base prefix and the base suffix. If the exponent character is a letter, it matches both
+/// cases of that letter unless [`CASE_SENSITIVE_EXPONENT`] is set. The base prefix and the base suffix are compared as
+/// in [`is_valid_punctuation`]. The decimal point is always case-sensitive. Every [lawful][Rule] format accepts at
+/// least one pair. With such a pair, no byte has two meanings in a number. `lexical-util` compares the raw bytes, so
+/// there a letter matches only its own case.
 ///
 /// ```
 /// use peltzivar::format::{is_valid_options_punctuation, STANDARD};
@@ -243,8 +243,9 @@ const fn is_disjoint_from_format_roles(format: u128, byte: u8, case_sensitive: b
 /// For all arguments:
 ///
 /// - The result is true if and only if both bytes fit the format ([`OptionsFit`](crate::definitions#optionsfit)).
-/// - For a [`Lawful`](crate::definitions#lawful) word this holds if and only if both bytes are allowed ASCII, and
-///   no byte plays two of the seven roles ([`OptionsHaveOneRole`](crate::definitions#optionshaveonerole)).
+/// - For a [`Lawful`](crate::definitions#lawful) word, the result is true if and only if both bytes are allowed
+///   ASCII, and no byte plays two of the seven roles
+///   ([`OptionsHaveOneRole`](crate::definitions#optionshaveonerole)).
 /// - For each [`Lawful`](crate::definitions#lawful) word there is a pair of bytes that fits
 ///   ([`SomeOptionsFit`](crate::definitions#someoptionsfit)).
 ///
@@ -268,10 +269,13 @@ pub const fn is_valid_options_punctuation(format: u128, exponent: u8, decimal_po
 /// Returns the error that explains why [`is_valid_options_punctuation`] rejects an exponent character and a decimal
 /// point, or `Success` if it accepts them.
 ///
-/// 1. If the exponent character is a digit, a sign, or not allowed ASCII, the result is `InvalidExponentSymbol`.
-/// 2. Otherwise, if the decimal point is a digit, a sign, or not allowed ASCII, the result is `InvalidDecimalPoint`.
-/// 3. Otherwise, if one of them equals the other, the digit separator, the base prefix or the base suffix, the result
-///    is `InvalidPunctuation`.
+/// 1. If the exponent character is a digit, a sign, or a byte that
+///    [`is_valid_ascii`][crate::ascii::is_valid_ascii] rejects, the result is `InvalidExponentSymbol`.
+/// 2. Otherwise, if the decimal point is a digit, a sign, or a byte that
+///    [`is_valid_ascii`][crate::ascii::is_valid_ascii] rejects, the result is `InvalidDecimalPoint`.
+/// 3. Otherwise, if the two match the same byte, or if either matches the same byte as the digit separator, the base
+///    prefix or the base suffix, the result is `InvalidPunctuation`. [`is_valid_options_punctuation`] describes which
+///    letters match both cases.
 #[must_use]
 #[doc(hidden)]
 pub const fn options_error(format: u128, exponent: u8, decimal_point: u8) -> Error {
@@ -429,10 +433,10 @@ const fn first_broken(format: u128) -> Error {
     first_broken_reserved(format)
 }
 
-/// Returns the error of the first radix of `format` that is not between 2 and 36, or `Success` if all are.
+/// Returns the error of the first radix of `format` that is not between 2 and 36, or `Success` if all of them are.
 ///
-/// The order is mantissa radix, exponent base, exponent radix. If the exponent base or the exponent radix is 0, the
-/// mantissa radix is tested instead.
+/// The radixes are tested in this order: the mantissa radix, the exponent base, the exponent radix. If the exponent
+/// base or the exponent radix is 0, the mantissa radix is tested instead.
 #[must_use]
 #[inline(always)]
 #[doc(hidden)]
@@ -468,7 +472,7 @@ pub const fn radix_error_impl(format: u128) -> Error {
 /// 11. [`NO_SPECIAL`] and [`CASE_SENSITIVE_SPECIAL`] are not both set: `InvalidSpecial`.
 /// 12. [`NO_SPECIAL`] and [`SPECIAL_DIGIT_SEPARATOR`] are not both set: `InvalidSpecial`.
 /// 13. [`INTEGER_CONSECUTIVE_DIGIT_SEPARATOR`] is set only if an internal, leading or trailing separator flag of the
-///     integer is set: `InvalidConsecutiveIntegerDigitSeparator`.
+///     integer part is set: `InvalidConsecutiveIntegerDigitSeparator`.
 /// 14. [`FRACTION_CONSECUTIVE_DIGIT_SEPARATOR`] is set only if an internal, leading or trailing separator flag of the
 ///     fraction is set: `InvalidConsecutiveFractionDigitSeparator`.
 /// 15. [`EXPONENT_CONSECUTIVE_DIGIT_SEPARATOR`] is set only if an internal, leading or trailing separator flag of the
@@ -482,11 +486,11 @@ pub const fn format_error_impl(format: u128) -> Error {
     first_broken(format)
 }
 
-/// Returns `format` if it is lawful. Use it with `?`: `let format = check(format)?;`.
+/// Returns `format` if it is lawful. This function can be used with `?`: `let format = check(format)?;`.
 ///
 /// # Errors
 ///
-/// Returns the error of the first rule that `format` breaks ([`format_error_impl`]) if `format` is not lawful. This
+/// If `format` is not lawful, returns the error of the first rule that it breaks, as [`format_error_impl`] does. This
 /// error is never `Success`.
 #[inline(always)]
 #[doc(hidden)]

@@ -1,6 +1,6 @@
 // Made by rust/tools/erase.py from crates/lexical_util/src/reasons/mask.rt: change that file.
 
-//! The rules that a reason breaks, and the bits that the reason blames.
+//! The rules that a word breaks because of a reason, and the bits that the reason blames.
 
 use crate::edits::{Edit, FlagSetter};
 use crate::format_flags as flags;
@@ -8,7 +8,7 @@ use crate::format_flags::Rule;
 use crate::reasons::{some_if, Reason};
 
 impl Reason {
-    /// Returns the first rule that is broken for this reason.
+    /// Returns the first rule that a word breaks because of this reason.
     #[must_use]
     pub const fn rule(&self) -> Rule {
         match self {
@@ -24,7 +24,8 @@ impl Reason {
         }
     }
 
-    /// Returns the rules that are broken for this reason, in the order of the rules. A slot without a rule is `None`.
+    /// Returns the rules that a word breaks because of this reason, in the order in which rules are checked. A slot
+    /// without a rule is `None`.
     #[must_use]
     #[doc(hidden)]
     pub const fn rules(&self) -> [Option<Rule>; 3] {
@@ -45,9 +46,9 @@ impl Reason {
         }
     }
 
-    /// Returns whether `rule` is broken for this reason. If the mantissa radix is out of range and the exponent base or
-    /// the exponent radix is absent, the rule for the absent byte is broken too. For every other reason, only one rule
-    /// is broken.
+    /// Returns whether a word breaks `rule` because of this reason. If the mantissa radix is out of range and the
+    /// exponent base or the exponent radix is absent, the rule for the absent byte is broken too. Every other reason
+    /// explains only one broken rule.
     #[must_use]
     pub const fn breaks(&self, rule: Rule) -> bool {
         match self {
@@ -67,13 +68,13 @@ impl Reason {
         }
     }
 
-    /// Returns the mask of the bits that the reason blames. The reason applies to every format word that has the same
-    /// values in these bits.
+    /// Returns the mask of the bits that the reason blames: the bits on which it depends. The reason applies to every
+    /// format word that has the same values in these bits.
     ///
     /// The mask has the bits of every byte and every flag in the variant. For [`Reason::NeedsPosition`], it has the
     /// bits of all flags that allow digit separators in the same part of the number. If the word was built from a list
-    /// of settings, a setting is to blame if its [`Edit::mask`] shares a bit with this mask, and if this bit is not
-    /// overridden by a later setting.
+    /// of settings, a setting is to blame if its [`Edit::mask`] shares a bit with this mask, and if no later setting
+    /// overrides this bit.
     #[must_use]
     pub const fn mask(&self) -> u128 {
         match self {

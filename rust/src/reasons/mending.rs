@@ -11,15 +11,15 @@ use crate::reasons::{reasons_of, Reason};
 #[doc(hidden)]
 pub const MAX_MENDING_EDITS: usize = 3;
 
-/// Returns the edits that mend one field of a format word, and their number. The edits remove a reason why the word
-/// breaks a rule. They are at the start of the array, and the other elements have no meaning. The number is 0 if no
-/// edits of the field remove the reason.
+/// Returns the edits that mend one field of a format word, and their number. The edits remove `reason`, because of
+/// which the word breaks a rule. They are at the start of the array, and the other elements have no meaning. The number
+/// is 0 if no edits of the field remove the reason.
 ///
 /// `field` is the edit that sets the field to its value in the word. The returned edits clear a flag or an optional
 /// byte, or they set the mantissa radix to 10 unless it is 10 already. If they set the mantissa radix, an absent
-/// exponent base or exponent radix stays absent. Apply the edits with [`edit_word`]. The new word keeps the rules that
-/// the old word kept, and the rules that were broken only for this reason. [`edit_word`] also drops a digit separator
-/// if no flag allows one, but that does not count as mending the separator.
+/// exponent base or exponent radix stays absent. Apply the edits with [`edit_word`]. The new word breaks no rule that
+/// the old word kept, and it no longer breaks the rules that the old word broke only because of `reason`. [`edit_word`]
+/// also drops a digit separator if no flag allows one, but that does not count as mending the separator.
 #[must_use]
 #[doc(hidden)]
 pub fn mend(format: u128, reason: &Reason, field: &Edit) -> ([Edit; MAX_MENDING_EDITS], usize) {

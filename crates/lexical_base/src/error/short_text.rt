@@ -11,7 +11,7 @@ use std::marker::Model;
 /// A piece of a [`ShortText`].
 #[derive(Clone, Copy)]
 pub enum Piece {
-    /// A text, written unchanged.
+    /// Text that is written unchanged.
     Words(&'static str),
     /// A number, written in decimal.
     Number(usize),

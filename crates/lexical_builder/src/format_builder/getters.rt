@@ -29,7 +29,8 @@ impl NumberFormatBuilder {
         self.bytes[MANTISSA_RADIX]
     }
 
-    /// Returns the [exponent base][Self::exponent_base], or `None` if it follows the mantissa radix.
+    /// Returns the [exponent base][Self::exponent_base], or `None` if it is absent. In that case, the mantissa radix is
+    /// used in its place.
     #[inline(always)]
     pub const fn get_exponent_base(&self) -> OptionU8
         ensures { result ≡ option_of_byte (self.now.byte layout.exponent_base) }
@@ -37,7 +38,8 @@ impl NumberFormatBuilder {
         NonZeroU8::new(self.bytes[EXPONENT_BASE])
     }
 
-    /// Returns the [exponent radix][Self::exponent_radix], or `None` if it follows the mantissa radix.
+    /// Returns the [exponent radix][Self::exponent_radix], or `None` if it is absent. In that case, the mantissa radix
+    /// is used in its place.
     #[inline(always)]
     pub const fn get_exponent_radix(&self) -> OptionU8
         ensures { result ≡ option_of_byte (self.now.byte layout.exponent_radix) }

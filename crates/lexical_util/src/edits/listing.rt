@@ -1,4 +1,4 @@
-//! The edits that build a word, and the test whether a builder can pack it.
+//! The edits that build a word, and a test of whether a builder can build it.
 
 ghost use Rattle.std.specs.Prelude.{◌≡◌, ◌≤◌, ◌↔◌, ◌++◌, IsTrue, List, All, length, filter, take, not, if◌then◌else◌};
 ghost use Rattle.std.specs.List.{AllZip};
@@ -36,12 +36,12 @@ const fn is_separator_allowed_or_absent(format: u128) -> bool
 /// Returns edits that give a new builder the fields of `format`, and the number of edits that are needed for this.
 ///
 /// The array has one edit for each field, which sets the field to its value in `format`. The needed edits, which change
-/// a new builder, come first. The returned number is the number of needed edits. The other edits follow. Both the
+/// a new builder, come first, and the other edits follow. The returned number is the number of needed edits. Both the
 /// needed edits and the other edits are in the order of the bits that they write.
 ///
 /// A new builder to which the needed edits are applied has exactly the fields of `format`. This is also true if all
 /// edits are applied. If [`is_built`] returns `true` for `format`, this builder packs its fields into `format`. In this
-/// case, no shorter list of single-field edits builds `format`.
+/// case, no list of single-field edits that is shorter than the list of needed edits builds `format`.
 ///
 /// In plain Rust:
 ///

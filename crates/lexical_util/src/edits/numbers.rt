@@ -62,7 +62,7 @@ pub enum Argument {
     OptionalByte(OptionU8),
 }
 
-/// The kind of argument that a setter takes: a variant of [`Argument`].
+/// The kind of argument that a setter takes. Each kind has the same name as a variant of [`Argument`].
 #[derive(Debug, Clone, Copy, PartialEq, Eq, Hash)]
 pub enum ArgumentKind {
     /// The setter takes a `bool`.
@@ -89,9 +89,9 @@ impl Argument {
 }
 
 impl ArgumentKind {
-    /// Returns the kind of argument that the setter with this number takes.
+    /// Returns the kind of argument that the setter with the given number takes.
     ///
-    /// If no setter has the number, returns [`ArgumentKind::OptionalByte`].
+    /// If no setter has that number, returns [`ArgumentKind::OptionalByte`].
     pub const fn of(number: u8) -> ArgumentKind
         ensures { result ≡ kind_of_number number }
     {
@@ -135,8 +135,8 @@ impl FlagSetter {
 }
 
 impl Edit {
-    /// Returns the edit that calls the setter with this number and passes `argument`. Returns `None` if no setter has
-    /// the number, or if the setter takes another kind of argument.
+    /// Returns the edit that calls the setter with the given number and passes `argument`. Returns `None` if no setter
+    /// has that number, or if the setter takes another kind of argument.
     pub const fn new(number: u8, argument: Argument) -> Option<Edit>
         ensures { result ≡ edit_with number argument }
     {
@@ -219,7 +219,7 @@ impl Edit {
         self.argument().byte()
     }
 
-    /// Returns the edit that calls the setter with this number, or `None` if no setter has the number.
+    /// Returns the edit that calls the setter with the given number, or `None` if no setter has that number.
     /// [`ArgumentKind::argument_of_byte`] converts `byte` to the argument.
     pub const fn from_number(number: u8, byte: u8) -> Option<Edit>
         ensures { result ≡ edit_of_number number byte }
@@ -227,7 +227,7 @@ impl Edit {
         Edit::new(number, ArgumentKind::of(number).argument_of_byte(byte))
     }
 
-    /// Returns the edit that calls the setter with this name, or `None` if no setter has the name.
+    /// Returns the edit that calls the setter with the given name, or `None` if no setter has that name.
     /// [`ArgumentKind::argument_of_byte`] converts `byte` to the argument.
     pub fn from_name(name: &str, byte: u8) -> Option<Edit>
         ensures { result ≡ edit_of_name name.now byte }
@@ -251,7 +251,7 @@ impl Edit {
     }
 }
 
-/// Returns the name of the setter with this number, or `None` if no setter has the number.
+/// Returns the name of the setter with the given number, or `None` if no setter has that number.
 pub const fn setter_name_of_number(number: u8) -> Option<&'static str>
     ensures { option_map (λ name. name.now) result ≡ setter_name_of_number number }
 {
@@ -262,7 +262,7 @@ pub const fn setter_name_of_number(number: u8) -> Option<&'static str>
     }
 }
 
-/// Returns the number of the setter with this name, or `None` if no setter has the name.
+/// Returns the number of the setter with the given name, or `None` if no setter has that name.
 pub fn setter_number_of_name(name: &[u8]) -> Option<u8>
     ensures { result ≡ setter_number_of_name name.now }
 {

@@ -1,4 +1,4 @@
-//! Settings, which are edits as text: `NAME=VALUE`.
+//! Settings, which are edits written as text: `NAME=VALUE`.
 
 ghost use Rattle.std.specs.Prelude.{◌≡◌, ◌<◌, ◌≤◌, [], Some, Ok, length};
 ghost use Rattle.std.specs.Option.{option_map, option_and_then, unwrap_or};
@@ -19,7 +19,7 @@ use lexical_base::error::{EMPTY_PIECE, Piece, ShortText};
 use lexical_builder::format_builder::{NonZeroU8, OptionU8};
 use std::fmt;
 
-/// The reason why a text is not a setting. A setting has the form `NAME=VALUE`. `NAME` is the name of a setter, and
+/// The error for a text that is not a setting. A setting has the form `NAME=VALUE`. `NAME` is the name of a setter, and
 /// `VALUE` is a value that the setter takes.
 ///
 /// The error message never repeats any part of the text, since the text may come from an untrusted file.
@@ -27,7 +27,7 @@ use std::fmt;
 pub enum SettingError {
     /// The text has no `=`.
     NoEquals,
-    /// No setter has the name.
+    /// No setter has the name before the `=`.
     UnknownName,
     /// The setter with this number does not take the value.
     BadValue(u8),

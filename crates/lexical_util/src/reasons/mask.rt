@@ -1,4 +1,4 @@
-//! The rules that a reason breaks, and the bits that the reason blames.
+//! The rules that a word breaks because of a reason, and the bits that the reason blames.
 
 ghost use Rattle.std.specs.Prelude.{◌≡◌, ◌↔◌, IsTrue};
 ghost use Rattle.lexical_util.specs.Additions.Reasons.{rule_of_reason, rules_of_reason, Breaks};
@@ -11,7 +11,7 @@ use lexical_flags::format_flags as flags;
 use lexical_flags::format_flags::Rule;
 
 impl Reason {
-    /// Returns the first rule that is broken for this reason.
+    /// Returns the first rule that a word breaks because of this reason.
     pub const fn rule(&self) -> Rule
         ensures { result ≡ rule_of_reason self.now }
     {
@@ -28,7 +28,8 @@ impl Reason {
         }
     }
 
-    /// Returns the rules that are broken for this reason, in the order of the rules. A slot without a rule is `None`.
+    /// Returns the rules that a word breaks because of this reason, in the order in which rules are checked. A slot
+    /// without a rule is `None`.
     pub const fn rules(&self) -> [Option<Rule>; 3]
         ensures { result ≡ rules_of_reason self.now }
     {
@@ -49,9 +50,9 @@ impl Reason {
         }
     }
 
-    /// Returns whether `rule` is broken for this reason. If the mantissa radix is out of range and the exponent base or
-    /// the exponent radix is absent, the rule for the absent byte is broken too. For every other reason, only one rule
-    /// is broken.
+    /// Returns whether a word breaks `rule` because of this reason. If the mantissa radix is out of range and the
+    /// exponent base or the exponent radix is absent, the rule for the absent byte is broken too. Every other reason
+    /// explains only one broken rule.
     pub const fn breaks(&self, rule: Rule) -> bool
         ensures { IsTrue result ↔ Breaks self.now rule }
     {
@@ -72,13 +73,13 @@ impl Reason {
         }
     }
 
-    /// Returns the mask of the bits that the reason blames. The reason applies to every format word that has the same
-    /// values in these bits.
+    /// Returns the mask of the bits that the reason blames: the bits on which it depends. The reason applies to every
+    /// format word that has the same values in these bits.
     ///
     /// The mask has the bits of every byte and every flag in the variant. For [`Reason::NeedsPosition`], it has the
     /// bits of all flags that allow digit separators in the same part of the number. If the word was built from a list
-    /// of settings, a setting is to blame if its [`Edit::mask`] shares a bit with this mask, and if this bit is not
-    /// overridden by a later setting.
+    /// of settings, a setting is to blame if its [`Edit::mask`] shares a bit with this mask, and if no later setting
+    /// overrides this bit.
     pub const fn mask(&self) -> u128
         ensures { result ≡ mask_of_reason self.now }
     {

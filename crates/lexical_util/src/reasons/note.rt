@@ -26,7 +26,8 @@ pub const MAX_NOTES: usize = 3;
 
 /// A note on a field that is set but has no effect on any number. The rules may still read the field.
 ///
-/// Other fields have no notes. For example, an exponent flag has no note, even if the format forbids exponents.
+/// Only the fields that the variants name can have a note. For example, an exponent flag has no note, even if the
+/// format forbids exponents.
 #[derive(Debug, Clone, Copy, PartialEq, Eq)]
 pub enum Note {
     /// The digit separator is set, but no flag allows one. A builder drops it when it packs the fields, and the normal
@@ -59,7 +60,7 @@ impl Note {
 
 /// Returns the notes on a format word, each in its own slot. A slot without a note is `None`.
 ///
-/// A note is not an error, so a lawful word may have notes. A field that a [`Reason`] blames has no note.
+/// A note is not an error, so a lawful word may have notes. A field that a reason [blames][Reason] has no note.
 pub const fn notes(format: u128) -> [Option<Note>; MAX_NOTES]
     ensures each { result ≡ map if_applicable (notes_beside format (raw format)) }
 
