@@ -136,11 +136,11 @@ def phrases():
         "a 128-bit word",
         f"{len(flags)} flags (bits {ranges(flags)}) and {count} bytes: {', '.join(ends[:-1])} and {ends[-1]}.",
         f"The flags in bits {ranges(separators)} are the digit separator flags",
-        f"all of the {len(rules())} rules below",
+        f"all {len(rules())} rules below",
         "(major << 16) | (minor << 8) | patch",
         "bits 0 to 63 are in `low`, and bits 64 to 127 are in `high`",
         "has mantissa radix 10",
-        f"which has {len(flags)} flags and {count} bytes",
+        f"the number of fields of a word: {len(flags)} flags and {count} bytes",
         f"one of {last} errors: 1 to {parse} are parse errors, {parse + 1} to {formats} are format errors, "
         f"and {formats + 1} to {last} are option errors",
         "Two rules share PELTZIVAR_INVALID_SPECIAL",

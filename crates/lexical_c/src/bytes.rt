@@ -40,7 +40,7 @@ pub extern "C" fn peltzivar_is_valid_letter_slice(bytes: &[u8]) -> bool
     ascii::is_valid_letter_slice(bytes)
 }
 
-/// Returns the value of a byte as a digit of a radix, or `u32::MAX` if the byte is not a digit of the radix.
+/// Returns the value of a byte as a digit in a radix, or `u32::MAX` if the byte is not a digit in the radix.
 #[unsafe(no_mangle)]
 pub extern "C" fn peltzivar_char_to_digit(byte: u8, radix: u32) -> u32
     ensures { result ≡ unwrap_or (digit_of byte radix) (2 ^ 32 - 1) }
@@ -48,7 +48,7 @@ pub extern "C" fn peltzivar_char_to_digit(byte: u8, radix: u32) -> u32
     digit_or_max(digit::char_to_digit(byte, radix))
 }
 
-/// Returns whether a byte is a digit of a radix.
+/// Returns whether a byte is a digit in a radix.
 #[unsafe(no_mangle)]
 pub extern "C" fn peltzivar_char_is_digit(byte: u8, radix: u32) -> bool
     ensures { IsTrue result ↔ IsSome (digit_of byte radix) }
@@ -77,7 +77,7 @@ pub extern "C" fn peltzivar_char_to_digit_const(byte: u8, radix: u32) -> u32
     digit_or_max(digit::char_to_digit_const(byte, radix))
 }
 
-/// Returns the value of a byte that is a digit of the radix, and an unspecified number for any other byte.
+/// Returns the value of a byte that is a digit in the radix, and an unspecified number for any other byte.
 #[unsafe(no_mangle)]
 pub extern "C" fn peltzivar_char_to_valid_digit_const(byte: u8, radix: u32) -> u32
     ensures small { radix ≤ 10 → result ≡ (byte + 208) % 256 }

@@ -2,10 +2,10 @@
 //!
 //! The exports make the functions of `lexical_util` available in C. Their clauses state the results with the
 //! definitions of `lexical_util`, and do not repeat what the laws of `lexical_util` derive from these definitions. No
-//! export has a `requires` clause. If no setter, outcome or digit has the number that is passed, an export returns
-//! `false` or a reserved value, or it writes an empty text. It then leaves the words and fields of the caller
-//! unchanged. The types in C state the duties of the caller: each pointer points to a valid value, or to an array of as
-//! many values as the length states.
+//! export has a `requires` clause. If no setter, error or digit has the number that is passed, an export returns
+//! `false` or a reserved value, or it writes an empty string. It then leaves the words and fields of the caller
+//! unchanged. The caller must pass pointers to valid values, or to arrays with at least as many values as the length
+//! states.
 #![tactic(auto)]
 
 mod bytes;

@@ -1,4 +1,4 @@
-//! Outcomes and their texts. In C, an outcome is a number.
+//! Errors and their texts. In C, an error is a number, and so is success.
 
 ghost use Rattle.std.specs.Prelude.{◌≡◌, ◌≢◌, ◌↔◌, ◌<◌, ℕ, [], Err, IsSome, IfSome, IfErr};
 ghost use Rattle.std.specs.Result.{OkIff};
@@ -44,8 +44,8 @@ pub fn write_if_lawful(word: Result<u128, Error>, out: &mut Word) -> ErrorNumber
     }
 }
 
-/// Writes the description of the error with the given number, or an empty text if no error has that number. Success has
-/// the number 0.
+/// Writes the description of the error with the given number, or an empty string if no error has that number. Success
+/// has the number 0.
 #[unsafe(no_mangle)]
 pub extern "C" fn peltzivar_description(error: ErrorNumber, text: &mut [u8]) -> usize
     ensures text { error < outcome_count
@@ -58,7 +58,7 @@ pub extern "C" fn peltzivar_description(error: ErrorNumber, text: &mut [u8]) -> 
     }
 }
 
-/// Writes the text that `Display` prints for the error with the given number, or an empty text if no error has that
+/// Writes the text that `Display` prints for the error with the given number, or an empty string if no error has that
 /// number. Success has the number 0. A parse error has the index `index`.
 #[unsafe(no_mangle)]
 pub extern "C" fn peltzivar_text(error: ErrorNumber, index: usize, text: &mut [u8]) -> usize
@@ -72,7 +72,8 @@ pub extern "C" fn peltzivar_text(error: ErrorNumber, index: usize, text: &mut [u
     }
 }
 
-// Returns the outcome with this number, or `None` if no outcome has this number. A parse error has the index `index`.
+// Returns the error with the given number, or `None` if no error has that number. Success has the number 0. A parse
+// error has the index `index`.
 fn outcome(number: ErrorNumber, index: usize) -> Option<Error>
     ensures defined { IsSome result ↔ (number < outcome_count) }
     ensures number { IfSome result (λ error. error_number error ≡ number) }

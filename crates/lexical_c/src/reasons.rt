@@ -22,7 +22,7 @@ use lexical_util::reasons::{
 };
 
 /// Writes one of the reasons why a word breaks a rule. There are three slots, with the indices 0 to 2. Writes an empty
-/// text if the slot is empty or no rule has this number.
+/// string if the slot is empty or `rule` is not the number of a rule.
 #[unsafe(no_mangle)]
 pub extern "C" fn peltzivar_reason(format: Word, rule: u8, index: u8, text: &mut [u8]) -> usize
     ensures text { IfSome (reason_at (rule_of rule) format index)
@@ -38,7 +38,7 @@ pub extern "C" fn peltzivar_reason(format: Word, rule: u8, index: u8, text: &mut
     }
 }
 
-/// Writes the reason in a slot of a word. There are 24 slots, with the indices 0 to 23. Writes an empty text if the
+/// Writes the reason in a slot of a word. There are 24 slots, with the indices 0 to 23. Writes an empty string if the
 /// slot is empty.
 #[unsafe(no_mangle)]
 pub extern "C" fn peltzivar_word_reason(format: Word, index: u8, text: &mut [u8]) -> usize
@@ -51,7 +51,7 @@ pub extern "C" fn peltzivar_word_reason(format: Word, index: u8, text: &mut [u8]
     }
 }
 
-/// Returns a mask of the bits that the reason in a slot blames, or 0 if the slot is empty.
+/// Returns a mask of the bits on which the reason in a slot depends, or 0 if the slot is empty.
 #[unsafe(no_mangle)]
 pub extern "C" fn peltzivar_word_reason_mask(format: Word, index: u8) -> Word
     ensures mask { IfSome (word_reason_at format index) (λ reason. result ≡ mask_of_reason reason) }
@@ -76,8 +76,8 @@ pub extern "C" fn peltzivar_word_reason_rule(format: Word, index: u8) -> u8
     }
 }
 
-/// Returns whether a word breaks a rule for the reason in a slot, or `false` if the slot is empty or no rule has this
-/// number.
+/// Returns whether a word breaks a rule for the reason in a slot, or `false` if the slot is empty or `rule` is not the
+/// number of a rule.
 #[unsafe(no_mangle)]
 pub extern "C" fn peltzivar_word_reason_breaks(format: Word, index: u8, rule: u8) -> bool
     ensures { IsTrue result ↔ BreaksAt (word_reason_at format index) (rule_of rule) }
@@ -85,8 +85,8 @@ pub extern "C" fn peltzivar_word_reason_breaks(format: Word, index: u8, rule: u8
     breaks_at(word_reason_at(format, index), rule_of(rule))
 }
 
-/// Writes the edits that mend a field for the reason in a slot, and returns the number of these edits. If the number is
-/// 0, writes nothing.
+/// Writes edits of a field that mend a word for the reason in a slot, and returns the number of these edits. If the
+/// number is 0, writes nothing.
 #[unsafe(no_mangle)]
 pub extern "C" fn peltzivar_word_reason_mend(
     format: Word,
@@ -116,7 +116,7 @@ pub extern "C" fn peltzivar_word_reason_mend(
     count
 }
 
-/// Writes the note on fields in a slot. There are three slots, with the indices 0 to 2. Writes an empty text if the
+/// Writes the note on fields in a slot. There are three slots, with the indices 0 to 2. Writes an empty string if the
 /// slot is empty. This function takes fields rather than a word, since packing drops a digit separator that no flag
 /// allows.
 #[unsafe(no_mangle)]

@@ -111,7 +111,7 @@ pub extern "C" fn peltzivar_options_error(
     error_number(flags::options_error(format.number(), exponent, decimal_point))
 }
 
-/// Returns whether a word keeps the rule with this number, or `false` if no rule has this number.
+/// Returns whether a word keeps a rule, or `false` if `rule` is not the number of a rule.
 #[unsafe(no_mangle)]
 pub extern "C" fn peltzivar_keeps_rule(format: Word, rule: u8) -> bool
     ensures kept { IfSome (rule_of rule) (λ known. IsTrue result ↔ Holds known format) }
@@ -123,8 +123,8 @@ pub extern "C" fn peltzivar_keeps_rule(format: Word, rule: u8) -> bool
     }
 }
 
-/// Returns the number of the error of a word that breaks this rule and no rule before it, or 0 if no rule has this
-/// number.
+/// Returns the number of the error of a rule: the error of a word that breaks the rule and no rule before it. Returns 0
+/// if `rule` is not the number of a rule.
 #[unsafe(no_mangle)]
 pub extern "C" fn peltzivar_rule_error(rule: u8) -> ErrorNumber
     ensures error { IfSome (rule_of rule) (λ known. result ≡ error_number (error_of known)) }
@@ -136,7 +136,7 @@ pub extern "C" fn peltzivar_rule_error(rule: u8) -> ErrorNumber
     }
 }
 
-/// Returns a mask of the bits that a rule reads, or 0 if no rule has this number.
+/// Returns a mask of the bits that determine whether a word keeps a rule, or 0 if `rule` is not the number of a rule.
 #[unsafe(no_mangle)]
 pub extern "C" fn peltzivar_rule_mask(rule: u8) -> Word
     ensures mask { IfSome (rule_of rule) (λ known. result ≡ mask_read known) }
@@ -189,7 +189,7 @@ pub extern "C" fn peltzivar_radix_from_flags(format: Word, mask: Word, shift: u3
     }
 }
 
-/// Returns the rule with this number, or `None` if no rule has this number. The number of a rule is its index in the
+/// Returns the rule with a given number, or `None` if no rule has this number. The number of a rule is its index in the
 /// order of the rules.
 pub fn rule_of(number: u8) -> Option<Rule>
     ensures { result ≡ rule_of number }

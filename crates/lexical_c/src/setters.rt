@@ -1,4 +1,4 @@
-//! The names of setters, and settings as text. In C, a setter is a number.
+//! The names of setters, and settings as strings. In C, a setter is a number.
 
 ghost use Rattle.std.specs.Prelude.{◌≡◌, [], None, Err, IfSome, IfOk, IfErr, unwrap_or};
 ghost use Rattle.std.specs.Str.{IsUtf8};
@@ -12,7 +12,7 @@ use crate::texts::{write_nothing, write_short_text, write_text};
 use crate::words::{NumberedEdit, Word};
 use lexical_util::edits::{Edit, SettingError, setter_name_of_number, setter_number_of_name};
 
-/// Writes the name of a setter, or an empty text if no setter has this number.
+/// Writes the name of a setter, or an empty string if `setter` is not the number of a setter.
 #[unsafe(no_mangle)]
 pub extern "C" fn peltzivar_setter_name(setter: u8, text: &mut [u8]) -> usize
     ensures text { IfSome (setter_name_of_number setter) (λ name. IsWritten name result text.old text.new) }
@@ -24,7 +24,7 @@ pub extern "C" fn peltzivar_setter_name(setter: u8, text: &mut [u8]) -> usize
     }
 }
 
-/// Returns the number of the setter with this name, or 255 if no setter has this name.
+/// Returns the number of the setter with a given name, or 255 if no setter has this name.
 #[unsafe(no_mangle)]
 pub extern "C" fn peltzivar_setter_of_name(name: &[u8]) -> u8
     ensures { result ≡ unwrap_or (setter_number_of_name name.now) 255 }
@@ -32,8 +32,8 @@ pub extern "C" fn peltzivar_setter_of_name(name: &[u8]) -> u8
     setter_number_of_name(name).unwrap_or(255)
 }
 
-/// Parses a text. If the text is a setting `NAME=VALUE`, writes its edit and returns 0. Otherwise, writes nothing and
-/// returns the number of the error, which is between 1 and 4.
+/// Parses a string. If the string is a setting `NAME=VALUE`, writes its edit and returns 0. Otherwise, writes
+/// nothing and returns the number of the error, which is between 1 and 4.
 #[unsafe(no_mangle)]
 pub extern "C" fn peltzivar_edit_of_text(text: &[u8], out: &mut NumberedEdit) -> u32
     ensures edit { IsUtf8 text.now → IfOk (edit_from_text text.now)
@@ -51,8 +51,7 @@ pub extern "C" fn peltzivar_edit_of_text(text: &[u8], out: &mut NumberedEdit) ->
     }
 }
 
-/// Writes the reason why [`peltzivar_edit_of_text`] does not accept a text, or an empty text if the function accepts
-/// it.
+/// Writes the reason why [`peltzivar_edit_of_text`] rejects a string, or an empty string if the function accepts it.
 #[unsafe(no_mangle)]
 pub extern "C" fn peltzivar_setting_error(text: &[u8], to: &mut [u8]) -> usize
     ensures refused { IsUtf8 text.now → IfErr (edit_from_text text.now)
@@ -66,7 +65,7 @@ pub extern "C" fn peltzivar_setting_error(text: &[u8], to: &mut [u8]) -> usize
     }
 }
 
-// Parses a text as an edit. If the text is not UTF-8, returns `UnknownName`, since no setter has such a name.
+// Parses a string as an edit. If the string is not UTF-8, returns `UnknownName`, since no setter has such a name.
 fn edit_from_bytes(text: &[u8]) -> Result<Edit, SettingError>
     ensures edit { IsUtf8 text.now → result ≡ edit_from_text text.now }
     ensures no_text { (IsUtf8 text.now → ⊥) → result ≡ Err UnknownName }
@@ -101,7 +100,7 @@ pub extern "C" fn peltzivar_edit_mask(edit: NumberedEdit) -> Word
     }
 }
 
-/// Writes an edit as `NAME=VALUE`, or an empty text if the edit has an unknown setter.
+/// Writes an edit as `NAME=VALUE`, or an empty string if the edit has an unknown setter.
 #[unsafe(no_mangle)]
 pub extern "C" fn peltzivar_text_of_edit(edit: NumberedEdit, text: &mut [u8]) -> usize
     ensures text { IfSome (decode_edit edit) (λ known. IsWritten (setting_text known) result text.old text.new) }

@@ -1,4 +1,4 @@
-//! Functions that write null-terminated text to buffers.
+//! Functions that write null-terminated strings to buffers.
 
 ghost use Rattle.std.specs.Prelude.{◌≡◌, ◌+◌, ◌<◌, ◌≤◌, ◌++◌, List, [], length};
 ghost use Rattle.lexical_util.specs.Outcomes.{printed_text};
@@ -10,8 +10,8 @@ use lexical_util::source::BuilderExpression;
 use std::fmt;
 use std::marker::Model;
 
-/// Writes as much of a text as fits to the start of a buffer, followed by a null terminator. Returns the length of the
-/// whole text. If the buffer is empty, writes nothing.
+/// Writes a text and a null terminator to the start of a buffer. If they do not fit, writes only the beginning of the
+/// text and a null terminator. If the buffer is empty, writes nothing. Returns the length of the whole text.
 pub fn write_text(text: &[u8], out: &mut [u8]) -> usize
     ensures { IsWritten text.now result out.old out.new }
 {
@@ -23,7 +23,7 @@ pub fn write_text(text: &[u8], out: &mut [u8]) -> usize
     text.len()
 }
 
-/// Writes an empty text to `out`, in the same way as [`write_text`].
+/// Writes an empty string to `out`, in the same way as [`write_text`].
 pub fn write_nothing(out: &mut [u8]) -> usize
     ensures { IsWritten [] result out.old out.new }
 {
@@ -88,7 +88,7 @@ impl Text {
         }
     }
 
-    // Writes the text, as `write_text` does.
+    // Writes the text in the same way as `write_text`.
     fn write_to(self, out: &mut [u8]) -> usize
         ensures { IsWritten self result out.old out.new }
     {

@@ -1,4 +1,4 @@
-//! Words as text and as Rust code, and the flags of a word by setter number.
+//! Words as strings and as Rust code, and the flags of a word by setter number.
 
 ghost use Rattle.std.specs.Prelude.{◌≡◌, ◌<◌, false, IfSome, IfOk, IfErr, None, slice_get};
 ghost use Rattle.std.specs.Str.{IsUtf8};
@@ -26,8 +26,8 @@ pub extern "C" fn peltzivar_text_of_word(format: Word, text: &mut [u8]) -> usize
     write_text(&word_text(format.number()), text)
 }
 
-/// Parses a text. If the text is `0x` followed by 1 to 32 hexadecimal digits, writes the word and returns 0. Otherwise,
-/// writes nothing and returns the number of the error.
+/// Parses a string. If the string is `0x` followed by 1 to 32 hexadecimal digits, writes the word and returns 0.
+/// Otherwise, writes nothing and returns the number of the error.
 #[unsafe(no_mangle)]
 pub extern "C" fn peltzivar_word_of_text(text: &[u8], out: &mut Word) -> ErrorNumber
     ensures word { IsUtf8 text.now → IfOk (parsed_word text.now) (λ word. (result ≡ SUCCESS) × (out.new ≡ word)) }
@@ -48,7 +48,7 @@ pub extern "C" fn peltzivar_word_of_text(text: &[u8], out: &mut Word) -> ErrorNu
 }
 
 /// For a flag setter, returns whether its flag is set in a word. For a group setter, returns whether at least one
-/// flag of the group is set in the word. For any other number, returns `false`.
+/// flag of the group is set in the word. For any other value of `setter`, returns `false`.
 #[unsafe(no_mangle)]
 pub extern "C" fn peltzivar_flag(format: Word, setter: u8) -> bool
     ensures flag { IfSome (slice_get SETTERS setter) (λ known. result ≡ any_flag format (flags_of known)) }
@@ -60,7 +60,7 @@ pub extern "C" fn peltzivar_flag(format: Word, setter: u8) -> bool
     }
 }
 
-// Returns the flag setter or group setter with this number, or `None` for any other number.
+// Returns the flag setter or group setter with a given number, or `None` for any other number.
 fn flag_setter(number: u8) -> Option<FlagSetter>
     ensures { result ≡ slice_get SETTERS number }
 {

@@ -74,7 +74,7 @@ impl NumberedEdit {
         }
     }
 
-    /// Returns the edit, or `None` if no setter has the number.
+    /// Returns the edit, or `None` if the setter is unknown.
     #[inline(always)]
     pub fn edit(self) -> Option<Edit>
         ensures { result ≡ decode_edit self }

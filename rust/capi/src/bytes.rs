@@ -42,14 +42,14 @@ pub unsafe extern "C" fn peltzivar_is_valid_letter_slice(
     ascii::is_valid_letter_slice(bytes)
 }
 
-/// Returns the value of a byte as a digit of a radix, or `u32::MAX` if the byte is not a digit of the radix.
+/// Returns the value of a byte as a digit in a radix, or `u32::MAX` if the byte is not a digit in the radix.
 // SAFETY: no other library has names that begin with `peltzivar_`.
 #[unsafe(no_mangle)]
 pub extern "C" fn peltzivar_char_to_digit(byte: u8, radix: u32) -> u32 {
     digit_or_max(digit::char_to_digit(byte, radix))
 }
 
-/// Returns whether a byte is a digit of a radix.
+/// Returns whether a byte is a digit in a radix.
 // SAFETY: no other library has names that begin with `peltzivar_`.
 #[unsafe(no_mangle)]
 pub extern "C" fn peltzivar_char_is_digit(byte: u8, radix: u32) -> bool {
@@ -74,7 +74,7 @@ pub extern "C" fn peltzivar_char_to_digit_const(byte: u8, radix: u32) -> u32 {
     digit_or_max(digit::char_to_digit_const(byte, radix))
 }
 
-/// Returns the value of a byte that is a digit of the radix, and an unspecified number for any other byte.
+/// Returns the value of a byte that is a digit in the radix, and an unspecified number for any other byte.
 // SAFETY: no other library has names that begin with `peltzivar_`.
 #[unsafe(no_mangle)]
 pub extern "C" fn peltzivar_char_to_valid_digit_const(byte: u8, radix: u32) -> u32 {

@@ -1,6 +1,6 @@
 // Made by rust/tools/erase.py from crates/lexical_c/src/outcomes.rt: change that file.
 
-//! Outcomes and their texts. In C, an outcome is a number.
+//! Errors and their texts. In C, an error is a number, and so is success.
 
 use crate::texts::{write_error, write_nothing, write_text};
 use crate::words::Word;
@@ -33,8 +33,8 @@ pub fn write_if_lawful(word: Result<u128, Error>, out: crate::outputs::Out<Word>
     }
 }
 
-/// Writes the description of the error with the given number, or an empty text if no error has that number. Success has
-/// the number 0.
+/// Writes the description of the error with the given number, or an empty string if no error has that number. Success
+/// has the number 0.
 // SAFETY: no other library has names that begin with `peltzivar_`.
 #[unsafe(no_mangle)]
 pub unsafe extern "C" fn peltzivar_description(
@@ -50,7 +50,7 @@ pub unsafe extern "C" fn peltzivar_description(
     }
 }
 
-/// Writes the text that `Display` prints for the error with the given number, or an empty text if no error has that
+/// Writes the text that `Display` prints for the error with the given number, or an empty string if no error has that
 /// number. Success has the number 0. A parse error has the index `index`.
 // SAFETY: no other library has names that begin with `peltzivar_`.
 #[unsafe(no_mangle)]
@@ -68,7 +68,8 @@ pub unsafe extern "C" fn peltzivar_text(
     }
 }
 
-// Returns the outcome with this number, or `None` if no outcome has this number. A parse error has the index `index`.
+// Returns the error with the given number, or `None` if no error has that number. Success has the number 0. A parse
+// error has the index `index`.
 fn outcome(number: ErrorNumber, index: usize) -> Option<Error> {
     match number {
         0 => Some(Error::Success),

@@ -1,5 +1,5 @@
 //! Memory to which a call only writes. A C caller may leave this memory uninitialised, so no reference to a value may
-//! point to it. A value is written through a raw pointer. An array or a text is written through a slice whose elements
+//! point to it. A value is written through a raw pointer. An array or a string is written through a slice whose elements
 //! may be uninitialised.
 
 use core::mem::MaybeUninit;
@@ -8,7 +8,7 @@ use core::mem::MaybeUninit;
 /// once.
 ///
 /// No code here creates an `Out`, since each one is an argument that a C caller passes. `c/peltzivar.h` requires a
-/// pointer to an object of this type, which nothing else reads or writes during the call.
+/// pointer to an object of type `T` that nothing else reads or writes during the call.
 #[repr(transparent)]
 pub struct Out<T>(*mut T);
 
@@ -34,7 +34,7 @@ impl<T, const N: usize> Out<[T; N]> {
     }
 }
 
-/// A buffer, passed by a C caller, to which text is written.
+/// A buffer that a C caller passes and to which a string is written.
 pub type Buffer = [MaybeUninit<u8>];
 
 /// Writes bytes to the start of a buffer.

@@ -13,7 +13,7 @@ use peltzivar::reasons::{
 };
 
 /// Writes one of the reasons why a word breaks a rule. There are three slots, with the indices 0 to 2. Writes an empty
-/// text if the slot is empty or no rule has this number.
+/// string if the slot is empty or `rule` is not the number of a rule.
 // SAFETY: no other library has names that begin with `peltzivar_`.
 #[unsafe(no_mangle)]
 pub unsafe extern "C" fn peltzivar_reason(
@@ -34,7 +34,7 @@ pub unsafe extern "C" fn peltzivar_reason(
     }
 }
 
-/// Writes the reason in a slot of a word. There are 24 slots, with the indices 0 to 23. Writes an empty text if the
+/// Writes the reason in a slot of a word. There are 24 slots, with the indices 0 to 23. Writes an empty string if the
 /// slot is empty.
 // SAFETY: no other library has names that begin with `peltzivar_`.
 #[unsafe(no_mangle)]
@@ -52,7 +52,7 @@ pub unsafe extern "C" fn peltzivar_word_reason(
     }
 }
 
-/// Returns a mask of the bits that the reason in a slot blames, or 0 if the slot is empty.
+/// Returns a mask of the bits on which the reason in a slot depends, or 0 if the slot is empty.
 // SAFETY: no other library has names that begin with `peltzivar_`.
 #[unsafe(no_mangle)]
 pub extern "C" fn peltzivar_word_reason_mask(format: Word, index: u8) -> Word {
@@ -73,16 +73,16 @@ pub extern "C" fn peltzivar_word_reason_rule(format: Word, index: u8) -> u8 {
     }
 }
 
-/// Returns whether a word breaks a rule for the reason in a slot, or `false` if the slot is empty or no rule has this
-/// number.
+/// Returns whether a word breaks a rule for the reason in a slot, or `false` if the slot is empty or `rule` is not the
+/// number of a rule.
 // SAFETY: no other library has names that begin with `peltzivar_`.
 #[unsafe(no_mangle)]
 pub extern "C" fn peltzivar_word_reason_breaks(format: Word, index: u8, rule: u8) -> bool {
     breaks_at(word_reason_at(format, index), rule_of(rule))
 }
 
-/// Writes the edits that mend a field for the reason in a slot, and returns the number of these edits. If the number is
-/// 0, writes nothing.
+/// Writes edits of a field that mend a word for the reason in a slot, and returns the number of these edits. If the
+/// number is 0, writes nothing.
 // SAFETY: no other library has names that begin with `peltzivar_`.
 #[unsafe(no_mangle)]
 pub extern "C" fn peltzivar_word_reason_mend(
@@ -107,7 +107,7 @@ pub extern "C" fn peltzivar_word_reason_mend(
     count
 }
 
-/// Writes the note on fields in a slot. There are three slots, with the indices 0 to 2. Writes an empty text if the
+/// Writes the note on fields in a slot. There are three slots, with the indices 0 to 2. Writes an empty string if the
 /// slot is empty. This function takes fields rather than a word, since packing drops a digit separator that no flag
 /// allows.
 // SAFETY: no other library has names that begin with `peltzivar_`.

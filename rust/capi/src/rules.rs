@@ -91,7 +91,7 @@ pub extern "C" fn peltzivar_options_error(
     ))
 }
 
-/// Returns whether a word keeps the rule with this number, or `false` if no rule has this number.
+/// Returns whether a word keeps a rule, or `false` if `rule` is not the number of a rule.
 // SAFETY: no other library has names that begin with `peltzivar_`.
 #[unsafe(no_mangle)]
 pub extern "C" fn peltzivar_keeps_rule(format: Word, rule: u8) -> bool {
@@ -101,8 +101,8 @@ pub extern "C" fn peltzivar_keeps_rule(format: Word, rule: u8) -> bool {
     }
 }
 
-/// Returns the number of the error of a word that breaks this rule and no rule before it, or 0 if no rule has this
-/// number.
+/// Returns the number of the error of a rule: the error of a word that breaks the rule and no rule before it. Returns 0
+/// if `rule` is not the number of a rule.
 // SAFETY: no other library has names that begin with `peltzivar_`.
 #[unsafe(no_mangle)]
 pub extern "C" fn peltzivar_rule_error(rule: u8) -> ErrorNumber {
@@ -112,7 +112,7 @@ pub extern "C" fn peltzivar_rule_error(rule: u8) -> ErrorNumber {
     }
 }
 
-/// Returns a mask of the bits that a rule reads, or 0 if no rule has this number.
+/// Returns a mask of the bits that determine whether a word keeps a rule, or 0 if `rule` is not the number of a rule.
 // SAFETY: no other library has names that begin with `peltzivar_`.
 #[unsafe(no_mangle)]
 pub extern "C" fn peltzivar_rule_mask(rule: u8) -> Word {
@@ -157,7 +157,7 @@ pub extern "C" fn peltzivar_radix_from_flags(format: Word, mask: Word, shift: u3
     }
 }
 
-/// Returns the rule with this number, or `None` if no rule has this number. The number of a rule is its index in the
+/// Returns the rule with a given number, or `None` if no rule has this number. The number of a rule is its index in the
 /// order of the rules.
 #[must_use]
 pub fn rule_of(number: u8) -> Option<Rule> {

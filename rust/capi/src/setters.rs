@@ -1,12 +1,12 @@
 // Made by rust/tools/erase.py from crates/lexical_c/src/setters.rt: change that file.
 
-//! The names of setters, and settings as text. In C, a setter is a number.
+//! The names of setters, and settings as strings. In C, a setter is a number.
 
 use crate::texts::{write_nothing, write_short_text, write_text};
 use crate::words::{NumberedEdit, Word};
 use peltzivar::edits::{setter_name_of_number, setter_number_of_name, Edit, SettingError};
 
-/// Writes the name of a setter, or an empty text if no setter has this number.
+/// Writes the name of a setter, or an empty string if `setter` is not the number of a setter.
 // SAFETY: no other library has names that begin with `peltzivar_`.
 #[unsafe(no_mangle)]
 pub unsafe extern "C" fn peltzivar_setter_name(
@@ -22,7 +22,7 @@ pub unsafe extern "C" fn peltzivar_setter_name(
     }
 }
 
-/// Returns the number of the setter with this name, or 255 if no setter has this name.
+/// Returns the number of the setter with a given name, or 255 if no setter has this name.
 // SAFETY: no other library has names that begin with `peltzivar_`.
 #[unsafe(no_mangle)]
 pub unsafe extern "C" fn peltzivar_setter_of_name(name: *const u8, name_len: usize) -> u8 {
@@ -31,8 +31,8 @@ pub unsafe extern "C" fn peltzivar_setter_of_name(name: *const u8, name_len: usi
     setter_number_of_name(name).unwrap_or(255)
 }
 
-/// Parses a text. If the text is a setting `NAME=VALUE`, writes its edit and returns 0. Otherwise, writes nothing and
-/// returns the number of the error, which is between 1 and 4.
+/// Parses a string. If the string is a setting `NAME=VALUE`, writes its edit and returns 0. Otherwise, writes
+/// nothing and returns the number of the error, which is between 1 and 4.
 // SAFETY: no other library has names that begin with `peltzivar_`.
 #[unsafe(no_mangle)]
 pub unsafe extern "C" fn peltzivar_edit_of_text(
@@ -51,8 +51,7 @@ pub unsafe extern "C" fn peltzivar_edit_of_text(
     }
 }
 
-/// Writes the reason why [`peltzivar_edit_of_text`] does not accept a text, or an empty text if the function accepts
-/// it.
+/// Writes the reason why [`peltzivar_edit_of_text`] rejects a string, or an empty string if the function accepts it.
 // SAFETY: no other library has names that begin with `peltzivar_`.
 #[unsafe(no_mangle)]
 pub unsafe extern "C" fn peltzivar_setting_error(
@@ -71,7 +70,7 @@ pub unsafe extern "C" fn peltzivar_setting_error(
     }
 }
 
-// Parses a text as an edit. If the text is not UTF-8, returns `UnknownName`, since no setter has such a name.
+// Parses a string as an edit. If the string is not UTF-8, returns `UnknownName`, since no setter has such a name.
 fn edit_from_bytes(text: &[u8]) -> Result<Edit, SettingError> {
     match core::str::from_utf8(text) {
         Ok(text) => Edit::from_text(text),
@@ -99,7 +98,7 @@ pub extern "C" fn peltzivar_edit_mask(edit: NumberedEdit) -> Word {
     }
 }
 
-/// Writes an edit as `NAME=VALUE`, or an empty text if the edit has an unknown setter.
+/// Writes an edit as `NAME=VALUE`, or an empty string if the edit has an unknown setter.
 // SAFETY: no other library has names that begin with `peltzivar_`.
 #[unsafe(no_mangle)]
 pub unsafe extern "C" fn peltzivar_text_of_edit(

@@ -1,13 +1,13 @@
 // Made by rust/tools/erase.py from crates/lexical_c/src/texts.rt: change that file.
 
-//! Functions that write null-terminated text to buffers.
+//! Functions that write null-terminated strings to buffers.
 
 use core::fmt;
 use peltzivar::error::{Error, ShortText, Sink};
 use peltzivar::source::BuilderExpression;
 
-/// Writes as much of a text as fits to the start of a buffer, followed by a null terminator. Returns the length of the
-/// whole text. If the buffer is empty, writes nothing.
+/// Writes a text and a null terminator to the start of a buffer. If they do not fit, writes only the beginning of the
+/// text and a null terminator. If the buffer is empty, writes nothing. Returns the length of the whole text.
 #[must_use]
 pub fn write_text(text: &[u8], out: &mut crate::outputs::Buffer) -> usize {
     if !out.is_empty() {
@@ -18,7 +18,7 @@ pub fn write_text(text: &[u8], out: &mut crate::outputs::Buffer) -> usize {
     text.len()
 }
 
-/// Writes an empty text to `out`, in the same way as [`write_text`].
+/// Writes an empty string to `out`, in the same way as [`write_text`].
 #[must_use]
 pub fn write_nothing(out: &mut crate::outputs::Buffer) -> usize {
     write_text(b"", out)
@@ -66,7 +66,7 @@ impl Text {
         }
     }
 
-    // Writes the text, as `write_text` does.
+    // Writes the text in the same way as `write_text`.
     fn write_to(self, out: &mut crate::outputs::Buffer) -> usize {
         let Text { bytes, len } = self;
         write_text(&bytes[..len], out)

@@ -1,6 +1,6 @@
 // Made by rust/tools/erase.py from crates/lexical_c/src/word_texts.rt: change that file.
 
-//! Words as text and as Rust code, and the flags of a word by setter number.
+//! Words as strings and as Rust code, and the flags of a word by setter number.
 
 use crate::outcomes::{error_number, ErrorNumber};
 use crate::texts::{write_expression, write_text};
@@ -23,8 +23,8 @@ pub unsafe extern "C" fn peltzivar_text_of_word(
     write_text(&word_text(format.number()), text)
 }
 
-/// Parses a text. If the text is `0x` followed by 1 to 32 hexadecimal digits, writes the word and returns 0. Otherwise,
-/// writes nothing and returns the number of the error.
+/// Parses a string. If the string is `0x` followed by 1 to 32 hexadecimal digits, writes the word and returns 0.
+/// Otherwise, writes nothing and returns the number of the error.
 // SAFETY: no other library has names that begin with `peltzivar_`.
 #[unsafe(no_mangle)]
 pub unsafe extern "C" fn peltzivar_word_of_text(
@@ -47,7 +47,7 @@ pub unsafe extern "C" fn peltzivar_word_of_text(
 }
 
 /// For a flag setter, returns whether its flag is set in a word. For a group setter, returns whether at least one
-/// flag of the group is set in the word. For any other number, returns `false`.
+/// flag of the group is set in the word. For any other value of `setter`, returns `false`.
 // SAFETY: no other library has names that begin with `peltzivar_`.
 #[unsafe(no_mangle)]
 pub extern "C" fn peltzivar_flag(format: Word, setter: u8) -> bool {
@@ -57,7 +57,7 @@ pub extern "C" fn peltzivar_flag(format: Word, setter: u8) -> bool {
     }
 }
 
-// Returns the flag setter or group setter with this number, or `None` for any other number.
+// Returns the flag setter or group setter with a given number, or `None` for any other number.
 fn flag_setter(number: u8) -> Option<FlagSetter> {
     if (number as usize) < SETTERS.len() {
         Some(SETTERS[number as usize])

@@ -50,7 +50,7 @@ impl NumberedEdit {
         }
     }
 
-    /// Returns the edit, or `None` if no setter has the number.
+    /// Returns the edit, or `None` if the setter is unknown.
     #[must_use]
     #[inline(always)]
     pub fn edit(self) -> Option<Edit> {
