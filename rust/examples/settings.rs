@@ -67,7 +67,7 @@ fn read(file: &[u8]) -> (Vec<Setting>, Vec<String>) {
 }
 
 /// Returns the format of a file if the file has no problems, and all problems and notes. The sentence of a reason ends
-/// with settings. Each of them mends the format for this reason. A field that no line sets keeps its default.
+/// with settings. Each of them removes the reason. A field that no line sets keeps its default.
 pub fn format_of(file: &[u8]) -> (Option<Format>, Vec<String>) {
     let (settings, mut found) = read(file);
     let located = |mask: u128, text: String| {

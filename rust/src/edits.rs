@@ -296,7 +296,7 @@ const fn mask_of(setter: FlagSetter) -> u64 {
     with_setters!(masks(setter))
 }
 
-/// Applies `edits` to `builder` in order, and returns the new builder.
+/// Applies `edits` in order to `builder`, and returns the new builder.
 ///
 /// To build a new format, apply the edits to a new builder, and call
 /// [`build_strict`][NumberFormatBuilder::build_strict]. If no edit sets the exponent base or the exponent radix, the
@@ -411,14 +411,15 @@ pub const fn edit_word(format: u128, edits: &[Edit]) -> u128 {
 /// - The normal form of the result is the result itself.
 /// - A word is its own normal form if and only if it is normal ([`IsNormal`](crate::definitions#isnormal)).
 /// - The word and its normal form are equivalent ([`SameFormat`](crate::definitions#sameformat)).
-/// - For each list of flags, both words have at least one of the flags set, or neither has
-///   ([`any_flag`](crate::definitions#any_flag)).
-/// - For each list of flags, both words have the same bits set ([`bits_of`](crate::definitions#bits_of)).
+/// - For each list of flags, either both the word and its normal form have at least one of the flags set, or
+///   neither has ([`any_flag`](crate::definitions#any_flag)).
+/// - For each list of flags, the bits of these flags are the same in the word and its normal form
+///   ([`bits_of`](crate::definitions#bits_of)).
 /// - The normal form of a [`Lawful`](crate::definitions#lawful) word is lawful.
 /// - If neither a reserved bit nor a separator is dropped ([`IsClean`](crate::definitions#isclean),
-///   [`SeparatorAllowedOrAbsent`](crate::definitions#separatorallowedorabsent)), both words have the same error
-///   ([`IsErrorOf`](crate::definitions#iserrorof)).
-/// - If no separator is dropped, the same legal writes turn both words into the same word
+///   [`SeparatorAllowedOrAbsent`](crate::definitions#separatorallowedorabsent)), the word and its normal form
+///   have the same error ([`IsErrorOf`](crate::definitions#iserrorof)).
+/// - If no separator is dropped, any legal writes turn the word and its normal form into the same word
 ///   ([`edited`](crate::definitions#edited)).
 /// - The result is normal ([`IsNormal`](crate::definitions#isnormal)).
 ///

@@ -702,7 +702,7 @@ impl Class {
 /// Writes the class and the description, and the index if this is a parse error. For [`Error::Success`], writes only
 /// the description.
 ///
-/// All options of the formatter, such as the width, are ignored. Returns an error if the formatter does.
+/// All options of the formatter, such as the width, are ignored. Returns an error if the formatter returns one.
 impl fmt::Display for Error {
     fn fmt(&self, f: &mut fmt::Formatter<'_>) -> fmt::Result {
         self.put_into(f)

@@ -162,7 +162,7 @@ impl NumberFormatBuilder {
     /// - The reserved bits of the result are 0 ([`IsClean`](crate::definitions#isclean)).
     /// - Each byte of the builder is between 0 and 255 ([`HasBytes`](crate::definitions#hasbytes)).
     /// - Another record of fields whose bytes are between 0 and 255 ([`HasBytes`](crate::definitions#hasbytes)) packs
-    ///   into the same word if and only if it equals the record of the builder after both are trimmed
+    ///   into the same word if and only if this record and the builder's are equal after both are trimmed
     ///   ([`trim`](crate::definitions#trim)).
     ///
     /// ```text

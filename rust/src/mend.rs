@@ -6,7 +6,7 @@ use crate::edits::{field_edits_of, Edit};
 use crate::reasons::{mend, Reason, MAX_MENDING_EDITS};
 use crate::view::FormatView;
 
-/// One to three edits that mend one field of a format word. [`FormatView::mends`] returns them.
+/// One to three edits that mend one field of a format word. [`FormatView::mends`] returns values of this type.
 #[derive(Debug, Clone, Copy, PartialEq, Eq, Hash)]
 pub struct Mend {
     edits: [Edit; MAX_MENDING_EDITS],

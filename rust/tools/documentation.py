@@ -24,7 +24,7 @@ PROVED = {
             "clean": "The reserved bits of the result are 0 (`IsClean`).",
             "bytes": "Each byte of the builder is between 0 and 255 (`HasBytes`).",
             "alike": "Another record of fields whose bytes are between 0 and 255 (`HasBytes`) packs into the same word"
-            " if and only if it equals the record of the builder after both are trimmed (`trim`).",
+            " if and only if this record and the builder's are equal after both are trimmed (`trim`).",
         },
         "build_strict": {
             "lawful": "The result is `Ok` if and only if the packed word (`pack`) is `Lawful`. An `Ok` holds this word.",
@@ -57,14 +57,14 @@ PROVED = {
             " (`IsBuiltByWrites`).",
         },
         "edits_of": {
-            "list": "The array has one edit for each write (`IsEditOf`). First come the writes that the word needs"
-            " (`needed_writes`), and then the others (`other_writes`).",
+            "list": "The edits in the array make the writes that the word needs (`needed_writes`), followed by the"
+            " other writes (`other_writes`). There is one edit for each write (`IsEditOf`).",
             "number": "The returned number is the number of writes that the word needs (`needed_writes`).",
             "legal": "Each value that an edit writes fits its field (`IsLegal`).",
             "first": "The needed writes, applied to a new builder (`after`, `new_record`), give the fields (`raw`) of"
             " the word.",
             "whole": "All writes, applied to a new builder, also give the fields (`raw`) of the word.",
-            "builds": "These fields pack (`pack`) into the word if and only if a builder can build the word"
+            "builds": "Packing these fields (`pack`) gives the word if and only if a builder can build the word"
             " (`IsBuilt`).",
             "fewest": "No list of legal writes (`IsLegal`) with fewer entries than the returned number builds the word"
             " from a new builder.",
@@ -95,13 +95,15 @@ PROVED = {
             "idempotent": "The normal form of the result is the result itself.",
             "unchanged": "A word is its own normal form if and only if it is normal (`IsNormal`).",
             "same": "The word and its normal form are equivalent (`SameFormat`).",
-            "groups": "For each list of flags, both words have at least one of the flags set, or neither has"
-            " (`any_flag`).",
-            "flags": "For each list of flags, both words have the same bits set (`bits_of`).",
+            "groups": "For each list of flags, either both the word and its normal form have at least one of the flags"
+            " set, or neither has (`any_flag`).",
+            "flags": "For each list of flags, the bits of these flags are the same in the word and its normal form"
+            " (`bits_of`).",
             "lawful": "The normal form of a `Lawful` word is lawful.",
             "error": "If neither a reserved bit nor a separator is dropped (`IsClean`, `SeparatorAllowedOrAbsent`),"
-            " both words have the same error (`IsErrorOf`).",
-            "edits": "If no separator is dropped, the same legal writes turn both words into the same word (`edited`).",
+            " the word and its normal form have the same error (`IsErrorOf`).",
+            "edits": "If no separator is dropped, any legal writes turn the word and its normal form into the same word"
+            " (`edited`).",
             "normal": "The result is normal (`IsNormal`).",
         },
         "migrate": {

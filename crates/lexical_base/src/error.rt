@@ -830,7 +830,7 @@ impl PartialOrd for Error {
 /// Writes the class and the description, and the index if this is a parse error. For [`Error::Success`], writes only
 /// the description.
 ///
-/// All options of the formatter, such as the width, are ignored. Returns an error if the formatter does.
+/// All options of the formatter, such as the width, are ignored. Returns an error if the formatter returns one.
 impl fmt::Display for Error {
     ghost output = { λ error. Some (printed_text error) };
 

@@ -260,7 +260,7 @@ const fn mask_of(setter: FlagSetter) -> u64
     with_setters!(masks(setter))
 }
 
-/// Applies `edits` to `builder` in order, and returns the new builder.
+/// Applies `edits` in order to `builder`, and returns the new builder.
 ///
 /// To build a new format, apply the edits to a new builder, and call
 /// [`build_strict`][NumberFormatBuilder::build_strict]. If no edit sets the exponent base or the exponent radix, the

@@ -58,9 +58,10 @@ const fn is_separator_allowed_or_absent(format: u128) -> bool {
 ///
 /// For all arguments:
 ///
-/// - The array has one edit for each write ([`IsEditOf`](crate::definitions#iseditof)). First come the writes
-///   that the word needs ([`needed_writes`](crate::definitions#needed_writes)), and then the others
-///   ([`other_writes`](crate::definitions#other_writes)).
+/// - The edits in the array make the writes that the word needs
+///   ([`needed_writes`](crate::definitions#needed_writes)), followed by the other writes
+///   ([`other_writes`](crate::definitions#other_writes)). There is one edit for each write
+///   ([`IsEditOf`](crate::definitions#iseditof)).
 /// - The returned number is the number of writes that the word needs
 ///   ([`needed_writes`](crate::definitions#needed_writes)).
 /// - Each value that an edit writes fits its field ([`IsLegal`](crate::definitions#islegal)).
@@ -68,8 +69,8 @@ const fn is_separator_allowed_or_absent(format: u128) -> bool {
 ///   [`new_record`](crate::definitions#new_record)), give the fields ([`raw`](crate::definitions#raw)) of the
 ///   word.
 /// - All writes, applied to a new builder, also give the fields ([`raw`](crate::definitions#raw)) of the word.
-/// - These fields pack ([`pack`](crate::definitions#pack)) into the word if and only if a builder can build the
-///   word ([`IsBuilt`](crate::definitions#isbuilt)).
+/// - Packing these fields ([`pack`](crate::definitions#pack)) gives the word if and only if a builder can build
+///   the word ([`IsBuilt`](crate::definitions#isbuilt)).
 /// - No list of legal writes ([`IsLegal`](crate::definitions#islegal)) with fewer entries than the returned
 ///   number builds the word from a new builder.
 ///

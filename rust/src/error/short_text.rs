@@ -47,7 +47,7 @@ impl ShortText {
     }
 }
 
-/// Writes the text and ignores all options of the formatter. Returns an error if the formatter does.
+/// Writes the text and ignores all options of the formatter. Returns an error if the formatter returns one.
 impl fmt::Display for ShortText {
     fn fmt(&self, f: &mut fmt::Formatter<'_>) -> fmt::Result {
         self.put_into(f)

@@ -62,7 +62,7 @@ impl ShortText {
     }
 }
 
-/// Writes the text and ignores all options of the formatter. Returns an error if the formatter does.
+/// Writes the text and ignores all options of the formatter. Returns an error if the formatter returns one.
 impl fmt::Display for ShortText {
     ghost output = { λ sentence. Some sentence };
 
