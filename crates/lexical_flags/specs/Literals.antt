@@ -1,4 +1,4 @@
--- The definitions that a proof unfolds to compute on words that are literals.
+-- The definitions that a proof unfolds to compute with words that are literals.
 use Rattle.std.specs.Prelude.{⊤}
 use Rattle.lexical_base.specs.Digits.{byte_value}
 use Rattle.lexical_flags.specs.Common.{common}
