@@ -343,11 +343,11 @@ PELTZIVAR_API bool peltzivar_same_format(peltzivar_word a, peltzivar_word b);
  * either the digit separator is 0 or a digit separator flag is set. */
 PELTZIVAR_API bool peltzivar_is_built(peltzivar_word format);
 
-/* Writes one edit for each field of a word to the array. The edits of the fields in which the word differs from
- * PELTZIVAR_NEW_FIELDS come first, and their number is returned. Applying only these edits to a copy of
+/* Fills the array with one edit for each field of a word. The edits of fields in which the word differs from
+ * PELTZIVAR_NEW_FIELDS come first. Returns the number of these edits. Applying only these edits to a copy of
  * PELTZIVAR_NEW_FIELDS gives the copy the fields of the word. For an absent exponent byte, the value of the edit is 0,
- * not the mantissa radix. If peltzivar_is_built returns true for the word, packing the copy gives the word, and no
- * shorter list of edits does so without a group setter. */
+ * not the mantissa radix. If peltzivar_is_built returns true for the word, packing the copy gives the word, and any
+ * shorter list of edits with this result uses a group setter. */
 PELTZIVAR_API size_t peltzivar_edits_of(peltzivar_word format, peltzivar_edit edits[PELTZIVAR_FIELD_COUNT]);
 
 /* RULES */
@@ -431,9 +431,10 @@ PELTZIVAR_API uint8_t peltzivar_word_reason_rule(peltzivar_word format, uint8_t 
 PELTZIVAR_API bool peltzivar_word_reason_breaks(peltzivar_word format, uint8_t index, uint8_t rule);
 
 /* Writes edits that mend a word by changing one field, and returns the number of these edits. If peltzivar_edit_word
- * applies them, the new word keeps each rule that the old word kept, and each rule that the old word broke only for the
- * reason in the slot. If no such edits exist, if the slot is empty, or if `field` is not the number of a field, returns
- * 0 and leaves the array unchanged. Otherwise, the array elements that follow these edits are unspecified.
+ * applies them to the word, the new word keeps each rule that the old word kept, and each rule that the old word broke
+ * only for the reason in the slot. If no such edits exist, if the slot is empty, or if `field` is not the number of a
+ * field, returns 0 and leaves the array unchanged. Otherwise, the array elements that follow these edits are
+ * unspecified.
  *
  * The fields are numbered from 0 to PELTZIVAR_FIELD_COUNT - 1: first the flags in the order of their setters, then the
  * six bytes in the order of their bits. The edits set a flag to false, make a byte absent, or set the mantissa radix to
@@ -521,8 +522,8 @@ PELTZIVAR_MUST_USE PELTZIVAR_API peltzivar_error peltzivar_word_of_text(
     const char *text, size_t len, peltzivar_word *out);
 
 /* Writes Rust code that sets the fields of a word and packs them, such as
- * "NumberFormatBuilder::new().mantissa_radix(16).build_unchecked()". The code builds exactly this word if and only if
- * peltzivar_is_built returns true for the word. */
+ * "NumberFormatBuilder::new().mantissa_radix(16).build_unchecked()". The result of the code is the word itself if and
+ * only if peltzivar_is_built returns true for the word. */
 PELTZIVAR_API size_t peltzivar_source(peltzivar_word format, char *text, size_t len);
 
 /* Writes the description of an error in single quotes, such as "'invalid radix for mantissa digits'". */
@@ -583,8 +584,8 @@ PELTZIVAR_API uint8_t peltzivar_setter_of_name(const char *name, size_t len);
 PELTZIVAR_MUST_USE PELTZIVAR_API uint32_t peltzivar_edit_of_text(const char *text, size_t len, peltzivar_edit *out);
 
 /* Writes the reason why peltzivar_edit_of_text rejects a string, such as "no_special takes `true` or `false`". The
- * rejected string has len bytes. The reason is written to the buffer `to`, which has to_len bytes. If
- * peltzivar_edit_of_text accepts the string, the reason is empty. */
+ * string has len bytes. The reason is written to the buffer `to`, which has to_len bytes. If peltzivar_edit_of_text
+ * accepts the string, the reason is empty. */
 PELTZIVAR_API size_t peltzivar_setting_error(const char *text, size_t len, char *to, size_t to_len);
 
 /* Writes an edit as NAME=VALUE. For a flag setter or a group setter, VALUE is `true` or `false`. If the edit makes a

@@ -8,7 +8,7 @@ ghost use Rattle.lexical_util.specs.Digits.{byte_value, digit_of, digit_characte
 
 use lexical_util::{ascii, digit};
 
-/// Returns whether a byte is allowed ASCII: 9 to 13 or 32 to 126.
+/// Returns whether a byte is an allowed ASCII byte, that is, 9 to 13 or 32 to 126.
 #[unsafe(no_mangle)]
 pub extern "C" fn peltzivar_is_valid_ascii(byte: u8) -> bool
     ensures { IsTrue result ↔ IsTrue (allowed_ascii byte) }
@@ -16,7 +16,7 @@ pub extern "C" fn peltzivar_is_valid_ascii(byte: u8) -> bool
     ascii::is_valid_ascii(byte)
 }
 
-/// Returns whether every byte of a slice is allowed ASCII: 9 to 13 or 32 to 126.
+/// Returns whether every byte of a slice is an allowed ASCII byte, that is, 9 to 13 or 32 to 126.
 #[unsafe(no_mangle)]
 pub extern "C" fn peltzivar_is_valid_ascii_slice(bytes: &[u8]) -> bool
     ensures { IsTrue result ↔ AllPass allowed_ascii bytes.now }
@@ -40,7 +40,7 @@ pub extern "C" fn peltzivar_is_valid_letter_slice(bytes: &[u8]) -> bool
     ascii::is_valid_letter_slice(bytes)
 }
 
-/// Returns the value of a byte as a digit in a radix, or `u32::MAX` if the byte is not a digit in the radix.
+/// Returns the digit value of a byte, or `u32::MAX` if the byte is not a digit in the radix.
 #[unsafe(no_mangle)]
 pub extern "C" fn peltzivar_char_to_digit(byte: u8, radix: u32) -> u32
     ensures { result ≡ unwrap_or (digit_of byte radix) (2 ^ 32 - 1) }
@@ -56,7 +56,7 @@ pub extern "C" fn peltzivar_char_is_digit(byte: u8, radix: u32) -> bool
     digit::char_is_digit(byte, radix)
 }
 
-/// Returns the character of a digit, or 0 if the digit is 36 or more.
+/// Returns the character for a digit, or 0 if the digit is 36 or more.
 #[unsafe(no_mangle)]
 pub extern "C" fn peltzivar_digit_to_char(digit: u32) -> u8
     ensures character { digit < 36 → slice_get digit_characters digit ≡ Some result }
@@ -94,8 +94,8 @@ pub extern "C" fn peltzivar_char_is_digit_const(byte: u8, radix: u32) -> bool
     digit::char_is_digit_const(byte, radix)
 }
 
-/// Returns the character of a digit that is less than the radix, or 0 if the digit is 36 or more. For any other digit,
-/// returns an unspecified byte.
+/// Returns 0 if the digit is 36 or more. Otherwise, returns the character for the digit if the digit is less than the
+/// radix, and an unspecified byte if not.
 #[unsafe(no_mangle)]
 pub extern "C" fn peltzivar_digit_to_char_const(digit: u32, radix: u32) -> u8
     ensures byte { digit < 36 → result ≡ (if (nat_le radix 10) || (nat_lt digit 10) then 48 + digit else 55 + digit) }

@@ -39,8 +39,8 @@ pub fn apply_edits(
     Some(builder)
 }
 
-/// Returns the fields of a word. In the result, the mantissa radix replaces an absent exponent byte, and the bits above
-/// the flags are 0.
+/// Returns the fields of a word. In the result, the mantissa radix replaces each absent exponent byte, and the bits
+/// above the flags are 0.
 #[unsafe(no_mangle)]
 pub extern "C" fn peltzivar_fields_of(format: Word) -> Fields
     ensures fields { fields_of result ≡ fill (raw format) }
@@ -94,7 +94,7 @@ pub extern "C" fn peltzivar_build(fields: &Fields, edits: &[NumberedEdit], out: 
 }
 
 /// Packs the fields into a word. If the word is lawful, writes it and returns 0. Otherwise, writes nothing and returns
-/// the number of the error of the word.
+/// the number of the error of the first rule that the word breaks.
 #[unsafe(no_mangle)]
 pub extern "C" fn peltzivar_build_strict(fields: &Fields, out: &mut Word) -> ErrorNumber
     ensures { IsWrittenIfLawful (pack (fields_of fields.now)) result out.old out.new }
@@ -133,7 +133,7 @@ pub extern "C" fn peltzivar_normal_form(format: Word) -> Word
 }
 
 /// If the normal form of a word is lawful, writes the normal form and returns 0. Otherwise, writes nothing and returns
-/// the number of the error of the normal form.
+/// the number of the error of the first rule that the normal form breaks.
 #[unsafe(no_mangle)]
 pub extern "C" fn peltzivar_migrate(format: Word, out: &mut Word) -> ErrorNumber
     ensures { IsWrittenIfLawful (normal_form_of format) result out.old out.new }
@@ -159,8 +159,8 @@ pub extern "C" fn peltzivar_is_built(format: Word) -> bool
     edits::is_built(format.number())
 }
 
-/// Writes one edit for each field of a word. The edits of fields that differ from a new builder come first. Returns the
-/// number of these edits.
+/// Writes one edit for each field of a word. The edits of fields in which the word differs from a new builder come
+/// first. Returns the number of these edits.
 #[unsafe(no_mangle)]
 pub extern "C" fn peltzivar_edits_of(format: Word, edits: &mut [NumberedEdit; FIELD_COUNT]) -> usize
     ensures numbers { edits.new ≡ map encode_edit (needed_edits (raw format) ++ other_edits (raw format)) }

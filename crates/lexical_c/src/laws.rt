@@ -5,7 +5,7 @@ ghost use Rattle.lexical_util.specs.declared.error.Error.TheVariants as errors;
 ghost use Rattle.lexical_c.specs.Outcomes.{IsCodeOfSome, IsWrittenIfLawful};
 ghost use Rattle.lexical_c.specs.Texts.{IsWritten};
 
-/// States the number of `Success`, and the result of writing a text into a buffer.
+/// States the number of `Success`, and the result of writing a text to a buffer.
 pub fn returned_examples()
     ensures success { IsCodeOfSome (λ error. error ≡ errors.Success) 0 }
     ensures other_number { IsCodeOfSome (λ error. error ≡ errors.Success) 48 → ⊥ }
@@ -16,7 +16,7 @@ pub fn returned_examples()
 {}
 
 /// States that a function breaks its contract if it leaves the output unchanged although the word is lawful. Each call
-/// proves an example that holds.
+/// of such a function proves an example in which the contract holds.
 #[tactic(auto, unfolding(lexical_util::specs::Unfoldable::on_literals))]
 pub fn written_examples()
     ensures unchanged { IsWrittenIfLawful 0x00000A00_00000000_00000000_0000000C 0 7 7 → ⊥ }

@@ -1,5 +1,5 @@
-//! The reasons why words break rules, the edits that mend fields, and the notes. In C, a reason, a field or a note is
-//! an index.
+//! The reasons why words break rules, the edits that mend words, and the notes. In C, a reason, a field or a note is
+//! represented by an index.
 
 ghost use Rattle.std.specs.Prelude.{◌≡◌, ◌≢◌, ◌↔◌, ◌≤◌, IsTrue, IfSome, Some, None, [], map, take, length};
 ghost use Rattle.lexical_util.specs.Additions.Mends.{Mends};
@@ -116,9 +116,9 @@ pub extern "C" fn peltzivar_word_reason_mend(
     count
 }
 
-/// Writes the note on fields in a slot. There are three slots, with the indices 0 to 2. Writes an empty string if the
-/// slot is empty. This function takes fields rather than a word, since packing drops a digit separator that no flag
-/// allows.
+/// Writes the note in a slot for notes on fields. There are three slots, with the indices 0 to 2. Writes an empty
+/// string if the slot is empty. This function takes fields rather than a word, since packing drops a digit
+/// separator that no flag allows.
 #[unsafe(no_mangle)]
 pub extern "C" fn peltzivar_note(fields: &Fields, index: u8, text: &mut [u8]) -> usize
     ensures text { IfSome (note_at (fields_of fields.now) index)
@@ -182,7 +182,7 @@ fn mend_at(
     }
 }
 
-// Returns the note on fields in a slot, or `None` if the slot is empty.
+// Returns the note in a slot for notes on fields, or `None` if the slot is empty.
 fn note_at(fields: &Fields, index: u8) -> Option<Note>
     ensures { result ≡ note_at (fields_of fields.now) index }
 {

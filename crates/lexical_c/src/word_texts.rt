@@ -18,7 +18,7 @@ use lexical_util::error::Error;
 use lexical_util::source::BuilderExpression;
 use lexical_util::word_text::{parse_word, word_text};
 
-/// Writes a word as `0x` and 32 uppercase hexadecimal digits.
+/// Writes a word as `0x` followed by 32 uppercase hexadecimal digits.
 #[unsafe(no_mangle)]
 pub extern "C" fn peltzivar_text_of_word(format: Word, text: &mut [u8]) -> usize
     ensures { IsWritten (printed format) result text.old text.new }

@@ -4,14 +4,14 @@
 
 use peltzivar::{ascii, digit};
 
-/// Returns whether a byte is allowed ASCII: 9 to 13 or 32 to 126.
+/// Returns whether a byte is an allowed ASCII byte, that is, 9 to 13 or 32 to 126.
 // SAFETY: no other library has names that begin with `peltzivar_`.
 #[unsafe(no_mangle)]
 pub extern "C" fn peltzivar_is_valid_ascii(byte: u8) -> bool {
     ascii::is_valid_ascii(byte)
 }
 
-/// Returns whether every byte of a slice is allowed ASCII: 9 to 13 or 32 to 126.
+/// Returns whether every byte of a slice is an allowed ASCII byte, that is, 9 to 13 or 32 to 126.
 // SAFETY: no other library has names that begin with `peltzivar_`.
 #[unsafe(no_mangle)]
 pub unsafe extern "C" fn peltzivar_is_valid_ascii_slice(
@@ -42,7 +42,7 @@ pub unsafe extern "C" fn peltzivar_is_valid_letter_slice(
     ascii::is_valid_letter_slice(bytes)
 }
 
-/// Returns the value of a byte as a digit in a radix, or `u32::MAX` if the byte is not a digit in the radix.
+/// Returns the digit value of a byte, or `u32::MAX` if the byte is not a digit in the radix.
 // SAFETY: no other library has names that begin with `peltzivar_`.
 #[unsafe(no_mangle)]
 pub extern "C" fn peltzivar_char_to_digit(byte: u8, radix: u32) -> u32 {
@@ -56,7 +56,7 @@ pub extern "C" fn peltzivar_char_is_digit(byte: u8, radix: u32) -> bool {
     digit::char_is_digit(byte, radix)
 }
 
-/// Returns the character of a digit, or 0 if the digit is 36 or more.
+/// Returns the character for a digit, or 0 if the digit is 36 or more.
 // SAFETY: no other library has names that begin with `peltzivar_`.
 #[unsafe(no_mangle)]
 pub extern "C" fn peltzivar_digit_to_char(digit: u32) -> u8 {
@@ -88,8 +88,8 @@ pub extern "C" fn peltzivar_char_is_digit_const(byte: u8, radix: u32) -> bool {
     digit::char_is_digit_const(byte, radix)
 }
 
-/// Returns the character of a digit that is less than the radix, or 0 if the digit is 36 or more. For any other digit,
-/// returns an unspecified byte.
+/// Returns 0 if the digit is 36 or more. Otherwise, returns the character for the digit if the digit is less than the
+/// radix, and an unspecified byte if not.
 // SAFETY: no other library has names that begin with `peltzivar_`.
 #[unsafe(no_mangle)]
 pub extern "C" fn peltzivar_digit_to_char_const(digit: u32, radix: u32) -> u8 {

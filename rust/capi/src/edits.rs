@@ -25,8 +25,8 @@ pub fn apply_edits(
     Some(builder)
 }
 
-/// Returns the fields of a word. In the result, the mantissa radix replaces an absent exponent byte, and the bits above
-/// the flags are 0.
+/// Returns the fields of a word. In the result, the mantissa radix replaces each absent exponent byte, and the bits
+/// above the flags are 0.
 // SAFETY: no other library has names that begin with `peltzivar_`.
 #[unsafe(no_mangle)]
 pub extern "C" fn peltzivar_fields_of(format: Word) -> Fields {
@@ -78,7 +78,7 @@ pub unsafe extern "C" fn peltzivar_build(
 }
 
 /// Packs the fields into a word. If the word is lawful, writes it and returns 0. Otherwise, writes nothing and returns
-/// the number of the error of the word.
+/// the number of the error of the first rule that the word breaks.
 // SAFETY: no other library has names that begin with `peltzivar_`.
 #[unsafe(no_mangle)]
 pub extern "C" fn peltzivar_build_strict(
@@ -116,7 +116,7 @@ pub extern "C" fn peltzivar_normal_form(format: Word) -> Word {
 }
 
 /// If the normal form of a word is lawful, writes the normal form and returns 0. Otherwise, writes nothing and returns
-/// the number of the error of the normal form.
+/// the number of the error of the first rule that the normal form breaks.
 // SAFETY: no other library has names that begin with `peltzivar_`.
 #[unsafe(no_mangle)]
 pub extern "C" fn peltzivar_migrate(format: Word, out: crate::outputs::Out<Word>) -> ErrorNumber {
@@ -137,8 +137,8 @@ pub extern "C" fn peltzivar_is_built(format: Word) -> bool {
     edits::is_built(format.number())
 }
 
-/// Writes one edit for each field of a word. The edits of fields that differ from a new builder come first. Returns the
-/// number of these edits.
+/// Writes one edit for each field of a word. The edits of fields in which the word differs from a new builder come
+/// first. Returns the number of these edits.
 // SAFETY: no other library has names that begin with `peltzivar_`.
 #[unsafe(no_mangle)]
 pub extern "C" fn peltzivar_edits_of(

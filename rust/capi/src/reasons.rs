@@ -1,7 +1,7 @@
 // Made by rust/tools/erase.py from crates/lexical_c/src/reasons.rt: change that file.
 
-//! The reasons why words break rules, the edits that mend fields, and the notes. In C, a reason, a field or a note is
-//! an index.
+//! The reasons why words break rules, the edits that mend words, and the notes. In C, a reason, a field or a note is
+//! represented by an index.
 
 use crate::rules::rule_of;
 use crate::texts::{write_nothing, write_short_text};
@@ -107,9 +107,9 @@ pub extern "C" fn peltzivar_word_reason_mend(
     count
 }
 
-/// Writes the note on fields in a slot. There are three slots, with the indices 0 to 2. Writes an empty string if the
-/// slot is empty. This function takes fields rather than a word, since packing drops a digit separator that no flag
-/// allows.
+/// Writes the note in a slot for notes on fields. There are three slots, with the indices 0 to 2. Writes an empty
+/// string if the slot is empty. This function takes fields rather than a word, since packing drops a digit
+/// separator that no flag allows.
 // SAFETY: no other library has names that begin with `peltzivar_`.
 #[unsafe(no_mangle)]
 pub unsafe extern "C" fn peltzivar_note(
@@ -167,7 +167,7 @@ fn mend_at(
     }
 }
 
-// Returns the note on fields in a slot, or `None` if the slot is empty.
+// Returns the note in a slot for notes on fields, or `None` if the slot is empty.
 fn note_at(fields: &Fields, index: u8) -> Option<Note> {
     let slots = notes_of_fields(&fields.builder());
     if (index as usize) < slots.len() {

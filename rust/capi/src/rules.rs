@@ -76,7 +76,7 @@ pub extern "C" fn peltzivar_is_valid_options_punctuation(
     flags::is_valid_options_punctuation(format.number(), exponent, decimal_point)
 }
 
-/// Returns 0 if an exponent character and a decimal point fit a word. Otherwise, returns the number of the error.
+/// Returns 0 if an exponent character and a decimal point fit a word, and the number of the error otherwise.
 // SAFETY: no other library has names that begin with `peltzivar_`.
 #[unsafe(no_mangle)]
 pub extern "C" fn peltzivar_options_error(
@@ -101,8 +101,8 @@ pub extern "C" fn peltzivar_keeps_rule(format: Word, rule: u8) -> bool {
     }
 }
 
-/// Returns the number of the error of a rule: the error of a word that breaks the rule and no rule before it. Returns 0
-/// if `rule` is not the number of a rule.
+/// Returns the number of the error of a word that breaks the given rule and no rule before it. Returns 0 if `rule` is
+/// not the number of a rule.
 // SAFETY: no other library has names that begin with `peltzivar_`.
 #[unsafe(no_mangle)]
 pub extern "C" fn peltzivar_rule_error(rule: u8) -> ErrorNumber {
@@ -157,8 +157,8 @@ pub extern "C" fn peltzivar_radix_from_flags(format: Word, mask: Word, shift: u3
     }
 }
 
-/// Returns the rule with a given number, or `None` if no rule has this number. The number of a rule is its index in the
-/// order of the rules.
+/// Returns the rule with a given number, or `None` if no rule has this number. The number of a rule is its index in
+/// `RULES`.
 #[must_use]
 pub fn rule_of(number: u8) -> Option<Rule> {
     if (number as usize) < RULES.len() {

@@ -10,7 +10,7 @@ use peltzivar::error::Error;
 use peltzivar::source::BuilderExpression;
 use peltzivar::word_text::{parse_word, word_text};
 
-/// Writes a word as `0x` and 32 uppercase hexadecimal digits.
+/// Writes a word as `0x` followed by 32 uppercase hexadecimal digits.
 // SAFETY: no other library has names that begin with `peltzivar_`.
 #[unsafe(no_mangle)]
 pub unsafe extern "C" fn peltzivar_text_of_word(
