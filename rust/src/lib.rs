@@ -18,7 +18,7 @@
 //!     .internal_digit_separator(true)
 //!     .build_or_panic();
 //!
-//! /// Returns how many digits a text has, or `None` if it has a byte that is neither a digit nor a separator.
+//! /// Returns how many digits `text` has, or `None` if it has a byte that is neither a digit nor a separator.
 //! fn digits<const FORMAT: u128>(text: &[u8]) -> Option<usize> {
 //!     let format = NumberFormat::<FORMAT>::new();
 //!     let is_separator = |byte: u8| format.internal_digit_separator() && byte == format.digit_separator();

@@ -1,4 +1,4 @@
-//! Iterators over rules, reasons, notes and edits, and conversions of edits to a builder.
+//! Iterators over rules, reasons, notes and edits, and conversions of edits into a builder.
 
 use crate::edits::{apply, edits_of, Edit, FlagSetter, SETTERS, SETTER_NAMES};
 use crate::format_builder::NumberFormatBuilder;

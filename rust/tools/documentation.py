@@ -155,7 +155,7 @@ PHRASES = [
      " unspecified."),
     ("The comment of a variant is the name of its setter.", "Each variant links to its setter."),
     ("Prints what [`SettingError::text`] returns.",
-     "Prints which values the setter takes, or why the text is not a setting."),
+     "Prints which values the setter takes, or why the string is not a setting."),
     ("Prints what [`Edit::text`] returns.",
      "Prints the edit as `NAME=VALUE`, such as `mantissa_radix=16`, `no_special=true` or `digit_separator=none`."),
     ("[`format_error_impl`], or `Success` if the word is lawful.",

@@ -33,7 +33,7 @@ CUES = {"if and only if|the same error": "↔|OkIff", "[Nn]ever": "≢", "No oth
 ADDED = [
     "", "", "", "", "", "", "[`build_or_panic`][Self::build_or_panic]",
     "If 36 or more,", "Panics if 36 or more.", "Panics if not range and enabled. If they are disabled, the result is unspecified.",
-    "Each links to", "which values the setter takes, or why the text is not a setting.",
+    "Each links to", "which values the setter takes, or why the string is not a setting.",
     "the edit as `NAME=VALUE`, such as `mantissa_radix=16`, `no_special=true` or `digit_separator=none`.",
     "the variants of [`Rule`][crate::format_flags::Rule],",
     "For a that known at compile time, [`NumberFormat`][crate::feature_format::NumberFormat] also has as a Views are"

@@ -1,4 +1,4 @@
-//! The smallest complete caller: a function that tests whether a text consists only of digits.
+//! The smallest complete caller: a function that tests whether text consists only of digits.
 
 ghost use Rattle.std.specs.Prelude.{◌↔◌, IsTrue};
 ghost use Rattle.std.specs.List.{AllPass};

@@ -256,133 +256,133 @@ impl Error {
         }
     }
 
-    /// Returns whether this is [`Error::Overflow`], at any index.
+    /// Returns whether this is [`Error::Overflow`], whatever its index.
     pub const fn is_overflow(&self) -> bool
         ensures { IsTrue result ↔ (rank_of self.now ≡ rank_of (errors.Overflow 0)) }
     {
         matches!(self, Error::Overflow(_))
     }
 
-    /// Returns whether this is [`Error::Underflow`], at any index.
+    /// Returns whether this is [`Error::Underflow`], whatever its index.
     pub const fn is_underflow(&self) -> bool
         ensures { IsTrue result ↔ (rank_of self.now ≡ rank_of (errors.Underflow 0)) }
     {
         matches!(self, Error::Underflow(_))
     }
 
-    /// Returns whether this is [`Error::InvalidDigit`], at any index.
+    /// Returns whether this is [`Error::InvalidDigit`], whatever its index.
     pub const fn is_invalid_digit(&self) -> bool
         ensures { IsTrue result ↔ (rank_of self.now ≡ rank_of (errors.InvalidDigit 0)) }
     {
         matches!(self, Error::InvalidDigit(_))
     }
 
-    /// Returns whether this is [`Error::Empty`], at any index.
+    /// Returns whether this is [`Error::Empty`], whatever its index.
     pub const fn is_empty(&self) -> bool
         ensures { IsTrue result ↔ (rank_of self.now ≡ rank_of (errors.Empty 0)) }
     {
         matches!(self, Error::Empty(_))
     }
 
-    /// Returns whether this is [`Error::EmptyMantissa`], at any index.
+    /// Returns whether this is [`Error::EmptyMantissa`], whatever its index.
     pub const fn is_empty_mantissa(&self) -> bool
         ensures { IsTrue result ↔ (rank_of self.now ≡ rank_of (errors.EmptyMantissa 0)) }
     {
         matches!(self, Error::EmptyMantissa(_))
     }
 
-    /// Returns whether this is [`Error::EmptyExponent`], at any index.
+    /// Returns whether this is [`Error::EmptyExponent`], whatever its index.
     pub const fn is_empty_exponent(&self) -> bool
         ensures { IsTrue result ↔ (rank_of self.now ≡ rank_of (errors.EmptyExponent 0)) }
     {
         matches!(self, Error::EmptyExponent(_))
     }
 
-    /// Returns whether this is [`Error::EmptyInteger`], at any index.
+    /// Returns whether this is [`Error::EmptyInteger`], whatever its index.
     pub const fn is_empty_integer(&self) -> bool
         ensures { IsTrue result ↔ (rank_of self.now ≡ rank_of (errors.EmptyInteger 0)) }
     {
         matches!(self, Error::EmptyInteger(_))
     }
 
-    /// Returns whether this is [`Error::EmptyFraction`], at any index.
+    /// Returns whether this is [`Error::EmptyFraction`], whatever its index.
     pub const fn is_empty_fraction(&self) -> bool
         ensures { IsTrue result ↔ (rank_of self.now ≡ rank_of (errors.EmptyFraction 0)) }
     {
         matches!(self, Error::EmptyFraction(_))
     }
 
-    /// Returns whether this is [`Error::InvalidPositiveMantissaSign`], at any index.
+    /// Returns whether this is [`Error::InvalidPositiveMantissaSign`], whatever its index.
     pub const fn is_invalid_positive_mantissa_sign(&self) -> bool
         ensures { IsTrue result ↔ (rank_of self.now ≡ rank_of (errors.InvalidPositiveMantissaSign 0)) }
     {
         matches!(self, Error::InvalidPositiveMantissaSign(_))
     }
 
-    /// Returns whether this is [`Error::MissingMantissaSign`], at any index.
+    /// Returns whether this is [`Error::MissingMantissaSign`], whatever its index.
     pub const fn is_missing_mantissa_sign(&self) -> bool
         ensures { IsTrue result ↔ (rank_of self.now ≡ rank_of (errors.MissingMantissaSign 0)) }
     {
         matches!(self, Error::MissingMantissaSign(_))
     }
 
-    /// Returns whether this is [`Error::InvalidExponent`], at any index.
+    /// Returns whether this is [`Error::InvalidExponent`], whatever its index.
     pub const fn is_invalid_exponent(&self) -> bool
         ensures { IsTrue result ↔ (rank_of self.now ≡ rank_of (errors.InvalidExponent 0)) }
     {
         matches!(self, Error::InvalidExponent(_))
     }
 
-    /// Returns whether this is [`Error::InvalidPositiveExponentSign`], at any index.
+    /// Returns whether this is [`Error::InvalidPositiveExponentSign`], whatever its index.
     pub const fn is_invalid_positive_exponent_sign(&self) -> bool
         ensures { IsTrue result ↔ (rank_of self.now ≡ rank_of (errors.InvalidPositiveExponentSign 0)) }
     {
         matches!(self, Error::InvalidPositiveExponentSign(_))
     }
 
-    /// Returns whether this is [`Error::MissingExponentSign`], at any index.
+    /// Returns whether this is [`Error::MissingExponentSign`], whatever its index.
     pub const fn is_missing_exponent_sign(&self) -> bool
         ensures { IsTrue result ↔ (rank_of self.now ≡ rank_of (errors.MissingExponentSign 0)) }
     {
         matches!(self, Error::MissingExponentSign(_))
     }
 
-    /// Returns whether this is [`Error::ExponentWithoutFraction`], at any index.
+    /// Returns whether this is [`Error::ExponentWithoutFraction`], whatever its index.
     pub const fn is_exponent_without_fraction(&self) -> bool
         ensures { IsTrue result ↔ (rank_of self.now ≡ rank_of (errors.ExponentWithoutFraction 0)) }
     {
         matches!(self, Error::ExponentWithoutFraction(_))
     }
 
-    /// Returns whether this is [`Error::InvalidLeadingZeros`], at any index.
+    /// Returns whether this is [`Error::InvalidLeadingZeros`], whatever its index.
     pub const fn is_invalid_leading_zeros(&self) -> bool
         ensures { IsTrue result ↔ (rank_of self.now ≡ rank_of (errors.InvalidLeadingZeros 0)) }
     {
         matches!(self, Error::InvalidLeadingZeros(_))
     }
 
-    /// Returns whether this is [`Error::MissingExponent`], at any index.
+    /// Returns whether this is [`Error::MissingExponent`], whatever its index.
     pub const fn is_missing_exponent(&self) -> bool
         ensures { IsTrue result ↔ (rank_of self.now ≡ rank_of (errors.MissingExponent 0)) }
     {
         matches!(self, Error::MissingExponent(_))
     }
 
-    /// Returns whether this is [`Error::MissingSign`], at any index.
+    /// Returns whether this is [`Error::MissingSign`], whatever its index.
     pub const fn is_missing_sign(&self) -> bool
         ensures { IsTrue result ↔ (rank_of self.now ≡ rank_of (errors.MissingSign 0)) }
     {
         matches!(self, Error::MissingSign(_))
     }
 
-    /// Returns whether this is [`Error::InvalidPositiveSign`], at any index.
+    /// Returns whether this is [`Error::InvalidPositiveSign`], whatever its index.
     pub const fn is_invalid_positive_sign(&self) -> bool
         ensures { IsTrue result ↔ (rank_of self.now ≡ rank_of (errors.InvalidPositiveSign 0)) }
     {
         matches!(self, Error::InvalidPositiveSign(_))
     }
 
-    /// Returns whether this is [`Error::InvalidNegativeSign`], at any index.
+    /// Returns whether this is [`Error::InvalidNegativeSign`], whatever its index.
     pub const fn is_invalid_negative_sign(&self) -> bool
         ensures { IsTrue result ↔ (rank_of self.now ≡ rank_of (errors.InvalidNegativeSign 0)) }
     {

@@ -7,7 +7,7 @@ ghost use Rattle.numfmt.specs.EditText.{edits_from_texts, has_other_form};
 use lexical_util::edits::Edit;
 
 /// Parses each of `texts` as an edit and stores the edits in order at the front of `edits`, which must be at least as
-/// long as `texts`. Returns `None` if a text is not an edit.
+/// long as `texts`. Returns `None` if any of `texts` is not an edit.
 pub(crate) fn read_edits(texts: &[String], edits: &mut [Edit]) -> Option<()>
     requires { length texts.now ≤ length edits.old }
     ensures { edits_from_texts (map string_bytes texts.now)

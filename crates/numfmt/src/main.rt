@@ -12,7 +12,7 @@
 //! | `options WORD E P` | whether E fits the word as exponent byte and P as point byte: `accepted` or `refused` |
 //! | `migrate WORD` | the normal form of an old word, or the error of the normal form |
 //! | `source WORD` | the builder expression with the fewest single-field setter calls that give the word's fields |
-//! | `explain WORD` | each reason why the word breaks rules: errors, fields to blame, edits that mend them; the notes |
+//! | `explain WORD` | each reason why the word breaks rules, with errors, fields and mending edits; then the notes |
 //!
 //! The exit status is 0 on success, 1 if the answer is no, and 2 if the arguments are refused (one line states the
 //! reason). It is 3 if a write fails or the arguments cannot be read (nothing more is printed).

@@ -5,7 +5,7 @@
 use peltzivar::edits::Edit;
 
 /// Parses each of `texts` as an edit and stores the edits in order at the front of `edits`, which must be at least as
-/// long as `texts`. Returns `None` if a text is not an edit.
+/// long as `texts`. Returns `None` if any of `texts` is not an edit.
 pub(crate) fn read_edits(texts: &[String], edits: &mut [Edit]) -> Option<()> {
     for (i, text) in texts.iter().enumerate() {
         let text = text.as_str();

@@ -10,13 +10,13 @@ use crate::format_builder::{NonZeroU8, OptionU8};
 use crate::numeral::read_numeral;
 use core::fmt;
 
-/// The error for a text that is not a setting. A setting has the form `NAME=VALUE`. `NAME` is the name of a setter, and
-/// `VALUE` is a value that the setter takes.
+/// The error for a string that is not a setting. A setting has the form `NAME=VALUE`, where `NAME` is the name of a
+/// setter and `VALUE` is a value that the setter takes.
 ///
-/// The error message never repeats any part of the text, since the text may come from an untrusted file.
+/// The error message never repeats any part of the string, since the string may come from an untrusted file.
 #[derive(Debug, Clone, Copy, PartialEq, Eq, Hash)]
 pub enum SettingError {
-    /// The text has no `=`.
+    /// The string has no `=`.
     #[doc(hidden)]
     NoEquals,
     /// No setter has the name before the `=`.
@@ -31,7 +31,7 @@ pub enum SettingError {
 }
 
 impl SettingError {
-    /// Returns the name of the setter that does not take the value. Returns `None` if the text has no `=`, or if no
+    /// Returns the name of the setter that does not take the value. Returns `None` if the string has no `=`, or if no
     /// setter has the name.
     #[must_use]
     pub const fn name(&self) -> Option<&'static str> {
@@ -55,7 +55,7 @@ impl SettingError {
     }
 }
 
-/// Prints which values the setter takes, or why the text is not a setting.
+/// Prints which values the setter takes, or why the string is not a setting.
 impl fmt::Display for SettingError {
     fn fmt(&self, f: &mut fmt::Formatter<'_>) -> fmt::Result {
         fmt::Display::fmt(&self.text(), f)
@@ -221,7 +221,7 @@ fn byte_from_text(text: &str) -> Option<u8> {
     }
 }
 
-/// Parses one to three decimal digits as a number of at most 255. Returns `None` for any other text.
+/// Parses one to three decimal digits as a number of at most 255. Returns `None` for any other string.
 #[must_use]
 #[doc(hidden)]
 pub fn byte_from_decimal(text: &str) -> Option<u8> {

@@ -1,6 +1,6 @@
 // Made by rust/tools/erase.py from crates/lexical_base/src/error/short_text.rt: change that file.
 
-//! The type [`ShortText`]: a short text that consists of a few pieces.
+//! The type [`ShortText`]: short text that consists of four pieces.
 
 use crate::error::Sink;
 use core::fmt;
@@ -26,8 +26,8 @@ pub enum Piece {
 #[doc(hidden)]
 pub const EMPTY_PIECE: Piece = Piece::Words("");
 
-/// A text that consists of four pieces, each of which may be empty. Each `ShortText` that the library returns has fewer
-/// than 256 bytes.
+/// Short text that consists of four pieces, each of which may be empty. Each `ShortText` that the library returns has
+/// fewer than 256 bytes.
 #[derive(Clone, Copy)]
 #[doc(hidden)]
 pub struct ShortText(pub Piece, pub Piece, pub Piece, pub Piece);

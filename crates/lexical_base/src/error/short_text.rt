@@ -1,4 +1,4 @@
-//! The type [`ShortText`]: a short text that consists of a few pieces.
+//! The type [`ShortText`]: short text that consists of four pieces.
 
 ghost use Rattle.std.specs.Prelude.{◌≡◌, ◌<◌, ◌∷◌, [], length, IsErr, OnOk, Some, true};
 ghost use Rattle.std.specs.Fmt.{WritesInCalls, decimal, digit_glyph, digits_onto};
@@ -27,8 +27,8 @@ pub enum Piece {
 /// A piece without text.
 pub const EMPTY_PIECE: Piece = Piece::Words("");
 
-/// A text that consists of four pieces, each of which may be empty. Each `ShortText` that the library returns has fewer
-/// than 256 bytes.
+/// Short text that consists of four pieces, each of which may be empty. Each `ShortText` that the library returns has
+/// fewer than 256 bytes.
 #[derive(Drop)]
 pub struct ShortText(pub Piece, pub Piece, pub Piece, pub Piece);
 

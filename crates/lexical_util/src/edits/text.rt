@@ -19,13 +19,13 @@ use lexical_base::error::{EMPTY_PIECE, Piece, ShortText};
 use lexical_builder::format_builder::{NonZeroU8, OptionU8};
 use std::fmt;
 
-/// The error for a text that is not a setting. A setting has the form `NAME=VALUE`. `NAME` is the name of a setter, and
-/// `VALUE` is a value that the setter takes.
+/// The error for a string that is not a setting. A setting has the form `NAME=VALUE`, where `NAME` is the name of a
+/// setter and `VALUE` is a value that the setter takes.
 ///
-/// The error message never repeats any part of the text, since the text may come from an untrusted file.
+/// The error message never repeats any part of the string, since the string may come from an untrusted file.
 #[derive(Debug, Clone, Copy, PartialEq, Eq)]
 pub enum SettingError {
-    /// The text has no `=`.
+    /// The string has no `=`.
     NoEquals,
     /// No setter has the name before the `=`.
     UnknownName,
@@ -36,7 +36,7 @@ pub enum SettingError {
 }
 
 impl SettingError {
-    /// Returns the name of the setter that does not take the value. Returns `None` if the text has no `=`, or if no
+    /// Returns the name of the setter that does not take the value. Returns `None` if the string has no `=`, or if no
     /// setter has the name.
     pub const fn name(&self) -> Option<&'static str>
         ensures { option_map (λ name. name.now) result ≡ name_of_error self.now }
@@ -261,7 +261,7 @@ fn byte_from_text(text: &str) -> Option<u8>
     }
 }
 
-/// Parses one to three decimal digits as a number of at most 255. Returns `None` for any other text.
+/// Parses one to three decimal digits as a number of at most 255. Returns `None` for any other string.
 pub fn byte_from_decimal(text: &str) -> Option<u8>
     ensures { result ≡ byte_from_digits 10 3 text.now }
 {
