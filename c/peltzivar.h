@@ -297,7 +297,7 @@ PELTZIVAR_API uint32_t peltzivar_version(void);
 /* Returns the fields of a word. In the result, the mantissa radix replaces each absent exponent byte. */
 PELTZIVAR_API peltzivar_fields peltzivar_fields_of(peltzivar_word format);
 
-/* Applies the edits in order to *fields and returns true. If an edit has an unknown setter, returns false and leaves
+/* Applies the edits, in order, to *fields and returns true. If an edit has an unknown setter, returns false and leaves
  * *fields unchanged. */
 PELTZIVAR_MUST_USE PELTZIVAR_API bool peltzivar_edit_fields(
     peltzivar_fields *fields, const peltzivar_edit *edits, size_t len);
@@ -306,7 +306,7 @@ PELTZIVAR_MUST_USE PELTZIVAR_API bool peltzivar_edit_fields(
  * If no digit separator flag is set, packing drops the digit separator, that is, sets it to 0. */
 PELTZIVAR_API peltzivar_word peltzivar_pack(const peltzivar_fields *fields);
 
-/* Applies the edits in order to a copy of the fields, packs the copy as peltzivar_pack does, writes the word to
+/* Applies the edits, in order, to a copy of the fields, packs the copy as peltzivar_pack does, writes the word to
  * *out and returns true. If an edit has an unknown setter, returns false and leaves *out unchanged. */
 PELTZIVAR_MUST_USE PELTZIVAR_API bool peltzivar_build(
     const peltzivar_fields *fields, const peltzivar_edit *edits, size_t len, peltzivar_word *out);
@@ -319,7 +319,7 @@ PELTZIVAR_MUST_USE PELTZIVAR_API peltzivar_error peltzivar_build_strict(
 
 /* WORDS */
 
-/* Applies the edits in order to the fields of a word, packs the fields as peltzivar_pack does, writes the new word to
+/* Applies the edits, in order, to the fields of a word, packs the fields as peltzivar_pack does, writes the new word to
  * *out and returns true. If an edit has an unknown setter, returns false and leaves *out unchanged. Before the edits
  * are applied, the mantissa radix replaces each absent exponent byte. After they are applied, packing may drop the
  * digit separator. Therefore, two calls do not always give the same word as one call with all of the edits. Edit the
@@ -332,7 +332,7 @@ PELTZIVAR_MUST_USE PELTZIVAR_API bool peltzivar_edit_word(
  * normal form are 0. */
 PELTZIVAR_API peltzivar_word peltzivar_normal_form(peltzivar_word format);
 
-/* If the normal form of the word is lawful, writes the normal form to *out and returns PELTZIVAR_SUCCESS. Otherwise,
+/* If the normal form of a word is lawful, writes the normal form to *out and returns PELTZIVAR_SUCCESS. Otherwise,
  * returns the error of the first rule that the normal form breaks, and leaves *out unchanged. */
 PELTZIVAR_MUST_USE PELTZIVAR_API peltzivar_error peltzivar_migrate(peltzivar_word format, peltzivar_word *out);
 

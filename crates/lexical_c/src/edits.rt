@@ -19,7 +19,7 @@ use lexical_util::edits::{Edit, FIELD_COUNT, apply, edits_of};
 use lexical_util::format_builder::NumberFormatBuilder;
 use lexical_util::laws::write_facts;
 
-/// Applies the edits in order to a builder and returns the new builder. If an edit has an unknown setter, returns
+/// Applies the edits, in order, to a builder and returns the new builder. If an edit has an unknown setter, returns
 /// `None`.
 #[inline(always)]
 pub fn apply_edits(
@@ -49,7 +49,7 @@ pub extern "C" fn peltzivar_fields_of(format: Word) -> Fields
     Fields::new(&NumberFormatBuilder::rebuild(format.number()))
 }
 
-/// Applies the edits in order to the fields, clears the bits above the flags and returns `true`. If an edit has an
+/// Applies the edits, in order, to the fields, clears the bits above the flags and returns `true`. If an edit has an
 /// unknown setter, returns `false` and leaves the fields unchanged.
 #[unsafe(no_mangle)]
 pub extern "C" fn peltzivar_edit_fields(fields: &mut Fields, edits: &[NumberedEdit]) -> bool
@@ -76,7 +76,7 @@ pub extern "C" fn peltzivar_pack(fields: &Fields) -> Word
     Word::new(fields.builder().build_unchecked())
 }
 
-/// Applies the edits in order to a copy of the fields, packs the copy, writes the word and returns `true`. If an edit
+/// Applies the edits, in order, to a copy of the fields, packs the copy, writes the word and returns `true`. If an edit
 /// has an unknown setter, returns `false` and writes nothing.
 #[unsafe(no_mangle)]
 pub extern "C" fn peltzivar_build(fields: &Fields, edits: &[NumberedEdit], out: &mut Word) -> bool
@@ -102,7 +102,7 @@ pub extern "C" fn peltzivar_build_strict(fields: &Fields, out: &mut Word) -> Err
     write_if_lawful(fields.builder().build_strict(), out)
 }
 
-/// Applies the edits in order to a word, writes the new word and returns `true`. If an edit has an unknown setter,
+/// Applies the edits, in order, to a word, writes the new word and returns `true`. If an edit has an unknown setter,
 /// returns `false` and writes nothing.
 #[unsafe(no_mangle)]
 pub extern "C" fn peltzivar_edit_word(format: Word, edits: &[NumberedEdit], out: &mut Word) -> bool

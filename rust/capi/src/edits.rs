@@ -8,7 +8,7 @@ use peltzivar::edits;
 use peltzivar::edits::{apply, edits_of, Edit, FIELD_COUNT};
 use peltzivar::format_builder::NumberFormatBuilder;
 
-/// Applies the edits in order to a builder and returns the new builder. If an edit has an unknown setter, returns
+/// Applies the edits, in order, to a builder and returns the new builder. If an edit has an unknown setter, returns
 /// `None`.
 #[must_use]
 #[inline(always)]
@@ -33,7 +33,7 @@ pub extern "C" fn peltzivar_fields_of(format: Word) -> Fields {
     Fields::new(&NumberFormatBuilder::rebuild(format.number()))
 }
 
-/// Applies the edits in order to the fields, clears the bits above the flags and returns `true`. If an edit has an
+/// Applies the edits, in order, to the fields, clears the bits above the flags and returns `true`. If an edit has an
 /// unknown setter, returns `false` and leaves the fields unchanged.
 // SAFETY: no other library has names that begin with `peltzivar_`.
 #[unsafe(no_mangle)]
@@ -58,7 +58,7 @@ pub extern "C" fn peltzivar_pack(fields: &Fields) -> Word {
     Word::new(fields.builder().build_unchecked())
 }
 
-/// Applies the edits in order to a copy of the fields, packs the copy, writes the word and returns `true`. If an edit
+/// Applies the edits, in order, to a copy of the fields, packs the copy, writes the word and returns `true`. If an edit
 /// has an unknown setter, returns `false` and writes nothing.
 // SAFETY: no other library has names that begin with `peltzivar_`.
 #[unsafe(no_mangle)]
@@ -88,7 +88,7 @@ pub extern "C" fn peltzivar_build_strict(
     write_if_lawful(fields.builder().build_strict(), out)
 }
 
-/// Applies the edits in order to a word, writes the new word and returns `true`. If an edit has an unknown setter,
+/// Applies the edits, in order, to a word, writes the new word and returns `true`. If an edit has an unknown setter,
 /// returns `false` and writes nothing.
 // SAFETY: no other library has names that begin with `peltzivar_`.
 #[unsafe(no_mangle)]
