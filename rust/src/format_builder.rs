@@ -149,8 +149,8 @@ impl NumberFormatBuilder {
 
     /// Packs the fields into a format word without checking whether the word is [lawful][flags::Rule].
     ///
-    /// If no flag allows digit separators, the digit separator is dropped: its byte in the word is 0. These flags
-    /// include `special_digit_separator`. All other fields are packed as they are.
+    /// If no flag allows digit separators, in a number or in a special value, the digit separator is dropped: its byte
+    /// in the word is 0. All other fields are packed as they are.
     ///
     /// # Proved
     ///
@@ -193,7 +193,7 @@ impl NumberFormatBuilder {
     /// Packs the fields into a format word, and returns the word if it is [lawful][flags::Rule].
     ///
     /// In `lexical-util`, this method panics instead of returning an error. [`build_or_panic`][Self::build_or_panic]
-    /// panics too. Call it in constants, where a `Result` cannot be unwrapped.
+    /// panics too. Call that method in constants, where a `Result` cannot be unwrapped.
     ///
     /// # Errors
     ///

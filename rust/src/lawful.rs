@@ -64,8 +64,8 @@ impl Format {
         }
     }
 
-    /// Returns the format of a word that is known at compile time. If the word is not lawful, the call does not
-    /// compile.
+    /// Returns the format whose word is `FORMAT`, which is known at compile time. If the word is not lawful, the call
+    /// does not compile.
     ///
     /// ```compile_fail,E0080
     /// const FORMAT: peltzivar::Format = peltzivar::Format::of::<0>();
@@ -182,7 +182,7 @@ impl FormatView {
     ///
     /// # Errors
     ///
-    /// Returns the error of the first rule that the word breaks.
+    /// If the word is not lawful, returns the error of the first rule that it breaks.
     pub const fn check(&self) -> Result<Format, Error> {
         Format::new(self.word())
     }

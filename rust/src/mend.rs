@@ -32,9 +32,9 @@ impl fmt::Display for Mend {
 }
 
 impl FormatView {
-    /// Returns mends that remove one of the [reasons][Self::reasons] why the word is not lawful. There is at most one
-    /// [`Mend`] for each field that the reason [blames][Reason]. A mend clears a flag or a byte, or sets the mantissa
-    /// radix to 10.
+    /// Returns mends that remove `reason`, one of the [reasons][Self::reasons] why the word is not lawful. There is at
+    /// most one [`Mend`] for each field that the reason [blames][Reason]. A mend clears a flag or a byte, or sets the
+    /// mantissa radix to 10.
     ///
     /// If [`edit_word`][crate::edits::edit_word] applies the edits of one mend, the new word breaks no rule that the
     /// old word kept, and it no longer breaks the rules that the old word broke only because of `reason`.

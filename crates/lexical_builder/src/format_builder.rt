@@ -201,8 +201,8 @@ impl NumberFormatBuilder {
 
     /// Packs the fields into a format word without checking whether the word is [lawful][flags::Rule].
     ///
-    /// If no flag allows digit separators, the digit separator is dropped: its byte in the word is 0. These flags
-    /// include `special_digit_separator`. All other fields are packed as they are.
+    /// If no flag allows digit separators, in a number or in a special value, the digit separator is dropped: its byte
+    /// in the word is 0. All other fields are packed as they are.
     #[inline(always)]
     pub const fn build_unchecked(&self) -> u128
         ensures word { result ≡ pack self.now }
@@ -236,7 +236,7 @@ impl NumberFormatBuilder {
     /// Packs the fields into a format word, and returns the word if it is [lawful][flags::Rule].
     ///
     /// In `lexical-util`, this method panics instead of returning an error. In plain Rust, `build_or_panic` panics too.
-    /// Call it in constants, where a `Result` cannot be unwrapped.
+    /// Call that method in constants, where a `Result` cannot be unwrapped.
     ///
     /// # Errors
     ///

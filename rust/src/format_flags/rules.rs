@@ -219,8 +219,8 @@ const fn is_disjoint_from_format_roles(format: u128, byte: u8, case_sensitive: b
         && roles_disjoint_fast(byte, case_sensitive, base_suffix(format), suffix_case)
 }
 
-/// Returns whether `exponent` can be the exponent character, and `decimal_point` the decimal point, in numbers of this
-/// format.
+/// Returns whether `exponent` can be the exponent character, and `decimal_point` the decimal point, in numbers of
+/// `format`.
 ///
 /// Each must be a byte that [`is_valid_ascii`][crate::ascii::is_valid_ascii] accepts and that is neither a sign
 /// (`+` or `-`) nor a [digit][is_digit] of `format`. So neither may be 0. The two must differ from each other, and from
