@@ -48,7 +48,6 @@ PROSE = [("crates", "*.rt"), ("crates", "*.antt"), ("rust", "*.rs"), ("c", "*.[c
          ("docs", "*.py"), ("c", "*.py"), ("compare", "*.py"), ("crates", "*.py"), ("rust", "*.py")]  # fmt: skip
 # The lines that may keep a construction: the file, the construction, a part of the line, and the reason.
 KEPT = [
-    ("README.md", "a comment from its middle", "Rust with *contracts* that state", "emphasis"),
     ("README.md", "the Rust crate", "the Rust crate `lexical-util` 1.0.7", "names the crate"),
     ("README.md", "alone", "With cargo alone", "cargo alone"),
     ("README.md", "two semicolons", "mend: base_prefix=none; mend: radix=10", "printed by a program"),

@@ -181,8 +181,8 @@ macro_rules! number_rows {
             over_numbers "format_error, broken" broken, format_errors;
             over_numbers "radix_error_impl" any, radix_errors;
             over_numbers "5 rules by their own calls" lawful, validators;
-            over_numbers "options test, lawful" lawful, options;
-            over_numbers "options test, broken" broken, options;
+            over_numbers "is_valid_options_punctuation, lawful" lawful, options;
+            over_numbers "is_valid_options_punctuation, broken" broken, options;
             over_numbers "view, 48 getters" any, view;
             over_numbers "view, 4 getters" lawful, few_getters;
             over_numbers "view, 7 masks" any, masks;
