@@ -5,6 +5,7 @@
 # - each script that uses it, where no compiler is installed: it skips as many rows as it counts;
 # - docs/check_test.py, over checks that find nothing: it reports each status that is not 1;
 # - run, over programs that do nothing: it calls each test, and fails if one fails;
+# - the scripts that run has for shellcheck: these are all scripts;
 # - the commands of rust/tools/test.sh: each is called, and its row fails if it fails;
 # - the options and arguments in the commands of c/test.sh.
 #
@@ -14,15 +15,14 @@ cd "$(dirname "$0")" || exit
 work=$(mktemp -d)
 trap 'rm -rf "$work"' EXIT
 tried=0
-failed=0
+passed=0
 
 # row STATUS TEXT CODE: rows of this code print the text, and end with the status.
 row() {
     local got
     got=$(env -u CI bash -c ". ./rows.sh; $3" 2>&1; echo "status $?")
     tried=$((tried + 1))
-    [ "$got" = "$2"$'\n'"status $1" ] && return
-    failed=$((failed + 1))
+    [ "$got" = "$2"$'\n'"status $1" ] && passed=$((passed + 1)) && return
     printf '%s\n  wanted: %q\n  got:    %q\n' "$3" "$2"$'\n'"status $1" "$got"
 }
 
@@ -80,8 +80,7 @@ skips() {
     local got
     got=$(env -u CI PATH="$work/few" "../$2" "${@:3}" 2>&1; echo "status $?")
     tried=$((tried + 1))
-    [ "$(tail -n 2 <<< "$got")" = "0 passed, 0 failed, $1 skipped"$'\nstatus 0' ] && return
-    failed=$((failed + 1))
+    [ "$(tail -n 2 <<< "$got")" = "0 passed, 0 failed, $1 skipped"$'\nstatus 0' ] && passed=$((passed + 1)) && return
     printf '%s, without compilers: not %s rows\n%s\n' "${*:2}" "$1" "$got"
 }
 
@@ -100,8 +99,8 @@ cp ../docs/check_test.py "$work/checks/docs"
 for status in 0 2; do
     echo "raise SystemExit($status)" | tee "$work/checks/docs/check.py" > "$work/checks/c/header_test.py"
     tried=$((tried + 1))
-    [ "$(python3 "$work/checks/docs/check_test.py" | grep -c ": the status is $status: $")" = 3 ] && continue
-    failed=$((failed + 1))
+    [ "$(python3 "$work/checks/docs/check_test.py" | grep -c ": the status is $status: $")" = 3 ] &&
+        passed=$((passed + 1)) && continue
     echo "docs/check_test.py: does not report three times the status $status"
 done
 
@@ -136,11 +135,21 @@ for fails in none kept "${calls[@]}"; do
     status=$?
     missing=$(printf '%s\n' "${calls[@]}" | grep -vxFf "$work/log")
     tried=$((tried + 1))
-    case $fails:$status:$missing in none:0: | kept:0:) continue ;; none:* | kept:*) ;; *:0:*) ;; *) continue ;; esac
-    failed=$((failed + 1))
+    case $fails:$status in none:0 | kept:0) [ -z "$missing" ] ;; none:* | kept:* | *:0) false ;; esac &&
+        passed=$((passed + 1)) && continue
     printf 'run, where this fails: %s: status %s, not called: %s\n' "$fails" "$status" "$missing"
     cat "$work/printed"
 done
+
+# The scripts that `run` has for shellcheck are all scripts of the repository.
+named=$(cd .. && eval "ls -d $(sed -n 's/^ *shellcheck //p' .ci/run)" | sort)
+scripts=$(cd .. && find -- * .ci -name '*.sh' -o -type f -name run -o -type f -name build | grep -vE '/(out|target)/' | sort)
+tried=$((tried + 1))
+if [ "$named" = "$scripts" ]; then
+    passed=$((passed + 1))
+else
+    printf 'run: shellcheck gets other scripts than there are\n%s\n' "$(diff <(echo "$named") <(echo "$scripts"))"
+fi
 
 # The commands of rust/tools/test.sh, in a copy with tools that log their arguments. If all tools fail, each row fails,
 # except for the two rows that find a command in a page. If no tool fails, dropping_in_test.sh calls cargo twice.
@@ -201,8 +210,7 @@ for STATUS in 1 0; do
     else
         [ "$(cat "$work/log")" = "$(cat "$work/commands")" ] &&
             [ "$(tail -n 2 <<< "$got")" = $'2 passed, 26 failed, 0 skipped\nstatus 1' ]
-    fi && continue
-    failed=$((failed + 1))
+    fi && passed=$((passed + 1)) && continue
     printf 'rust/tools/test.sh, over tools that end with %s:\n%s\n' $STATUS "$got"
     diff "$work/commands" "$work/log"
 done
@@ -230,7 +238,7 @@ for tool in clang clang++ g++ gcc cargo cmake make mypy nm pkg-config python3 re
 done
 for tool in chmod cmp cut diff mv; do ln -s "$(command -v $tool)" "$copy/tools"; done
 cat > "$work/counts" << 'END'
-178 failed
+180 failed
 42 -Wall -Wextra -Wpedantic -Wconversion -Wshadow -Werror
 8 -fsanitize=address -fsanitize=undefined -fno-sanitize-recover=all
 8 valgrind -q --error-exitcode=9 --leak-check=full
@@ -258,9 +266,10 @@ while read -r number text; do
     tried=$((tried + 1))
     found=$(grep -cF -- "$text" "$work/log")
     if [ "$text" = failed ]; then found=$(sed -n '$s/.* passed, \(.*\) failed.*/\1/p' <<< "$got"); fi
-    [ "$found" -ge "$number" ] && continue
-    failed=$((failed + 1))
+    [ "$found" -ge "$number" ] && passed=$((passed + 1)) && continue
     printf 'c/test.sh, commands with %s: %s, fewer than %s\n' "$text" "$found" "$number"
 done < "$work/counts"
-echo "$((tried - failed)) passed, $failed failed"
+failed=$((tried - passed))
+echo "$passed passed, $failed failed"
+[ "$tried" -ge 81 ] || { echo "fewer rows than before: 81"; exit 1; }
 [ "$failed" -eq 0 ]

@@ -197,15 +197,18 @@ faulty() {
     done
 }
 
-# imports: for a DLL, and only for one, the calls are imported.
-imports() {
-    cc -D_WIN32 -DPELTZIVAR_SHARED -E peltzivar.h | grep -qF '__declspec(dllimport) uint32_t peltzivar_version' &&
-        ! cc -D_WIN32 -E peltzivar.h | grep -q declspec
+# declared CALL OPTION..: what the header declares this call as, with these options.
+declared() {
+    cc "${@:2}" -E peltzivar.h | grep -F " $1(" | sed 's/^ *//'
 }
 
-# macros: a program can define the macros of the header.
-macros() {
-    cc -DPELTZIVAR_API=api -DPELTZIVAR_MUST_USE=must -E peltzivar.h | grep -qF 'must api peltzivar_error peltzivar_migrate('
+# declarations: for a DLL, and only for one, the calls are imported. A program can define the macros of the header.
+declarations() {
+    local version='uint32_t peltzivar_version(void);' word='peltzivar_word format, peltzivar_word *out'
+    prints 0 "__declspec(dllimport) $version" declared peltzivar_version -D_WIN32 -DPELTZIVAR_SHARED
+    prints 0 "$version" declared peltzivar_version -D_WIN32
+    prints 0 "must api peltzivar_error peltzivar_migrate($word);" \
+        declared peltzivar_migrate -DPELTZIVAR_API=api -DPELTZIVAR_MUST_USE=must
 }
 
 # warns COMPILER..: a result that is an error must not be ignored.
@@ -242,8 +245,7 @@ errors() {
 # compilers: the header in each language that it supports.
 compilers() {
     needing python3 sources
-    passes imports
-    passes macros
+    declarations
     headers cc 'header.c' c99 c11 c17
     needing clang headers clang 'header.c' c99 c11 c17
     needing gcc headers gcc '-include ./peltzivar.h -x c /dev/null' c89 c2x
@@ -270,10 +272,17 @@ exports() {
     diff <(nm -gD --defined-only "$1" | cut -d' ' -f3 | sort) <(calls)
 }
 
+# units COMMAND..: the number of tests of a run of unittest that passes.
+units() {
+    local got
+    if ! got=$("$@" 2>&1); then echo "$got" && return 1; fi
+    sed -n 's/^Ran \([0-9]*\) tests.*/\1 passed/p' <<< "$got"
+}
+
 # python SHARED: the rows in Python.
 python() {
     local -x PELTZIVAR_LIBRARY=$1 PYTHONDONTWRITEBYTECODE=1
-    passes python3 -m unittest ./peltzivar_test.py
+    counts 14 units python3 -m unittest ./peltzivar_test.py
     shows "$page" "python3 example.py" python3 example.py
     prints 0 "$noted" python3 example.py digit_separator=95 case_sensitive_special=true
     prints 2 "radix=none: radix takes a number, 2 to 36 in a lawful format" python3 example.py no_special=true radix=none
@@ -286,7 +295,8 @@ pythons() {
     newest=$(python3 -c 'import sys; print(sys.version_info.minor)')
     for ((minor = 9; minor < newest; minor++)); do
         if "python3.$minor" -c '' 2> /dev/null; then
-            passes env PELTZIVAR_LIBRARY="$1" PYTHONDONTWRITEBYTECODE=1 "python3.$minor" -m unittest ./peltzivar_test.py
+            local -x PELTZIVAR_LIBRARY=$1 PYTHONDONTWRITEBYTECODE=1
+            counts 14 units "python3.$minor" -m unittest ./peltzivar_test.py
         else
             echo "not tried: python3.$minor"
         fi
@@ -459,7 +469,8 @@ installed() {
         "$(xargs < "$prefix/lib/pkgconfig/peltzivar.pc")" peltzivar.pc
     passes make uninstall PREFIX=/usr LIBDIR=/usr/lib/here INCLUDEDIR=/srv/include DESTDIR="$work/root"
     compares "" "$(find "$work/root" ! -type d)" make uninstall
-    compares "PREFIX = /usr/local" "$(env -u PREFIX make -pn | grep '^PREFIX = ')" make PREFIX
+    compares "BUILD = ../rust/target/make PREFIX = /usr/local" \
+        "$(env -u PREFIX -u BUILD make -pn | grep -E '^(BUILD|PREFIX) = ' | sort | xargs)" make -pn
     for setting in PREFIX LIBDIR INCLUDEDIR; do
         passes refuses $setting
     done
@@ -503,4 +514,4 @@ done
 needing python3 alike "$work/settings"
 needing python3 pythons "$work/false/release/libpeltzivar_c.so"
 needing make installed
-counted 285
+counted 286

@@ -16,7 +16,7 @@ RULES = re.findall(r"^\| (\d+) \| (.*) \| `Invalid(\w+)` \| `(\w+)` \| .* \|$", 
 # The files in which a constant or a getter links to the setter that describes its meaning.
 POINTING = ["flags/src/format_flags", "builder/src/format_builder/getters"]
 POINTING += ["util/src/feature_format", "util/src/feature_format/getters"]
-# The words that a group's text has if and only if the group's name has the other ones.
+# The words that a group's text has if and only if the group's name has the other ones. All other words of names are OTHERS.
 CUES = {
     "required": "require",
     "internal": "between",
@@ -27,6 +27,7 @@ CUES = {
     "fraction": "fraction",
     "exponent": "exponent",
 }
+OTHERS = {"digit", "digits", "separator", "flags"}
 
 
 def bits_of(mask):
@@ -91,7 +92,8 @@ def meanings():
         if not re.search(re.escape(meaning) + "[.:,;]", docs_of(name)):
             yield f"the comment of the setter `{name}` does not have: {meaning}"
     for name, _, meaning in GROUPS:
-        if any((part in name) != (cue in meaning) for part, cue in CUES.items()):
+        is_known = {*name.split("_")} <= {*CUES, *OTHERS}
+        if not is_known or any((part in name) != (cue in meaning) for part, cue in CUES.items()):
             yield f"`{name}` does not have the meaning of its name: {meaning}"
 
 

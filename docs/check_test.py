@@ -11,7 +11,7 @@ import tempfile
 
 TOP = pathlib.Path(__file__).resolve().parent.parent
 # The minimum number of faults.
-LEAST = 118
+LEAST = 160
 COPIED = ["*.md", "crates.txt", ".ci", "bench", "c", "compare", "crates", "docs", "explorer", "rust"]
 
 # A file, a part of it (`None`: its end, also of a new file), the replacement, and the text that must be printed.
@@ -20,9 +20,21 @@ DIGITS, SPECS, HEADER = "crates/lexical_base/specs/Digits.antt", "crates/lexical
 EDITS, UTIL = "crates/lexical_util/src/edits.rt", "Rattle.lexical_util.specs"
 WORD = "0x0123456789ABCDEF0123456789ABCDE0"
 NUMBERS = "two three four five six seven eight nine ten".split()
+PLAIN = "format_flags format_builder/getters view/getters feature_format edits".split()
+# A text of each construction that no other fault has.
+SAMPLES = {
+    "exactly if": "exactly if", "is none": "is none", "that of": "that of it", "the same of": "the same of",
+    ", of which": "one, of which", "made of": "made of", "otherwise": "is otherwise", "house, room or free": "room",
+    "stands for": "stands for", "beside": "beside", "alone": "code alone", "else": "and else", "case counts": "case counts",
+    "reads back": "reads back", "is 2 to 36": "is 2 to 36", "words for names": "own words", "the Rust crate": "the Rust crate",
+}  # fmt: skip
+# A new file of each kind with prose that no other fault is in.
+PROSE = "rust/a.rs bench/a.rs bench/a.in compare/a.rs explorer/a.js explorer/a.rs c/a.py compare/a.py crates/a.py rust/a.py"
 PLANTS = [
     ("docs/RUST.md", None, "[a](planted.md)\n", "docs/RUST.md: leads to no file: planted.md"),
     ("docs/RUST.md", None, "[a](#planted)\n", "docs/RUST.md: leads to no heading: #planted"),
+    *((f"{it}/README.md", None, "[a](planted.md)\n", f"{it}/README.md: leads to no file: planted.md")
+      for it in ("compare", "bench", "rust", "explorer")),
     ("docs/RUST.md", None, "```rust\nlet planted = 0;\n```\n", "docs/RUST.md: not in the code:\nlet planted = 0;\n"),
     ("docs/RUST.md", None, "`planted_text`\n", "docs/RUST.md: in no code: planted_text"),
     ("docs/RUST.md", None, "`digit::Edit`\n", "docs/RUST.md: in no code: digit::Edit"),
@@ -42,7 +54,7 @@ PLANTS = [
     ("docs/RUST.md", None, "48 outcomes\n", "docs/RUST.md: there are 49 outcomes, not 48"),
     ("docs/RUST.md", None, "Rust 1.2\n", "docs/RUST.md: Rust 1.2 is not the least version, "),
     ("docs/RUST.md", None, "0x00000000_0\n", "docs/RUST.md: has a `_`: 0x00000000_0"),
-    ("docs/RUST.md", None, "\n" * 99, "the pages have "),
+    ("docs/RUST.md", None, "\n" * 99, " lines, more than 1400\n"),
     ("docs/RUST.md", None, f"{'x' * 121}\n", "docs/RUST.md: over 120 columns: xxx"),
     (FORMAT, None, f"`{WORD}`\n", f"docs/FORMAT.md: in no code: {WORD}"),
     (FORMAT, "| 12 | `no_integer_leading_zeros` | false |", "| 12 | `no_integer_leading_zeros` | true |",
@@ -60,10 +72,17 @@ PLANTS = [
     (FORMAT, "exit status is 0", "exit status is 4", "docs/FORMAT.md: does not have: The exit status is 0 on success,"),
     (FORMAT, "for a negative answer", "for another answer", "docs/FORMAT.md: does not have: 1 for a negative answer:"),
     (FORMAT, "if a write fails", "if writing fails", "docs/FORMAT.md: does not have: 3 if a write fails"),
-    ("rust/src/feature_format.rs", "a parser rejects `.`.", "a parser rejects `,`.",
-     "docs/FORMAT.md: rust/src/feature_format.rs: the comment of `required_mantissa_digits` does not have: rejects `.`"),
+    *((f"rust/src/{it}.rs", "a parser rejects `.`.", "a parser rejects `,`.",
+       f"docs/FORMAT.md: rust/src/{it}.rs: the comment of `required_mantissa_digits` does not have: rejects `.`")
+      for it in PLAIN),
     (FLAGS, "::required_fraction_digits]", "::required_integer_digits]",
      "format_flags.rt: `REQUIRED_FRACTION_DIGITS` points to the setter `required_integer_digits`"),
+    ("crates/lexical_builder/src/format_builder/getters.rt", "[Self::exponent_base]", "[Self::exponent_radix]",
+     "builder/src/format_builder/getters.rt: `get_exponent_base` points to the setter `exponent_radix`"),
+    ("crates/lexical_util/src/feature_format.rt", "Builder::base_prefix]", "Builder::base_suffix]",
+     "util/src/feature_format.rt: `base_prefix` points to the setter `base_suffix`"),
+    ("crates/lexical_util/src/feature_format/getters.rt", "::required_fraction_digits]", "::required_integer_digits]",
+     "util/src/feature_format/getters.rt: `required_fraction_digits` points to the setter `required_integer_digits`"),
     (FLAGS, None, "pub const PLANTED: u128 = 0;\n", "not exported by lexical_util::format: PLANTED"),
     ("crates/lexical_builder/src/format_builder.rt", None, "pub type Planted = u8;\n",
      "not exported by lexical_util::format: Planted"),
@@ -90,7 +109,8 @@ PLANTS = [
     (DIGITS, None, "-- h.0.1\n", ": a fact by its position: -- h.0.1"),
     ("README.md", None, "planted " * 800, " words, more than 800"),
     ("README.md", None, "\n| Planted | 1.00 | 1.00 |\n", "README.md: not in bench/README.md: | Planted |"),
-    ("docs/check.py", "STARTS = [", "STARTS = ['planted',", "README.md: has no command: planted"),
+    ("docs/check.py", "STARTS = {", "STARTS = {'planted': '',", "README.md: has no command: planted"),
+    ("README.md", "$ cd rust && cargo run ", "$ cargo run ", "README.md: has no command: cd rust && cargo run "),
     (".ci/run", "start rust/tools/test.sh", "", "README.md: .ci/run does not call: cd rust && cargo test"),
     (".ci/run", "\nrt ci |", "\nrt |", "README.md: .ci/run does not call: rt ci"),
     (HEADER, "bool peltzivar_is_digit(", "int peltzivar_is_digit(",
@@ -139,6 +159,9 @@ PLANTS = [
     ("docs/check_definitions.py", '"edit_word": 300', '"edit_word": 3', " lines of definitions, more than 3\n"),
     ("docs/PROVED.md", "<!-- calls -->\n", "<!-- calls -->\n\n", "docs/PROVED.md: its tables of definitions are old"),
     ("docs/RUST.md", None, "This is no page.\n", ": is no X: This is no page."),
+    *((DIGITS, None, f"-- Planted {text}.\n", f": {name}: -- Planted {text}.") for name, text in SAMPLES.items()),
+    *((it, None, f"{'#' if it.endswith('py') else '//'} Planted, but for one.\n", f"{it}:1: but for: ") for it in PROSE.split()),
+    (".ci/run", None, "# Planted in run, but for one.\n", ": but for: # Planted in run, but for one."),
     ("docs/RUST.md", None, "\nWhat is planted.\n", ": what or who first: What is planted."),
     (DIGITS, None, "-- The error of parsing, planted.\n", ": setters of flags: -- The error of parsing, planted."),
     (EDITS, None, "// It says planted.\n", ": says or about: // It says planted."),
@@ -156,7 +179,9 @@ PLANTS = [
     ("bench/run.sh", "set -euo", "set -uo", "bench/run.sh: a failure of a command is not a failure of the script"),
     ("c/test.sh", "\ncounted ", "\necho ", "c/test.sh: a failure of a command is not a failure of the script"),
     ("explorer/build", "set -euo", "set -uo", "explorer/build: a failure of a command is not a failure of the script"),
-    ("docs/planted_test.sh", None, "", "docs/planted_test.sh: neither .ci/run nor what it runs calls this test"),
+    ("bench/run", "\nexec ", "\n", "bench/run: a failure of a command is not a failure of the script"),
+    *((it, None, "", f"{it}: neither .ci/run nor what it runs calls this test")
+      for it in ("docs/planted_test.sh", "docs/planted_test.py")),
 ]  # fmt: skip
 
 # Arguments of docs/check_definitions.py, and the texts that must then be printed or be in PROVED.md.
