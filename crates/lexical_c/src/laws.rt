@@ -5,12 +5,12 @@ ghost use Rattle.lexical_util.specs.declared.error.Error.TheVariants as errors;
 ghost use Rattle.lexical_c.specs.Outcomes.{IsCodeOfSome, IsWrittenIfLawful};
 ghost use Rattle.lexical_c.specs.Texts.{IsWritten};
 
-/// States the number of `Success`, and the result of writing a text to a buffer.
+/// States the number of `Success`, and the result of writing a string to a buffer.
 pub fn returned_examples()
     ensures success { IsCodeOfSome (λ error. error ≡ errors.Success) 0 }
     ensures other_number { IsCodeOfSome (λ error. error ≡ errors.Success) 48 → ⊥ }
 
-    // Only the beginning of a text that does not fit is written.
+    // Only the beginning of a string that does not fit is written.
     ensures front { IsWritten (1 ∷ 2 ∷ []) 2 (9 ∷ 9 ∷ []) (1 ∷ 0 ∷ []) }
     ensures other_byte { IsWritten (1 ∷ 2 ∷ []) 2 (9 ∷ 9 ∷ []) (1 ∷ 2 ∷ []) → ⊥ }
 {}

@@ -10,8 +10,8 @@ use lexical_util::source::BuilderExpression;
 use std::fmt;
 use std::marker::Model;
 
-/// Writes a text and a null terminator to the start of a buffer. If they do not fit, writes only the beginning of the
-/// text and a null terminator. If the buffer is empty, writes nothing. Returns the length of the whole text.
+/// Writes a string and a null terminator to the start of a buffer. If they do not fit, writes only the beginning of the
+/// string and a null terminator. If the buffer is empty, writes nothing. Returns the length of the whole string.
 pub fn write_text(text: &[u8], out: &mut [u8]) -> usize
     ensures { IsWritten text.now result out.old out.new }
 {

@@ -6,8 +6,8 @@ use core::fmt;
 use peltzivar::error::{Error, ShortText, Sink};
 use peltzivar::source::BuilderExpression;
 
-/// Writes a text and a null terminator to the start of a buffer. If they do not fit, writes only the beginning of the
-/// text and a null terminator. If the buffer is empty, writes nothing. Returns the length of the whole text.
+/// Writes a string and a null terminator to the start of a buffer. If they do not fit, writes only the beginning of the
+/// string and a null terminator. If the buffer is empty, writes nothing. Returns the length of the whole string.
 #[must_use]
 pub fn write_text(text: &[u8], out: &mut crate::outputs::Buffer) -> usize {
     if !out.is_empty() {
