@@ -599,17 +599,17 @@ class FormatView:
 
     @property
     def integer_consecutive_digit_separator(self) -> bool:
-        """If true, a parser accepts `1__2` if it accepts `1_2`, `__12` if it accepts `_12`, and `12__` if it accepts `12_`."""
+        """If true, a parser accepts several separators in a row where it accepts one: `1__2`, `__12`, `12__`."""
         return self._flag(Setter.INTEGER_CONSECUTIVE_DIGIT_SEPARATOR)
 
     @property
     def fraction_consecutive_digit_separator(self) -> bool:
-        """If true, a parser accepts `0.1__2` if it accepts `0.1_2`, `0.__12` if it accepts `0._12`, and `0.12__` if it accepts `0.12_`."""
+        """If true, a parser accepts several separators in a row where it accepts one: `0.1__2`, `0.__12`, `0.12__`."""
         return self._flag(Setter.FRACTION_CONSECUTIVE_DIGIT_SEPARATOR)
 
     @property
     def exponent_consecutive_digit_separator(self) -> bool:
-        """If true, a parser accepts `1e1__2` if it accepts `1e1_2`, `1e__12` if it accepts `1e_12`, and `1e12__` if it accepts `1e12_`."""
+        """If true, a parser accepts several separators in a row where it accepts one: `1e1__2`, `1e__12`, `1e12__`."""
         return self._flag(Setter.EXPONENT_CONSECUTIVE_DIGIT_SEPARATOR)
 
     @property

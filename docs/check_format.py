@@ -86,7 +86,7 @@ def docs_of(setter):
 def meanings():
     """Returns the meanings of flags, groups and bytes that differ from their setters."""
     told = [(name, f"If so, a parser {meaning}") for _, name, meaning in FLAGS]
-    told += [(name, f"Sets all flags that {meaning}") for name, _, meaning in GROUPS]
+    told += [(name, f"Sets or clears all flags that {meaning}") for name, _, meaning in GROUPS]
     told += [(name, meaning) for _, _, name, meaning in BYTES]
     for name, meaning in told:
         if not re.search(re.escape(meaning) + "[.:,;]", docs_of(name)):

@@ -238,15 +238,15 @@ fields! {
     /// [setter][NumberFormatBuilder::trailing_digit_separator].
     TRAILING_DIGIT_SEPARATOR trailing_digit_separator bool;
     /// This is true if the format allows consecutive digit separators in the integer part. In that case, a parser
-    /// accepts `1__2` if it accepts `1_2`, `__12` if it accepts `_12`, and `12__` if it accepts `12_`. See the
+    /// accepts several separators in a row where it accepts one: `1__2`, `__12`, `12__`. See the
     /// [setter][NumberFormatBuilder::integer_consecutive_digit_separator].
     INTEGER_CONSECUTIVE_DIGIT_SEPARATOR integer_consecutive_digit_separator bool;
     /// This is true if the format allows consecutive digit separators in the fraction. In that case, a parser accepts
-    /// `0.1__2` if it accepts `0.1_2`, `0.__12` if it accepts `0._12`, and `0.12__` if it accepts `0.12_`. See the
+    /// several separators in a row where it accepts one: `0.1__2`, `0.__12`, `0.12__`. See the
     /// [setter][NumberFormatBuilder::fraction_consecutive_digit_separator].
     FRACTION_CONSECUTIVE_DIGIT_SEPARATOR fraction_consecutive_digit_separator bool;
     /// This is true if the format allows consecutive digit separators in the exponent. In that case, a parser accepts
-    /// `1e1__2` if it accepts `1e1_2`, `1e__12` if it accepts `1e_12`, and `1e12__` if it accepts `1e12_`. See the
+    /// several separators in a row where it accepts one: `1e1__2`, `1e__12`, `1e12__`. See the
     /// [setter][NumberFormatBuilder::exponent_consecutive_digit_separator].
     EXPONENT_CONSECUTIVE_DIGIT_SEPARATOR exponent_consecutive_digit_separator bool;
     /// This is true if any of the flags that allow consecutive digit separators is set. See the

@@ -134,18 +134,18 @@ pub const FRACTION_TRAILING_DIGIT_SEPARATOR: u128 = 0x80_0000_0000;
 /// [setter][crate::format_builder::NumberFormatBuilder::exponent_trailing_digit_separator].
 pub const EXPONENT_TRAILING_DIGIT_SEPARATOR: u128 = 0x100_0000_0000;
 
-/// The flag that allows consecutive digit separators in the integer part. If it is set, a parser accepts `1__2` if it
-/// accepts `1_2`, `__12` if it accepts `_12`, and `12__` if it accepts `12_`. See the
+/// The flag that allows consecutive digit separators in the integer part. If it is set, a parser accepts several
+/// separators in a row where it accepts one: `1__2`, `__12`, `12__`. See the
 /// [setter][crate::format_builder::NumberFormatBuilder::integer_consecutive_digit_separator].
 pub const INTEGER_CONSECUTIVE_DIGIT_SEPARATOR: u128 = 0x200_0000_0000;
 
-/// The flag that allows consecutive digit separators in the fraction. If it is set, a parser accepts `0.1__2` if it
-/// accepts `0.1_2`, `0.__12` if it accepts `0._12`, and `0.12__` if it accepts `0.12_`. See the
+/// The flag that allows consecutive digit separators in the fraction. If it is set, a parser accepts several
+/// separators in a row where it accepts one: `0.1__2`, `0.__12`, `0.12__`. See the
 /// [setter][crate::format_builder::NumberFormatBuilder::fraction_consecutive_digit_separator].
 pub const FRACTION_CONSECUTIVE_DIGIT_SEPARATOR: u128 = 0x400_0000_0000;
 
-/// The flag that allows consecutive digit separators in the exponent. If it is set, a parser accepts `1e1__2` if it
-/// accepts `1e1_2`, `1e__12` if it accepts `1e_12`, and `1e12__` if it accepts `1e12_`. See the
+/// The flag that allows consecutive digit separators in the exponent. If it is set, a parser accepts several
+/// separators in a row where it accepts one: `1e1__2`, `1e__12`, `1e12__`. See the
 /// [setter][crate::format_builder::NumberFormatBuilder::exponent_consecutive_digit_separator].
 pub const EXPONENT_CONSECUTIVE_DIGIT_SEPARATOR: u128 = 0x800_0000_0000;
 

@@ -292,7 +292,7 @@ class Comments:
 
     def group(self, setter):
         """Returns `flags that ..` for a group, from the comment of its setter, or `None` if it is not a group's."""
-        found = re.match(r"Sets all (flags that .*?)\.(?: |$)", self.setters[setter])
+        found = re.match(r"Sets or clears all (flags that .*?)\.(?: |$)", self.setters[setter])
         return found and found[1]
 
     def pointed(self, it):

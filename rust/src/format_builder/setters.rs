@@ -108,7 +108,7 @@ impl NumberFormatBuilder {
         self.with_flags(flags::REQUIRED_MANTISSA_DIGITS, flag)
     }
 
-    /// Sets all flags that require digits. An integer parser always requires a digit.
+    /// Sets or clears all flags that require digits. An integer parser always requires a digit.
     #[must_use]
     #[inline(always)]
     pub const fn required_digits(self, flag: bool) -> Self {
@@ -247,7 +247,7 @@ impl NumberFormatBuilder {
         self.with_flags(flags::EXPONENT_INTERNAL_DIGIT_SEPARATOR, flag)
     }
 
-    /// Sets all flags that allow a digit separator between digits.
+    /// Sets or clears all flags that allow a digit separator between digits.
     #[must_use]
     #[inline(always)]
     pub const fn internal_digit_separator(self, flag: bool) -> Self {
@@ -275,7 +275,7 @@ impl NumberFormatBuilder {
         self.with_flags(flags::EXPONENT_LEADING_DIGIT_SEPARATOR, flag)
     }
 
-    /// Sets all flags that allow a digit separator before digits.
+    /// Sets or clears all flags that allow a digit separator before digits.
     #[must_use]
     #[inline(always)]
     pub const fn leading_digit_separator(self, flag: bool) -> Self {
@@ -303,41 +303,41 @@ impl NumberFormatBuilder {
         self.with_flags(flags::EXPONENT_TRAILING_DIGIT_SEPARATOR, flag)
     }
 
-    /// Sets all flags that allow a digit separator after digits.
+    /// Sets or clears all flags that allow a digit separator after digits.
     #[must_use]
     #[inline(always)]
     pub const fn trailing_digit_separator(self, flag: bool) -> Self {
         self.with_flags(flags::TRAILING_DIGIT_SEPARATOR, flag)
     }
 
-    /// Sets whether the format allows consecutive digit separators in the integer part. If so, a parser accepts `1__2`
-    /// if it accepts `1_2`, `__12` if it accepts `_12`, and `12__` if it accepts `12_`. In a lawful format, this flag
-    /// is set only if the internal, leading or trailing separator flag of the integer part is set too.
+    /// Sets whether the format allows consecutive digit separators in the integer part. If so, a parser accepts several
+    /// separators in a row where it accepts one: `1__2`, `__12`, `12__`. In a lawful format, this flag is set only if
+    /// the internal, leading or trailing separator flag of the integer part is set too.
     #[must_use]
     #[inline(always)]
     pub const fn integer_consecutive_digit_separator(self, flag: bool) -> Self {
         self.with_flags(flags::INTEGER_CONSECUTIVE_DIGIT_SEPARATOR, flag)
     }
 
-    /// Sets whether the format allows consecutive digit separators in the fraction. If so, a parser accepts `0.1__2` if
-    /// it accepts `0.1_2`, `0.__12` if it accepts `0._12`, and `0.12__` if it accepts `0.12_`. In a lawful format, this
-    /// flag is set only if the internal, leading or trailing separator flag of the fraction is set too.
+    /// Sets whether the format allows consecutive digit separators in the fraction. If so, a parser accepts several
+    /// separators in a row where it accepts one: `0.1__2`, `0.__12`, `0.12__`. In a lawful format, this flag is set
+    /// only if the internal, leading or trailing separator flag of the fraction is set too.
     #[must_use]
     #[inline(always)]
     pub const fn fraction_consecutive_digit_separator(self, flag: bool) -> Self {
         self.with_flags(flags::FRACTION_CONSECUTIVE_DIGIT_SEPARATOR, flag)
     }
 
-    /// Sets whether the format allows consecutive digit separators in the exponent. If so, a parser accepts `1e1__2` if
-    /// it accepts `1e1_2`, `1e__12` if it accepts `1e_12`, and `1e12__` if it accepts `1e12_`. In a lawful format, this
-    /// flag is set only if the internal, leading or trailing separator flag of the exponent is set too.
+    /// Sets whether the format allows consecutive digit separators in the exponent. If so, a parser accepts several
+    /// separators in a row where it accepts one: `1e1__2`, `1e__12`, `1e12__`. In a lawful format, this flag is set
+    /// only if the internal, leading or trailing separator flag of the exponent is set too.
     #[must_use]
     #[inline(always)]
     pub const fn exponent_consecutive_digit_separator(self, flag: bool) -> Self {
         self.with_flags(flags::EXPONENT_CONSECUTIVE_DIGIT_SEPARATOR, flag)
     }
 
-    /// Sets all flags that allow consecutive digit separators.
+    /// Sets or clears all flags that allow consecutive digit separators.
     #[must_use]
     #[inline(always)]
     pub const fn consecutive_digit_separator(self, flag: bool) -> Self {
@@ -352,28 +352,28 @@ impl NumberFormatBuilder {
         self.with_flags(flags::SPECIAL_DIGIT_SEPARATOR, flag)
     }
 
-    /// Sets all flags that allow digit separators, including the flag that allows them in special values.
+    /// Sets or clears all flags that allow digit separators, including the flag that allows them in special values.
     #[must_use]
     #[inline(always)]
     pub const fn digit_separator_flags(self, flag: bool) -> Self {
         self.with_flags(flags::DIGIT_SEPARATOR_FLAG_MASK, flag)
     }
 
-    /// Sets all flags that allow digit separators in the integer part.
+    /// Sets or clears all flags that allow digit separators in the integer part.
     #[must_use]
     #[inline(always)]
     pub const fn integer_digit_separator_flags(self, flag: bool) -> Self {
         self.with_flags(flags::INTEGER_DIGIT_SEPARATOR_FLAG_MASK, flag)
     }
 
-    /// Sets all flags that allow digit separators in the fraction.
+    /// Sets or clears all flags that allow digit separators in the fraction.
     #[must_use]
     #[inline(always)]
     pub const fn fraction_digit_separator_flags(self, flag: bool) -> Self {
         self.with_flags(flags::FRACTION_DIGIT_SEPARATOR_FLAG_MASK, flag)
     }
 
-    /// Sets all flags that allow digit separators in the exponent.
+    /// Sets or clears all flags that allow digit separators in the exponent.
     #[must_use]
     #[inline(always)]
     pub const fn exponent_digit_separator_flags(self, flag: bool) -> Self {

@@ -235,7 +235,7 @@ impl FormatView {
     }
 
     /// Returns whether the format allows consecutive digit separators in the integer part. If so, a parser accepts
-    /// `1__2` if it accepts `1_2`, `__12` if it accepts `_12`, and `12__` if it accepts `12_`. See the
+    /// several separators in a row where it accepts one: `1__2`, `__12`, `12__`. See the
     /// [setter][super::NumberFormatBuilder::integer_consecutive_digit_separator].
     #[must_use]
     #[inline(always)]
@@ -243,8 +243,8 @@ impl FormatView {
         has_any!(self, INTEGER_CONSECUTIVE_DIGIT_SEPARATOR)
     }
 
-    /// Returns whether the format allows consecutive digit separators in the fraction. If so, a parser accepts
-    /// `0.1__2` if it accepts `0.1_2`, `0.__12` if it accepts `0._12`, and `0.12__` if it accepts `0.12_`. See the
+    /// Returns whether the format allows consecutive digit separators in the fraction. If so, a parser accepts several
+    /// separators in a row where it accepts one: `0.1__2`, `0.__12`, `0.12__`. See the
     /// [setter][super::NumberFormatBuilder::fraction_consecutive_digit_separator].
     #[must_use]
     #[inline(always)]
@@ -252,8 +252,8 @@ impl FormatView {
         has_any!(self, FRACTION_CONSECUTIVE_DIGIT_SEPARATOR)
     }
 
-    /// Returns whether the format allows consecutive digit separators in the exponent. If so, a parser accepts
-    /// `1e1__2` if it accepts `1e1_2`, `1e__12` if it accepts `1e_12`, and `1e12__` if it accepts `1e12_`. See the
+    /// Returns whether the format allows consecutive digit separators in the exponent. If so, a parser accepts several
+    /// separators in a row where it accepts one: `1e1__2`, `1e__12`, `1e12__`. See the
     /// [setter][super::NumberFormatBuilder::exponent_consecutive_digit_separator].
     #[must_use]
     #[inline(always)]

@@ -123,7 +123,7 @@ impl NumberFormatBuilder {
         self.with_flags(flags::REQUIRED_MANTISSA_DIGITS, flag)
     }
 
-    /// Sets all flags that require digits. An integer parser always requires a digit.
+    /// Sets or clears all flags that require digits. An integer parser always requires a digit.
     #[inline(always)]
     pub const fn required_digits(self, flag: bool) -> Self
         ensures { result ≡ after self (write_flags layout.required_digits flag) }
@@ -280,7 +280,7 @@ impl NumberFormatBuilder {
         self.with_flags(flags::EXPONENT_INTERNAL_DIGIT_SEPARATOR, flag)
     }
 
-    /// Sets all flags that allow a digit separator between digits.
+    /// Sets or clears all flags that allow a digit separator between digits.
     #[inline(always)]
     pub const fn internal_digit_separator(self, flag: bool) -> Self
         ensures { result ≡ after self (write_flags layout.internal_digit_separator flag) }
@@ -312,7 +312,7 @@ impl NumberFormatBuilder {
         self.with_flags(flags::EXPONENT_LEADING_DIGIT_SEPARATOR, flag)
     }
 
-    /// Sets all flags that allow a digit separator before digits.
+    /// Sets or clears all flags that allow a digit separator before digits.
     #[inline(always)]
     pub const fn leading_digit_separator(self, flag: bool) -> Self
         ensures { result ≡ after self (write_flags layout.leading_digit_separator flag) }
@@ -344,7 +344,7 @@ impl NumberFormatBuilder {
         self.with_flags(flags::EXPONENT_TRAILING_DIGIT_SEPARATOR, flag)
     }
 
-    /// Sets all flags that allow a digit separator after digits.
+    /// Sets or clears all flags that allow a digit separator after digits.
     #[inline(always)]
     pub const fn trailing_digit_separator(self, flag: bool) -> Self
         ensures { result ≡ after self (write_flags layout.trailing_digit_separator flag) }
@@ -352,9 +352,9 @@ impl NumberFormatBuilder {
         self.with_flags(flags::TRAILING_DIGIT_SEPARATOR, flag)
     }
 
-    /// Sets whether the format allows consecutive digit separators in the integer part. If so, a parser accepts `1__2`
-    /// if it accepts `1_2`, `__12` if it accepts `_12`, and `12__` if it accepts `12_`. In a lawful format, this flag
-    /// is set only if the internal, leading or trailing separator flag of the integer part is set too.
+    /// Sets whether the format allows consecutive digit separators in the integer part. If so, a parser accepts several
+    /// separators in a row where it accepts one: `1__2`, `__12`, `12__`. In a lawful format, this flag is set only if
+    /// the internal, leading or trailing separator flag of the integer part is set too.
     #[inline(always)]
     pub const fn integer_consecutive_digit_separator(self, flag: bool) -> Self
         ensures { result ≡ after self (write_flag layout.integer_consecutive_digit_separator flag ∷ []) }
@@ -362,9 +362,9 @@ impl NumberFormatBuilder {
         self.with_flags(flags::INTEGER_CONSECUTIVE_DIGIT_SEPARATOR, flag)
     }
 
-    /// Sets whether the format allows consecutive digit separators in the fraction. If so, a parser accepts `0.1__2` if
-    /// it accepts `0.1_2`, `0.__12` if it accepts `0._12`, and `0.12__` if it accepts `0.12_`. In a lawful format, this
-    /// flag is set only if the internal, leading or trailing separator flag of the fraction is set too.
+    /// Sets whether the format allows consecutive digit separators in the fraction. If so, a parser accepts several
+    /// separators in a row where it accepts one: `0.1__2`, `0.__12`, `0.12__`. In a lawful format, this flag is set
+    /// only if the internal, leading or trailing separator flag of the fraction is set too.
     #[inline(always)]
     pub const fn fraction_consecutive_digit_separator(self, flag: bool) -> Self
         ensures { result ≡ after self (write_flag layout.fraction_consecutive_digit_separator flag ∷ []) }
@@ -372,9 +372,9 @@ impl NumberFormatBuilder {
         self.with_flags(flags::FRACTION_CONSECUTIVE_DIGIT_SEPARATOR, flag)
     }
 
-    /// Sets whether the format allows consecutive digit separators in the exponent. If so, a parser accepts `1e1__2` if
-    /// it accepts `1e1_2`, `1e__12` if it accepts `1e_12`, and `1e12__` if it accepts `1e12_`. In a lawful format, this
-    /// flag is set only if the internal, leading or trailing separator flag of the exponent is set too.
+    /// Sets whether the format allows consecutive digit separators in the exponent. If so, a parser accepts several
+    /// separators in a row where it accepts one: `1e1__2`, `1e__12`, `1e12__`. In a lawful format, this flag is set
+    /// only if the internal, leading or trailing separator flag of the exponent is set too.
     #[inline(always)]
     pub const fn exponent_consecutive_digit_separator(self, flag: bool) -> Self
         ensures { result ≡ after self (write_flag layout.exponent_consecutive_digit_separator flag ∷ []) }
@@ -382,7 +382,7 @@ impl NumberFormatBuilder {
         self.with_flags(flags::EXPONENT_CONSECUTIVE_DIGIT_SEPARATOR, flag)
     }
 
-    /// Sets all flags that allow consecutive digit separators.
+    /// Sets or clears all flags that allow consecutive digit separators.
     #[inline(always)]
     pub const fn consecutive_digit_separator(self, flag: bool) -> Self
         ensures { result ≡ after self (write_flags layout.consecutive_digit_separator flag) }
@@ -399,7 +399,7 @@ impl NumberFormatBuilder {
         self.with_flags(flags::SPECIAL_DIGIT_SEPARATOR, flag)
     }
 
-    /// Sets all flags that allow digit separators, including the flag that allows them in special values.
+    /// Sets or clears all flags that allow digit separators, including the flag that allows them in special values.
     #[inline(always)]
     pub const fn digit_separator_flags(self, flag: bool) -> Self
         ensures { result ≡ after self (write_flags layout.digit_separator_flags flag) }
@@ -407,7 +407,7 @@ impl NumberFormatBuilder {
         self.with_flags(flags::DIGIT_SEPARATOR_FLAG_MASK, flag)
     }
 
-    /// Sets all flags that allow digit separators in the integer part.
+    /// Sets or clears all flags that allow digit separators in the integer part.
     #[inline(always)]
     pub const fn integer_digit_separator_flags(self, flag: bool) -> Self
         ensures { result ≡ after self (write_flags layout.integer_digit_separator_flags flag) }
@@ -415,7 +415,7 @@ impl NumberFormatBuilder {
         self.with_flags(flags::INTEGER_DIGIT_SEPARATOR_FLAG_MASK, flag)
     }
 
-    /// Sets all flags that allow digit separators in the fraction.
+    /// Sets or clears all flags that allow digit separators in the fraction.
     #[inline(always)]
     pub const fn fraction_digit_separator_flags(self, flag: bool) -> Self
         ensures { result ≡ after self (write_flags layout.fraction_digit_separator_flags flag) }
@@ -423,7 +423,7 @@ impl NumberFormatBuilder {
         self.with_flags(flags::FRACTION_DIGIT_SEPARATOR_FLAG_MASK, flag)
     }
 
-    /// Sets all flags that allow digit separators in the exponent.
+    /// Sets or clears all flags that allow digit separators in the exponent.
     #[inline(always)]
     pub const fn exponent_digit_separator_flags(self, flag: bool) -> Self
         ensures { result ≡ after self (write_flags layout.exponent_digit_separator_flags flag) }
