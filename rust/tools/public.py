@@ -132,7 +132,8 @@ def caller(it, number, front, result, end):
 
 
 def run(command, program, frame=True):
-    """Runs cargo on a program, and returns its status, its output, and the compiler's messages on its lines."""
+    """Runs cargo on a program, and returns its status, its output, and the compiler's messages with their lines (another
+    file: -1)."""
     not_all = ("definitions", "format", "feature_format")
     modules = ", ".join(f"{name}::*" for name in public_modules() if name not in not_all)
     head = FRAME.format(modules=modules) if frame else ""
@@ -151,7 +152,8 @@ def run(command, program, frame=True):
         for span in message["spans"] if message else []:
             if span["is_primary"]:
                 code = (message["code"] or {}).get("code", "")
-                messages.append((span["line_start"] - head.count("\n") - 1, code, message["message"]))
+                at = span["line_start"] - head.count("\n") - 1 if span["file_name"] == "src/main.rs" else -1
+                messages.append((at, code, message["message"]))
         if not line.startswith('{"reason"'):
             printed.append(line)
     return done.returncode, "\n".join(printed) + done.stderr, messages

@@ -174,14 +174,14 @@ def are_const():
     found = all_functions()
     lines = [public.caller(it, number, "const ", f" -> {it.result}" if it.result else "", "")
              for number, (_, it) in enumerate(found)]
-    _, output, messages = public.run("check", "\n".join([*lines, "fn main() {}"]))
+    *_, messages = public.run("check", "\n".join([*lines, "fn main() {}"]))
     refused = {found[line][0]: (code, message) for line, code, message in messages if 0 <= line < len(found)}
     for name, _ in found:
         code, message = refused.get(name, ("", ""))
         wanted = "E0015" if name in NOT_CONST else ""
         yield f"const fn {name}", wanted, code if code in ("", "E0015") else message
     yield "NOT_CONST", sorted(NOT_CONST), sorted(set(NOT_CONST) & {name for name, _ in found})
-    yield "functions", True, len(found) > 250 or output
+    yield "functions", True, len(found) > 250
 
 
 def warn():
@@ -189,9 +189,10 @@ def warn():
     found = [(name, it) for name, it in all_functions() if it.result]
     lines = [public.caller(it, number, "", "", ";") for number, (_, it) in enumerate(found)]
     _, output, messages = public.run("check", "\n".join([*lines, "fn main() {}"]))
+    yield "calls whose results are dropped", "", output
     warned = {line for line, code, _ in messages if code == "unused_must_use"}
     for line, (name, _) in enumerate(found):
-        yield f"#[must_use] {name}", True, line in warned or output
+        yield f"#[must_use] {name}", True, line in warned
 
 
 def traits():
