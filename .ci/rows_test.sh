@@ -180,6 +180,7 @@ python3 tools/erase_tables_test.py
 python3 ../compare/names.py --check ../docs/RUST.md
 python3 ../compare/names.py --check ../README.md
 python3 tools/public_test.py
+python3 tools/public_faults_test.py
 cargo fmt --all --check
 cargo clippy --quiet --workspace --all-targets -- -D warnings
 cargo test
@@ -209,7 +210,7 @@ for STATUS in 1 0; do
         [ "$(uniq "$work/log")" = "$(cat "$work/commands")" ] && [ "$(grep -cx 'cargo run --quiet' "$work/log")" = 3 ]
     else
         [ "$(cat "$work/log")" = "$(cat "$work/commands")" ] &&
-            [ "$(tail -n 2 <<< "$got")" = $'2 passed, 26 failed, 0 skipped\nstatus 1' ]
+            [ "$(tail -n 2 <<< "$got")" = $'2 passed, 27 failed, 0 skipped\nstatus 1' ]
     fi && passed=$((passed + 1)) && continue
     printf 'rust/tools/test.sh, over tools that end with %s:\n%s\n' $STATUS "$got"
     diff "$work/commands" "$work/log"

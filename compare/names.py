@@ -257,21 +257,20 @@ def table(found):
         path, _, result = there(name)
         kind = "prebuilt formats" if " ready made " in name else ""
         if text.startswith("`") and result:
-            kind, text = f" returns `{result}`", f"returns {text}"
-        elif text == "not `const`":
-            kind = " is `const`"
-        elif text == "not deprecated":
-            kind = " is deprecated"
+            kind, text = f" returns `{result}`", f"it returns {text}"
+        elif text in ("not `const`", "not deprecated"):
+            kind, text = text.replace("not", " is", 1), f"it is {text}"
         elif " non_exhaustive " in name:
             kind = " is `#[non_exhaustive]`"
         alike.setdefault((kind, text), []).append(path)
     for (kind, text), paths in alike.items():
         if kind == "prebuilt formats":
             example = "format::JSON" if "format::JSON" in paths else paths[0]
-            rows.append(f"| {len(paths)} {kind}, such as `{example}` | are not here |")
+            rows.append(f"| `format` has {len(paths)} {kind}, such as `{example}` | it has none |")
         else:
-            kind = kind.replace(" is ", " are ", 1) if len(paths) > 1 else kind
-            rows.append(f"| {', '.join(f'`{it}`' for it in paths)}{kind} | {text} |")
+            if len(paths) > 1:
+                kind, text = kind.replace(" is ", " are ", 1), text.replace("it is ", "they are ", 1)
+            rows.append(f"| {' and '.join(f'`{it}`' for it in paths)}{kind} | {text} |")
     return [*HEAD, *rows]
 
 
@@ -289,7 +288,8 @@ def main():
     found = table(differences(names))
     if arguments[:1] == ["--check"]:
         # The page has one more row, for the rules that differ.
-        if "\n".join([*found, "| the rules of 1.0.7 |"]) in pathlib.Path(arguments[1]).read_text():
+        wanted = "\n".join([*found, "| a word is valid if it keeps the rules of 1.0.7 |"])
+        if wanted in pathlib.Path(arguments[1]).read_text():
             return 0
         print(f"{arguments[1]} has another table than this one, of compare/names.py:")
     print("\n".join(found))

@@ -168,11 +168,11 @@ END
 differing="README.md has another table than this one, of compare/names.py:
 | \`lexical-util\` 1.0.7 | Here |
 |---|---|
-| \`ascii::gone\`, \`ascii::Gone\`, \`digit::gone\`, \`error::Error\`, \`error::Error\`, \`error::Error::Gone\`,\
- \`error::u8\`, \`format::u8\`, \`format::Gone::new\`, \`gone::Gone\` | is not here |
-| \`ascii::is_valid_ascii\`, \`ascii::is_valid_letter\`, \`digit::char_to_digit_const::<STANDARD>\` | another signature |
-| \`digit::char_is_digit\` returns \`u8\` | returns \`bool\` |
-| \`digit::char_to_digit\` is deprecated | not deprecated |"
+| \`ascii::gone\` and \`ascii::Gone\` and \`digit::gone\` and \`error::Error\` and \`error::Error\` and\
+ \`error::Error::Gone\` and \`error::u8\` and \`format::u8\` and \`format::Gone::new\` and \`gone::Gone\` | is not here |
+| \`ascii::is_valid_ascii\` and \`ascii::is_valid_letter\` and \`digit::char_to_digit_const::<STANDARD>\` | another signature |
+| \`digit::char_is_digit\` returns \`u8\` | it returns \`bool\` |
+| \`digit::char_to_digit\` is deprecated | it is not deprecated |"
 
 # fake: a cargo that builds nothing. It makes files of known sizes, and a driver that prints the next line of the file
 # `rows`. A package is built three times for its time, and the first takes longest.

@@ -29,7 +29,8 @@ needing python3 needing rustfmt eraser
 needing python3 passes ../compare/names.py --check ../docs/RUST.md
 # names.py refuses a page without that table.
 needing python3 passes bash -c '../compare/names.py --check ../README.md 2> /dev/null | grep "another table"'
-needing python3 counts 1008 tools/public_test.py
+needing python3 counts 1009 tools/public_test.py
+needing cargo needing python3 counts 3 tools/public_faults_test.py
 needing cargo-fmt passes cargo fmt --all --check
 needing cargo-clippy passes cargo clippy --quiet --workspace --all-targets -- -D warnings
 passes cargo test
@@ -70,4 +71,4 @@ head -c 1020 /dev/zero > "$work/short"
 short="trap '' XFSZ; ulimit -f 1; '$CARGO_TARGET_DIR/debug/numfmt' show 0xC >> '$work/short'; echo \$?"
 prints 0 3 bash -c "$short"
 needing cc needing python3 passes ../crates/numfmt/built-program-test.sh "$CARGO_TARGET_DIR/debug/numfmt"
-counted 28
+counted 29
