@@ -11,8 +11,8 @@
  * is used in its place. An edit writes a value to one flag, to a group of flags, or to one byte. The setter of the edit
  * selects the flag, the group or the byte.
  *
- * A word is lawful if it keeps all 16 rules below (PELTZIVAR_RULE_*). In the repository, docs/FORMAT.md describes each
- * field and each rule, and the program c/settings.c shows how to check a settings file.
+ * A word is lawful if it satisfies all 16 rules below (PELTZIVAR_RULE_*). In the repository, docs/FORMAT.md describes
+ * each field and each rule, and the program c/settings.c shows how to check a settings file.
  *
  * An argument that is a word, an edit, a number or a byte may have any value. A pointer that is passed with a length
  * must point to an array of at least that many elements, but it may be null if the length is 0. Any other pointer must
@@ -227,8 +227,8 @@ enum {
 };
 
 /* These are the numbers of the rules, in the order in which the rules are checked. The comment on each rule states what
- * the rule requires. A word keeps a rule if it meets this requirement, and breaks the rule otherwise. docs/FORMAT.md
- * numbers the rules from 1, so its rule n is rule n - 1 here.
+ * the rule requires. A word satisfies a rule if it meets this requirement, and breaks the rule otherwise.
+ * docs/FORMAT.md numbers the rules from 1, so its rule n is rule n - 1 here.
  *
  * The allowed ASCII bytes are the bytes 9 to 13 and 32 to 126. Punctuation is any allowed ASCII byte other than a sign
  * (+ or -), a digit in the mantissa radix, or a digit in the exponent radix. The rules use the mantissa radix in place
@@ -356,26 +356,26 @@ PELTZIVAR_API size_t peltzivar_edits_of(peltzivar_word format, peltzivar_edit ed
 PELTZIVAR_MUST_USE PELTZIVAR_API peltzivar_error peltzivar_format_error(peltzivar_word format);
 
 /* Checks only the first three rules, which are the radix rules. Returns the error of the first radix rule that a word
- * breaks, or PELTZIVAR_SUCCESS if the word keeps all of them. */
+ * breaks, or PELTZIVAR_SUCCESS if the word satisfies all of them. */
 PELTZIVAR_MUST_USE PELTZIVAR_API peltzivar_error peltzivar_radix_error(peltzivar_word format);
 
 /* Returns whether a radix is between 2 and 36, inclusive. */
 PELTZIVAR_API bool peltzivar_is_valid_radix(uint32_t radix);
 
-/* Returns whether a word keeps PELTZIVAR_RULE_EXPONENT_FLAGS_AGREE. */
+/* Returns whether a word satisfies PELTZIVAR_RULE_EXPONENT_FLAGS_AGREE. */
 PELTZIVAR_API bool peltzivar_is_valid_exponent_flags(peltzivar_word format);
 
-/* Returns whether a word keeps PELTZIVAR_RULE_DIGIT_SEPARATOR_IS_PUNCTUATION. The digit separator is checked even if no
- * digit separator flag is set. */
+/* Returns whether a word satisfies PELTZIVAR_RULE_DIGIT_SEPARATOR_IS_PUNCTUATION. The digit separator is checked even
+ * if no digit separator flag is set. */
 PELTZIVAR_API bool peltzivar_is_valid_digit_separator(peltzivar_word format);
 
-/* Returns whether a word keeps PELTZIVAR_RULE_BASE_PREFIX_IS_PUNCTUATION. */
+/* Returns whether a word satisfies PELTZIVAR_RULE_BASE_PREFIX_IS_PUNCTUATION. */
 PELTZIVAR_API bool peltzivar_is_valid_base_prefix(peltzivar_word format);
 
-/* Returns whether a word keeps PELTZIVAR_RULE_BASE_SUFFIX_IS_PUNCTUATION. */
+/* Returns whether a word satisfies PELTZIVAR_RULE_BASE_SUFFIX_IS_PUNCTUATION. */
 PELTZIVAR_API bool peltzivar_is_valid_base_suffix(peltzivar_word format);
 
-/* Returns whether a word keeps PELTZIVAR_RULE_PUNCTUATION_DIFFERS. */
+/* Returns whether a word satisfies PELTZIVAR_RULE_PUNCTUATION_DIFFERS. */
 PELTZIVAR_API bool peltzivar_is_valid_punctuation(peltzivar_word format);
 
 /* Returns whether an exponent character and a decimal point fit a word. They fit if both are punctuation, if they do
@@ -395,15 +395,16 @@ PELTZIVAR_API bool peltzivar_is_valid_options_punctuation(
 PELTZIVAR_MUST_USE PELTZIVAR_API peltzivar_error peltzivar_options_error(
     peltzivar_word format, uint8_t exponent, uint8_t decimal_point);
 
-/* Returns whether a word keeps a rule. If `rule` is not the number of a rule, returns false. */
+/* Returns whether a word satisfies a rule. If `rule` is not the number of a rule, returns false. */
 PELTZIVAR_API bool peltzivar_keeps_rule(peltzivar_word format, uint8_t rule);
 
-/* Returns the error of a rule. peltzivar_format_error returns this error for a word that breaks the rule and keeps
+/* Returns the error of a rule. peltzivar_format_error returns this error for a word that breaks the rule and satisfies
  * every rule before it. If `rule` is not the number of a rule, returns PELTZIVAR_SUCCESS. */
 PELTZIVAR_API peltzivar_error peltzivar_rule_error(uint8_t rule);
 
-/* Returns a mask of the bits that determine whether a word keeps a rule. The mask is 0 if `rule` is not the number of a
- * rule. If a word breaks the rule, the cause may be an edit that writes one of these bits (see peltzivar_edit_mask). */
+/* Returns a mask of the bits that determine whether a word satisfies a rule. The mask is 0 if `rule` is not the number
+ * of a rule. If a word breaks the rule, the cause may be an edit that writes one of these bits (see
+ * peltzivar_edit_mask). */
 PELTZIVAR_API peltzivar_word peltzivar_rule_mask(uint8_t rule);
 
 /* For a flag setter, returns whether its flag is set in a word. For a group setter, returns whether at least one flag
@@ -431,10 +432,10 @@ PELTZIVAR_API uint8_t peltzivar_word_reason_rule(peltzivar_word format, uint8_t 
 PELTZIVAR_API bool peltzivar_word_reason_breaks(peltzivar_word format, uint8_t index, uint8_t rule);
 
 /* Writes edits that mend a word by changing one field, and returns the number of these edits. If peltzivar_edit_word
- * applies them to the word, the new word keeps each rule that the old word kept, and each rule that the old word broke
- * only for the reason in the slot. If no such edits exist, if the slot is empty, or if `field` is not the number of a
- * field, returns 0 and leaves the array unchanged. Otherwise, the array elements that follow these edits are
- * unspecified.
+ * applies them to the word, the new word satisfies each rule that the old word satisfied, and each rule that the old
+ * word broke only for the reason in the slot. If no such edits exist, if the slot is empty, or if `field` is not the
+ * number of a field, returns 0 and leaves the array unchanged. Otherwise, the array elements that follow these edits
+ * are unspecified.
  *
  * The fields are numbered from 0 to PELTZIVAR_FIELD_COUNT - 1: first the flags in the order of their setters, then the
  * six bytes in the order of their bits. The edits set a flag to false, make a byte absent, or set the mantissa radix to
@@ -536,7 +537,7 @@ PELTZIVAR_API size_t peltzivar_text(peltzivar_error error, size_t index, char *t
 
 /* Writes one of the reasons why a word breaks a rule, such as "the base prefix 'b' is a digit in radix 16". The index
  * is between 0 and PELTZIVAR_MAX_REASONS - 1. Try every index, since any of the strings may be empty. All of them are
- * empty if and only if the word keeps the rule or `rule` is not the number of a rule. */
+ * empty if and only if the word satisfies the rule or `rule` is not the number of a rule. */
 PELTZIVAR_API size_t peltzivar_reason(peltzivar_word format, uint8_t rule, uint8_t index, char *text, size_t len);
 
 /* Writes the reason in a slot of a word, such as "no_special and case_sensitive_special cannot both be set". The index

@@ -11,7 +11,7 @@ This module needs the shared library of peltzivar.h, but no other package. Copy 
 module, or install it, or set PELTZIVAR_LIBRARY to its path. If the library is not found, importing this module raises
 an ImportError.
 
-A word is lawful if it keeps all rules. A `FormatView` holds any word, and a `Format` holds a lawful word. In the
+A word is lawful if it satisfies all rules. A `FormatView` holds any word, and a `Format` holds a lawful word. In the
 repository, docs/FORMAT.md describes the fields and the rules.
 """
 

@@ -196,7 +196,7 @@ static void want_located(peltzivar_word mask, const char *sentence) {
     fprintf(made.wanted, ": %s", sentence);
 }
 
-/* Returns whether a word keeps each rule that another word keeps or breaks only for the reason in a slot. */
+/* Returns whether a word satisfies each rule that another word keeps or breaks only for the reason in a slot. */
 static bool is_mended(peltzivar_word mended, peltzivar_word word, uint8_t index) {
     for (uint8_t rule = 0; rule < PELTZIVAR_RULE_COUNT; rule++) {
         bool has_other = false;

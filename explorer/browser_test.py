@@ -113,7 +113,7 @@ def the_standard_format_is_shown(page):
     page.load()
     same(page.word(), STANDARD)
     same(page.text("#verdict"), "Lawful")
-    same(page.text("#first-error"), "The word keeps all rules.")
+    same(page.text("#first-error"), "The word satisfies all rules.")
     same(page.texts("#changes li"), [])
     same(page.text("#options"), "Exponent character and decimal point fit the format.")
 

@@ -91,7 +91,7 @@ class Report {
         const count = reasons.length === 1 ? "1 reason" : `${reasons.length} reasons`;
         setText(find("verdict"), error ? `Not lawful: ${count}` : "Lawful");
         find("verdict").className = error ? "bad" : "good";
-        setText(find("first-error"), error ? this.library.errorText(error) : "The word keeps all rules.");
+        setText(find("first-error"), error ? this.library.errorText(error) : "The word satisfies all rules.");
         find("reasons").replaceChildren(...reasons.map((reason) => this.reason(word, reason)));
         find("notes").replaceChildren(...this.library.notes(word).map((note) => this.note(word, note)));
         find("changes").replaceChildren(...this.code.edits(word).map((edit) => this.change(edit)));

@@ -892,7 +892,7 @@
 //!
 //! ## `Demands`
 //!
-//! `Demands rule r` holds if the fields of `r` keep `rule`. Only `Holds` covers the rule for reserved bits.
+//! `Demands rule r` holds if the fields of `r` satisfy `rule`. Only `Holds` covers the rule for reserved bits.
 //!
 //! ```text
 //! Demands : Rule → Record → Type 0
@@ -908,7 +908,7 @@
 //!
 //! ## `Holds`
 //!
-//! `Holds rule word` holds if `word` keeps `rule`.
+//! `Holds rule word` holds if `word` satisfies `rule`.
 //!
 //! ```text
 //! Holds : Rule → ℕ → Type 0
@@ -992,7 +992,7 @@
 //!
 //! ## `IsFirstError`
 //!
-//! `IsFirstError rules word error` holds if `error` is the error of the first of `rules` that `word` breaks, or `Success` if `word` keeps them all.
+//! `IsFirstError rules word error` holds if `error` is the error of the first of `rules` that `word` breaks, or `Success` if `word` satisfies them all.
 //!
 //! ```text
 //! IsFirstError : List Rule → ℕ → Error → Type 0
@@ -1028,7 +1028,7 @@
 //!
 //! ## `Lawful`
 //!
-//! `Lawful word` holds if `LawfulParts word` holds, that is, if `word` keeps every rule.
+//! `Lawful word` holds if `LawfulParts word` holds, that is, if `word` satisfies every rule.
 //!
 //! ```text
 //! Lawful : ℕ → Type 0

@@ -274,7 +274,8 @@ fields! {
 }
 
 methods! {
-    /// Returns whether the word is lawful, that is, whether it keeps all the rules that [`error`][Self::error] checks.
+    /// Returns whether the word is lawful, that is, whether it satisfies all the rules that [`error`][Self::error]
+    /// checks.
     is_valid bool;
     /// Returns the error of the first rule that the word breaks, in the order of the variants of
     /// [`Rule`][crate::format_flags::Rule], or `Success` if the word is lawful.

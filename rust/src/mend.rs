@@ -37,7 +37,7 @@ impl FormatView {
     /// mantissa radix to 10.
     ///
     /// If [`edit_word`][crate::edits::edit_word] applies the edits of one mend, the new word breaks no rule that the
-    /// old word kept, and it no longer breaks the rules that the old word broke only because of `reason`.
+    /// old word satisfied, and it no longer breaks the rules that the old word broke only because of `reason`.
     ///
     /// ```
     /// use peltzivar::{edits::edit_word, Format, FormatView};

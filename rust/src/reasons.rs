@@ -99,7 +99,8 @@ pub const fn reasons(format: u128) -> [Option<Reason>; CANDIDATE_COUNT] {
     ]
 }
 
-/// Returns the reasons why a format word breaks `rule`. All entries are `None` if and only if the word keeps the rule.
+/// Returns the reasons why a format word breaks `rule`. All entries are `None` if and only if the word satisfies the
+/// rule.
 ///
 /// A byte that is present but not [punctuation][Rule] has one of three reasons: it is not allowed ASCII, it is a sign,
 /// or it is a digit. [`Rule::PunctuationDiffers`] has one reason for each pair of bytes that clash. Every other rule

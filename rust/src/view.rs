@@ -55,7 +55,8 @@ impl FormatView {
 
     // CHECKS
 
-    /// Returns whether the word is lawful, that is, whether it keeps all the rules that [`error`][Self::error] checks.
+    /// Returns whether the word is lawful, that is, whether it satisfies all the rules that [`error`][Self::error]
+    /// checks.
     #[must_use]
     #[inline(always)]
     pub const fn is_valid(&self) -> bool {

@@ -180,7 +180,7 @@ fn each_rule_has_its_number_and_the_bits_of_its_fields() {
     assert_eq!(RULES.len(), rows.len());
 }
 
-/// For each bit of a rule's mask there are two words that differ in this bit, one of which keeps the rule.
+/// For each bit of a rule's mask there are two words that differ in this bit, one of which satisfies the rule.
 #[test]
 fn no_mask_of_a_rule_has_a_bit_too_many() {
     let mut state = 0u64;

@@ -21,7 +21,7 @@ raw-radix : (radix : ℕ) → radix < 256 → raw (pack (radix_record radix)) �
 raw-radix radix fits = raw-pack (radix_record radix) (radix-bytes radix fits)
     ∙ trim-same (radix_record radix) (inr refl)
 
--- If a radix is between 2 and 36, then its record keeps each rule.
+-- If a radix is between 2 and 36, then its record satisfies each rule.
 radix-demands : (radix : ℕ) → IsRadix radix → (rule : Rule) → Demands rule (radix_record radix)
 unfolding on_literals
 radix-demands radix h rules.ExponentBaseInRange = grind (arith, nat_tests)

@@ -1,5 +1,5 @@
--- Lemmas on the rules after filling and trimming. Filled fields keep the same rules. Trimmed fields keep all rules that
--- they kept before, and so does a clean word with such fields.
+-- Lemmas on the rules after filling and trimming. Filled fields satisfy the same rules. Trimmed fields satisfy all
+-- rules that they kept before, and so does a clean word with such fields.
 use Rattle.std.proofs.Common.{◌≡◌, ℕ, ◌⊎◌, ◌↔◌, inl, inr, ◌||◌, true, IsTrue, refl, sym, ap, subst, arith}
 use Rattle.std.proofs.lemmas.Bool.{cases_Bool, cond-false, false≢true}
 use Rattle.std.proofs.lemmas.Bool.Decides.{nat_tests}
@@ -44,7 +44,7 @@ Disjoint-nothing : (A : ByteSet) → Disjoint (cased true 0) A
 unfolding cased
 Disjoint-nothing A = Disjoint-from _ _ (λ byte below is_zero in_a. absurd (false≢true is_zero))
 
--- If a record keeps a rule, then so does the record without its separator.
+-- If a record satisfies a rule, then so does the record without its separator.
 Demands-bare : (rule : Rule) (r : Record) → Demands rule r → Demands rule (set_byte r layout.digit_separator 0)
 unfolding IsPunctuation
 Demands-bare rules.MantissaRadixInRange r h = h
@@ -60,11 +60,11 @@ Demands-trim rule r h =
           (sym (cond-false (separator_allowed r) (r.byte layout.digit_separator) 0 off)) (Demands-bare rule r h)
     ]
 
--- If a record keeps a rule, then so does the filled and trimmed record.
+-- If a record satisfies a rule, then so does the filled and trimmed record.
 pub Demands-kept : (rule : Rule) (r : Record) → Demands rule r → Demands rule (trim (fill r))
 Demands-kept rule r h = Demands-trim rule (fill r) (subst (λ X. X) (sym (Demands-fill rule r)) h)
 
--- If no separator is dropped, then a record keeps a rule if and only if the filled and trimmed record does.
+-- If no separator is dropped, then a record satisfies a rule if and only if the filled and trimmed record does.
 pub Demands-same : (rule : Rule) (r : Record) → SeparatorAllowedOrAbsent r → Demands rule r
     ↔ Demands rule (trim (fill r))
 Demands-same rule r used = (
@@ -74,7 +74,7 @@ Demands-same rule r used = (
 
 -- In this section, `normal` is a clean word with the filled and trimmed fields of `word`.
 module _ (word normal : ℕ) (clean : IsClean normal) (fields : raw normal ≡ trim (fill (raw word))) where
-  -- If `word` keeps a rule, then so does `normal`.
+  -- If `word` satisfies a rule, then so does `normal`.
   Holds-kept : (rule : Rule) → Holds rule word → Holds rule normal
   unfolding Holds
   Holds-kept rules.ReservedBitsAreZero h = clean
@@ -84,7 +84,7 @@ module _ (word normal : ℕ) (clean : IsClean normal) (fields : raw normal ≡ t
   pub Lawful-kept : Lawful word → Lawful normal
   Lawful-kept h = Lawful-from_all normal (λ rule. Holds-kept rule (Holds-from_lawful rule word h))
 
-  -- If nothing was dropped from `word` and `normal` keeps a rule, then so does `word`.
+  -- If nothing was dropped from `word` and `normal` satisfies a rule, then so does `word`.
   Holds-back : IsClean word → SeparatorAllowedOrAbsent (raw word) → (rule : Rule) → Holds rule normal → Holds rule word
   unfolding Holds
   Holds-back whole used rules.ReservedBitsAreZero h = whole

@@ -96,7 +96,7 @@ Demands-same rules.ExponentConsecutiveIsAllowed v w same = λ i.
     (flag v w _ same layout.exponent_trailing_digit_separator refl i))
 Demands-same rules.ReservedBitsAreZero v w same = refl
 
--- If two words agree in the bits that a rule reads, and the first keeps the rule, then so does the second.
+-- If two words agree in the bits that a rule reads, and the first satisfies the rule, then so does the second.
 pub kept_alike : (rule : Rule) (v w : ℕ) → bit_and v (mask_read rule) ≡ bit_and w (mask_read rule)
     → Holds rule v → Holds rule w
 unfolding Holds

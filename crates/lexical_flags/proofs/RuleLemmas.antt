@@ -1,4 +1,4 @@
--- Lemmas that a word is lawful if and only if it keeps every rule, and that it has one error.
+-- Lemmas that a word is lawful if and only if it satisfies every rule, and that it has one error.
 use Rattle.std.proofs.Common.{◌≡◌, ℕ, ◌≢◌, ◌↔◌, inl, inr, Bool, true, IsTrue, List, [], ◌∷◌, ◌++◌, Option, sym, ap, ◌∙◌}
 use Rattle.std.proofs.Common.{subst, refl, arith}
 use Rattle.std.specs.List.{AllByRecursion, AllZip}
@@ -57,7 +57,7 @@ IsAbsentOrPunctuation-from r counts byte text digits_apart signs_apart =
       ]
     ]
 
--- A lawful word keeps every rule.
+-- A lawful word satisfies every rule.
 pub Holds-from_lawful : (rule : Rule) (word : ℕ) → Lawful word → Holds rule word
 unfolding Holds Lawful
 Holds-from_lawful rules.MantissaRadixInRange word h = h.mantissa_radix
@@ -113,7 +113,7 @@ five_apart r separator prefix suffix own =
       ((signs_apart true _ separator, (signs_apart _ _ prefix, (signs_apart _ _ suffix, tt))), own),
     )
 
--- A word that keeps every rule is lawful.
+-- A word that satisfies every rule is lawful.
 pub Lawful-from_all : (word : ℕ) → ((rule : Rule) → Holds rule word) → Lawful word
 unfolding Holds Lawful
 Lawful-from_all word h =
@@ -138,14 +138,14 @@ error_of-success : (rule : Rule) → error_of rule ≢ Success
 error_of-success rules.MantissaRadixInRange e = cc
 error_of-success _ e = cc
 
--- If the first error of a list of rules is Success, then each rule of the list is kept.
+-- If the first error of a list of rules is Success, then each rule of the list is satisfied.
 all_from_success : (word : ℕ) (rules : List Rule) → IsFirstError rules word Success
     → AllByRecursion (λ rule. Holds rule word) rules
 all_from_success word [] h = tt
 all_from_success word (rule ∷ rules) (inl broken) = absurd (error_of-success rule (sym broken.1))
 all_from_success word (rule ∷ rules) (inr kept) = (kept.0, all_from_success word rules kept.1)
 
--- If every rule is kept, then the first error of each list of rules is Success.
+-- If every rule is satisfied, then the first error of each list of rules is Success.
 success_from_all : (word : ℕ) (error : Error) → ((rule : Rule) → Holds rule word) → (rules : List Rule)
     → IsFirstError rules word error → error ≡ Success
 success_from_all word error all [] h = h
@@ -178,7 +178,7 @@ first_in_front word error some (rule ∷ front) rest (inl broken) = inl broken
 first_in_front word error some (rule ∷ front) rest (inr kept) =
     inr (kept.0, first_in_front word error some front rest kept.1)
 
--- Words that keep the same rules have the same error.
+-- Words that satisfy the same rules have the same error.
 IsFirstError-same : (v w : ℕ) → ((rule : Rule) → Holds rule v ↔ Holds rule w) → (rules : List Rule) (error : Error)
     → IsFirstError rules v error → IsFirstError rules w error
 IsFirstError-same v w same [] error h = h
@@ -195,7 +195,7 @@ IsErrorOf-same v w same error = (
       (λ rule. ((same rule).1, (same rule).0)) rules_in_order error,
 )
 
--- A clean word keeps the rule whose error is InvalidFlags.
+-- A clean word satisfies the rule whose error is InvalidFlags.
 reserved-error : (rule : Rule) (word : ℕ) → error_of rule ≡ InvalidFlags → IsClean word → Holds rule word
 unfolding Holds
 reserved-error rules.ReservedBitsAreZero word e clean = clean
@@ -212,12 +212,12 @@ pub not_flags : (word : ℕ) (error : Error) → IsClean word → IsErrorOf word
 unfolding IsErrorOf
 not_flags word error clean h e = clean-first word rules_in_order clean (subst (IsErrorOf word) e h)
 
--- If each rule in the list of all rules is kept, then every rule is kept.
+-- If each rule in the list of all rules is satisfied, then every rule is satisfied.
 every_rule : (word : ℕ) → AllByRecursion (λ rule. Holds rule word) rules_in_order → (rule : Rule) → Holds rule word
 every_rule word all rules.MantissaRadixInRange = assumption all
 every_rule word all _ = assumption all
 
--- A word without an error keeps every rule, so it is lawful.
+-- A word without an error satisfies every rule, so it is lawful.
 pub Lawful-from_success : (word : ℕ) → IsErrorOf word Success → Lawful word
 unfolding IsErrorOf
 Lawful-from_success word h = Lawful-from_all word (every_rule word (all_from_success word rules_in_order h))

@@ -58,7 +58,7 @@ contradict rules.ExponentConsecutiveIsAllowed r =
     (r.flag exponent_leading_digit_separator) (r.flag exponent_trailing_digit_separator)
 contradict _ r = false
 
--- `Demands rule r` holds if the fields of `r` keep `rule`. Only `Holds` covers the rule for reserved bits.
+-- `Demands rule r` holds if the fields of `r` satisfy `rule`. Only `Holds` covers the rule for reserved bits.
 abbrev pub Demands : Rule → Record → Type 0
 Demands rules.MantissaRadixInRange r = IsRadix (r.byte layout.mantissa_radix)
 Demands rules.ExponentBaseInRange r = IsRadix (effective_exponent_base r)
@@ -69,7 +69,7 @@ Demands rules.BaseSuffixIsPunctuation r = IsAbsentOrPunctuation r (r.byte layout
 Demands rules.PunctuationDiffers r = AreDisjoint (format_roles r)
 Demands rule r = IsFalse (contradict rule r)
 
--- `Holds rule word` holds if `word` keeps `rule`.
+-- `Holds rule word` holds if `word` satisfies `rule`.
 unfoldable pub Holds : Rule → ℕ → Type 0
 Holds rules.ReservedBitsAreZero word = IsClean word
 Holds rule word = Demands rule (raw word)
@@ -119,7 +119,7 @@ abbrev pub ErrorUnless : Type 0 → Error → (Error → Type 0) → Error → T
 ErrorUnless demand own next error = ((demand → ⊥) × (error ≡ own)) ⊎ (demand × next error)
 
 -- `IsFirstError rules word error` holds if `error` is the error of the first of `rules` that `word` breaks, or
--- `Success` if `word` keeps them all.
+-- `Success` if `word` satisfies them all.
 abbrev pub IsFirstError : List Rule → ℕ → Error → Type 0
 IsFirstError [] word error = error ≡ errors.Success
 IsFirstError (rule ∷ rules) word error = ErrorUnless (Holds rule word) (error_of rule) (IsFirstError rules word) error
@@ -141,6 +141,6 @@ pub record LawfulParts (word : ℕ) : Type 0 where
   pub roles : AreDisjoint (five_roles (raw word))
   pub clean : IsClean word
 
--- `Lawful word` holds if `LawfulParts word` holds, that is, if `word` keeps every rule.
+-- `Lawful word` holds if `LawfulParts word` holds, that is, if `word` satisfies every rule.
 unfoldable pub Lawful : ℕ → Type 0
 Lawful word = LawfulParts word

@@ -66,8 +66,8 @@ pub fn layout_facts()
         (bit_or EXPONENT_DIGIT_SEPARATOR_FLAG_MASK SPECIAL_DIGIT_SEPARATOR)) ≡ DIGIT_SEPARATOR_FLAG_MASK }
 {}
 
-/// States how filling and trimming a word affect its error, that a word is lawful if and only if it keeps every rule,
-/// which bits decide whether a word keeps a rule, and that a word has at most one error.
+/// States how filling and trimming a word affect its error, that a word is lawful if and only if it satisfies every
+/// rule, which bits decide whether a word satisfies a rule, and that a word has at most one error.
 #[inline(always)]
 pub const fn rule_facts()
     // If `word` is lawful, then so is `normal`, the clean word whose fields are the filled and trimmed fields of
@@ -78,10 +78,10 @@ pub const fn rule_facts()
         → IsClean word → SeparatorAllowedOrAbsent (raw word)
         → (error : Error) → IsErrorOf word error ↔ IsErrorOf normal error }
 
-    // A word is lawful if and only if it keeps every rule.
+    // A word is lawful if and only if it satisfies every rule.
     ensures lawful { (word : ℕ) → Lawful word ↔ ((rule : Rule) → Holds rule word) }
 
-    // If two words agree in the bits that a rule reads, and one of them keeps the rule, the other keeps it too.
+    // If two words agree in the bits that a rule reads, and one of them satisfies the rule, so does the other.
     ensures depends { (rule : Rule) → (v w : ℕ) → bit_and v (mask_read rule) ≡ bit_and w (mask_read rule)
         → Holds rule v → Holds rule w }
 

@@ -1,5 +1,5 @@
 //! Number formats as values of type `u128`: the layout of their flags and bytes, the functions that read them, and the
-//! rules that a lawful format keeps.
+//! rules that a lawful format satisfies.
 #![tactic(auto)]
 
 pub mod format_flags;

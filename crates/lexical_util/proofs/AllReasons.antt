@@ -150,7 +150,7 @@ by_rule word rule =
       each rules.ExponentConsecutiveIsAllowed = (both (assumption found) (λ h. refl), tt)
       each rules.ReservedBitsAreZero = (both (assumption found) (λ h. refl), tt)
 
--- A candidate does not apply if the word keeps its rule.
+-- A candidate does not apply if the word satisfies its rule.
 push : {X : Type 0} {H : Type 0} (P : X → Type 0) (list : List X) → (H → AllByRecursion P list)
     → AllByRecursion (λ x. H → P x) list
 push P [] all = tt
@@ -161,7 +161,7 @@ own_rules word = all_candidates (λ c. Holds (rule_of_reason c.1) word → IsFal
   kept : (rule : Rule) → AllByRecursion (λ c. Holds rule word → IsFalse c.0) (candidates_of rule word)
   kept rule = push (λ c. IsFalse c.0) (candidates_of rule word) (λ h. (no_candidate rule word).0 h)
 
-  -- If a word keeps the rule of the mantissa radix, then this candidate of an exponent byte does not apply.
+  -- If a word satisfies the rule of the mantissa radix, then this candidate of an exponent byte does not apply.
   follower : (absent : Bool) → Holds rules.MantissaRadixInRange word
       → (absent && (mantissa_candidate (raw word)).0) ≡ false
   follower absent h = and_right absent _ ((kept rules.MantissaRadixInRange).0 h)
@@ -202,7 +202,7 @@ lawful_without_reason word every = (
       (by_rule word rule)))),
 )
 
--- If a reason of a word breaks a rule, then the word does not keep the rule.
+-- If a reason of a word breaks a rule, then the word does not satisfy the rule.
 own_broken : (word : ℕ) (own rule : Rule) (applies : Bool) → (Holds own word → IsFalse applies) → rule ≡ own
     → IsTrue applies
     → Holds rule word → ⊥

@@ -1,4 +1,4 @@
--- Lemmas that edits mend a reason if the edited word keeps each rule without another reason.
+-- Lemmas that edits mend a reason if the edited word satisfies each rule without another reason.
 use Rattle.std.proofs.Common.{ℕ, ◌≡◌, ◌↔◌, ◌==◌, ◌||◌, ◌⊎◌, inl, inr, not, Bool, true, false}
 use Rattle.std.proofs.Common.{IsTrue, List, [], ◌∷◌, length, map, slice_index_or, refl, sym, subst, ap, ◌∙◌}
 use Rattle.std.specs.List.{AllByRecursion, filter_map, list_all, list_any}
@@ -44,8 +44,8 @@ no_other reason list (inr only) =
 second : (a b : Bool) → (a || b) ≡ true → a ≡ false → b ≡ true
 second a b either none = subst (λ t. (t || b) ≡ true) none either
 
--- If a word keeps a rule or breaks it only for one reason, and a new word passes the test of this rule, then the new
--- word keeps the rule.
+-- If a word satisfies a rule or breaks it only for one reason, and a new word passes the test of this rule, then the
+-- new word satisfies the rule.
 kept_after : (word new : ℕ) (reason : Reason) (rule : Rule)
     → (has_other_reason word reason rule || is_kept new rule) ≡ true
     → Holds rule word ⊎ (reasons_of rule word ≡ reason ∷ []) → Holds rule new
@@ -73,7 +73,7 @@ mending word reason list test =
 cons_is_not_nil : (first : Reason) (others : List Reason) → first ∷ others ≡ [] → ⊥
 cons_is_not_nil first others same = cc
 
--- If a truth value is equivalent to keeping a rule, then it is equal to the test that the rule has no reason.
+-- If a truth value is equivalent to satisfying a rule, then it is equal to the test that the rule has no reason.
 pub kept_test : (rule : Rule) (word : ℕ) (kept : Bool) → (IsTrue kept ↔ Holds rule word)
     → kept ≡ (length (reasons_of rule word) == 0)
 kept_test rule word kept same = by_list (reasons_of rule word) kept (

@@ -61,7 +61,7 @@ same_options s v w alike fields e p =
       OptionsFit-alike w v e p (sym punctuation) (sym exponents) (sym own),
     )
 
--- If the demands of a rule on two records are equal, then the words with these records both keep the rule, or both
+-- If the demands of a rule on two records are equal, then the words with these records both satisfy the rule, or both
 -- break it.
 Holds-alike : (s : Record) (v w : ℕ) → ReplacesFields s v w → (rule : Rule) → Demands rule (raw v) ≡ Demands rule s
     → Holds rule v ↔ Holds rule w

@@ -1,4 +1,4 @@
--- A word keeps a rule if and only if no candidate of the rule applies.
+-- A word satisfies a rule if and only if no candidate of the rule applies.
 use Rattle.std.proofs.Common.{ℕ, ◌≡◌, ◌≢◌, ◌↔◌, ◌==◌, ◌&&◌, bit_and, None, inl, inr, Bool, true, false, IsTrue, not}
 use Rattle.std.proofs.Common.{List, [], ◌∷◌, refl, arith}
 use Rattle.lexical_base.specs.Ascii.{ByteSet, between}
@@ -72,7 +72,7 @@ clean_word word =
 with_nothing : {P Q : Type 0} → P ↔ Q → P ↔ (Q × ⊤)
 with_nothing same = (λ p. (same.0 p, tt), λ q. same.1 q.0)
 
--- A word keeps a rule if and only if no candidate of the rule applies.
+-- A word satisfies a rule if and only if no candidate of the rule applies.
 pub no_candidate : (rule : Rule) (word : ℕ)
     → Holds rule word ↔ AllByRecursion (λ c. IsFalse c.0) (candidates_of rule word)
 unfolding Holds
@@ -98,14 +98,15 @@ no_candidate rules.PunctuationDiffers word =
 no_candidate rules.ReservedBitsAreZero word = with_nothing (clean_word word)
 no_candidate rule word = with_nothing ((λ h. h), (λ h. h))
 
--- A word keeps a rule if and only if it has no reason for it.
+-- A word satisfies a rule if and only if it has no reason for it.
 pub kept_without_reason : (rule : Rule) (word : ℕ) → Holds rule word ↔ (reasons_of rule word ≡ [])
 kept_without_reason rule word =
     let none = none_applies (candidates_of rule word) in
     let holds = no_candidate rule word in
     (λ h. none.1 (holds.0 h), λ h. holds.1 (none.0 h))
 
--- If a rule is kept if and only if its only candidate does not apply, then the code's slots are the candidate's slots.
+-- If a rule is satisfied if and only if its only candidate does not apply, then the code's slots are the candidate's
+-- slots.
 only_candidate : (b kept : Bool) (reason : Reason) → (IsTrue kept ↔ IsFalse b)
     → then_some (not kept) reason ∷ None ∷ None ∷ [] ≡ in_three_slots ((b, reason) ∷ [])
 only_candidate true true reason same = absurd (true≢false (same.0 refl))

@@ -88,7 +88,8 @@ impl NumberFormat {
 
     // CHECKS
 
-    /// Returns whether the word is lawful, that is, whether it keeps all the rules that [`error`][Self::error] checks.
+    /// Returns whether the word is lawful, that is, whether it satisfies all the rules that [`error`][Self::error]
+    /// checks.
     #[inline(always)]
     pub const fn is_valid(&self) -> bool
         ensures { IsTrue result ↔ Lawful self.now }

@@ -87,7 +87,7 @@ pub const fn reasons(format: u128) -> [Option<Reason>; CANDIDATE_COUNT]
     ensures by_rule { (rule : Rule)
         → AllByRecursion (λ reason. IsAmong (all_reasons format) reason × Breaks reason rule) (reasons_of rule format) }
 
-    // If a rule is broken for a reason, the word does not keep the rule.
+    // If a rule is broken for a reason, the word does not satisfy the rule.
     ensures broken { (rule : Rule)
         → AllByRecursion (λ reason. Breaks reason rule → Holds rule format → ⊥) (all_reasons format) }
     ensures distinct { ArePairwise (λ a b. a ≢ b) (all_reasons format) }
@@ -129,7 +129,8 @@ pub const fn reasons(format: u128) -> [Option<Reason>; CANDIDATE_COUNT]
     ]
 }
 
-/// Returns the reasons why a format word breaks `rule`. All entries are `None` if and only if the word keeps the rule.
+/// Returns the reasons why a format word breaks `rule`. All entries are `None` if and only if the word satisfies the
+/// rule.
 ///
 /// A byte that is present but not [punctuation][Rule] has one of three reasons: it is not allowed ASCII, it is a sign,
 /// or it is a digit. [`Rule::PunctuationDiffers`] has one reason for each pair of bytes that clash. Every other rule

@@ -15,8 +15,8 @@ pub extern "C" fn peltzivar_format_error(format: Word) -> ErrorNumber {
     error_number(format_error(format.number()))
 }
 
-/// Returns the number of the error of the first radix rule that a word breaks, or 0 if the word keeps all three radix
-/// rules.
+/// Returns the number of the error of the first radix rule that a word breaks, or 0 if the word satisfies all three
+/// radix rules.
 // SAFETY: no other library has names that begin with `peltzivar_`.
 #[unsafe(no_mangle)]
 pub extern "C" fn peltzivar_radix_error(format: Word) -> ErrorNumber {
@@ -91,7 +91,7 @@ pub extern "C" fn peltzivar_options_error(
     ))
 }
 
-/// Returns whether a word keeps a rule, or `false` if `rule` is not the number of a rule.
+/// Returns whether a word satisfies a rule, or `false` if `rule` is not the number of a rule.
 // SAFETY: no other library has names that begin with `peltzivar_`.
 #[unsafe(no_mangle)]
 pub extern "C" fn peltzivar_keeps_rule(format: Word, rule: u8) -> bool {
@@ -112,7 +112,8 @@ pub extern "C" fn peltzivar_rule_error(rule: u8) -> ErrorNumber {
     }
 }
 
-/// Returns a mask of the bits that determine whether a word keeps a rule, or 0 if `rule` is not the number of a rule.
+/// Returns a mask of the bits that determine whether a word satisfies a rule, or 0 if `rule` is not the number of a
+/// rule.
 // SAFETY: no other library has names that begin with `peltzivar_`.
 #[unsafe(no_mangle)]
 pub extern "C" fn peltzivar_rule_mask(rule: u8) -> Word {

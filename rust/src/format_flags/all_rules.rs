@@ -7,7 +7,7 @@ use crate::error::Error;
 use crate::format_flags::rules::*;
 use crate::format_flags::*;
 
-/// A rule that a format word keeps or breaks. A word that breaks no rule is *lawful*.
+/// A rule that a format word satisfies or breaks. A word that breaks no rule is *lawful*.
 ///
 /// The variants are in the order in which the rules are checked. The name of each variant states the condition that the
 /// rule imposes. A byte of 0 is *absent*. *Punctuation* is any byte that
@@ -101,7 +101,7 @@ impl Rule {
         }
     }
 
-    /// Returns whether `format` keeps this rule.
+    /// Returns whether `format` satisfies this rule.
     #[must_use]
     pub const fn is_kept(self, format: u128) -> bool {
         match self {
@@ -137,7 +137,7 @@ impl Rule {
 
     /// Returns the mask of the bits that this rule reads. For [`Rule::ReservedBitsAreZero`], these are the reserved
     /// bits. For every other rule, they are the bits of the fields on which the rule depends. Two words that have the
-    /// same values in these bits either both keep the rule or both break it.
+    /// same values in these bits either both satisfy the rule or both break it.
     #[must_use]
     pub const fn mask(self) -> u128 {
         match self {

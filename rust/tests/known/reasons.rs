@@ -292,7 +292,7 @@ fn fields() -> impl Iterator<Item = u128> {
     fields.map(|field| field.mask()).into_iter()
 }
 
-/// Each field of a mask is needed: some word with the same bits in the other fields of the mask keeps the rule.
+/// Each field of a mask is needed: some word with the same bits in the other fields of the mask satisfies the rule.
 #[test]
 fn a_mask_is_small_enough() {
     let mut known = Vec::new();
@@ -328,7 +328,7 @@ fn a_mask_is_small_enough() {
     assert_eq!(kinds.len(), 8, "{kinds:?}");
 }
 
-/// After the edits of a mend, the word keeps each rule that it kept, and each rule that no other reason broke.
+/// After the edits of a mend, the word satisfies each rule that it satisfied, and each rule that no other reason broke.
 #[test]
 fn a_mend_mends() {
     for word in words() {

@@ -44,7 +44,7 @@ mask_read rules.ReservedBitsAreZero = reserved_mask
 mask_read rule = mask_of (flags_read rule) + sum_by byte_mask (bytes_read rule)
 
 -- `ReportsRule word rule broken` holds if `broken` is `Some rule` and `word` breaks `rule`, or if `broken` is
--- `None` and `word` keeps `rule`.
+-- `None` and `word` satisfies `rule`.
 abbrev pub ReportsRule : ℕ → Rule → Option Rule → Type 0
 ReportsRule word rule broken =
     ((Holds rule word → ⊥) × (broken ≡ Some rule)) ⊎ (Holds rule word × (broken ≡ None))

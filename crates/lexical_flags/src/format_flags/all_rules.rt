@@ -11,7 +11,7 @@ use crate::format_flags::rules::*;
 use crate::format_flags::*;
 use lexical_base::error::Error;
 
-/// A rule that a format word keeps or breaks. A word that breaks no rule is *lawful*.
+/// A rule that a format word satisfies or breaks. A word that breaks no rule is *lawful*.
 ///
 /// The variants are in the order in which the rules are checked. The name of each variant states the condition that the
 /// rule imposes. A byte of 0 is *absent*. *Punctuation* is any byte that
@@ -104,7 +104,7 @@ impl Rule {
         }
     }
 
-    /// Returns whether `format` keeps this rule.
+    /// Returns whether `format` satisfies this rule.
     pub const fn is_kept(self, format: u128) -> bool
         ensures { IsTrue result ↔ Holds self format }
     {
@@ -141,7 +141,7 @@ impl Rule {
 
     /// Returns the mask of the bits that this rule reads. For [`Rule::ReservedBitsAreZero`], these are the reserved
     /// bits. For every other rule, they are the bits of the fields on which the rule depends. Two words that have the
-    /// same values in these bits either both keep the rule or both break it.
+    /// same values in these bits either both satisfy the rule or both break it.
     pub const fn mask(self) -> u128
         ensures { result ≡ mask_read self }
     {

@@ -50,14 +50,14 @@ abbrev pub edited_with_separator : ℕ → List Edit → ℕ
 edited_with_separator word list = pack (after
     (after (fill (raw word)) (all_writes list)) (write_flag layout.integer_internal_digit_separator true ∷ []))
 
--- `keep_rules word reason list` is true if, after the edits in `list`, `word` keeps every rule. Rules that `word` broke
--- for a reason other than `reason` are excepted.
+-- `keep_rules word reason list` is true if, after the edits in `list`, `word` satisfies every rule. Rules that `word`
+-- broke for a reason other than `reason` are excepted.
 abbrev pub keep_rules : ℕ → Reason → List Edit → Bool
 keep_rules word reason list =
     list_all (λ rule. has_other_reason word reason rule || is_kept (edited word (all_writes list)) rule) rules_in_order
 
--- `remove_reason word reason list` is true if, after the edits in `list`, `word` keeps the first rule of `reason` even
--- with the digit separator, or if `word` broke this rule for another reason too.
+-- `remove_reason word reason list` is true if, after the edits in `list`, `word` satisfies the first rule of `reason`
+-- even with the digit separator, or if `word` broke this rule for another reason too.
 abbrev pub remove_reason : ℕ → Reason → List Edit → Bool
 remove_reason word reason list =
     has_other_reason word reason (rule_of_reason reason)
@@ -74,8 +74,8 @@ abbrev pub mend_of : ℕ → Reason → Edit → List Edit
 mend_of word reason field =
     let list = edits_for (raw word) field in if are_mending word reason list then list else []
 
--- `Mends word reason list` holds if, after the edits in `list`, `word` keeps each rule that it kept before, and each
--- rule that it broke only for `reason`. It keeps the first rule of `reason` even with the digit separator.
+-- `Mends word reason list` holds if, after the edits in `list`, `word` satisfies each rule that it satisfied before or
+-- broke only for `reason`. It satisfies the first rule of `reason` even with the digit separator.
 pub record Mends (word : ℕ) (reason : Reason) (list : List Edit) : Type 0 where
   pub rules : (rule : Rule) → Holds rule word ⊎ (reasons_of rule word ≡ reason ∷ [])
       → Holds rule (edited word (all_writes list))

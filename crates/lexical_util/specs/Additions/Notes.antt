@@ -84,7 +84,8 @@ pub record ReplacesFields (fields : Record) (word other : ℕ) : Type 0 where
   pub fields_are : raw other ≡ fields
   pub clean : IsClean word ↔ IsClean other
 
--- `SameRules v w` holds if `v` and `w` keep the same rules, accept the same options, and give the same bytes the same roles.
+-- `SameRules v w` holds if `v` and `w` satisfy the same rules, accept the same options, and give the same bytes the
+-- same roles.
 pub record SameRules (v w : ℕ) : Type 0 where
   pub rules : (rule : Rule) → Holds rule v ↔ Holds rule w
   pub options : (exponent_byte point_byte : ℕ)
@@ -98,7 +99,7 @@ other_rules =
     rules.ExponentFlagsAgree ∷ rules.MantissaSignFlagsAgree ∷ rules.ExponentSignFlagsAgree ∷
     rules.SpecialCaseFlagsAgree ∷ rules.ReservedBitsAreZero ∷ []
 
--- `SameOtherRules v w` holds if `v` and `w` keep the same rules among `other_rules` and accept the same options.
+-- `SameOtherRules v w` holds if `v` and `w` satisfy the same rules among `other_rules` and accept the same options.
 pub record SameOtherRules (v w : ℕ) : Type 0 where
   pub rules : AllByRecursion (λ rule. Holds rule v ↔ Holds rule w) other_rules
   pub options : (exponent_byte point_byte : ℕ)

@@ -246,7 +246,7 @@ candidates_of rules.ReservedBitsAreZero word =
     let bits = bit_and word reserved_mask in (not (bits == 0), reasons.ReservedBits bits) ∷ []
 candidates_of rule word = (contradict rule (raw word), flag_reason rule) ∷ []
 
--- `reasons_of rule word` lists the reasons why `word` breaks `rule`. It is empty if `word` keeps the rule.
+-- `reasons_of rule word` lists the reasons why `word` breaks `rule`. It is empty if `word` satisfies the rule.
 abbrev pub reasons_of : Rule → ℕ → List Reason
 reasons_of rule word = filter_map if_applicable (candidates_of rule word)
 

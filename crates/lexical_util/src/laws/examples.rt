@@ -39,7 +39,7 @@ pub fn edit_examples()
 {}
 
 /// States examples of notes: the word without the case flag of an absent prefix, a word with another flag, words that
-/// keep the same rules, and words that do not.
+/// satisfy the same rules, and words that do not.
 #[tactic(auto, unfolding(crate::specs::Unfoldable::on_literals))]
 pub fn note_examples()
     ensures cleared { ReplacesFields

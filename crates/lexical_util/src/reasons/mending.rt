@@ -22,8 +22,8 @@ pub const MAX_MENDING_EDITS: usize = 3;
 /// `field` is the edit that sets the field to its value in the word. The returned edits clear a flag or an optional
 /// byte, or they set the mantissa radix to 10 unless it is 10 already. If they set the mantissa radix, an absent
 /// exponent base or exponent radix stays absent. Apply the edits with [`edit_word`]. The new word breaks no rule that
-/// the old word kept, and it no longer breaks the rules that the old word broke only because of `reason`. [`edit_word`]
-/// also drops a digit separator if no flag allows one, but that does not count as mending the separator.
+/// the old word satisfied, and it no longer breaks the rules that the old word broke only because of `reason`.
+/// [`edit_word`] also drops a digit separator if no flag allows one, but that does not count as mending the separator.
 pub fn mend(format: u128, reason: &Reason, field: &Edit) -> ([Edit; MAX_MENDING_EDITS], usize)
     ensures edits { take result.1 result.0 ≡ mend_of format reason.now field.now }
     ensures mends { result.1 ≢ 0 → Mends format reason.now (take result.1 result.0) }
@@ -45,7 +45,7 @@ fn are_mending(format: u128, reason: &Reason, edits: &[Edit]) -> bool
     all_kept(&RULES, format, mended, reason.mask()) & remove_reason(format, reason, edits)
 }
 
-// Returns whether the edited word keeps the first rule of the reason, or the word has a reason for this rule that
+// Returns whether the edited word satisfies the first rule of the reason, or the word has a reason for this rule that
 // blames other bits. The edited word gets a flag that allows the digit separator, so that the separator is not dropped.
 fn remove_reason(format: u128, reason: &Reason, edits: &[Edit]) -> bool
     ensures { result ≡ remove_reason format reason.now edits.now }
@@ -121,7 +121,7 @@ fn radix_edits(format: u128, radix: u8) -> ([Edit; MAX_MENDING_EDITS], usize)
     }
 }
 
-// Returns whether the mended word keeps each of these rules, except for rules for which the word has a reason that
+// Returns whether the mended word satisfies each of these rules, except for rules for which the word has a reason that
 // blames other bits.
 fn all_kept(rules: &[Rule], format: u128, mended: u128, mask: u128) -> bool
     ensures { result ≡ list_all (λ rule. list_any (λ other. not (mask_of_reason other == mask)) (reasons_of rule format)
@@ -135,7 +135,7 @@ fn all_kept(rules: &[Rule], format: u128, mended: u128, mask: u128) -> bool
     }
 }
 
-// Returns whether the mended word keeps the rule, or the word has a reason for it that blames other bits.
+// Returns whether the mended word satisfies the rule, or the word has a reason for it that blames other bits.
 fn is_kept_or_other(rule: Rule, format: u128, mended: u128, mask: u128) -> bool
     ensures { result ≡ (list_any (λ other. not (mask_of_reason other == mask)) (reasons_of rule format)
         || (length (reasons_of rule mended) == 0)) }
