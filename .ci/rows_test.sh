@@ -196,6 +196,7 @@ cargo run --quiet
 cargo package --quiet --package peltzivar --allow-dirty
 cargo run --quiet --example a
 cargo run --quiet --example b -- c
+cargo run --quiet --example integers -- 0xF_F -1
 cargo run --quiet --example settings -- examples/settings.txt
 cargo run --quiet --example settings
 cargo run --quiet
@@ -210,7 +211,7 @@ for STATUS in 1 0; do
         [ "$(uniq "$work/log")" = "$(cat "$work/commands")" ] && [ "$(grep -cx 'cargo run --quiet' "$work/log")" = 3 ]
     else
         [ "$(cat "$work/log")" = "$(cat "$work/commands")" ] &&
-            [ "$(tail -n 2 <<< "$got")" = $'2 passed, 27 failed, 0 skipped\nstatus 1' ]
+            [ "$(tail -n 2 <<< "$got")" = $'2 passed, 28 failed, 0 skipped\nstatus 1' ]
     fi && passed=$((passed + 1)) && continue
     printf 'rust/tools/test.sh, over tools that end with %s:\n%s\n' $STATUS "$got"
     diff "$work/commands" "$work/log"

@@ -174,14 +174,15 @@ differing="README.md has another table than this one, of compare/names.py:
 | \`digit::char_is_digit\` returns \`u8\` | it returns \`bool\` |
 | \`digit::char_to_digit\` is deprecated | it is not deprecated |"
 
-# fake: a cargo that builds nothing. It makes files of known sizes, and a driver that prints the next line of the file
+# fake: a kit and a cargo that build nothing. The cargo makes files of known sizes, and a driver that prints the next line of the file
 # `rows`. A package is built three times for its time, and the first takes longest.
 fake() {
     export FAKE=$top/fake
     mkdir "$FAKE"
     cat > "$FAKE/cargo" << 'END'
 #!/usr/bin/env bash
-echo "$1 ${PWD##*/} ${!#}" >> "$FAKE/calls"
+echo "$1 ${PWD#"$WORK"/} ${!#}" >> "$FAKE/calls"
+case $PWD in */*/bench/rust | */compare/rust) echo "${BENCH_LIB##*/} $RUSTFLAGS" >> "$FAKE/calls" ;; esac
 [ "$(cut -d' ' -f1 "$FAKE/calls" | tail -n 4 | xargs)" != "build build clean build" ] || sleep 0.6
 release=${CARGO_TARGET_DIR:-target}/release
 mkdir -p "$release"
@@ -195,7 +196,13 @@ sed -i 1d $FAKE/rows
 DRIVER
 chmod +x "$release/driver"
 END
-    chmod +x "$FAKE/cargo"
+    cat > "$FAKE/rt" << 'END'
+#!/bin/sh
+echo "rt $*" >> "$FAKE/calls"
+mkdir -p out
+: > "out/lib${PWD##*/}.a"
+END
+    chmod +x "$FAKE/cargo" "$FAKE/rt"
     PATH=$FAKE:$PATH
 }
 
@@ -230,17 +237,36 @@ compared() {
     echo "some section" > "$FAKE/rows"
     : > "$FAKE/calls"
     : > "$FAKE/options"
+    touch "$WORK"/{rust,upstream,compare}/stale
     PATH=$FAKE/cc:$PATH ARCHIVE=$top/some.a ./run.sh --seed 2 2> /dev/null
     cat "$FAKE/calls" "$FAKE/options"
+    find "$WORK" -name stale
 }
 
 # scripts: the scripts with this cargo.
+boundaries="-C llvm-args=-x86-branches-within-32B-boundaries"
 scripts() {
     fake
     against 0 "some row 100.000 105.000 1.05 1.00" row row 101 107 103 106 104 109 102 108 100 105
     against 1 "some row 100.000 106.000 1.06 1.00 slower" row row 101 107 103 108 104 109 102 107 100 106
     against 0 "some new: on one side only" old new 101 107 103 108 104 109 102 107 100 106
     compares "--only plain: --only plain: some --rounds 3" "$(uniq "$FAKE/options" | xargs)" options
+    # Both sides measure in the same way.
+    passes test "$WORK/tree/bench/rust/src/measure.rs" -nt "$WORK/tree/bench/rust/src/data.rs"
+    : > "$FAKE/calls"
+    printf 'worst row: %s\n' '1.30, some' '1.10, other' > "$FAKE/rows"
+    prints 0 "note: $rust/Cargo.toml does not have version 1.0.7
+
+Rattle for x86-64-v2, Rust for x86-64-v2
+worst row: 1.30, some
+
+Rattle for x86-64-v3, Rust for x86-64-v3
+worst row: 1.10, other
+
+worst row of all: 1.30, some, Rattle for x86-64-v2" ../bench/run.sh
+    compares "$(for number in 2 3; do echo "rt lib --cpu x86-64-v$number
+build bench/rust --quiet
+lib-x86-64-v$number -C target-cpu=x86-64-v$number $boundaries"; done)" "$(cat "$FAKE/calls")" "builds of bench/run.sh"
     : > "$FAKE/calls"
     prints 0 "$sizes" sizes
     compares "4 rust 4 upstream 4 formats-peltzivar 4 formats-upstream" \
@@ -250,7 +276,8 @@ scripts() {
     passes env PATH="${PATH#*:}" cargo check --quiet --manifest-path "$WORK/formats-peltzivar/Cargo.toml"
     prints 0 "some section
 build rust numfmt
-build rust --quiet
+build compare/rust --quiet
+lib- -C target-cpu=x86-64 $boundaries
 build rust peltzivar-capi
 cc -shared -o $WORK/proved.so -Wl,--whole-archive $top/some.a -Wl,--no-whole-archive
 --seed 2 proved.so libpeltzivar_c.so numfmt peltzivar.h" compared
@@ -265,4 +292,4 @@ needing python3 prints 0 "$listed" lists
 needing python3 prints 1 "names.txt is not what UPSTREAM has: compare/names.py --list" stale
 needing cargo needing python3 prints 1 "$differing" differs
 needing git needing cc needing cargo scripts
-counted 27
+counted 30

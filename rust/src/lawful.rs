@@ -68,8 +68,7 @@ impl Format {
     /// does not compile.
     ///
     /// ```compile_fail,E0080
-    /// const FORMAT: peltzivar::Format = peltzivar::Format::of::<0>();
-    /// # fn main() { let _ = FORMAT; }
+    /// let format = peltzivar::Format::of::<0>();
     /// ```
     #[must_use]
     pub const fn of<const FORMAT: u128>() -> Self {

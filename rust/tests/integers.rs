@@ -25,6 +25,10 @@ const INTERNAL: u128 = SEPARATED
 const TRAILING: u128 = SEPARATED
     .integer_trailing_digit_separator(true)
     .build_or_panic();
+const LETTER: u128 = NEW
+    .digit_separator(NonZeroU8::new(b'q'))
+    .internal_digit_separator(true)
+    .build_or_panic();
 const ANYWHERE: u128 = SEPARATED
     .integer_digit_separator_flags(true)
     .build_or_panic();
@@ -115,6 +119,10 @@ fn digit_separators() {
             "12__" Err(InvalidDigit(2)), Err(InvalidDigit(2));
             "1_2" Err(InvalidDigit(1)), Err(InvalidDigit(1));
             "_12" Err(InvalidDigit(0)), Err(InvalidDigit(0));
+        }
+        LETTER {
+            "1q2" Ok(12), Ok(12);
+            "1Q2" Err(InvalidDigit(1)), Err(InvalidDigit(1));
         }
         ANYWHERE {
             "-__1__2__" Ok(-12), Err(InvalidNegativeSign(0));

@@ -73,7 +73,7 @@ fn keeps_fields(view: FormatView, flags: &str, numbers: &[&str]) -> Option<bool>
         view.exponent_base(),
         view.exponent_radix(),
     ];
-    Some(view.flags() == word(flags)? && numbers? == read)
+    Some((view.flags(), read.to_vec()) == (word(flags)?, numbers?))
 }
 
 fn keeps_build(packed: u128, error: Error, edits: &[Edit]) -> bool {
@@ -82,7 +82,7 @@ fn keeps_build(packed: u128, error: Error, edits: &[Edit]) -> bool {
         error => Err(error),
     };
     let builder = apply_all(NumberFormatBuilder::new(), edits);
-    builder.build_unchecked() == packed && builder.build_strict() == wanted
+    (builder.build_unchecked(), builder.build_strict()) == (packed, wanted)
 }
 
 /// Returns whether the library still returns what a line records, or `None` if the line cannot be read.
@@ -96,8 +96,8 @@ fn keeps(line: &str) -> Option<bool> {
     Some(match parts[..] {
         ["byte", byte, ascii, letter] => {
             let byte = byte.parse().ok()?;
-            is_valid_ascii(byte) == ascii.parse().ok()?
-                && is_valid_letter(byte) == letter.parse().ok()?
+            [is_valid_ascii(byte), is_valid_letter(byte)]
+                == [ascii.parse().ok()?, letter.parse().ok()?]
         }
         ["digit", byte, radix, digit] => {
             keeps_digit(byte.parse().ok()?, radix.parse().ok()?, digit)?

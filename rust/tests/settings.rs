@@ -101,8 +101,9 @@ fn problems_have_exactly_their_lines() {
 
 #[test]
 fn a_format_is_read() {
-    let rows: [(&[u8], u128); 5] = [
+    let rows: [(&[u8], u128); 6] = [
         (b"", 0x00000A00_00000000_00000000_0000000C),
+        (b"base_prefix='#'", 0x00000A00_23000000_00000000_0000000C),
         (b"# \xC3\xA9\n\n  radix\t=  16  ", 0x00001000_00000000_00000000_0000000C),
         // Flags refine a group before them.
         (

@@ -8,15 +8,15 @@ import sys
 import tempfile
 
 CHECK = pathlib.Path(__file__).resolve().parent / "check_doc.py"
-# Two pages that link to each other, to a part of their own, and elsewhere. A script is not text.
+# A page and a page in a folder, which link to each other, to a part of their own, and elsewhere. A script is not text.
 PAGES = {
-    "index.html": '<h2 id="part">A</h2><a href="other.html#a%20b"></a><a href="#part"></a><a href="https://a.b/c#d"></a>',
-    "other.html": '<p id="a b">B</p><a href="index.html"></a><script>is not proved</script>',
+    "index.html": '<h2 id="part">A</h2><a href="a/other.html#a%20b"></a><a href="#part"></a><a href="https://a.b/c#d"></a>',
+    "a/other.html": '<p id="a b">B</p><a href="../index.html"></a><script>is not proved</script>',
 }
 # A piece of a page, and the line that names what is wrong with it.
 FAULTS = [
     ('<a href="gone.html"></a>', "index.html: leads to no page: gone.html"),
-    ('<a href="other.html#gone"></a>', "index.html: leads to no part: other.html#gone"),
+    ('<a href="a/other.html#gone"></a>', "index.html: leads to no part: a/other.html#gone"),
     ('<a href="#gone"></a>', "index.html: leads to no part: #gone"),
     ("<p>This is not proved.</p>", "index.html: speaks of `not proved`"),
 ]
@@ -28,6 +28,7 @@ def checked(pages):
         folder = pathlib.Path(temporary) / "peltzivar"
         folder.mkdir()
         for name, text in pages.items():
+            (folder / name).parent.mkdir(exist_ok=True)
             (folder / name).write_text(text)
         run = subprocess.run([sys.executable, CHECK, temporary], capture_output=True, text=True)
     return run.stdout.splitlines(), run.returncode

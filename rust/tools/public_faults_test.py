@@ -21,6 +21,7 @@ FAULTS = [
     (LIB, "\nmod text;\n", "\npub mod planted;\nmod text;\n", ["public modules", "shown in lib"]),
     ("src/planted.rs", None, "//! A planted module.\n", []),
     (LIB, "#[doc(no_inline)]\npub use format_flags::Rule;\n", "", ["names at the root"]),
+    (LIB, "#[cfg(doctest)]\n", "", ["programs of README"]),
     ("Cargo.toml", '\nlicense = "MIT"', '\nlicense = "ISC"', ["license"]),
     ("Cargo.toml", '["/tools", ', "[", ["exclude"]),
     ("Cargo.toml", '= "deny"', '= "warn"', ["missing_docs of Cargo.toml"]),

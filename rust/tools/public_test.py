@@ -1,9 +1,9 @@
 #!/usr/bin/env python3
 """Tests what a caller relies on in addition to results. The lists below have the names of the sources.
 
-- MODULES lists the public modules, and ROOT the names at the root. No code is `unsafe`, none needs
-  `std`, the compiler refuses what LINTS name, a panic of a function in TRACK_CALLER names its caller, and the enums in
-  GROWING may grow.
+- MODULES lists the public modules, and ROOT the names at the root. No code is `unsafe`, none needs `std`, the programs
+  of README are tested, the compiler refuses what LINTS name, a panic of a function in TRACK_CALLER names its caller,
+  and the enums in GROWING may grow.
 - The documentation shows all names of `lexical-util`, and the names in SHOWN.
 - Every public function is `const`, except for the functions in NOT_CONST: a function that is `const` calls it.
 - The compiler warns if a caller drops the result of a public function.
@@ -114,6 +114,7 @@ def crate():
         for root in ("src/lib.rs", "lexical-util/src/lib.rs"):
             found = re.findall(rf"^{re.escape(attribute)}$", (erase.RUST / root).read_text(), re.M)
             yield f"{attribute} of {root}", 1, len(found)
+    yield "programs of README", 1, text.count('#[cfg(doctest)]\n#[doc = include_str!("../README.md")]\n')
     manifest = (erase.RUST / "Cargo.toml").read_text()
     yield "license", (erase.RUST / "LICENSE").read_text().split()[0], re.search(r'^license = "(.*)"', manifest, re.M)[1]
     tests = sorted((erase.RUST / "tests").rglob("*.rs"))

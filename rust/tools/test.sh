@@ -29,7 +29,7 @@ needing python3 needing rustfmt eraser
 needing python3 passes ../compare/names.py --check ../docs/RUST.md
 # names.py refuses a page without that table.
 needing python3 passes bash -c '../compare/names.py --check ../README.md 2> /dev/null | grep "another table"'
-needing python3 counts 1009 tools/public_test.py
+needing python3 counts 1010 tools/public_test.py
 needing cargo needing python3 counts 3 tools/public_faults_test.py
 needing cargo-fmt passes cargo fmt --all --check
 needing cargo-clippy passes cargo clippy --quiet --workspace --all-targets -- -D warnings
@@ -40,7 +40,7 @@ listed='cargo test --quiet --lib --bins --tests --examples -- --list'
 listed="echo \$($listed | grep -c ': test\$') tests, \$($listed --ignored | grep -c ': test\$') ignored"
 prints 0 "$attributes tests, 0 ignored" bash -c "$listed"
 # Each loop of the tests has a round. There are as many rounds and assertions as before.
-needing python3 counts 52050 tools/rounds_test.py
+needing python3 counts 52051 tools/rounds_test.py
 # The program of docs/RUST.md: its assertions hold when it runs.
 passes cargo run --quiet --example face_program
 # The least version of Rust, if a folder of the PATH has it, as one has with Debian's `rustc-web` and `cargo-web`.
@@ -61,6 +61,8 @@ passes tools/dropping_in_test.sh
 passes cargo package --quiet --package peltzivar --allow-dirty
 shows ../README.md "cd rust && cargo run" cargo run --quiet
 shows ../docs/RUST.md "cargo run --example" cargo run --quiet --example
+prints 0 "0xF_F: Ok(255) as i64, Ok(255) as u64
+-1: Ok(-1) as i64, Err(InvalidNegativeSign(0)) as u64" cargo run --quiet --example integers -- 0xF_F -1
 # A file without problems is printed as a format; a file that cannot be read is a failure.
 settings='cargo run --quiet --example settings'
 prints 0 '    word: 0x000A10007800005F000000010000000C,' bash -o pipefail -c "$settings -- examples/settings.txt | grep word:"
@@ -71,4 +73,4 @@ head -c 1020 /dev/zero > "$work/short"
 short="trap '' XFSZ; ulimit -f 1; '$CARGO_TARGET_DIR/debug/numfmt' show 0xC >> '$work/short'; echo \$?"
 prints 0 3 bash -c "$short"
 needing cc needing python3 passes ../crates/numfmt/built-program-test.sh "$CARGO_TARGET_DIR/debug/numfmt"
-counted 29
+counted 30
