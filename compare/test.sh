@@ -91,11 +91,14 @@ lists() {
     done
     cat > "$names/src/error.rs" << 'END'
 //! - [`READY_MADE`]
+//! - [`A_FORMAT`]
+//! - [`READY_MADE`]
 pub use crate::digit::*;
 // pub fn comment() {}
 const PRIVATE: u8 = 1;
 pub const PUBLIC: u8 = 1;
 fn private() {}
+#[doc = "pub const SHOWN: u8 = 1;"]
 #[deprecated = "old"]
 pub fn old(byte: u8, text: &[u8]) -> Option<u8> {}
 pub const fn word<const FORMAT: u128>() {}
@@ -120,7 +123,8 @@ impl<const FORMAT: u128> View<FORMAT> {
 END
     UPSTREAM=$names "$names/compare/names.py" --list && cat "$names/compare/names.txt"
 }
-listed="error ready made READY_MADE
+listed="error ready made A_FORMAT
+error ready made READY_MADE
 error all of digit
 error type Byte = Option<NonZeroU8>
 error non_exhaustive enum Kind

@@ -6,8 +6,10 @@ rust=$(realpath "$(dirname "$0")/..")
 work=$(mktemp -d)
 trap 'rm -rf "$work"' EXIT
 export CARGO_NET_OFFLINE=true CARGO_TARGET_DIR=$work/target
-# All features except the default one.
+# All features except the default one, each as in the manifest.
 features='"format", "power-of-two", "radix", "parse-integers", "parse-floats", "write-integers", "write-floats"'
+listed=$(sed -n 's/^\([a-z-]*\) = \[\]$/"\1"/p' "$rust/lexical-util/Cargo.toml" | xargs -d '\n')
+[ "$listed" = "\"std\" ${features//,/}" ] || { echo "other features: $listed"; exit 1; }
 
 # package NAME DEPENDENCY [LINE]: the manifest of a program over a dependency.
 package() {
