@@ -18,7 +18,7 @@ FAULTS = [
     ('<a href="gone.html"></a>', "index.html: leads to no page: gone.html"),
     ('<a href="a/other.html#gone"></a>', "index.html: leads to no part: a/other.html#gone"),
     ('<a href="#gone"></a>', "index.html: leads to no part: #gone"),
-    ("<p>This is not proved.</p>", "index.html: speaks of `not proved`"),
+    ("<p>This is not proved.</p><p>C</p>", "index.html: speaks of `not proved`"),
 ]
 
 
