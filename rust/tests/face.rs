@@ -240,8 +240,10 @@ fn edits_make_the_fields_of_their_word() {
     }
     // A list may be longer than the list of fields.
     let many: Vec<Edit> = (0..=255).map(Edit::Radix).collect();
-    let builder: NumberFormatBuilder = many.iter().collect();
+    let mut builder: NumberFormatBuilder = many.iter().collect();
     assert_eq!(builder.get_mantissa_radix(), 255);
+    builder.extend(many.iter().rev());
+    assert_eq!(builder.get_mantissa_radix(), 0);
 }
 
 /// A panic has the description of the first broken rule, and the first reason, also where the reason prints any byte.
