@@ -599,17 +599,17 @@ class FormatView:
 
     @property
     def integer_consecutive_digit_separator(self) -> bool:
-        """If true, a parser accepts several separators in a row where it accepts one: `1__2`, `__12`, `12__`."""
+        """If true, a parser accepts several separators in a row wherever it accepts a single one: `1__2`, `__12`, `12__`."""
         return self._flag(Setter.INTEGER_CONSECUTIVE_DIGIT_SEPARATOR)
 
     @property
     def fraction_consecutive_digit_separator(self) -> bool:
-        """If true, a parser accepts several separators in a row where it accepts one: `0.1__2`, `0.__12`, `0.12__`."""
+        """If true, a parser accepts several separators in a row wherever it accepts a single one: `0.1__2`, `0.__12`, `0.12__`."""
         return self._flag(Setter.FRACTION_CONSECUTIVE_DIGIT_SEPARATOR)
 
     @property
     def exponent_consecutive_digit_separator(self) -> bool:
-        """If true, a parser accepts several separators in a row where it accepts one: `1e1__2`, `1e__12`, `1e12__`."""
+        """If true, a parser accepts several separators in a row wherever it accepts a single one: `1e1__2`, `1e__12`, `1e12__`."""
         return self._flag(Setter.EXPONENT_CONSECUTIVE_DIGIT_SEPARATOR)
 
     @property

@@ -194,7 +194,7 @@ def not_exported():
 
 def substituted(text):
     """Returns the numbers of rows in the eraser's tables that differ from the page."""
-    counts = {"texts": len(erase.SUBSTITUTIONS + erase.EVERYWHERE), "items that define": len(erase.ITEMS)}
+    counts = {"pieces of code": len(erase.SUBSTITUTIONS + erase.EVERYWHERE), "items that define": len(erase.ITEMS)}
     for name, count in counts.items():
         number = re.search(rf"(\w+) {name}", text.partition("## The plain Rust")[2])[1]
         if {"two": "2", **WORDS}.get(number, number) != str(count):

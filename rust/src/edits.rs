@@ -170,15 +170,15 @@ pub enum FlagSetter {
     /// [`exponent_trailing_digit_separator`][crate::format_builder::NumberFormatBuilder::exponent_trailing_digit_separator].
     ExponentTrailingDigitSeparator,
     /// Sets whether the format allows consecutive digit separators in the integer part. If so, a parser accepts
-    /// several separators in a row where it accepts one: `1__2`, `__12`, `12__`. See
+    /// several separators in a row wherever it accepts a single one: `1__2`, `__12`, `12__`. See
     /// [`integer_consecutive_digit_separator`][crate::format_builder::NumberFormatBuilder::integer_consecutive_digit_separator].
     IntegerConsecutiveDigitSeparator,
     /// Sets whether the format allows consecutive digit separators in the fraction. If so, a parser accepts several
-    /// separators in a row where it accepts one: `0.1__2`, `0.__12`, `0.12__`. See
+    /// separators in a row wherever it accepts a single one: `0.1__2`, `0.__12`, `0.12__`. See
     /// [`fraction_consecutive_digit_separator`][crate::format_builder::NumberFormatBuilder::fraction_consecutive_digit_separator].
     FractionConsecutiveDigitSeparator,
     /// Sets whether the format allows consecutive digit separators in the exponent. If so, a parser accepts several
-    /// separators in a row where it accepts one: `1e1__2`, `1e__12`, `1e12__`. See
+    /// separators in a row wherever it accepts a single one: `1e1__2`, `1e__12`, `1e12__`. See
     /// [`exponent_consecutive_digit_separator`][crate::format_builder::NumberFormatBuilder::exponent_consecutive_digit_separator].
     ExponentConsecutiveDigitSeparator,
     /// Sets whether the format allows digit separators in special values. If so, a parser accepts `N__a_N_` as `NaN`.

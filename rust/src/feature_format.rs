@@ -238,15 +238,15 @@ fields! {
     /// [setter][NumberFormatBuilder::trailing_digit_separator].
     TRAILING_DIGIT_SEPARATOR trailing_digit_separator bool;
     /// This is true if the format allows consecutive digit separators in the integer part. In that case, a parser
-    /// accepts several separators in a row where it accepts one: `1__2`, `__12`, `12__`. See the
+    /// accepts several separators in a row wherever it accepts a single one: `1__2`, `__12`, `12__`. See the
     /// [setter][NumberFormatBuilder::integer_consecutive_digit_separator].
     INTEGER_CONSECUTIVE_DIGIT_SEPARATOR integer_consecutive_digit_separator bool;
     /// This is true if the format allows consecutive digit separators in the fraction. In that case, a parser accepts
-    /// several separators in a row where it accepts one: `0.1__2`, `0.__12`, `0.12__`. See the
+    /// several separators in a row wherever it accepts a single one: `0.1__2`, `0.__12`, `0.12__`. See the
     /// [setter][NumberFormatBuilder::fraction_consecutive_digit_separator].
     FRACTION_CONSECUTIVE_DIGIT_SEPARATOR fraction_consecutive_digit_separator bool;
     /// This is true if the format allows consecutive digit separators in the exponent. In that case, a parser accepts
-    /// several separators in a row where it accepts one: `1e1__2`, `1e__12`, `1e12__`. See the
+    /// several separators in a row wherever it accepts a single one: `1e1__2`, `1e__12`, `1e12__`. See the
     /// [setter][NumberFormatBuilder::exponent_consecutive_digit_separator].
     EXPONENT_CONSECUTIVE_DIGIT_SEPARATOR exponent_consecutive_digit_separator bool;
     /// This is true if any of the flags that allow consecutive digit separators is set. See the

@@ -135,17 +135,17 @@ pub const FRACTION_TRAILING_DIGIT_SEPARATOR: u128 = 0x80_0000_0000;
 pub const EXPONENT_TRAILING_DIGIT_SEPARATOR: u128 = 0x100_0000_0000;
 
 /// The flag that allows consecutive digit separators in the integer part. If it is set, a parser accepts several
-/// separators in a row where it accepts one: `1__2`, `__12`, `12__`. See the
+/// separators in a row wherever it accepts a single one: `1__2`, `__12`, `12__`. See the
 /// [setter][crate::format_builder::NumberFormatBuilder::integer_consecutive_digit_separator].
 pub const INTEGER_CONSECUTIVE_DIGIT_SEPARATOR: u128 = 0x200_0000_0000;
 
 /// The flag that allows consecutive digit separators in the fraction. If it is set, a parser accepts several
-/// separators in a row where it accepts one: `0.1__2`, `0.__12`, `0.12__`. See the
+/// separators in a row wherever it accepts a single one: `0.1__2`, `0.__12`, `0.12__`. See the
 /// [setter][crate::format_builder::NumberFormatBuilder::fraction_consecutive_digit_separator].
 pub const FRACTION_CONSECUTIVE_DIGIT_SEPARATOR: u128 = 0x400_0000_0000;
 
 /// The flag that allows consecutive digit separators in the exponent. If it is set, a parser accepts several
-/// separators in a row where it accepts one: `1e1__2`, `1e__12`, `1e12__`. See the
+/// separators in a row wherever it accepts a single one: `1e1__2`, `1e__12`, `1e12__`. See the
 /// [setter][crate::format_builder::NumberFormatBuilder::exponent_consecutive_digit_separator].
 pub const EXPONENT_CONSECUTIVE_DIGIT_SEPARATOR: u128 = 0x800_0000_0000;
 

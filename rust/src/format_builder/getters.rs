@@ -272,7 +272,7 @@ impl NumberFormatBuilder {
     }
 
     /// Returns whether the format allows consecutive digit separators in the integer part. If so, a parser accepts
-    /// several separators in a row where it accepts one: `1__2`, `__12`, `12__`. See the
+    /// several separators in a row wherever it accepts a single one: `1__2`, `__12`, `12__`. See the
     /// [setter][Self::integer_consecutive_digit_separator].
     #[must_use]
     #[inline(always)]
@@ -281,7 +281,7 @@ impl NumberFormatBuilder {
     }
 
     /// Returns whether the format allows consecutive digit separators in the fraction. If so, a parser accepts several
-    /// separators in a row where it accepts one: `0.1__2`, `0.__12`, `0.12__`. See the
+    /// separators in a row wherever it accepts a single one: `0.1__2`, `0.__12`, `0.12__`. See the
     /// [setter][Self::fraction_consecutive_digit_separator].
     #[must_use]
     #[inline(always)]
@@ -290,7 +290,7 @@ impl NumberFormatBuilder {
     }
 
     /// Returns whether the format allows consecutive digit separators in the exponent. If so, a parser accepts several
-    /// separators in a row where it accepts one: `1e1__2`, `1e__12`, `1e12__`. See the
+    /// separators in a row wherever it accepts a single one: `1e1__2`, `1e__12`, `1e12__`. See the
     /// [setter][Self::exponent_consecutive_digit_separator].
     #[must_use]
     #[inline(always)]

@@ -235,7 +235,7 @@ impl FormatView {
     }
 
     /// Returns whether the format allows consecutive digit separators in the integer part. If so, a parser accepts
-    /// several separators in a row where it accepts one: `1__2`, `__12`, `12__`. See the
+    /// several separators in a row wherever it accepts a single one: `1__2`, `__12`, `12__`. See the
     /// [setter][super::NumberFormatBuilder::integer_consecutive_digit_separator].
     #[must_use]
     #[inline(always)]
@@ -244,7 +244,7 @@ impl FormatView {
     }
 
     /// Returns whether the format allows consecutive digit separators in the fraction. If so, a parser accepts several
-    /// separators in a row where it accepts one: `0.1__2`, `0.__12`, `0.12__`. See the
+    /// separators in a row wherever it accepts a single one: `0.1__2`, `0.__12`, `0.12__`. See the
     /// [setter][super::NumberFormatBuilder::fraction_consecutive_digit_separator].
     #[must_use]
     #[inline(always)]
@@ -253,7 +253,7 @@ impl FormatView {
     }
 
     /// Returns whether the format allows consecutive digit separators in the exponent. If so, a parser accepts several
-    /// separators in a row where it accepts one: `1e1__2`, `1e__12`, `1e12__`. See the
+    /// separators in a row wherever it accepts a single one: `1e1__2`, `1e__12`, `1e12__`. See the
     /// [setter][super::NumberFormatBuilder::exponent_consecutive_digit_separator].
     #[must_use]
     #[inline(always)]

@@ -353,8 +353,8 @@ impl NumberFormatBuilder {
     }
 
     /// Sets whether the format allows consecutive digit separators in the integer part. If so, a parser accepts several
-    /// separators in a row where it accepts one: `1__2`, `__12`, `12__`. In a lawful format, this flag is set only if
-    /// the internal, leading or trailing separator flag of the integer part is set too.
+    /// separators in a row wherever it accepts a single one: `1__2`, `__12`, `12__`. In a lawful format, this flag is
+    /// set only if the internal, leading or trailing separator flag of the integer part is set too.
     #[inline(always)]
     pub const fn integer_consecutive_digit_separator(self, flag: bool) -> Self
         ensures { result ≡ after self (write_flag layout.integer_consecutive_digit_separator flag ∷ []) }
@@ -363,8 +363,8 @@ impl NumberFormatBuilder {
     }
 
     /// Sets whether the format allows consecutive digit separators in the fraction. If so, a parser accepts several
-    /// separators in a row where it accepts one: `0.1__2`, `0.__12`, `0.12__`. In a lawful format, this flag is set
-    /// only if the internal, leading or trailing separator flag of the fraction is set too.
+    /// separators in a row wherever it accepts a single one: `0.1__2`, `0.__12`, `0.12__`. In a lawful format, this
+    /// flag is set only if the internal, leading or trailing separator flag of the fraction is set too.
     #[inline(always)]
     pub const fn fraction_consecutive_digit_separator(self, flag: bool) -> Self
         ensures { result ≡ after self (write_flag layout.fraction_consecutive_digit_separator flag ∷ []) }
@@ -373,8 +373,8 @@ impl NumberFormatBuilder {
     }
 
     /// Sets whether the format allows consecutive digit separators in the exponent. If so, a parser accepts several
-    /// separators in a row where it accepts one: `1e1__2`, `1e__12`, `1e12__`. In a lawful format, this flag is set
-    /// only if the internal, leading or trailing separator flag of the exponent is set too.
+    /// separators in a row wherever it accepts a single one: `1e1__2`, `1e__12`, `1e12__`. In a lawful format, this
+    /// flag is set only if the internal, leading or trailing separator flag of the exponent is set too.
     #[inline(always)]
     pub const fn exponent_consecutive_digit_separator(self, flag: bool) -> Self
         ensures { result ≡ after self (write_flag layout.exponent_consecutive_digit_separator flag ∷ []) }
