@@ -35,11 +35,12 @@ const fn byte_value(c: u8) -> u32 {
     VALUES[c as usize]
 }
 
-/// Returns the value of the byte `c` as a digit of `radix`. The result is meaningful only if `c` is such a digit.
+/// Returns the value of the byte `c` as a digit in the given radix. The result is meaningful only if `c` is such a
+/// digit.
 ///
 /// `radix` may be any number. If it is at most 10, the result is `c.wrapping_sub(b'0')`. If it is above 10, the result
 /// is at most 35 if `c` is one of `0` to `9` or a letter, and 255 otherwise. Call [`char_to_digit_const`] to
-/// test whether `c` is a digit of `radix`.
+/// test whether it is.
 #[must_use]
 #[inline(always)]
 pub const fn char_to_valid_digit_const(c: u8, radix: u32) -> u32 {
@@ -50,7 +51,7 @@ pub const fn char_to_valid_digit_const(c: u8, radix: u32) -> u32 {
     }
 }
 
-/// Returns the value of the byte `c` as a digit of `radix`, or `None` if `c` is not a digit of `radix`.
+/// Returns the value of the byte `c` as a digit in the given radix, or `None` if it is not such a digit.
 ///
 /// The digits `0` to `9` have the values 0 to 9, and the letters of either case have the values 10 to 35. `radix` may
 /// be any number. If it is at least 36, all these characters are digits. If it is above 255, every other byte is also a
@@ -66,8 +67,7 @@ pub const fn char_to_digit_const(c: u8, radix: u32) -> Option<u32> {
     }
 }
 
-/// Returns whether the byte `c` is a digit of `radix`, that is, whether [`char_to_digit_const`] returns
-/// `Some`.
+/// Returns whether the byte `c` is a digit in the given radix, that is, whether [`char_to_digit_const`] returns `Some`.
 #[must_use]
 #[inline(always)]
 pub const fn char_is_digit_const(c: u8, radix: u32) -> bool {
@@ -92,7 +92,7 @@ pub const fn digit_to_char_const(digit: u32, radix: u32) -> u8 {
     }
 }
 
-/// Returns the value of the byte `c` as a digit of `radix`, or `None` if `c` is not a digit of `radix`.
+/// Returns the value of the byte `c` as a digit in the given radix, or `None` if it is not such a digit.
 ///
 /// [`char_to_digit_const`] returns the same result. Use `char_to_digit` for a radix that is known only at run time.
 #[must_use]
@@ -106,7 +106,7 @@ pub const fn char_to_digit(c: u8, radix: u32) -> Option<u32> {
     }
 }
 
-/// Returns whether the byte `c` is a digit of `radix`, that is, whether [`char_to_digit`] returns `Some`.
+/// Returns whether the byte `c` is a digit in the given radix, that is, whether [`char_to_digit`] returns `Some`.
 #[must_use]
 #[inline(always)]
 pub const fn char_is_digit(c: u8, radix: u32) -> bool {

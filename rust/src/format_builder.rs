@@ -161,8 +161,8 @@ impl NumberFormatBuilder {
     ///   that no flag allows ([`trim`](crate::definitions#trim)).
     /// - The reserved bits of the result are 0 ([`IsClean`](crate::definitions#isclean)).
     /// - Each byte of the builder is between 0 and 255 ([`HasBytes`](crate::definitions#hasbytes)).
-    /// - Another record of fields whose bytes are between 0 and 255 ([`HasBytes`](crate::definitions#hasbytes)) packs
-    ///   into the same word if and only if this record and the builder's are equal after both are trimmed
+    /// - Any fields whose bytes are between 0 and 255 ([`HasBytes`](crate::definitions#hasbytes)) pack into the same
+    ///   word if and only if they equal the fields of the builder after both are trimmed
     ///   ([`trim`](crate::definitions#trim)).
     ///
     /// ```text

@@ -23,8 +23,8 @@ PROVED = {
             " allows (`trim`).",
             "clean": "The reserved bits of the result are 0 (`IsClean`).",
             "bytes": "Each byte of the builder is between 0 and 255 (`HasBytes`).",
-            "alike": "Another record of fields whose bytes are between 0 and 255 (`HasBytes`) packs into the same word"
-            " if and only if this record and the builder's are equal after both are trimmed (`trim`).",
+            "alike": "Any fields whose bytes are between 0 and 255 (`HasBytes`) pack into the same word if and only if"
+            " they equal the fields of the builder after both are trimmed (`trim`).",
         },
         "build_strict": {
             "lawful": "The result is `Ok` if and only if the packed word (`pack`) is `Lawful`. An `Ok` holds this word.",

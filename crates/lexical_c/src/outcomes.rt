@@ -12,7 +12,7 @@ use crate::words::Word;
 use lexical_util::error::Error;
 use lexical_util::laws::flags::rule_facts;
 
-/// The number that C uses for an [`Error`]: 0 for success, and the rank plus 1 for an error.
+/// The number that C uses for an [`Error`]: 0 for success, and otherwise [`rank`][Error::rank] plus 1.
 pub type ErrorNumber = u32;
 
 /// Returns the number that C uses for `error`.

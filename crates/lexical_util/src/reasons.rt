@@ -42,8 +42,9 @@ pub const MAX_REASONS: usize = 3;
 /// have.
 pub const CANDIDATE_COUNT: usize = 24;
 
-/// A reason why a format word breaks one or more rules. A byte is identified by the [`Edit`] that sets it to its value
-/// in the word. A reason *blames* the bits on which it depends, which [`mask`][Self::mask] returns.
+/// A reason why a format word breaks one or more rules. If the reason concerns a byte of the word, it holds the
+/// [`Edit`] that sets the byte to its value in the word. A reason *blames* the bits on which it depends, which
+/// [`mask`][Self::mask] returns.
 #[derive(Debug, Clone, Copy, PartialEq, Eq)]
 pub enum Reason {
     /// The mantissa radix is not between 2 and 36. The first `bool` is `true` if the exponent base is absent, and the
@@ -132,9 +133,9 @@ pub const fn reasons(format: u128) -> [Option<Reason>; CANDIDATE_COUNT]
 /// Returns the reasons why a format word breaks `rule`. All entries are `None` if and only if the word satisfies the
 /// rule.
 ///
-/// A byte that is present but not [punctuation][Rule] has one of three reasons: it is not allowed ASCII, it is a sign,
-/// or it is a digit. [`Rule::PunctuationDiffers`] has one reason for each pair of bytes that clash. Every other rule
-/// has at most one reason.
+/// For a byte that is present but not [punctuation][Rule], there is one of three reasons: it is outside allowed ASCII,
+/// it is a sign, or it is a digit. [`Rule::PunctuationDiffers`] has one reason for each pair of bytes that clash. Every
+/// other rule has at most one reason.
 #[tactic(auto, using(crate::proofs::ReasonLemmas::kept_without_reason))]
 pub const fn reasons_of(rule: Rule, format: u128) -> [Option<Reason>; MAX_REASONS]
     ensures each { result ≡ in_three_slots (candidates_of rule format) }

@@ -11,8 +11,9 @@ use lexical_util::format_flags::Rule;
 use lexical_util::source::BuilderExpression;
 use std::io;
 
-/// Writes `word` as Rust code: a new builder, a setter call for each field in which the word differs from it, and the
-/// call that packs the word, such as `NumberFormatBuilder::new().mantissa_radix(16).build_unchecked()`.
+/// Writes `word` as Rust code, such as `NumberFormatBuilder::new().mantissa_radix(16).build_unchecked()`: a new
+/// builder, a setter call for each field in which the word differs from that builder, and the call that packs the
+/// fields.
 ///
 /// `word` may be any word. If the code builds a different word, comments before it state what is lost: reserved
 /// bits that are set, and a digit separator that no flag allows. After an error, the contract does not state what was

@@ -6,7 +6,7 @@ use crate::texts::{write_error, write_nothing, write_text};
 use crate::words::Word;
 use peltzivar::error::Error;
 
-/// The number that C uses for an [`Error`]: 0 for success, and the rank plus 1 for an error.
+/// The number that C uses for an [`Error`]: 0 for success, and otherwise [`rank`][Error::rank] plus 1.
 pub type ErrorNumber = u32;
 
 /// Returns the number that C uses for `error`.
