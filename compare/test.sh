@@ -94,6 +94,7 @@ lists() {
 //! - [`A_FORMAT`]
 //! - [`READY_MADE`]
 pub use crate::digit::*;
+pub use crate::other::*;
 // pub fn comment() {}
 const PRIVATE: u8 = 1;
 pub const PUBLIC: u8 = 1;
@@ -253,6 +254,7 @@ scripts() {
     fake
     against 0 "some row 100.000 105.000 1.05 1.00" row row 101 107 103 106 104 109 102 108 100 105
     against 1 "some row 100.000 106.000 1.06 1.00 slower" row row 101 107 103 108 104 109 102 107 100 106
+    against 1 "row, plain Rust old ns new ns ratio crate" no row
     against 0 "some new: on one side only" old new 101 107 103 108 104 109 102 107 100 106
     compares "--only plain: --only plain: some --rounds 3" "$(uniq "$FAKE/options" | xargs)" options
     # Both sides measure in the same way.
@@ -293,7 +295,12 @@ prints 0 "note: $rust/Cargo.toml does not have version 1.0.7
     copies "$rust"
 needing cargo driver
 needing python3 prints 0 "$listed" lists
+mkdir -p "$top/names"
+echo 'version = "1.0.70"' > "$top/names/Cargo.toml"
+needing python3 prints 0 "note: $top/names/Cargo.toml does not have version 1.0.7
+./ascii.rs ./digit.rs ./error.rs ./feature_format.rs ./format.rs ./format_builder.rs ./format_flags.rs ./lib.rs" \
+    copies "$top/names"
 needing python3 prints 1 "names.txt is not what UPSTREAM has: compare/names.py --list" stale
 needing cargo needing python3 prints 1 "$differing" differs
 needing git needing cc needing cargo scripts
-counted 30
+counted 32

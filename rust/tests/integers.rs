@@ -40,6 +40,7 @@ const HEXADECIMAL: u128 = SEPARATED
     .base_suffix(NonZeroU8::new(b'h'))
     .integer_digit_separator_flags(true)
     .build_or_panic();
+const ALL_DIGITS: u128 = NEW.mantissa_radix(36).build_or_panic();
 const CASED_PREFIX: u128 = NumberFormatBuilder::rebuild(HEXADECIMAL)
     .case_sensitive_base_prefix(true)
     .build_or_panic();
@@ -87,6 +88,9 @@ fn signs_and_limits() {
         SIGNED {
             "+1" Ok(1), Ok(1);
             "1" Err(MissingSign(0)), Err(MissingSign(0));
+        }
+        ALL_DIGITS {
+            "Zz" Ok(1295), Ok(1295);
         }
         NO_ZEROS {
             "0" Ok(0), Ok(0);

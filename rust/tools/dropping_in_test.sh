@@ -38,7 +38,7 @@ fn first_digit<const FORMAT: u128>(text: &[u8]) -> lexical_util::result::Result<
 fn main() {
     let prefix: OptionU8 = NonZeroU8::new(b'x');
     assert_eq!(prefix.map(|byte| byte.get()), Some(NumberFormat::<HEXADECIMAL>::BASE_PREFIX));
-    assert!(format_is_valid::<STANDARD>() && matches!(format_error::<HEXADECIMAL>(), Error::Success));
+    assert!(format_is_valid::<STANDARD>() && matches!(format_error::<HEXADECIMAL>(), lexical_util::Error::Success));
     match first_digit::<HEXADECIMAL>(b"g") {
         Err(Error::InvalidDigit(index)) => assert_eq!(index, 0),
         other => panic!("{other:?}"),
