@@ -167,6 +167,7 @@ class Words(unittest.TestCase):
             error = pickle.loads(pickle.dumps(caught.exception))
             self.assertEqual([str(it) for it in error.reasons], sentences)
             self.assertEqual(str(error), "; ".join(sentences))
+            self.assertEqual((type(error.view), error.view.reasons()), (FormatView, error.reasons))
             self.assertEqual([it.rules for it in error.reasons], [(rule,) for rule in rules])
         self.assertEqual([it.mask for it in view.reasons()], masks)
         self.assertEqual(FormatView(0).reasons()[0].rules, tuple(Rule)[:3])
@@ -266,12 +267,17 @@ class Loading(unittest.TestCase):
         rows = [
             ("", "does not have the call peltzivar_version of peltzivar.h 0.4"),
             (version % 0x000403, "does not have the call peltzivar_fields_of of peltzivar.h 0.4"),
+            (version % 0x00FF03, "has version 0.255, and this file 0.4"),
             (version % 0x7F0203, "has version 127.2, and this file 0.4"),
         ]
         for code, sentence in rows:
             subprocess.run(["cc", "-shared", "-x", "c", "-", "-o", "other.so"], cwd=self.folder, input=code, text=True, check=True)
             got = self.run_copy(PELTZIVAR_LIBRARY="other.so").stderr
             self.assertRegex(got, f"ImportError: .*other.so {sentence}")
+        # A library in the folder of the module is taken before one that the loader finds.
+        shutil.copy(self.folder / "other.so", self.folder / "libpeltzivar_c.so")
+        got = self.run_copy(LD_LIBRARY_PATH=str(pathlib.Path(CALLS._name).parent)).stderr
+        self.assertRegex(got, "ImportError: .*libpeltzivar_c.so has version 127.2")
 
 
 def load_tests(_, tests, __):

@@ -11,7 +11,7 @@ import tempfile
 
 TOP = pathlib.Path(__file__).resolve().parent.parent
 # The minimum number of faults.
-LEAST = 161
+LEAST = 162
 COPIED = ["*.md", "crates.txt", ".ci", "bench", "c", "compare", "crates", "docs", "explorer", "rust"]
 
 # A file, a part of it (`None`: its end, also of a new file), the replacement, and the text that must be printed.
@@ -85,6 +85,7 @@ PLANTS = [
     ("crates/lexical_util/src/feature_format/getters.rt", "::required_fraction_digits]", "::required_integer_digits]",
      "util/src/feature_format/getters.rt: `required_fraction_digits` points to the setter `required_integer_digits`"),
     (FLAGS, None, "pub const PLANTED: u128 = 0;\n", "not exported by lexical_util::format: PLANTED"),
+    (FLAGS, None, "pub use planted::{PlantedUse};\n", "not exported by lexical_util::format: PlantedUse"),
     ("crates/lexical_builder/src/format_builder.rt", None, "pub type Planted = u8;\n",
      "not exported by lexical_util::format: Planted"),
     (DIGIT, None, "pub fn planted()\n    requires { x }\n    ensures clause { x }\n{\n}\n",
@@ -103,7 +104,7 @@ PLANTS = [
     ("docs/DIFFERENCES.md", " others ", " other ", "docs/DIFFERENCES.md: there are "),
     ("crates/lexical_base/must-fail/planted", None, "",
      "crates/lexical_base/must-fail/planted: not tried, it does not end in .edit"),
-    ("docs/check.py", "LEAST_TESTS = ", "LEAST_TESTS = 9999, 9999 #", " must-fail edits, fewer than before"),
+    ("docs/check.py", "LEAST_TESTS = ", "LEAST_TESTS = 99, 9999 #", " must-fail edits, fewer than before"),
     ("docs/check.py", "MOST_LINES, ", "MOST_LINES, ", " tests, fewer than before"),
     (DIGITS, None, f"-- {'x' * 158}\n", ": 161 columns"),
     (DIGITS, None, f"-- {'x' * 118}\n" * 151, " lines of over 120 columns"),
