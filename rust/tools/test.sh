@@ -40,7 +40,7 @@ listed='cargo test --quiet --lib --bins --tests --examples -- --list'
 listed="echo \$($listed | grep -c ': test\$') tests, \$($listed --ignored | grep -c ': test\$') ignored"
 prints 0 "$attributes tests, 0 ignored" bash -c "$listed"
 # Each loop of the tests has a round. There are as many rounds and assertions as before.
-needing python3 counts 52051 tools/rounds_test.py
+needing python3 counts 52052 tools/rounds_test.py
 # The program of docs/RUST.md: its assertions hold when it runs.
 passes cargo run --quiet --example face_program
 # The least version of Rust, if a folder of the PATH has it, as one has with Debian's `rustc-web` and `cargo-web`.
