@@ -14,10 +14,12 @@ TOP = pathlib.Path(__file__).resolve().parent.parent.parent
 COPIED = ["compare/names.txt", "crates/recorded/data/results.txt", "docs/definitions.py"]
 
 # A file of rust/, a piece of it (`None`: its end, also of a new file), the replacement, and the rows that fail.
-LIB, FORMAT, VIEW, MEND, HIDDEN = "src/lib.rs", "src/format.rs", "src/feature_format.rs", "src/mend.rs", "#[doc(hidden)]\n"
+LIB, FORMAT, VIEW, MEND = "src/lib.rs", "src/format.rs", "src/feature_format.rs", "src/mend.rs"
+HIDDEN = "#[doc(hidden)]\n"
 FAULTS = [
     (LIB, "#![no_std]\n", "", ["#![no_std] of src/lib.rs"]),
-    ("lexical-util/src/lib.rs", "#![forbid(unsafe_code)]\n", "", ["#![forbid(unsafe_code)] of lexical-util/src/lib.rs"]),
+    ("lexical-util/src/lib.rs", "#![forbid(unsafe_code)]\n", "",
+     ["#![forbid(unsafe_code)] of lexical-util/src/lib.rs"]),
     (LIB, "\nmod text;\n", "\npub mod planted;\nmod text;\n", ["public modules", "shown in lib"]),
     ("src/planted.rs", None, "//! A planted module.\n", []),
     (LIB, "#[doc(no_inline)]\npub use format_flags::Rule;\n", "", ["names at the root"]),
@@ -32,7 +34,8 @@ FAULTS = [
     ("src/error.rs", "#[non_exhaustive]\npub enum Class", "pub enum Class", ["#[non_exhaustive]"]),
     ("src/edits/text.rs", f"{HIDDEN}    NoEquals", "NoEquals", ["hidden variants"]),
     ("src/refusal.rs", '.with(": ")', '.with("; ")', ["const _"] * 3),
-    ("src/ascii.rs", "pub fn is_valid_ascii_slice(", "pub const fn is_valid_ascii_slice(_: &[u8]) -> bool { true }\nfn old(",
+    ("src/ascii.rs", "pub fn is_valid_ascii_slice(",
+     "pub const fn is_valid_ascii_slice(_: &[u8]) -> bool { true }\nfn old(",
      ["const fn ascii::is_valid_ascii_slice"]),
     (MEND, "impl Mend {\n", "impl Mend {\n    /// Nothing.\n    pub fn planted(&self) -> u8 { 0 }\n",
      ["shown in format", "const fn format::Mend::planted", "#[must_use] format::Mend::planted"]),
@@ -48,10 +51,11 @@ FAULTS = [
 
 
 def failing(folder):
-    """Returns the names of the rows of public_test.py that fail in a copy."""
+    """Returns the rows of public_test.py that fail in a copy, the number that it prints, and its status."""
     run = subprocess.run([sys.executable, folder / "rust/tools/public_test.py"], capture_output=True, text=True)
     names = re.findall(r"^(.*)\n  wanted: ", run.stdout, re.M)
-    return [it.partition(":")[0] if it.startswith("const _") else it for it in names], run.returncode
+    names = [it.partition(":")[0] if it.startswith("const _") else it for it in names]
+    return names, run.stdout.split(", ")[-1].strip(), run.returncode
 
 
 def main():
@@ -68,8 +72,8 @@ def main():
             absent += [] if old is None or old in text else [f"a piece is not in {file}: {old}"]
             path.write_text(text + new if old is None else text.replace(old, new, 1))
         wanted = sorted(row for *_, rows in FAULTS for row in rows)
-        names, status = failing(folder)
-    rows = [("pieces", [], absent), ("rows", wanted, sorted(names)), ("status", 1, status)]
+        names, *ends = failing(folder)
+    rows = [("pieces", [], absent), ("rows", wanted, sorted(names)), ("end", [f"{len(wanted)} failed", 1], ends)]
     for name, wanted, got in rows:
         if wanted != got:
             print(f"{name}\n  wanted: {wanted}\n  got:    {got}")
