@@ -154,9 +154,10 @@ fi
 # The commands of rust/tools/test.sh, in a copy with tools that log their arguments. If all tools fail, each row fails,
 # except for the two rows that find a command in a page. If no tool fails, dropping_in_test.sh calls cargo twice.
 copy=$work/rust
-mkdir -p "$copy"/{.ci,docs,compare,crates/numfmt,tools} "$copy/rust/tests"
+mkdir -p "$copy"/{.ci,docs,compare,crates/numfmt,tools} "$copy"/rust/{tests,lexical-util}
 cp rows.sh "$copy/.ci"
 cp -r ../rust/tools "$copy/rust"
+cp ../rust/lexical-util/Cargo.toml "$copy/rust/lexical-util"
 cp ../compare/names.py "$copy/compare"
 printf '%s\n' '    $ cd rust && cargo run --example a' '    a' > "$copy/README.md"
 printf '%s\n' '    $ cargo run --example b -- c' '    b' > "$copy/docs/RUST.md"
@@ -271,7 +272,19 @@ while read -r number text; do
     [ "$found" -ge "$number" ] && passed=$((passed + 1)) && continue
     printf 'c/test.sh, commands with %s: %s, fewer than %s\n' "$text" "$found" "$number"
 done < "$work/counts"
+
+# For another library, c/test.sh makes a shared one, and its commands have the library.
+given=$copy/c/example.c
+: > "$work/log"
+env -u CI LOG="$work/log" PATH="$copy/tools:$work/few" "$copy/c/test.sh" "$given" > /dev/null 2>&1
+tried=$((tried + 1))
+if grep -q " cc -shared -o .*/library.so -Wl,--whole-archive $given -Wl,--no-whole-archive$" "$work/log" &&
+    [ "$(grep -cF "$given" "$work/log")" -ge 17 ]; then
+    passed=$((passed + 1))
+else
+    printf 'c/test.sh ARCHIVE: these commands\n%s\n' "$(cat "$work/log")"
+fi
 failed=$((tried - passed))
 echo "$passed passed, $failed failed"
-[ "$tried" -ge 81 ] || { echo "fewer rows than before: 81"; exit 1; }
+[ "$tried" -ge 82 ] || { echo "fewer rows than before: 82"; exit 1; }
 [ "$failed" -eq 0 ]

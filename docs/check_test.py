@@ -11,7 +11,7 @@ import tempfile
 
 TOP = pathlib.Path(__file__).resolve().parent.parent
 # The minimum number of faults.
-LEAST = 162
+LEAST = 164
 COPIED = ["*.md", "crates.txt", ".ci", "bench", "c", "compare", "crates", "docs", "explorer", "rust"]
 
 # A file, a part of it (`None`: its end, also of a new file), the replacement, and the text that must be printed.
@@ -91,6 +91,8 @@ PLANTS = [
     (DIGIT, None, "pub fn planted()\n    requires { x }\n    ensures clause { x }\n{\n}\n",
      "docs/PROVED.md: public, and has preconditions: planted"),
     (DIGIT, None, "", "docs/PROVED.md: in no row, the clause `clause` of `digit::planted`"),
+    (DIGIT, None, "pub trait Planted {\n    fn planted_method(self)\n        requires { x };\n}\n",
+     "docs/PROVED.md: public, and has preconditions: planted_method"),
     ("docs/PROVED.md", "(`requires`):", "(`requires`): `planted_call`,",
      "docs/PROVED.md: no public function that has preconditions: planted_call"),
     ("docs/PROVED.md", "`digit`, `larger` |", "`digit`, `smaller` |", "docs/PROVED.md: no clause `smaller` of: "),
@@ -157,6 +159,8 @@ PLANTS = [
     (EDITS, "\nghost use ", f"\nghost use {UTIL}.declared.TheConstants.{{FLAG_MASK}};\nghost use ", ""),
     (EDITS, "\nghost use ", f"\nghost use {UTIL}.Additions.SettingNumbers.{{mask_of_edit}};\nghost use ",
      "migrate reaches the addition mask_of_edit by its contract"),
+    ("docs/check_definitions.py", '["migrate"]', '["migrate", "planted_call"]',
+     "migrate: not exactly one public function is planted_call"),
     ("docs/check_definitions.py", "APART = {", "APART = {'planted': '',", "planted is not a file for the table"),
     ("docs/check_definitions.py", '"edit_word": 300', '"edit_word": 3', " lines of definitions, more than 3\n"),
     ("docs/PROVED.md", "<!-- calls -->\n", "<!-- calls -->\n\n", "docs/PROVED.md: its tables of definitions are old"),
