@@ -256,7 +256,6 @@ scripts() {
     against 1 "some row 100.000 106.000 1.06 1.00 slower" row row 101 107 103 108 104 109 102 107 100 106
     against 1 "row, plain Rust old ns new ns ratio crate" no row
     against 0 "some new: on one side only" old new 101 107 103 108 104 109 102 107 100 106
-    compares "--only plain: --only plain: some --rounds 3" "$(uniq "$FAKE/options" | xargs)" options
     # Both sides measure in the same way.
     passes test "$WORK/tree/bench/rust/src/measure.rs" -nt "$WORK/tree/bench/rust/src/data.rs"
     : > "$FAKE/calls"
@@ -269,10 +268,15 @@ worst row: 1.30, some
 Rattle for x86-64-v3, Rust for x86-64-v3
 worst row: 1.10, other
 
-worst row of all: 1.30, some, Rattle for x86-64-v2" ../bench/run.sh
+worst row of all: 1.30, some, Rattle for x86-64-v2" ../bench/run.sh --rounds 4
+    compares "--only plain: --only plain: some --rounds 3 --rounds 4" "$(uniq "$FAKE/options" | xargs)" options
     compares "$(for number in 2 3; do echo "rt lib --cpu x86-64-v$number
 build bench/rust --quiet
 lib-x86-64-v$number -C target-cpu=x86-64-v$number $boundaries"; done)" "$(cat "$FAKE/calls")" "builds of bench/run.sh"
+    printf '#!/bin/sh\necho error: no library\nexit 1\n' > "$FAKE/rt"
+    prints 2 "note: $rust/Cargo.toml does not have version 1.0.7
+error: no library
+bench_ffi was not built for x86-64-v2; the log was $WORK/rt-bench_ffi-x86-64-v2.log" ../bench/run.sh
     : > "$FAKE/calls"
     prints 0 "$sizes" sizes
     compares "4 rust 4 upstream 4 formats-peltzivar 4 formats-upstream" \
@@ -303,4 +307,4 @@ needing python3 prints 0 "note: $top/names/Cargo.toml does not have version 1.0.
 needing python3 prints 1 "names.txt is not what UPSTREAM has: compare/names.py --list" stale
 needing cargo needing python3 prints 1 "$differing" differs
 needing git needing cc needing cargo scripts
-counted 32
+counted 33
