@@ -339,8 +339,8 @@ PELTZIVAR_MUST_USE PELTZIVAR_API peltzivar_error peltzivar_migrate(peltzivar_wor
 /* Returns whether two words have the same normal form. */
 PELTZIVAR_API bool peltzivar_same_format(peltzivar_word a, peltzivar_word b);
 
-/* Returns whether a word is one that peltzivar_pack can return, that is, whether all its reserved bits are 0, and its
- * digit separator is 0 or one of its digit separator flags is set. */
+/* Returns whether a word is one that peltzivar_pack can return. This means that all its reserved bits are 0, and that
+ * at least one of its digit separator flags is set unless its digit separator is 0. */
 PELTZIVAR_API bool peltzivar_is_built(peltzivar_word format);
 
 /* Fills the array with one edit for each field of a word. The edits of fields in which the word differs from
