@@ -390,6 +390,7 @@ def tabs_follow_the_arrows(page):
     same(page.run("return document.activeElement.id"), "tab-python")
     page.find("#tab-python").send_keys(Keys.ARROW_RIGHT)
     page.find("#tab-settings").send_keys(Keys.ARROW_RIGHT)
+    page.find("#tab-rust").send_keys("x")
     same(page.run("return document.activeElement.id"), "tab-rust")
     same(page.find("#tab-rust").get_attribute("aria-selected"), "true")
 
