@@ -419,7 +419,8 @@ pub const fn edit_word(format: u128, edits: &[Edit]) -> u128 {
 /// - If neither a reserved bit nor a separator is dropped ([`IsClean`](crate::definitions#isclean),
 ///   [`SeparatorAllowedOrAbsent`](crate::definitions#separatorallowedorabsent)), the word and its normal form
 ///   have the same error ([`IsErrorOf`](crate::definitions#iserrorof)).
-/// - If no separator is dropped, any legal writes turn the word and its normal form into the same word
+/// - If no separator is dropped, any writes whose values fit their fields
+///   ([`IsLegal`](crate::definitions#islegal)) turn the word and its normal form into the same word
 ///   ([`edited`](crate::definitions#edited)).
 /// - The result is normal ([`IsNormal`](crate::definitions#isnormal)).
 ///

@@ -161,9 +161,9 @@ impl NumberFormatBuilder {
     ///   that no flag allows ([`trim`](crate::definitions#trim)).
     /// - The reserved bits of the result are 0 ([`IsClean`](crate::definitions#isclean)).
     /// - Each byte of the builder is between 0 and 255 ([`HasBytes`](crate::definitions#hasbytes)).
-    /// - Any fields whose bytes are between 0 and 255 ([`HasBytes`](crate::definitions#hasbytes)) pack into the same
-    ///   word if and only if they equal the fields of the builder after both are trimmed
-    ///   ([`trim`](crate::definitions#trim)).
+    /// - Fields whose bytes are between 0 and 255 ([`HasBytes`](crate::definitions#hasbytes)) are packed into the
+    ///   result if and only if these fields, when trimmed ([`trim`](crate::definitions#trim)), equal the trimmed
+    ///   fields of the builder.
     ///
     /// ```text
     /// ensures word { result ≡ pack self.now }

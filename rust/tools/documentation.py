@@ -23,8 +23,8 @@ PROVED = {
             " allows (`trim`).",
             "clean": "The reserved bits of the result are 0 (`IsClean`).",
             "bytes": "Each byte of the builder is between 0 and 255 (`HasBytes`).",
-            "alike": "Any fields whose bytes are between 0 and 255 (`HasBytes`) pack into the same word if and only if"
-            " they equal the fields of the builder after both are trimmed (`trim`).",
+            "alike": "Fields whose bytes are between 0 and 255 (`HasBytes`) are packed into the result if and only if these"
+            " fields, when trimmed (`trim`), equal the trimmed fields of the builder.",
         },
         "build_strict": {
             "lawful": "The result is `Ok` if and only if the packed word (`pack`) is `Lawful`. An `Ok` holds this word.",
@@ -102,8 +102,8 @@ PROVED = {
             "lawful": "The normal form of a `Lawful` word is lawful.",
             "error": "If neither a reserved bit nor a separator is dropped (`IsClean`, `SeparatorAllowedOrAbsent`),"
             " the word and its normal form have the same error (`IsErrorOf`).",
-            "edits": "If no separator is dropped, any legal writes turn the word and its normal form into the same word"
-            " (`edited`).",
+            "edits": "If no separator is dropped, any writes whose values fit their fields (`IsLegal`) turn the word and"
+            " its normal form into the same word (`edited`).",
             "normal": "The result is normal (`IsNormal`).",
         },
         "migrate": {

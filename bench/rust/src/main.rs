@@ -178,11 +178,11 @@ macro_rules! number_rows {
             over_outcomes "4 tests and index" numbers, tests;
             over_outcomes "cmp and ==" numbers, order;
             over_numbers "format_error, lawful" lawful, format_errors;
-            over_numbers "format_error, broken" broken, format_errors;
+            over_numbers "format_error, unlawful" broken, format_errors;
             over_numbers "radix_error_impl" any, radix_errors;
             over_numbers "5 rules by their own calls" lawful, validators;
             over_numbers "is_valid_options_punctuation, lawful" lawful, options;
-            over_numbers "is_valid_options_punctuation, broken" broken, options;
+            over_numbers "is_valid_options_punctuation, unlawful" broken, options;
             over_numbers "view, 48 getters" any, view;
             over_numbers "view, 4 getters" lawful, few_getters;
             over_numbers "view, 7 masks" any, masks;

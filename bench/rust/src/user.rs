@@ -48,7 +48,7 @@ impl Inputs {
     pub fn rows(&self) -> Vec<Row<'_>> {
         vec![
             over_words("Format::new, lawful", &self.lawful, format_word, lawful_word),
-            over_words("Format::new, broken", &self.broken, format_word, lawful_word),
+            over_words("Format::new, unlawful", &self.broken, format_word, lawful_word),
             over_texts("FormatView from text", &self.texts, parsed_view, parsed_word),
             over_texts("Edit::from_setting", &self.settings, edited, set),
             over_words("reasons, 1 broken rule, over format_error", &self.one_broken, reasons, error),

@@ -7,7 +7,8 @@ use crate::output::Output;
 use crate::response::{exit_status, print};
 
 /// Runs the command in `args`, the program's arguments without its name, and returns the exit status: 0 for success or
-/// yes, 1 for no, 2 for refused arguments, and 3 if `out` failed.
+/// a positive answer, 1 for a negative answer, 2 if the arguments are refused, and 3 if a write to `out` or its flush
+/// fails.
 ///
 /// All text is written to `out`, which is flushed at the end. After a write or a flush fails, nothing more is written.
 #[must_use]
