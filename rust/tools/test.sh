@@ -23,7 +23,7 @@ eraser() {
     passes tools/erase.py --check
     counts 918 tools/erase_test.py
     counts 639 tools/erase_docs_test.py
-    counts 62 tools/erase_tables_test.py
+    counts 66 tools/erase_tables_test.py
 }
 needing python3 needing rustfmt eraser
 needing python3 passes ../compare/names.py --check ../docs/RUST.md
