@@ -1,4 +1,4 @@
--- The number that a string represents in the mantissa radix of a format, and the error of any other string.
+-- The number that a string represents in the mantissa radix of a format, or the error if it represents none.
 use Rattle.std.specs.Prelude.{ℕ, zero, suc, ◌≡◌, ◌+◌, ◌^◌, ◌<◌, ◌≤◌, ◌&&◌, ◌||◌, nat_lt}
 use Rattle.std.specs.Prelude.{IsTrue, IsFalse, Bool, List, length, take, filter, get_or}
 use Rattle.lexical_util.specs.Layout as layout

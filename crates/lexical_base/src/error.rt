@@ -124,11 +124,11 @@ pub enum Error {
     NanStringTooLong,
     /// The short infinity string does not start with `i`.
     InvalidInfString,
-    /// The short infinity string is too long.
+    /// The short infinity string, such as `inf`, is too long.
     InfStringTooLong,
     /// The long infinity string does not start with `i`.
     InvalidInfinityString,
-    /// The long infinity string is too long.
+    /// The long infinity string, such as `infinity`, is too long.
     InfinityStringTooLong,
     /// The long infinity string is shorter than the short one.
     InfinityStringTooShort,

@@ -32,7 +32,7 @@ pub fn write_short_text(sentence: &ShortText, out: &mut crate::outputs::Buffer) 
     whole.write_to(out)
 }
 
-/// Writes the text that `Display` prints for an error to `out`, in the same way as [`write_text`].
+/// Writes to `out` the text that `Display` prints for an error, in the same way as [`write_text`].
 #[must_use]
 pub fn write_error(error: Error, out: &mut crate::outputs::Buffer) -> usize {
     let mut whole = Text::new();
