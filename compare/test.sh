@@ -59,7 +59,7 @@ section() {
     local wanted got
     wanted=$(sed -nE "s/^\| $1 \| ([0-9,| ]+) \|$/\1/p" README.md | tr -d ',|')
     got=$("$CARGO_TARGET_DIR/debug/driver" --only "$1" | sed -n "s/^$1 //p")
-    compares "$(xargs <<< "$wanted")" "$(xargs <<< "$got")" "$1"
+    compares "$(xargs <<< "${wanted:-a row}")" "$(xargs <<< "$got")" "$1"
 }
 
 # driver: the sections that take a second in all.
