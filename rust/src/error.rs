@@ -111,15 +111,15 @@ pub enum Error {
     InvalidNanString,
     /// The NaN string is too long.
     NanStringTooLong,
-    /// The short infinity string does not start with `i`.
+    /// The short spelling of infinity, such as `inf`, does not start with `i`.
     InvalidInfString,
-    /// The short infinity string, such as `inf`, is too long.
+    /// The short spelling of infinity, such as `inf`, is too long.
     InfStringTooLong,
-    /// The long infinity string does not start with `i`.
+    /// The long spelling of infinity, such as `infinity`, does not start with `i`.
     InvalidInfinityString,
-    /// The long infinity string, such as `infinity`, is too long.
+    /// The long spelling of infinity, such as `infinity`, is too long.
     InfinityStringTooLong,
-    /// The long infinity string is shorter than the short one.
+    /// The long spelling of infinity, such as `infinity`, is shorter than the short one, such as `inf`.
     InfinityStringTooShort,
     /// Two mutually exclusive algorithms for parsing floats are requested.
     InvalidFloatParseAlgorithm,

@@ -161,9 +161,9 @@ impl NumberFormatBuilder {
     ///   that no flag allows ([`trim`](crate::definitions#trim)).
     /// - The reserved bits of the result are 0 ([`IsClean`](crate::definitions#isclean)).
     /// - Each byte of the builder is between 0 and 255 ([`HasBytes`](crate::definitions#hasbytes)).
-    /// - Fields whose bytes are between 0 and 255 ([`HasBytes`](crate::definitions#hasbytes)) are packed into the
-    ///   result if and only if these fields, when trimmed ([`trim`](crate::definitions#trim)), equal the trimmed
-    ///   fields of the builder.
+    /// - A record of fields whose bytes are between 0 and 255 ([`HasBytes`](crate::definitions#hasbytes)) packs into
+    ///   this word if and only if, once trimmed ([`trim`](crate::definitions#trim)), it equals the trimmed fields of
+    ///   the builder.
     ///
     /// ```text
     /// ensures word { result ≡ pack self.now }

@@ -23,8 +23,8 @@ PROVED = {
             " allows (`trim`).",
             "clean": "The reserved bits of the result are 0 (`IsClean`).",
             "bytes": "Each byte of the builder is between 0 and 255 (`HasBytes`).",
-            "alike": "Fields whose bytes are between 0 and 255 (`HasBytes`) are packed into the result if and only if these"
-            " fields, when trimmed (`trim`), equal the trimmed fields of the builder.",
+            "alike": "A record of fields whose bytes are between 0 and 255 (`HasBytes`) packs into this word if and only if,"
+            " once trimmed (`trim`), it equals the trimmed fields of the builder.",
         },
         "build_strict": {
             "lawful": "The result is `Ok` if and only if the packed word (`pack`) is `Lawful`. An `Ok` holds this word.",

@@ -40,7 +40,7 @@ pub enum Rule {
     MantissaSignFlagsAgree,
     /// A sign in the exponent is not required if `+` is forbidden there.
     ExponentSignFlagsAgree,
-    /// Special values (NaN and infinity) are not both forbidden and case-sensitive.
+    /// The flags that forbid special values (NaN and infinity) and make them case-sensitive are not both set.
     SpecialCaseFlagsAgree,
     /// Digit separators are allowed in special values (NaN and infinity) only if special values are allowed.
     SpecialSeparatorFlagsAgree,
