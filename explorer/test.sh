@@ -1,7 +1,7 @@
 #!/usr/bin/env bash
-# Tests the page. Its check finds changes. The functions of shim.rs return what Rust's own arithmetic does. The
-# WebAssembly returns the recorded results in Node.js. The code that the page shows builds the word. Chromium takes
-# the steps of a user, and a picture of each is kept in out/.
+# Tests the page. Its check finds changes. `build` calls a compiler. The functions of shim.rs return what Rust's own
+# arithmetic does. The WebAssembly returns the recorded results in Node.js. The code that the page shows builds the word.
+# Chromium takes the steps of a user, and a picture of each is kept in out/.
 #
 # The last line is `N passed, M failed, K skipped`. The exit status is 1 if a row failed, or if rows are missing.
 set -u
@@ -73,6 +73,46 @@ END
         grep -x 'install --yes --no-install-recommends rustc-web=1\.85\* rust-web-src=1\.85\* lld' '$work/asked'"
 }
 
+# compiles FOLDER CALL..: if the compiler of the PATH has its target in this folder, `build` makes these calls of compilers,
+# and the page has what the last one writes. The compilers write only their calls and this file.
+compiles() {
+    local tools=$work/tools name
+    tried || return 0
+    mkdir -p "$tools"/{target,src/rustc-1.85.9/library/core/src}
+    touch "$tools"/{target/libcore-0.rlib,src/rustc-1.85.9/library/core/src/lib.rs}
+    cat > "$tools/rustc" << 'END'
+#!/bin/sh
+case "$*" in
+    --version) exec echo rustc 1.85.9 ;;
+    '--print=target-libdir --target=wasm32-unknown-unknown') exec echo "$LIBDIR" ;;
+esac
+for it; do
+    case $it in
+        -Clinker=*) linker=" with ${it#*=}" ;;
+        --crate-name=*) name=${it#*=} ;;
+        *.wasm) printf code > "$it" ;;
+    esac
+done
+echo "${0##*/} $name from ${it#"$COPY"}$linker${CARGO_PKG_VERSION_MINOR:+, a version}" >> "$LOG"
+END
+    chmod +x "$tools/rustc"
+    for name in debian wasm-ld; do cp "$tools/rustc" "$tools/$name"; done
+    sed "s,/usr/bin/rustc,$tools/debian,; s,/usr/src,$tools/src," build.py > "$work/copy/explorer/build.py"
+    echo "const IN_$1: u8 = 1;" >> "$work/copy/rust/src/lib.rs"
+    rm -f "$work/calls"
+    LOG=$work/calls COPY=$work/copy/ LIBDIR=$tools/$1 PATH=$tools:$PATH "$work/copy/explorer/build" > "$work/told" 2>&1
+    grep -q '<script id="library" [^>]*>Y29kZQ==<' "$work/copy/explorer/index.html" && echo 'in the page' >> "$work/calls"
+    compares "$(printf '%s\n' "${@:2}" 'in the page')" "$(sed "s,$tools/,," "$work/calls")" "$(cat "$work/told")"
+}
+
+# compilers: `build` calls rustup's compiler, or Debian's if that one lacks the target.
+compilers() {
+    compiles target 'rustc peltzivar from rust/src/lib.rs' 'rustc peltzivar_c from rust/capi/src/lib.rs, a version'
+    compiles none 'debian core from src/rustc-1.85.9/library/core/src/lib.rs' \
+        'debian compiler_builtins from explorer/shim.rs' 'debian peltzivar from rust/src/lib.rs' \
+        'debian peltzivar_c from rust/capi/src/lib.rs with wasm-ld, a version'
+}
+
 # shim: the functions of shim.rs return what Rust's own arithmetic does.
 shim() {
     sed -e '/^#!\[/d' -e '/no_mangle/d' shim.rs | cat - shim_test.rs > "$work/shim.rs"
@@ -132,8 +172,9 @@ if [ "$python" ]; then here[python3-selenium]=yes; else lacks python3-selenium; 
 needing python3 checks
 needing python3 without_a_compiler
 needing python3 installs
+needing python3 compilers
 needing cargo shim
 needing node needing cargo results
 needing node needing cargo codes
 needing python3-selenium needing chromium needing chromedriver browser
-counted 28
+counted 30
