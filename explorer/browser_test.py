@@ -497,7 +497,8 @@ def a_field_is_in_the_parts_that_it_changes(page):
         "case_sensitive_base_suffix": "suffix",
         "special_digit_separator": "special",
     }
-    same({name: page.run(titles, name) for name in rows}, rows)
+    for name, wanted in rows.items():
+        same(page.run(titles, name), wanted)
 
 
 def a_byte_is_shown_with_its_numbers(page):
@@ -606,7 +607,8 @@ def the_page_has_the_classes_of_its_style(page):
 
 def what_changes_is_announced(page):
     roles = {"verdict": "status", "options": "status", "base_prefix-problem": "status", "word-problem": "alert"}
-    same({name: page.find(f"#{name}").get_attribute("role") for name in roles}, roles)
+    for name, role in roles.items():
+        same(page.find(f"#{name}").get_attribute("role"), role)
 
 
 def the_options_have_labels(page):
