@@ -255,7 +255,9 @@ static void test_reasons(void) {
     CHECK(is_word(peltzivar_rule_mask(PELTZIVAR_RULE_EXPONENT_FLAGS_AGREE), 0, 0x4040));
     CHECK(is_word(peltzivar_rule_mask(PELTZIVAR_RULE_INTEGER_CONSECUTIVE_IS_ALLOWED), 0, 0x0000024900000000));
     CHECK(is_word(peltzivar_rule_mask(PELTZIVAR_RULE_RESERVED_BITS_ARE_ZERO), 0xFFFF00, 0xFFFFE000FFFC0000));
-    CHECK(is_word(peltzivar_rule_mask(PELTZIVAR_RULE_COUNT), 0, 0) && is_word(peltzivar_rule_mask(UINT8_MAX), 0, 0));
+    for (int rule = PELTZIVAR_RULE_COUNT; rule < 256; rule++) {
+        CHECK(is_word(peltzivar_rule_mask((uint8_t)rule), 0, 0));
+    }
 }
 
 /* Returns the slot of the reason with this text, or PELTZIVAR_CANDIDATE_COUNT if no slot has this reason. */
@@ -598,7 +600,7 @@ int main(void) {
     test_word_texts();
     test_flag();
     test_null();
-    if (tried < 126761) {
+    if (tried < 127000) {
         printf("fewer checks than before: %lu\n", tried);
         failed = 1;
     }
