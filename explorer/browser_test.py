@@ -652,8 +652,15 @@ def it_fits_a_phone_and_a_dark_screen(page):
     same(page.find("meta[name=viewport]").get_attribute("content"), "width=device-width, initial-scale=1")
     places = "return [...document.querySelectorAll('.column')].map((it) => it.getBoundingClientRect().top)"
     same(len({*page.run(places)}), 2)
+    near = """return [...document.querySelectorAll("header *, main *, footer *")].map((it) => it.getBoundingClientRect()).filter(
+        (it) => it.width > 1 && (it.left < 8 || it.right > innerWidth - 8)).length"""
+    same(page.run(near), 0)
     page.show()
+    same(page.run(near), 0)
     same(len({*page.run(places)}), 1)
+    sizes = "return ['.written', '.meaning'].map((it) => parseInt(getComputedStyle(document.querySelector(it)).fontSize))"
+    written, meaning = page.run(sizes)
+    same(written > 1.5 * meaning, True)
 
 
 def a_browser_without_webassembly_is_told_so(page):
