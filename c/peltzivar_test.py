@@ -21,6 +21,8 @@ from peltzivar import Edit, Error, Format, FormatError, FormatView, Rule, Setter
 RECORDED = HERE.parent / "crates/recorded"
 CALLS = peltzivar._library
 NO_DIGIT = 2**32 - 1
+# The names of the assertions that were called.
+CALLED = []
 
 
 def error_of(name):
@@ -70,7 +72,20 @@ def returned(kind, parts):
     return int(view.edit(*settings)), int(edited, 16)
 
 
-class Recorded(unittest.TestCase):
+class Counted(unittest.TestCase):
+    """A test whose assertions are counted, without the assertions that an assertion calls."""
+
+    def __getattribute__(self, name):
+        if name.startswith("assert") and sys._getframe(1).f_globals is globals():
+            CALLED.append(name)
+        return super().__getattribute__(name)
+
+
+def tearDownModule():
+    print(f"\n{len(CALLED)} assertions")
+
+
+class Recorded(Counted):
     def test_recorded_results_are_kept(self):
         lines = (RECORDED / "data/results.txt").read_text().splitlines()
         self.assertEqual(len(lines), int((RECORDED / "stdout").read_text().split()[0]))
@@ -90,7 +105,7 @@ class Recorded(unittest.TestCase):
                 self.assertEqual(repr(view.check()), repr(view).replace("FormatView", "Format"), line)
 
 
-class Words(unittest.TestCase):
+class Words(Counted):
     HEXADECIMAL = 0x000010007800005F000000010000000C
 
     def test_a_format_is_had_in_each_way(self):
@@ -230,8 +245,11 @@ class Words(unittest.TestCase):
         names += [name for *_, name, _ in check_format.BYTES]
         self.assertEqual({it.name.lower() for it in Setter}, {*names, "radix"})
 
+    def test_the_examples_of_the_module_return_what_they_show(self):
+        self.assertEqual(doctest.testmod(peltzivar), (0, 4))
 
-class Loading(unittest.TestCase):
+
+class Loading(Counted):
     """Each test imports a copy of the module in another process."""
 
     def setUp(self):
@@ -278,9 +296,3 @@ class Loading(unittest.TestCase):
         shutil.copy(self.folder / "other.so", self.folder / "libpeltzivar_c.so")
         got = self.run_copy(LD_LIBRARY_PATH=str(pathlib.Path(CALLS._name).parent)).stderr
         self.assertRegex(got, "ImportError: .*libpeltzivar_c.so has version 127.2")
-
-
-def load_tests(_, tests, __):
-    """Adds the examples of the module."""
-    tests.addTests(doctest.DocTestSuite(peltzivar))
-    return tests

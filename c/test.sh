@@ -272,17 +272,17 @@ exports() {
     diff <(nm -gD --defined-only "$1" | cut -d' ' -f3 | sort) <(calls)
 }
 
-# units COMMAND..: the number of tests of a run of unittest that passes.
+# units COMMAND..: the number of assertions of a run of unittest that passes.
 units() {
     local got
     if ! got=$("$@" 2>&1); then echo "$got" && return 1; fi
-    sed -n 's/^Ran \([0-9]*\) tests.*/\1 passed/p' <<< "$got"
+    sed -n 's/^\([0-9]*\) assertions$/\1 passed/p' <<< "$got"
 }
 
 # python SHARED: the rows in Python.
 python() {
     local -x PELTZIVAR_LIBRARY=$1 PYTHONDONTWRITEBYTECODE=1
-    counts 14 units python3 -m unittest ./peltzivar_test.py
+    counts 46391 units python3 -m unittest ./peltzivar_test.py
     shows "$page" "python3 example.py" python3 example.py
     prints 0 "$noted" python3 example.py digit_separator=95 case_sensitive_special=true
     prints 2 "radix=none: radix takes a number, 2 to 36 in a lawful format" python3 example.py no_special=true radix=none
@@ -296,7 +296,7 @@ pythons() {
     for ((minor = 9; minor < newest; minor++)); do
         if "python3.$minor" -c '' 2> /dev/null; then
             local -x PELTZIVAR_LIBRARY=$1 PYTHONDONTWRITEBYTECODE=1
-            counts 14 units "python3.$minor" -m unittest ./peltzivar_test.py
+            counts 46391 units "python3.$minor" -m unittest ./peltzivar_test.py
         else
             echo "not tried: python3.$minor"
         fi
