@@ -164,6 +164,7 @@ error impl Iterator for Error
 error variant Error::Gone
 error const Error: u8
 format const GONE: u8
+format const 1: u8
 format const fn Gone::new() -> u8
 gone struct Gone
 END
@@ -177,7 +178,8 @@ differing="README.md has another table than this one, of compare/names.py:
  \`error::Error::Gone\` and \`error::u8\` and \`format::u8\` and \`format::Gone::new\` and \`gone::Gone\` | is not here |
 | \`ascii::is_valid_ascii\` and \`ascii::is_valid_letter\` and \`digit::char_to_digit_const::<STANDARD>\` | another signature |
 | \`digit::char_is_digit\` returns \`u8\` | it returns \`bool\` |
-| \`digit::char_to_digit\` is deprecated | it is not deprecated |"
+| \`digit::char_to_digit\` is deprecated | it is not deprecated |
+| \`format::u8\` | expected identifier, found \`1\`: expected identifier |"
 
 # fake: a kit and a cargo that build nothing. The cargo makes files of known sizes, and a driver that prints the next line of the file
 # `rows`. A package is built three times for its time, and the first takes longest.
