@@ -450,8 +450,9 @@ def the_bits_of_a_word_are_shown(page):
     same([", ".join(row) for row in page.run(read, ".run")], [titles for _, titles in rows])
     same(page.run(read, ".number"), [["127", "96"], ["95", "64"], ["63", "32"], ["31", "0"]])
     same(page.find("#bits").get_attribute("aria-label"), f"The bits of {MIXED}")
-    edges = "return [...document.querySelectorAll('.bit')].map((it) => it.classList.contains('edge'))"
-    same([127 - index for index, is_edge in enumerate(page.run(edges)) if is_edge], sorted([*range(7, 128, 8), 44, 17])[::-1])
+    has = "return [...document.querySelectorAll('.bit')].map((it) => it.classList.contains(arguments[0]))"
+    for name, bits in {"edge": [*range(7, 128, 8), 44, 17], "flag": [*range(18), *range(32, 45)]}.items():
+        same([127 - index for index, it in enumerate(page.run(has, name)) if it], sorted(bits)[::-1])
 
 
 def a_number_has_what_its_format_allows(page):
