@@ -8,12 +8,14 @@ import sys
 import tempfile
 
 CHECK = pathlib.Path(__file__).resolve().parent / "check_doc.py"
-# A page and a page in a folder, which link to each other, to a part of their own, and elsewhere. A script is not text.
+# A page with two parts and a page in a folder, which link to each other, to a part of their own, and elsewhere. A
+# script is not text.
 PAGES = {
-    "index.html": '<h2 id="part">A</h2><a href="a/other.html#a%20b"></a><a href="#part"></a><a href="https://a.b/c#d"></a>',
+    "index.html": '<h2 id="part">A</h2><a href="a/other.html#a%20b"></a><a href="#part"></a>'
+    '<a href="https://a.b/c#d"></a><p id="b"></p>',
     "a/other.html": '<p id="a b">B</p><a href="../index.html"></a><script>is not proved</script>',
 }
-# A piece of a page, and the line that names what is wrong with it.
+# A piece before what a page has, and the line that names what is wrong with it.
 FAULTS = [
     ('<a href="gone.html"></a>', "index.html: leads to no page: gone.html"),
     ('<a href="a/other.html#gone"></a>', "index.html: leads to no part: a/other.html#gone"),
@@ -38,7 +40,7 @@ def rows():
     """Yields pages, and the lines and the status that are wanted."""
     yield PAGES, ["2 pages, 0 wrong"], 0
     for piece, line in FAULTS:
-        yield {**PAGES, "index.html": PAGES["index.html"] + piece}, [line, "2 pages, 1 wrong"], 1
+        yield {**PAGES, "index.html": piece + PAGES["index.html"]}, [line, "2 pages, 1 wrong"], 1
     yield {}, ["0 pages, and at most 150 are allowed", "0 pages, 1 wrong"], 1
     many = {f"{number}.html": "" for number in range(150)}
     yield many, ["150 pages, 0 wrong"], 0
