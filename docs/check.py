@@ -22,7 +22,7 @@
 - README has a cargo command that runs an example, one that runs all tests, and `rt ci`. `.ci/run` calls these tests.
 - `.ci/run`, or a script that it calls, calls each script whose name ends in `test`. Each shell script fails if one of
   its commands fails: it begins with `set -e`, or ends with the count of failures and has `cd .. || exit`.
-- No manifest in rust/ disables tests, except for the manifest of capi, which has none.
+- No manifest in rust/ disables tests or lacks the lints, except for the manifest of capi, which has no tests and others.
 
 The last line counts the lines of the pages, the words of README, the transcripts (which the tests of numfmt, of rust/
 and of c/ run, except for lines `$ cc ..`), the blocks of code (which are compared here), and the lines of prose that
@@ -245,9 +245,12 @@ def not_called():
 
 
 def turned_off():
-    """Returns the manifests in rust/, except for capi's, that turn tests off."""
+    """Returns the manifests in rust/, except for capi's, that turn tests off or lack the lints of the workspace."""
     for path in files_of("rust", "Cargo.toml"):
-        is_off = re.search(r"\b((auto|doc)?tests?|harness) *= *false", path.read_text())
+        text = path.read_text()
+        is_off = re.search(r"\b((auto|doc)?tests?|harness) *= *false", text)
+        if "\n[lints]\nworkspace = true\n" not in text and path.parent.name != "capi":
+            yield f"{path.relative_to(TOP)}: lacks the lints of the workspace"
         if is_off and path.parent.name != "capi":
             yield f"{path.relative_to(TOP)}: turns tests off: {is_off[0]}"
 

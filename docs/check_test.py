@@ -127,6 +127,8 @@ PLANTS = [
     ("rust/Cargo.toml", "\n[workspace]\n", "\n[lib]\ntest = false\n\n[workspace]\n",
      "rust/Cargo.toml: turns tests off: test = false"),
     ("rust/numfmt/Cargo.toml", None, "harness = false\n", "rust/numfmt/Cargo.toml: turns tests off: harness = false"),
+    ("rust/lexical-util/Cargo.toml", "[lints]\nworkspace = true\n", "",
+     "rust/lexical-util/Cargo.toml: lacks the lints of the workspace"),
     (HEADER, "_SET_REQUIRED_FRACTION_DIGITS,", "_SET_REQUIRED,", "c/peltzivar.h: has not the setters in their order"),
     (HEADER, "_OVERFLOW = 1,", "_OVERFLOW = 2,", "c/peltzivar.h: not there once: PELTZIVAR_OVERFLOW = 1"),
     (HEADER, "#define PELTZIVAR_VERSION_PATCH ", "#define PELTZIVAR_VERSION_PATCH 7",
