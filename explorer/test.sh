@@ -58,19 +58,28 @@ without_a_compiler() {
         env PATH=/ "$(python3 -c 'import sys; print(sys.executable)')" "$work/copy/explorer/build.py"
 }
 
-# installs: `build --install` asks apt-get for the compiler, its sources and a linker, and ends if that fails.
+# installs: `build --install` asks apt-get for the compiler, its sources and a linker, and ends if that fails. A user
+# who is not root asks through sudo.
 installs() {
+    local user call="apt-get install --yes --no-install-recommends rustc-web=1.85* rust-web-src=1.85* lld"
     mkdir "$work/tools"
     cat > "$work/tools/apt-get" << 'END'
 #!/bin/sh
-[ "${0##*/}" = apt-get ] || exec "$@"
-echo "$*"
+echo "${0##*/} $*"
 exit 1
 END
     chmod +x "$work/tools/apt-get"
     cp "$work/tools/apt-get" "$work/tools/sudo"
-    passes bash -c "! PATH='$work/tools':\$PATH ./build --install > '$work/asked' 2> /dev/null &&
-        grep -x 'install --yes --no-install-recommends rustc-web=1\.85\* rust-web-src=1\.85\* lld' '$work/asked'"
+    for user in 0 1; do
+        PATH=$work/tools:$PATH python3 - "$user" > "$work/asked" 2> /dev/null << 'END'
+import os, runpy, sys
+user, sys.argv[1] = int(sys.argv[1]), "--install"
+os.geteuid = lambda: user
+runpy.run_path("build.py", run_name="__main__")
+END
+        compares "status 1 $call" "status $? $(cat "$work/asked")" "build --install by user $user"
+        call="sudo $call"
+    done
 }
 
 # compiles FOLDER CALL..: if the compiler of the PATH has its target in this folder, `build` makes these calls of compilers,
@@ -177,4 +186,4 @@ needing cargo shim
 needing node needing cargo results
 needing node needing cargo codes
 needing python3-selenium needing chromium needing chromedriver browser
-counted 30
+counted 31
