@@ -19,7 +19,7 @@ program=${1:+$(realpath -m "$1")} least=4113
 cd "$(dirname "$0")" || exit
 # shellcheck source=../../.ci/rows.sh
 . ../../.ci/rows.sh
-[ "$program" ] || least=4259
+[ "$program" ] || least=4285
 if ! { has cc && has python3; }; then
     skipped=$least
     counted $least
