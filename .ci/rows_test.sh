@@ -7,7 +7,8 @@
 # - run, over programs that do nothing: it calls each test, and fails if one fails;
 # - the scripts that run has for shellcheck: these are all scripts;
 # - the commands of rust/tools/test.sh: each is called, and its row fails if it fails;
-# - the options and arguments in the commands of c/test.sh.
+# - the options and arguments in the commands of c/test.sh;
+# - the tests of the built programs, over programs that print something wrong: their rows fail.
 #
 # The last line is `N passed, M failed`.
 set -u
@@ -284,7 +285,47 @@ if grep -q " cc -shared -o .*/library.so -Wl,--whole-archive $given -Wl,--no-who
 else
     printf 'c/test.sh ARCHIVE: these commands\n%s\n' "$(cat "$work/log")"
 fi
+
+# wrong CRATE PASSED FAILED CODE: in a copy, for a built program of this code, this number of the rows of
+# built-program-test.sh pass, and at least this number fail. Rows that only count what is tried, and rows for which the
+# program is right, pass.
+wrong() {
+    local got
+    printf '#!/bin/sh\n%s\n' "$4" > "$copy/crates/$1/out/$1"
+    got=$(env -u CI "$copy/crates/$1/built-program-test.sh" 2>&1; echo "status $?")
+    tried=$((tried + 1))
+    [[ $(tail -n 2 <<< "$got") =~ ^"$2 passed, "([0-9]+)$' failed, 0 skipped\nstatus 1'$ ]] &&
+        [ "${BASH_REMATCH[1]}" -ge "$3" ] && passed=$((passed + 1)) && return
+    printf '%s/built-program-test.sh, over %s: not %s passed, %s failed\n%s\n' "$1" "$4" "$2" "$3" "$got"
+}
+
+# The copies require no number of rows. Their every_word.py has one run, with another status than the program ends with.
+copy=$work/built
+mkdir -p "$copy"/{.ci,c,docs} "$copy"/crates/{numfmt,recorded}/{out,src}
+cp rows.sh "$copy/.ci"
+cp ../README.md "$copy"
+cp ../docs/*.md "$copy/docs"
+cp ../c/peltzivar.h "$copy/c"
+cp -r ../crates/recorded/data "$copy/crates/recorded"
+printf '%s\n' 'print("show 0xC", "wrong", "status 1", sep="\n", end="\n\0")' > "$copy/crates/numfmt/every_word.py"
+for crate in numfmt recorded; do
+    sed 's/least=[0-9]*$/least=0/; s/^counted [0-9]*$/counted 0/' "../crates/$crate/built-program-test.sh" \
+        > "$copy/crates/$crate/built-program-test.sh"
+    touch "$copy/crates/$crate/out/$crate"
+    chmod +x "$copy/crates/$crate"/{built-program-test.sh,out/"$crate"}
+done
+if command -v cc > /dev/null; then
+    wrong numfmt 24 234 'echo wrong'
+else
+    echo 'skipped: cc'
+    tried=$((tried + 1)) passed=$((passed + 1))
+fi
+# The programs expand these.
+# shellcheck disable=SC2016
+wrong recorded 0 134 'echo "differs: $(tail -n 1 results.txt)"'
+# shellcheck disable=SC2016
+wrong recorded 1 133 'echo "$(wc -l < results.txt) recorded results kept"; exit 1'
 failed=$((tried - passed))
 echo "$passed passed, $failed failed"
-[ "$tried" -ge 82 ] || { echo "fewer rows than before: 82"; exit 1; }
+[ "$tried" -ge 85 ] || { echo "fewer rows than before: 85"; exit 1; }
 [ "$failed" -eq 0 ]
