@@ -196,6 +196,7 @@ PLANTS = [
 
 # Arguments of docs/check_definitions.py, and the texts that must then be printed or be in PROVED.md.
 TABLES = [
+    ([], ["edit_word: ", "\nmigrate: ", "\nall: "]),
     (["edit_word"], ["edit_word: ", "\n    lexical_flags.Layout "]),
     (["edit_word", "--text"], ["/specs/Layout.antt\n-- The ", "\npart word s n = ", "\n==== names of std\nAll, Bool, List, ",
                                "\n==== types of the program\nEdit, FlagSetter, ", "\nfn edit_word("]),
