@@ -62,7 +62,7 @@ section() {
     compares "$(xargs <<< "${wanted:-a row}")" "$(xargs <<< "$got")" "$1"
 }
 
-# driver: the sections that take a second in all.
+# driver: the sections that take some seconds in all.
 driver() {
     passes drivers || return
     section "bytes and digits"
@@ -72,6 +72,9 @@ driver() {
     section "single bits and pairs of bits"
     section "masked radixes"
     section "options"
+    section "texts of integers"
+    passes cargo build --quiet --manifest-path "$WORK/rust/Cargo.toml" --package numfmt
+    NUMFMT=$CARGO_TARGET_DIR/debug/numfmt section "printed expressions"
     passes "$CARGO_TARGET_DIR/debug/driver" --record "$top/results"
     passes diff ../crates/recorded/data/results.txt "$top/results"
     # Another crate, which writes two digits the other way in each of 307 radixes: this is reported.
@@ -309,4 +312,4 @@ needing python3 prints 0 "note: $top/names/Cargo.toml does not have version 1.0.
 needing python3 prints 1 "names.txt is not what UPSTREAM has: compare/names.py --list" stale
 needing cargo needing python3 prints 1 "$differing" differs
 needing git needing cc needing cargo scripts
-counted 33
+counted 36
