@@ -3,7 +3,8 @@
 #
 # - over a copy of the plain Rust that has the rules of lexical-util, the driver of compare/ has the counts of README.md
 #   and the recorded results, and the driver of bench/ compiles. A difference is reported;
-# - names.py lists the public names of a module, and the names that the plain Rust does not have, or has otherwise;
+# - names.txt is as names.py wrote it. names.py lists the public names of a module, and the names that the plain Rust
+#   does not have, or has otherwise;
 # - `compare/run`, `bench/run --against` and `bench/sizes.sh` work with a cargo that builds nothing.
 #
 # The last line is `N passed, M failed, K skipped`. The exit status is 1 if a row failed, or if there are fewer rows than
@@ -303,6 +304,8 @@ prints 0 "note: $rust/Cargo.toml does not have version 1.0.7
 ./ascii.rs ./digit.rs ./error.rs ./feature_format.rs ./format.rs ./format_builder.rs ./format_flags.rs ./lib.rs" \
     copies "$rust"
 needing cargo driver
+# names.py read the list from lexical-util 1.0.7. The plain Rust lacks the ready-made formats, so it cannot check them.
+prints 0 "3904300450 34807 names.txt" cksum names.txt
 needing python3 prints 0 "$listed" lists
 mkdir -p "$top/names"
 echo 'version = "1.0.70"' > "$top/names/Cargo.toml"
@@ -312,4 +315,4 @@ needing python3 prints 0 "note: $top/names/Cargo.toml does not have version 1.0.
 needing python3 prints 1 "names.txt is not what UPSTREAM has: compare/names.py --list" stale
 needing cargo needing python3 prints 1 "$differing" differs
 needing git needing cc needing cargo scripts
-counted 36
+counted 37
