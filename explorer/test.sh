@@ -14,6 +14,8 @@ mkdir "$work/copy" "$work/code"
 release=$work/target/release
 wasm="explorer/index.html: its WebAssembly is not up to date with rust/, run explorer/build"
 rest="explorer/index.html: is not up to date with FORMAT, the recipes or explorer/, run explorer/build"
+missing="no compiler has the target wasm32-unknown-unknown: run \`rustup target add wasm32-unknown-unknown\`, or install these\
+ packages of Debian (explorer/build --install does it): rustc-web=1.85* rust-web-src=1.85* lld"
 
 # stale TEXT FILE FROM TO: if FROM becomes TO in the file of the copied repository, `build --check` prints TEXT.
 stale() {
@@ -49,13 +51,15 @@ checks() {
     passes bash -c "! '$work/copy/explorer/build' 2> '$work/size' && grep ' bytes, more than 200000$' '$work/size'"
 }
 
+# lacks_a_compiler COMMAND..: by this command, `build` names what to install.
+lacks_a_compiler() {
+    prints 1 "$missing" "$@" "$(python3 -c 'import sys; print(sys.executable)')" "$work/copy/explorer/build.py"
+}
+
 # without_a_compiler: without a compiler, `build` names what to install.
 without_a_compiler() {
-    local target=wasm32-unknown-unknown
     echo 'const ONE: u8 = 1;' >> "$work/copy/rust/src/lib.rs"
-    prints 1 "no compiler has the target $target: run \`rustup target add $target\`, or install these packages of Debian\
- (explorer/build --install does it): rustc-web=1.85* rust-web-src=1.85* lld" \
-        env PATH=/ "$(python3 -c 'import sys; print(sys.executable)')" "$work/copy/explorer/build.py"
+    lacks_a_compiler env PATH=/
 }
 
 # installs: `build --install` asks apt-get for the compiler, its sources and a linker, and ends if that fails. A user
@@ -92,8 +96,8 @@ compiles() {
     cat > "$tools/rustc" << 'END'
 #!/bin/sh
 case "$*" in
-    --version) exec echo rustc 1.85.9 ;;
-    '--print=target-libdir --target=wasm32-unknown-unknown') exec echo "$LIBDIR" ;;
+    --version) echo "rustc ${VERSION:-1.85.9}"; exit ;;
+    '--print=target-libdir --target=wasm32-unknown-unknown') echo "$LIBDIR"; exit ;;
 esac
 for it; do
     case $it in
@@ -109,17 +113,28 @@ END
     sed "s,/usr/bin/rustc,$tools/debian,; s,/usr/src,$tools/src," build.py > "$work/copy/explorer/build.py"
     echo "const IN_$1: u8 = 1;" >> "$work/copy/rust/src/lib.rs"
     rm -f "$work/calls"
-    LOG=$work/calls COPY=$work/copy/ LIBDIR=$tools/$1 PATH=$tools:$PATH "$work/copy/explorer/build" > "$work/told" 2>&1
+    LOG=$work/calls COPY=$work/copy/ LIBDIR=$tools/$1 PATH=$tools "$(python3 -c 'import sys; print(sys.executable)')" \
+        "$work/copy/explorer/build.py" > "$work/told" 2>&1
     grep -q '<script id="library" [^>]*>Y29kZQ==<' "$work/copy/explorer/index.html" && echo 'in the page' >> "$work/calls"
     compares "$(printf '%s\n' "${@:2}" 'in the page')" "$(sed "s,$tools/,," "$work/calls")" "$(cat "$work/told")"
 }
 
-# compilers: `build` calls rustup's compiler, or Debian's if that one lacks the target.
+# compilers: `build` calls rustup's compiler, or Debian's if that one lacks the target. Debian's needs each part and the
+# version 1.85.
 compilers() {
     compiles target 'rustc peltzivar from rust/src/lib.rs' 'rustc peltzivar_c from rust/capi/src/lib.rs, a version'
     compiles none 'debian core from src/rustc-1.85.9/library/core/src/lib.rs' \
         'debian compiler_builtins from explorer/shim.rs' 'debian peltzivar from rust/src/lib.rs' \
         'debian peltzivar_c from rust/capi/src/lib.rs with wasm-ld, a version'
+    local part other
+    echo 'const TWO: u8 = 2;' >> "$work/copy/rust/src/lib.rs"
+    for part in "$work"/tools/{debian,wasm-ld,src/rustc-1.85.9}; do
+        other=${part/1.85/1.86}.other
+        mv "$part" "$other"
+        lacks_a_compiler env PATH="$work/tools"
+        mv "$other" "$part"
+    done
+    lacks_a_compiler env PATH="$work/tools" VERSION=1.86.0
 }
 
 # shim: the functions of shim.rs return what Rust's own arithmetic does.
@@ -186,4 +201,4 @@ needing cargo shim
 needing node needing cargo results
 needing node needing cargo codes
 needing python3-selenium needing chromium needing chromedriver browser
-counted 31
+counted 35
