@@ -2,7 +2,7 @@
 # Tests compare/ and bench/ without the sources of lexical-util, and without the kit:
 #
 # - over a copy of the plain Rust that has the rules of lexical-util, the driver of compare/ has the counts of README.md
-#   and the recorded results, and the driver of bench/ compiles. A difference is reported;
+#   and the recorded results, and the loops of bench/ return the same. A difference is reported;
 # - names.txt is as names.py wrote it. names.py lists the public names of a module, and the names that the plain Rust
 #   does not have, or has otherwise;
 # - `compare/run`, `bench/run --against` and `bench/sizes.sh` work with a cargo that builds nothing.
@@ -52,7 +52,11 @@ drivers() (
     prepare_drivers
     like
     cargo build --quiet --manifest-path "$WORK/compare/rust/Cargo.toml"
-    cargo check --quiet --manifest-path "$WORK/bench/rust/Cargo.toml"
+    # The functions in Rattle do nothing: they are not called here.
+    grep -oE 'bench_\w+' ../bench/rust/src/ours.rs | sed 's/.*/void &(void) {}/' | cc -c -x c -o "$top/loops.o" -
+    ar rc "$top/libbench_ffi.a" "$top/loops.o"
+    CARGO_PROFILE_DEV_OPT_LEVEL=2 cargo build --quiet --target-dir "$top/bench" \
+        --manifest-path "$WORK/bench/rust/Cargo.toml"
 )
 
 # section NAME: the driver prints the row that README.md has.
@@ -78,6 +82,8 @@ driver() {
     NUMFMT=$CARGO_TARGET_DIR/debug/numfmt section "printed expressions"
     passes "$CARGO_TARGET_DIR/debug/driver" --record "$top/results"
     passes diff ../crates/recorded/data/results.txt "$top/results"
+    # Each loop over the plain Rust has the result of the loop over the copy.
+    prints 0 52 bash -o pipefail -c "'$top/bench/debug/driver' --only plain: --rounds 1 | grep -c '^plain: .* to '"
     # Another crate, which writes two digits the other way in each of 307 radixes: this is reported.
     sed -i 's/WXYZ/WXZY/' "$WORK/upstream/src/digit.rs"
     passes cargo build --quiet --manifest-path "$WORK/compare/rust/Cargo.toml"
@@ -315,4 +321,4 @@ needing python3 prints 0 "note: $top/names/Cargo.toml does not have version 1.0.
 needing python3 prints 1 "names.txt is not what UPSTREAM has: compare/names.py --list" stale
 needing cargo needing python3 prints 1 "$differing" differs
 needing git needing cc needing cargo scripts
-counted 37
+counted 38
