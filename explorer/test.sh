@@ -102,11 +102,15 @@ esac
 for it; do
     case $it in
         -Clinker=*) linker=" with ${it#*=}" ;;
+        -L*) over=$(cd "${it#-L}" && echo *.rlib) ;;
+        --extern=*) used=" using ${it#*=}" ;;
         --crate-name=*) name=${it#*=} ;;
+        --crate-type=*) type=${it#*=} ;;
+        --out-dir=*) : > "${it#*=}/$name.$type" ;;
         *.wasm) printf code > "$it" ;;
     esac
 done
-echo "${0##*/} $name from ${it#"$COPY"}$linker${CARGO_PKG_VERSION_MINOR:+, a version}" >> "$LOG"
+echo "${0##*/} $name from ${it#"$COPY"}$linker, over $over$used${CARGO_PKG_VERSION_MINOR:+, a version}" >> "$LOG"
 END
     chmod +x "$tools/rustc"
     for name in debian wasm-ld; do cp "$tools/rustc" "$tools/$name"; done
@@ -122,10 +126,13 @@ END
 # compilers: `build` calls rustup's compiler, or Debian's if that one lacks the target. Debian's needs each part and the
 # version 1.85.
 compilers() {
-    compiles target 'rustc peltzivar from rust/src/lib.rs' 'rustc peltzivar_c from rust/capi/src/lib.rs, a version'
-    compiles none 'debian core from src/rustc-1.85.9/library/core/src/lib.rs' \
-        'debian compiler_builtins from explorer/shim.rs' 'debian peltzivar from rust/src/lib.rs' \
-        'debian peltzivar_c from rust/capi/src/lib.rs with wasm-ld, a version'
+    compiles target 'rustc peltzivar from rust/src/lib.rs, over *.rlib' \
+        'rustc peltzivar_c from rust/capi/src/lib.rs, over peltzivar.rlib using peltzivar, a version'
+    compiles none 'debian core from src/rustc-1.85.9/library/core/src/lib.rs, over *.rlib' \
+        'debian compiler_builtins from explorer/shim.rs, over core.rlib' \
+        'debian peltzivar from rust/src/lib.rs, over compiler_builtins.rlib core.rlib' \
+        "debian peltzivar_c from rust/capi/src/lib.rs with wasm-ld, over compiler_builtins.rlib core.rlib peltzivar.rlib\
+ using peltzivar, a version"
     local part other
     echo 'const TWO: u8 = 2;' >> "$work/copy/rust/src/lib.rs"
     for part in "$work"/tools/{debian,wasm-ld,src/rustc-1.85.9}; do
