@@ -208,6 +208,9 @@ def listed(text):
     sentence = f"The names are the {len(names)} lines of `names.txt`, which include {formats} ready-made formats."
     if sentence not in " ".join(text.split()):
         yield f"does not have: {sentence}"
+    *rows, last = re.findall(r"^\| .* \| ([0-9,]+) \| ([0-9,]+) \| 0 \|$", text, re.M)
+    if [f"{sum(int(it.replace(',', '')) for it in column):,}" for column in zip(*rows)] != [*last]:
+        yield "the last row is not the sum of the rows"
 
 
 def readme(text):

@@ -11,7 +11,7 @@ import tempfile
 
 TOP = pathlib.Path(__file__).resolve().parent.parent
 # The minimum number of faults.
-LEAST = 166
+LEAST = 168
 COPIED = ["*.md", "crates.txt", ".ci", "bench", "c", "compare", "crates", "docs", "explorer", "rust"]
 
 # A file, a part of it (`None`: its end, also of a new file), the replacement, and the text that must be printed.
@@ -124,6 +124,8 @@ PLANTS = [
     ("compare/rust/src/exports.rs", "    flag(", "    flags(", "c/peltzivar.h: has other calls than compare/rust/src/"),
     ("compare/names.txt", "ascii const fn is_valid_letter(u8) -> bool\n", "",
      "compare/README.md: does not have: The names are the 548 lines of `names.txt`, which include 145 ready-made formats."),
+    ("compare/README.md", "| all | 2,630,288,063 |", "| all | 2,630,288,064 |",
+     "compare/README.md: the last row is not the sum of the rows"),
     ("rust/Cargo.toml", "\n[workspace]\n", "\n[lib]\ntest = false\n\n[workspace]\n",
      "rust/Cargo.toml: turns tests off: test = false"),
     ("rust/numfmt/Cargo.toml", None, "harness = false\n", "rust/numfmt/Cargo.toml: turns tests off: harness = false"),
