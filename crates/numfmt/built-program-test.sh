@@ -15,11 +15,11 @@
 #                                      Rust's std opens /dev/null in place of a closed output, and aborts if memory fails
 # shellcheck disable=SC2016 # the backquotes in patterns come from pages
 set -u
-program=${1:+$(realpath -m "$1")} least=4113
+program=${1:+$(realpath -m "$1")} least=4114
 cd "$(dirname "$0")" || exit
 # shellcheck source=../../.ci/rows.sh
 . ../../.ci/rows.sh
-[ "$program" ] || least=4285
+[ "$program" ] || least=4286
 if ! { has cc && has python3; }; then
     skipped=$least
     counted $least
@@ -365,6 +365,7 @@ while IFS='|' read -r _ _ check migrate _ word _; do
     fi
     compares " $seen" "${migrate::${#seen}+1}" migrate "$word" "in MIGRATING.md"
 done < <(grep -E '^\|.*\| `0x[0-9A-F]{32}` \|$' ../../docs/MIGRATING.md)
+passes grep '^| The word has | `check` | `migrate` | Next step | Example |$' ../../docs/MIGRATING.md
 
 # Arguments that are not UTF-8: nothing is printed.
 for word in $'\xff' $'0x1\xc3'; do
