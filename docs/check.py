@@ -3,6 +3,7 @@
 
 - Each link in a page leads to a file, and to a heading of this file if the link names one.
 - Each block of code is a part of a file. `..` replaces lines that are left out.
+- Each table has a row of dashes, and as many cells in each row.
 - Each name with a `_` or `::`, except in the changelog, is in some code, and so is each word of FORMAT.md.
 - check_places.py checks that the sources that pages name exist, and have the names that pages place in them.
 - check_format.py compares FORMAT.md, check_header.py the header of C, and check_clauses.py the clauses in PROVED.md.
@@ -114,6 +115,16 @@ def broken_links(page, text):
             yield f"leads to no file: {target}"
         elif anchor and path.suffix == ".md" and anchor not in headings(path.read_text()):
             yield f"leads to no heading: {target}"
+
+
+def uneven(text):
+    """Returns the rows of tables that have more or fewer cells than the row above, and tables without a row of dashes."""
+    for table in re.findall(r"(?:^\|.*\n)+", text, re.M):
+        rows = table.splitlines()
+        cells = [len(re.findall(r"(?<!\\)\|", row)) for row in rows]
+        yield from (f"another number of cells: {rows[at]}" for at in range(1, len(rows)) if cells[at] != cells[at - 1])
+        if not re.match(r"[^\n]*\n\|[-|]+\n", table):
+            yield f"a table without a row of dashes: {rows[0]}"
 
 
 def wrong_counts(text, wanted):
@@ -302,7 +313,7 @@ def main():
     for page in PAGES:
         text = page.read_text()
         found = [*broken_links(page, text), *unquoted(text, files), *wrong_counts(text, wanted)]
-        found += check_prose.prose(page.name, text)
+        found += [*uneven(text), *check_prose.prose(page.name, text)]
         if page.name != "CHANGELOG.md":
             found += [*unknown_names(text, words), *check_places.misplaced(text)]
         found += [f"has a `_`: {word}" for word in re.findall(r"0x[0-9A-F]{8}_\w*", FENCED.sub("", text))]

@@ -23,10 +23,21 @@ NUMBERS = "two three four five six seven eight nine ten".split()
 PLAIN = "format_flags format_builder/getters view/getters feature_format edits".split()
 # A text of each construction that no other fault has.
 SAMPLES = {
-    "exactly if": "exactly if", "is none": "is none", "that of": "that of it", "the same of": "the same of",
-    ", of which": "one, of which", "made of": "made of", "otherwise": "is otherwise", "house, room or free": "room",
-    "stands for": "stands for", "beside": "beside", "alone": "code alone", "else": "and else", "case counts": "case counts",
-    "reads back": "reads back", "is 2 to 36": "is 2 to 36", "words for names": "own words", "the Rust crate": "the Rust crate",
+    "exactly if": "exactly if", "is none": "is none/are none/if there is none/where there are none",
+    "that of": "that of it/that in it/those of it/That of it/Those in it",
+    "the same of": "/".join(f"the same {it}" for it in "of for by with after is on holds".split()),
+    ", of which": "/".join(f"one, {it} which" for it in "of by in for from with on over".split())
+                  + "/one, of whom/one, of whose/one, of what",
+    "made of": "made of/make of/makes of/built of/builds of/made out of/Made of/Make of/Makes of",
+    "otherwise": "is otherwise/are otherwise/turned/change places", "house, room or free": "room/rooms/Room/the house/The house/ROOM/free",
+    "stands for": "/".join(f"stands {it}" for it in "for in at on from before after between beside there together above".split())
+                  + "/stand for/may stand",
+    "beside": "beside", "alone": "code alone/`it` alone", "else": "and else/or else/it; else/it, else",
+    "case counts": "case counts/cases count/case does not count/cases do not count/cases that count/counts in both cases/case_counts",
+    "reads back": "reads back/read back/give back/gives it back/gives them back/mean the same/means the same",
+    "is 2 to 36": "/".join(f"{it} 2 to 36" for it in "is are be not".split()),
+    "words for names": "own words/its words/Its words/with the words/has the words/in the library's words/one word",
+    "the Rust crate": "the Rust crate/empty base/empty exponent base/empty radix/empty byte/empty bytes",
 }  # fmt: skip
 # A new file of each kind with prose that no other fault is in.
 PROSE = "rust/a.rs bench/a.rs bench/a.in compare/a.rs explorer/a.js explorer/a.rs c/a.py compare/a.py crates/a.py rust/a.py"
@@ -36,6 +47,8 @@ PLANTS = [
     *((f"{it}/README.md", None, "[a](planted.md)\n", f"{it}/README.md: leads to no file: planted.md")
       for it in ("compare", "bench", "rust", "explorer")),
     ("docs/RUST.md", None, "```rust\nlet planted = 0;\n```\n", "docs/RUST.md: not in the code:\nlet planted = 0;\n"),
+    ("docs/RUST.md", None, "\n| planted | cells |\n|---|\n", "docs/RUST.md: another number of cells: |---|"),
+    ("docs/RUST.md", None, "\n| planted | table |\n", "docs/RUST.md: a table without a row of dashes: | planted | table |"),
     ("docs/RUST.md", None, "`planted_text`\n", "docs/RUST.md: in no code: planted_text"),
     ("docs/RUST.md", None, "`digit::Edit`\n", "docs/RUST.md: in no code: digit::Edit"),
     ("docs/RUST.md", None, "`format::Planted`\n", "docs/RUST.md: in no code: format::Planted"),
@@ -171,7 +184,8 @@ PLANTS = [
     ("docs/check_definitions.py", '"edit_word": 300', '"edit_word": 3', " lines of definitions, more than 3\n"),
     ("docs/PROVED.md", "<!-- calls -->\n", "<!-- calls -->\n\n", "docs/PROVED.md: its tables of definitions are old"),
     ("docs/RUST.md", None, "This is no page.\n", ": is no X: This is no page."),
-    *((DIGITS, None, f"-- Planted {text}.\n", f": {name}: -- Planted {text}.") for name, text in SAMPLES.items()),
+    *((DIGITS, None, f"-- Planted {text}.\n", f": {name}: -- Planted {text}.") for name, texts in SAMPLES.items()
+      for text in texts.split("/")),
     *((it, None, f"{'#' if it.endswith('py') else '//'} Planted, but for one.\n", f"{it}:1: but for: ") for it in PROSE.split()),
     (".ci/run", None, "# Planted in run, but for one.\n", ": but for: # Planted in run, but for one."),
     ("docs/RUST.md", None, "\nWhat is planted.\n", ": what or who first: What is planted."),
