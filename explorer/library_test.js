@@ -103,6 +103,18 @@ function compareWritten({ library }, lines) {
     return edits.length;
 }
 
+/* With a later compiler, calls get addresses: these have the words and the edit, whatever the start of the memory. */
+function compareAddresses({ library }) {
+    const parts = library.passesParts;
+    const read = (length) => (place) => [...new Uint8Array(library.calls.memory.buffer, place, length)];
+    library.passesParts = false;
+    const word = (first, ninth) => [first, 0, 0, 0, 0, 0, 0, 0, ninth, 0, 0, 0, 0, 0, 0, 0];
+    const words = library.words((2n << 64n) | 1n, (4n << 64n) | 3n);
+    same(words.map(read(16)), [word(1, 2), word(3, 4)], "addresses of words");
+    same(library.edit({ setter: 5, value: 6 }).map(read(2)), [[5, 6]], "the address of an edit");
+    library.passesParts = parts;
+}
+
 /* Compares the words of the recipes, and returns how many there are. */
 function compareRecipes({ library, data }, text) {
     const words = data.recipes.map(({ name, settings }) => {
@@ -120,6 +132,7 @@ async function main([recipes]) {
     const [tried, tooLarge] = compareRecorded(recorded, lines);
     console.log(`${tried} recorded results kept; not tried, since an index has over 32 bits: ${tooLarge}`);
     console.log(`${compareWritten(recorded, lines)} edits of a field change its bits only`);
+    compareAddresses(recorded);
     if (!recipes) return;
     console.log(`${compareRecipes(recorded, fs.readFileSync(recipes, "utf8"))} recipes build their words`);
 }
