@@ -245,12 +245,23 @@ def tables_after(folder, arguments):
     return run.stdout + (folder / "docs/PROVED.md").read_text()
 
 
+def counted(folder):
+    """Returns the counts of the last line of docs/check.py, counted here in another way."""
+    pages = [folder / name for name in ("README.md", "CONTRIBUTING.md", "CHANGELOG.md")] + [*(folder / "docs").glob("*.md")]
+    lines = [line for page in pages for line in page.read_text().splitlines()]
+    transcripts = sum(line.startswith("    $ ") for line in lines)
+    blocks = sum(line in ("```rust", "```antt", "```c", "```python", "```toml") for line in lines)
+    words = len((folder / "README.md").read_text().split())
+    return f"{len(lines)} lines of pages, {words} words of README, {transcripts} transcripts, {blocks} blocks of code, "
+
+
 def main():
     with tempfile.TemporaryDirectory() as temporary:
         folder = pathlib.Path(temporary)
         copy(folder)
         absent = [file for file, old, new, _ in PLANTS if not plant(folder, file, old, new)]
         programs = [["docs/check.py"], ["c/header_test.py"], ["c/header_test.py", "--comments"]]
+        last = counted(folder)
         runs = [subprocess.run([sys.executable, *it], cwd=folder, capture_output=True, text=True) for it in programs]
         texts = [(tables_after(folder, arguments), wanted) for arguments, wanted in TABLES]
     unwritten = [it for text, wanted in texts for it in wanted if it not in text]
@@ -258,6 +269,7 @@ def main():
     missing = [text for *_, text in PLANTS if text not in printed]
     failed = [*(f"a piece is not in {file}" for file in absent), *(f"not named: {text}" for text in missing)]
     failed += [f"{len(PLANTS)} faults, fewer than before"] if len(PLANTS) < LEAST else []
+    failed += [] if f"\n{last}" in printed else [f"docs/check.py does not count: {last}"]
     failed += [f"not printed or written by docs/check_definitions.py: {it!r}" for it in unwritten]
     failed += [f"{run.args[1:]}: the status is {run.returncode}: {run.stderr}" for run in runs if run.returncode != 1]
     print(*failed, f"{len(PLANTS) - len(missing)} passed, {len(failed)} failed", sep="\n")
