@@ -69,6 +69,7 @@ section() {
 
 # driver: the sections that take some seconds in all.
 driver() {
+    local plain
     passes drivers || return
     section "bytes and digits"
     section "outcomes"
@@ -80,6 +81,11 @@ driver() {
     section "texts of integers"
     passes cargo build --quiet --manifest-path "$WORK/rust/Cargo.toml" --package numfmt
     NUMFMT=$CARGO_TARGET_DIR/debug/numfmt section "printed expressions"
+    # The sections of exports have the names of the header. Here both libraries are the plain one.
+    passes cargo build --quiet --release --manifest-path "$WORK/rust/Cargo.toml" --package peltzivar-capi
+    plain=$CARGO_TARGET_DIR/release/libpeltzivar_c.so
+    prints 0 "compared 2, different on purpose 0, unexplained 0" env PROVED="$plain" PLAIN="$plain" \
+        HEADER=../c/peltzivar.h bash -o pipefail -c "'$CARGO_TARGET_DIR/debug/driver' --only 'names of' | tail -n 1"
     passes "$CARGO_TARGET_DIR/debug/driver" --record "$top/results"
     passes diff ../crates/recorded/data/results.txt "$top/results"
     # Each loop over the plain Rust has the result of the loop over the copy.
@@ -312,6 +318,7 @@ prints 0 "note: $rust/Cargo.toml does not have version 1.0.7
 needing cargo driver
 # names.py read the list from lexical-util 1.0.7. The plain Rust lacks the ready-made formats, so it cannot check them.
 prints 0 "3904300450 34807 names.txt" cksum names.txt
+needing python3 prints 0 "549 names of 7 modules" bash -c './names.py 2>&1 > /dev/null | tail -n 1'
 needing python3 prints 0 "$listed" lists
 mkdir -p "$top/names"
 echo 'version = "1.0.70"' > "$top/names/Cargo.toml"
@@ -321,4 +328,4 @@ needing python3 prints 0 "note: $top/names/Cargo.toml does not have version 1.0.
 needing python3 prints 1 "names.txt is not what UPSTREAM has: compare/names.py --list" stale
 needing cargo needing python3 prints 1 "$differing" differs
 needing git needing cc needing cargo scripts
-counted 38
+counted 41
