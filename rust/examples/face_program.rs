@@ -98,6 +98,11 @@ fn main() -> Result<(), Box<dyn std::error::Error>> {
         Some(0xFFFF)
     );
     assert_eq!(value("ff", CHECKED), Some(0xFF));
+    let fractions = NumberFormatBuilder::from(CHECKED)
+        .integer_internal_digit_separator(false)
+        .fraction_internal_digit_separator(true)
+        .build_format()?;
+    assert_eq!(value("0xff_ff", fractions), None);
     assert_eq!(CHECKED.word(), HEXADECIMAL);
     assert_eq!(
         digits("12fg", CHECKED) + digits("12fg", NumberFormat::<STANDARD>::new()),
