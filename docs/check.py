@@ -203,6 +203,15 @@ def not_exported():
         yield from (f"not exported by lexical_util::format: {name}" for name in sorted(lacking))
 
 
+def examples(text):
+    """Returns the examples of the table of calls that have no call of their rows."""
+    for calls, shown in re.findall(r"^\|[^|]*\|([^|]*)\|([^|]*\.rt\)[^|]*)\|$", text, re.M):
+        names = re.findall(r"(\w+)`", calls)
+        for path in re.findall(r"\]\(([^)]*\.rt)\)", shown):
+            if not set(names) & set(re.findall(r"\w+", (TOP / "docs" / path).read_text())):
+                yield f"{path}: has none of {', '.join(names)}"
+
+
 def substituted(text):
     """Returns the numbers of rows in the eraser's tables that differ from the page."""
     counts = {"pieces of code": len(erase.SUBSTITUTIONS + erase.EVERYWHERE), "items that define": len(erase.ITEMS)}
@@ -327,6 +336,8 @@ def main():
             found += [*readme(text), *commands(text)]
         if page == TOP / "compare/README.md":
             found += listed(text)
+        if page.name == "CALLING.md":
+            found += examples(text)
         if page.name == "DIFFERENCES.md":
             found += added_names(text)
         for it in found:

@@ -11,7 +11,7 @@ import tempfile
 
 TOP = pathlib.Path(__file__).resolve().parent.parent
 # The minimum number of faults.
-LEAST = 168
+LEAST = 169
 COPIED = ["*.md", "crates.txt", ".ci", "bench", "c", "compare", "crates", "docs", "explorer", "rust"]
 
 # A file, a part of it (`None`: its end, also of a new file), the replacement, and the text that must be printed.
@@ -117,6 +117,8 @@ PLANTS = [
     ("docs/DIFFERENCES.md", "| `numeral` | `read_numeral` |", "| `numeral` | `planted` |",
      "docs/DIFFERENCES.md: not public in numeral: planted"),
     ("docs/DIFFERENCES.md", " others ", " other ", "docs/DIFFERENCES.md: there are "),
+    ("docs/CALLING.md", "[read.rt](../crates/callers/src/read.rt)", "[read.rt](../crates/callers/src/lib.rt)",
+     "docs/CALLING.md: ../crates/callers/src/lib.rt: has none of char_to_digit, mantissa_radix"),
     ("crates/lexical_base/must-fail/planted", None, "",
      "crates/lexical_base/must-fail/planted: not tried, it does not end in .edit"),
     ("docs/check.py", "LEAST_TESTS = ", "LEAST_TESTS = 99, 9999 #", " must-fail edits, fewer than before"),
