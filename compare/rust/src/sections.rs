@@ -29,31 +29,25 @@ pub fn tasks(seed: u64, scale: u64) -> Vec<Task> {
             Box::new(move |tally| bits_turned(base).for_each(|word| whole_word(tally, word, base))),
         );
     }
-    for part in 0..8 {
-        let seed = seed + 100 + part;
+    for seed in seed + 100..seed + 108 {
         add("reserved bits", Box::new(move |tally| reserved_bits(tally, &mut Random::new(seed))));
     }
     for radix in [2, 10, 11, 16, 24, 36] {
         add("punctuation bytes", Box::new(move |tally| punctuation(tally, radix)));
     }
-    for part in 0..8 * scale {
-        let seed = seed + 200 + part;
+    for seed in seed + 200..seed + 200 + 8 * scale {
         add("random words", Box::new(move |tally| random_words(tally, &mut Random::new(seed))));
     }
-    for part in 0..8 {
-        let seed = seed + 300 + part;
+    for seed in seed + 300..seed + 308 {
         add("masked radixes", Box::new(move |tally| masked(tally, &mut Random::new(seed))));
     }
-    for part in 0..8 {
-        let seed = seed + 400 + part;
+    for seed in seed + 400..seed + 408 {
         add("options", Box::new(move |tally| options(tally, &mut Random::new(seed))));
     }
-    for part in 0..8 * scale {
-        let seed = seed + 500 + part;
+    for seed in seed + 500..seed + 500 + 8 * scale {
         add("builders", Box::new(move |tally| builders(tally, &mut Random::new(seed))));
     }
-    for part in 0..8 * scale {
-        let seed = seed + 600 + part;
+    for seed in seed + 600..seed + 600 + 8 * scale {
         add("edits", Box::new(move |tally| edits(tally, &mut Random::new(seed))));
     }
     tasks
