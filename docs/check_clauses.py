@@ -30,7 +30,7 @@ PARTIAL = {
 BRACKETS = r"\((`\w+`(?:, `\w+`)*)\)"
 LIBRARIES = ["lexical_base", "lexical_flags", "lexical_builder", "lexical_util"]
 # Functions with clauses in no row: examples, the method of a trait that callers implement, texts of private types.
-UNTOLD = re.compile(r"\w+::(\w+_examples|put)|(Described|Numbered)::fmt")
+UNTOLD = re.compile(r"\w+::(\w+_examples|put)|(Described|Numbered)::fmt|Piece::put_into")
 
 
 def functions():
