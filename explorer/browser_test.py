@@ -646,6 +646,86 @@ def all_controls_have_names(page):
     same(page.run(unnamed), [])
 
 
+def borders_and_gaps_are_those_of_the_kind_of_element(page):
+    read = """const style = getComputedStyle(document.querySelector(arguments[0]));
+        const names = ["margin", "borderWidth", "borderRadius", "padding", "gap"];
+        return names.map((it) => style[it].replace(/\\b0px|normal/g, "0")).join("; ")"""
+    large = {
+        "body": "0; 0; 0; 0; 0",
+        "header": "0; 0 0 1px; 0; 8px 16px; 8px 12px",
+        "footer": "0; 0; 0; 8px 16px; 0",
+        "main": "0; 0; 0; 12px 16px; 0",
+        "code": "0; 0; 3px; 0 3px; 0",
+        "h3": "12px 0 0; 0; 0; 0; 0",
+        "#recipe": "0; 1px; 5px; 3px 8px; 0",
+        "#word": "0; 1px; 5px; 3px 8px; 0",
+        "#standard": "0; 1px; 5px; 3px 8px; 0",
+        "#as-numbers": "0; 0; 0; 0; 0",
+        ".panel": "0 0 12px; 1px; 8px; 10px 14px; 0",
+        ".line": "0 0 8px; 0; 0; 0; 6px 12px",
+        ".bar": "0; 0 0 1px; 0; 6px 16px; 4px 12px",
+        "#to-report": "0; 0; 5px; 0; 0",
+        ".pictures": "6px 0 0; 0; 0; 0; 8px 24px",
+        ".columns": "0; 0; 0; 0; 12px",
+        ".row": "0 0 3px; 0; 0; 0; 4px",
+        ".cells": "0; 0 1px 0 0; 0; 0; 0",
+        ".bit:not(.edge, .flag)": "0; 1px 0; 0; 0; 0",
+        ".bit.edge:not(.flag)": "0; 1px 0 1px 1px; 0; 0; 0",
+        ".bit.flag:not(.edge)": "0; 1px 0 1px 1px; 0; 0; 0",
+        "#hint": "4px 0 0; 0; 0; 0; 0",
+        "#number": "0; 0; 0; 0; 6px 2px",
+        "#special": "0; 0; 0; 0; 6px 2px",
+        ".numbers": "0; 0; 0; 0; 6px 16px",
+        ".part": "0; 0; 5px; 2px 5px; 0",
+        ".part .title": "0; 2px 0 0; 0; 2px 0 0; 0",
+        ".dot": "0 7px 0 0; 0; 2px; 0; 0",
+        ".byte-row": "0; 0; 4px; 2px 6px; 2px 8px",
+        ".flag-row": "0; 0; 4px; 2px 6px; 2px 8px",
+        "#options": "6px 6px 0; 0; 0; 0; 0",
+        "fieldset": "6px 0 0; 1px 0 0; 0; 4px 0 0; 0",
+        "legend": "0; 0; 0; 0 6px 0 0; 0",
+        "th": "0; 0 0 1px; 4px; 3px 6px; 0",
+        "td": "0; 0 0 1px; 4px; 3px 6px; 0",
+        "#separators": "6px 0; 0; 0; 0; 0",
+        "#separators label": "0; 0; 0; 0; 6px",
+        "#reasons": "6px 0 0; 0; 0; 0; 0",
+        "#notes": "6px 0 0; 0; 0; 0; 0",
+        ".reason": "0 0 8px; 0 0 0 3px; 0 5px 5px 0; 6px 10px; 0",
+        ".note": "0 0 8px; 0 0 0 3px; 0; 4px 10px; 0",
+        ".reason p": "4px 0 0; 0; 0; 0; 4px 6px",
+        ".note p": "4px 0 0; 0; 0; 0; 4px 6px",
+        ".mend": "0; 1px; 5px; 1px 7px; 0",
+        ".link": "0; 1px; 5px; 1px 7px; 0",
+        "#changes": "0; 0; 0; 0; 4px 6px",
+        ".chip": "0; 1px; 5px; 0 0 0 5px; 0",
+        ".undo": "0; 0; 5px; 0 5px; 0",
+        "pre": "0; 0; 5px; 10px 12px; 0",
+        "[role=tablist]": "0; 0; 0; 0; 2px",
+        "[role=tab]": "0; 0 0 2px; 0; 3px 8px; 0",
+    }
+    phone = {
+        "header": "0; 0 0 1px; 0; 8px; 8px 12px",
+        "main": "0; 0; 0; 8px; 0",
+        ".bar": "0; 0 0 1px; 0; 8px; 4px 12px",
+        ".recipe": "0; 0; 0; 0; 8px",
+        ".panel": "0 0 12px; 1px; 8px; 8px; 0",
+        ".byte-row .meaning": "0 0 0 15px; 0; 0; 0; 0",
+        ".flag-row .meaning": "0 0 0 22px; 0; 0; 0; 0",
+        ".part": "0; 0; 5px; 2px 3px; 0",
+        "th": "0; 0 0 1px; 4px; 3px 2px; 0",
+        "td": "0; 0 0 1px; 4px; 3px 2px; 0",
+        "#separators label": "0; 0; 0; 0; 2px",
+        "#recipe-settings li": "3px 0 0; 0; 0; 0; 0",
+    }
+    for size, rows in ((LARGE, large), (PHONE, phone)):
+        page.show(size)
+        page.load("#word=0x0A0A10006200005F00000007800344CC&exponent=112&point=46")
+        if size == PHONE:
+            Select(page.find("#recipe")).select_by_value("JSON")
+        for selector, wanted in rows.items():
+            same((selector, page.run(read, selector)), (selector, wanted))
+
+
 def it_fits_a_phone_and_a_dark_screen(page):
     page.show(PHONE, "dark")
     page.load("#word=0x0A0A10006200005F000000070001400C&exponent=112&point=46")
