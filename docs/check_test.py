@@ -11,7 +11,7 @@ import tempfile
 
 TOP = pathlib.Path(__file__).resolve().parent.parent
 # The minimum number of faults.
-LEAST = 169
+LEAST = 170
 COPIED = ["*.md", "crates.txt", ".ci", "bench", "c", "compare", "crates", "docs", "explorer", "rust"]
 
 # A file, a part of it (`None`: its end, also of a new file), the replacement, and the text that must be printed.
@@ -167,6 +167,8 @@ PLANTS = [
     ("c/peltzivar.py", "    NO_SPECIAL = 10\n", "    NO_SPECIAL = 9\n", "peltzivar.py: Setter differs from the sources"),
     ("crates/lexical_base/specs/Outcomes.antt", None, "rank_of outcomes.Planted = 99\n", " setters and 50 outcomes are named"),
     (DIGITS, None, "pub planted : ℕ\nplanted = planted_name\n", "lexical_base.Digits.planted: what is planted_name?"),
+    # A type of the program, which a file of definitions must import.
+    (DIGITS, None, "pub planted_of : ℕ\nplanted_of = NumberFormat\n", "lexical_base.Digits.planted_of: what is NumberFormat?"),
     (DIGITS, None, "use Rattle.one.{planted_at}\nuse Rattle.two.{planted_at}\n\npub planted_in : ℕ\nplanted_in = planted_at\n",
      "lexical_base.Digits.planted_in: what is two.specs.paths.planted_at?"),
     (f"{SPECS}/Additions/Planted.antt", None, "-- Planted.\n\npub planted : ℕ\nplanted = 1\n",
