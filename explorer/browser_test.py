@@ -733,6 +733,10 @@ def it_fits_a_phone_and_a_dark_screen(page):
     same(page.find("meta[name=viewport]").get_attribute("content"), "width=device-width, initial-scale=1")
     places = "return [...document.querySelectorAll('.column')].map((it) => it.getBoundingClientRect().top)"
     same(len({*page.run(places)}), 2)
+    # The rows of the bar are near each other, and do not touch.
+    apart = """const place = (it) => document.querySelector(it).getBoundingClientRect();
+        return place("#word").top - place("#word-title").bottom"""
+    same(0 < page.run(apart) < 8, True)
     near = """return [...document.querySelectorAll("header *, main *, footer *")].map((it) => it.getBoundingClientRect()).filter(
         (it) => it.width > 1 && (it.left < 8 || it.right > innerWidth - 8)).length"""
     same(page.run(near), 0)

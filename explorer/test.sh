@@ -187,7 +187,7 @@ python_code() {
 # cores.
 browser() {
     [ "$lacking" ] || rm -rf out
-    counts 282 "$python" ./browser_test.py out
+    counts 283 "$python" ./browser_test.py out
     if [ -e out/times.txt ]; then cat out/times.txt; fi
     if grep -q busy out/times.txt; then lacks 'an idle core'; else here[an idle core]=yes; fi
     needing 'an idle core' passes grep 'first paint' out/times.txt
