@@ -296,7 +296,7 @@ wrong() {
     tried=$((tried + 1))
     [[ $(tail -n 2 <<< "$got") =~ ^"$2 passed, "([0-9]+)$' failed, 0 skipped\nstatus 1'$ ]] &&
         [ "${BASH_REMATCH[1]}" -ge "$3" ] && passed=$((passed + 1)) && return
-    printf '%s/built-program-test.sh, over %s: not %s passed, %s failed\n%s\n' "$1" "$4" "$2" "$3" "$got"
+    printf '%s/built-program-test.sh, over %s: not %s passed, %s failed\n%s\n' "$1" "$4" "$2" "$3" "$(tail -n 5 <<< "$got")"
 }
 
 # The copies require no number of rows. Their every_word.py has one run, with another status than the program ends with.
@@ -315,7 +315,7 @@ for crate in numfmt recorded; do
     chmod +x "$copy/crates/$crate"/{built-program-test.sh,out/"$crate"}
 done
 if command -v cc > /dev/null; then
-    wrong numfmt 24 234 'echo wrong'
+    wrong numfmt 25 234 'echo wrong'
 else
     echo 'skipped: cc'
     tried=$((tried + 1)) passed=$((passed + 1))

@@ -253,11 +253,11 @@ def tables_after(folder, arguments):
 
 def counted(folder):
     """Returns the counts of the last line of docs/check.py, counted here in another way."""
-    pages = [folder / name for name in ("README.md", "CONTRIBUTING.md", "CHANGELOG.md")] + [*(folder / "docs").glob("*.md")]
+    pages = [*folder.glob("*.md"), *(folder / "docs").glob("*.md")]
     lines = [line for page in pages for line in page.read_text().splitlines()]
     transcripts = sum(line.startswith("    $ ") for line in lines)
     blocks = sum(line in ("```rust", "```antt", "```c", "```python", "```toml") for line in lines)
-    words = len((folder / "README.md").read_text().split())
+    words = sum(len(page.read_text().split()) for page in folder.glob("README.md"))
     return f"{len(lines)} lines of pages, {words} words of README, {transcripts} transcripts, {blocks} blocks of code, "
 
 
