@@ -318,7 +318,7 @@ prints 0 "note: $rust/Cargo.toml does not have version 1.0.7
 needing cargo driver
 # names.py read the list from lexical-util 1.0.7. The plain Rust lacks the ready-made formats, so it cannot check them.
 prints 0 "3904300450 34807 names.txt" cksum names.txt
-needing python3 prints 0 "549 names of 7 modules" bash -c './names.py 2>&1 > /dev/null | tail -n 1'
+needing python3 prints 0 "549 names of 7 modules" bash -c 'env -u UPSTREAM ./names.py 2>&1 > /dev/null | tail -n 1'
 needing python3 prints 0 "$listed" lists
 mkdir -p "$top/names"
 echo 'version = "1.0.70"' > "$top/names/Cargo.toml"
