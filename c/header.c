@@ -41,6 +41,16 @@ static void test_constants(void) {
     CHECK(peltzivar_version() == PELTZIVAR_VERSION_NUMBER);
 }
 
+/* The bytes are the numbers from 1 to 6, in their order. */
+static void check_bytes(peltzivar_fields fields) {
+    CHECK(fields.digit_separator == 1);
+    CHECK(fields.base_prefix == 2);
+    CHECK(fields.base_suffix == 3);
+    CHECK(fields.mantissa_radix == 4);
+    CHECK(fields.exponent_base == 5);
+    CHECK(fields.exponent_radix == 6);
+}
+
 /* Each byte and each flag of the fields is at its bits in the word. */
 static void test_fields(void) {
     const peltzivar_edit edits[] = {
@@ -50,12 +60,7 @@ static void test_fields(void) {
     };
     peltzivar_fields fields = PELTZIVAR_NEW_FIELDS;
     CHECK(peltzivar_edit_fields(&fields, edits, 7));
-    CHECK(fields.digit_separator == 1);
-    CHECK(fields.base_prefix == 2);
-    CHECK(fields.base_suffix == 3);
-    CHECK(fields.mantissa_radix == 4);
-    CHECK(fields.exponent_base == 5);
-    CHECK(fields.exponent_radix == 6);
+    check_bytes(fields);
     CHECK(fields.flags == (0xC | 1u << PELTZIVAR_SET_SPECIAL_DIGIT_SEPARATOR));
     CHECK(is_word(peltzivar_pack(&fields), 0x0605040302000001, 0x0000100000000000 | 0xC));
     fields.flags |= (uint32_t)(~0ull << PELTZIVAR_SET_REQUIRED_DIGITS);
@@ -69,12 +74,7 @@ static void test_fields(void) {
     CHECK(!peltzivar_build(&fields, unknown, 2, &word));
     CHECK(is_word(word, 0x0605040302000001, 0x0000100000000000 | 0xC));
     CHECK(!peltzivar_edit_fields(&fields, unknown, 2));
-    CHECK(fields.digit_separator == 1);
-    CHECK(fields.base_prefix == 2);
-    CHECK(fields.base_suffix == 3);
-    CHECK(fields.mantissa_radix == 4);
-    CHECK(fields.exponent_base == 5);
-    CHECK(fields.exponent_radix == 6);
+    check_bytes(fields);
     CHECK(fields.flags >> 31);
     CHECK(is_word(peltzivar_pack(&fields), 0x0605040302000001, 0x0000100000000000 | 0xC));
     const uint8_t separators = PELTZIVAR_SET_INTEGER_INTERNAL_DIGIT_SEPARATOR;
