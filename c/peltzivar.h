@@ -17,8 +17,8 @@
  * An argument that is a word, an edit, a number or a byte may have any value. A pointer that is passed with a length
  * must point to an array of at least that many elements, but it may be null if the length is 0. Any other pointer must
  * point to an object of the declared type, or to an array of at least the declared size. All input must be initialised.
- * This includes *fields in peltzivar_edit_fields, since *fields is both input and output. Memory that a function only
- * writes to need not be initialised. Memory that a function writes to must not overlap memory to which another argument
+ * This includes *fields in peltzivar_edit_fields, since *fields is both input and output. Memory that is only
+ * output need not be initialised. Memory that a function writes to must not overlap memory to which another argument
  * points. No function allocates memory, retains a pointer or sets errno. Several threads may call these functions
  * at the same time, provided that no call writes to memory that another call reads or writes to.
  *
@@ -75,8 +75,8 @@ typedef struct {
     uint64_t low, high;
 } peltzivar_word;
 
-/* A peltzivar_fields holds the fields of a format in unpacked form. Bit n of `flags` is the flag that flag setter n
- * writes. The other bits of `flags` are ignored on input and are 0 on output. */
+/* A peltzivar_fields holds the fields of a format in unpacked form. Bit n of `flags` is the flag whose setter has
+ * number n. The other bits of `flags` are ignored on input and are 0 on output. */
 typedef struct {
     uint32_t flags;
     uint8_t digit_separator;

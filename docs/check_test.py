@@ -87,7 +87,7 @@ PLANTS = [
     (FORMAT, "unless flag 16 is", "unless flag 17 is", "docs/FORMAT.md: does not have: If the base prefix is a letter,"),
     (FORMAT, "exit status is 0", "exit status is 4", "docs/FORMAT.md: does not have: The exit status is 0 on success,"),
     (FORMAT, "for a negative answer", "for another answer", "docs/FORMAT.md: does not have: 1 for a negative answer:"),
-    (FORMAT, "and 3 if", "and 4 if", "docs/FORMAT.md: does not have: 3 if a write fails"),
+    (FORMAT, "3 if a write fails", "4 if a write fails", "docs/FORMAT.md: does not have: 3 if a write fails"),
     *((f"rust/src/{it}.rs", "a parser rejects `.`.", "a parser rejects `,`.",
        f"docs/FORMAT.md: rust/src/{it}.rs: the comment of `required_mantissa_digits` does not have: rejects `.`")
       for it in PLAIN),

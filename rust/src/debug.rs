@@ -32,7 +32,7 @@ fn number(byte: OptionU8) -> u8 {
     byte.map_or(0, |byte| byte.get())
 }
 
-/// Writes a struct with the word `word` and with the fields of the word `fields`.
+/// Writes a struct with `word` and with the fields that are stored in `fields`.
 fn write(f: &mut fmt::Formatter<'_>, name: &str, word: u128, fields: u128) -> fmt::Result {
     let mut text = f.debug_struct(name);
     text.field("word", &format_args!("{word:#034X}"));

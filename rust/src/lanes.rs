@@ -90,8 +90,7 @@ impl<const N: usize> Mask<N> {
 mod tests {
     use super::Simd;
 
-    /// Each operation on each pair of bytes, in the last of three lanes, is compared with the same operation on
-    /// numbers.
+    /// Compares each operation on each pair of bytes, in the last of three lanes, with the same operation on integers.
     #[test]
     fn each_pair_of_bytes() {
         for a in 0..=255u8 {
