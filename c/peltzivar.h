@@ -540,8 +540,8 @@ PELTZIVAR_API size_t peltzivar_text(peltzivar_error error, size_t index, char *t
  * empty if and only if the word satisfies the rule or `rule` is not the number of a rule. */
 PELTZIVAR_API size_t peltzivar_reason(peltzivar_word format, uint8_t rule, uint8_t index, char *text, size_t len);
 
-/* Writes the reason in a slot of a word, such as "no_special and case_sensitive_special cannot both be set". The index
- * of the slot is between 0 and PELTZIVAR_CANDIDATE_COUNT - 1. The string is empty if the slot is empty. Try every
+/* Writes the reason from a slot of a word, such as "no_special and case_sensitive_special cannot both be set". The
+ * index of the slot is between 0 and PELTZIVAR_CANDIDATE_COUNT - 1. The string is empty if the slot is empty. Try every
  * index, since any slot may be empty. No two slots hold the same reason. The reasons are in the order of the rules that
  * peltzivar_word_reason_rule returns for them. */
 PELTZIVAR_API size_t peltzivar_word_reason(peltzivar_word format, uint8_t index, char *text, size_t len);
