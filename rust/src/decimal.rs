@@ -48,7 +48,7 @@ impl Decimal {
 mod tests {
     use super::Decimal;
 
-    /// The digits are parsed to the number, and they have no leading zeros.
+    /// The digits represent the number, and they have no leading zeros.
     #[test]
     fn digits_are_parsed_to_the_number() {
         let powers = (0..20).map(|power| 10usize.saturating_pow(power));
