@@ -490,8 +490,8 @@ PELTZIVAR_API bool peltzivar_char_is_digit(uint8_t byte, uint32_t radix);
  * more. */
 PELTZIVAR_API uint8_t peltzivar_digit_to_char(uint32_t digit);
 
-/* This library is a port of lexical-util, a Rust crate. In lexical-util, the radix of these functions is a compile-time
- * constant. peltzivar_char_to_digit_const returns the same result as peltzivar_char_to_digit, and
+/* This library is a port of lexical-util, a Rust crate. In lexical-util, the radix of the _const functions is a
+ * compile-time constant. peltzivar_char_to_digit_const returns the same result as peltzivar_char_to_digit, and
  * peltzivar_char_is_digit_const returns the same result as peltzivar_char_is_digit. peltzivar_char_to_valid_digit_const
  * returns the value of a byte that is a digit in the radix, and an unspecified number for any other byte.
  * peltzivar_digit_to_char_const returns PELTZIVAR_NO_CHAR if the digit is 36 or more. For a smaller digit, it returns
