@@ -345,9 +345,9 @@ PELTZIVAR_API bool peltzivar_is_built(peltzivar_word format);
 
 /* Fills the array with one edit for each field of a word. The edits of fields in which the word differs from
  * PELTZIVAR_NEW_FIELDS come first. Returns the number of these edits. Applying only these edits to a copy of
- * PELTZIVAR_NEW_FIELDS gives the copy the fields of the word. For an absent exponent byte, the value of the edit is 0,
- * not the mantissa radix. If peltzivar_is_built returns true for the word, packing the copy gives the word, and any
- * shorter list of edits with this result uses a group setter. */
+ * PELTZIVAR_NEW_FIELDS yields the fields of the word. For an absent exponent byte, the value of the edit is 0, not the
+ * mantissa radix. If peltzivar_is_built returns true for the word, packing the copy gives the word, and any shorter
+ * list of edits with this result uses a group setter. */
 PELTZIVAR_API size_t peltzivar_edits_of(peltzivar_word format, peltzivar_edit edits[PELTZIVAR_FIELD_COUNT]);
 
 /* RULES */
