@@ -278,7 +278,7 @@ class Comments:
                 self.used.add(phrase)
                 text = text.replace(phrase, new)
         text = re.sub(r"(.*)\[(flag|group)\]\[(.*?)(\w+)\](.*)", self.pointed, text)
-        text = re.sub(r"^Returns the flag of \[`Self::(\w+)`\]\.$", lambda it: self.getter(it[1], "Self::"), text)
+        text = re.sub(r"^Returns the flag that \[`Self::(\w+)`\] sets\.$", lambda it: self.getter(it[1], "Self::"), text)
         text = re.sub(r"^`(\w+)`$", lambda it: self.variant(it[1]), text)
         if text == old:
             return lines

@@ -1,5 +1,5 @@
 -- Two lists that represent a record, as the `impl Model` of the builder requires. Different records have different
--- lists. They do not affect which value a builder has in a clause. No contract cites them.
+-- lists. The lists do not affect what a builder means in a clause. No contract cites them.
 use Rattle.std.specs.Prelude.{◌≡◌, ℕ, Bool, false, refl, List, map, slice_index_or}
 use Rattle.std.specs.Coded.{Coded, code_by, coded×, coded_bool, coded_list, coded_ℕ}
 use Rattle.lexical_flags.specs.Layout.{Flag, Byte, flags, bytes}

@@ -5,7 +5,7 @@ ghost use Rattle.lexical_util.specs.declared.error.Error.TheVariants as errors;
 ghost use Rattle.lexical_c.specs.Outcomes.{IsCodeOfSome, IsWrittenIfLawful};
 ghost use Rattle.lexical_c.specs.Texts.{IsWritten};
 
-/// States the number of `Success`, and the result of writing a string to a buffer.
+/// States that the number of `Success` is 0, and what writing a string to a buffer that is too short does.
 pub fn returned_examples()
     ensures success { IsCodeOfSome (λ error. error ≡ errors.Success) 0 }
     ensures other_number { IsCodeOfSome (λ error. error ≡ errors.Success) 48 → ⊥ }

@@ -38,8 +38,8 @@ pub extern "C" fn peltzivar_reason(format: Word, rule: u8, index: u8, text: &mut
     }
 }
 
-/// Writes the reason in a slot of a word. There are 24 slots, with the indices 0 to 23. Writes an empty string if the
-/// slot is empty.
+/// Writes the text of the reason in a slot. A word has 24 slots, with the indices 0 to 23. The text of an empty slot is
+/// empty.
 #[unsafe(no_mangle)]
 pub extern "C" fn peltzivar_word_reason(format: Word, index: u8, text: &mut [u8]) -> usize
     ensures text { IfSome (word_reason_at format index) (λ reason. IsWritten (reason_text reason) result text.old text.new) }
@@ -116,9 +116,9 @@ pub extern "C" fn peltzivar_word_reason_mend(
     count
 }
 
-/// Writes the note in a slot for notes on fields. There are three slots, with the indices 0 to 2. Writes an empty
-/// string if the slot is empty. This function takes fields rather than a word, since packing drops a digit
-/// separator that no flag allows.
+/// Writes the text of the note in a slot. Fields have three slots, with the indices 0 to 2. Writes an empty string if
+/// the slot is empty. This function takes fields rather than a word, since packing drops a digit separator that no flag
+/// allows.
 #[unsafe(no_mangle)]
 pub extern "C" fn peltzivar_note(fields: &Fields, index: u8, text: &mut [u8]) -> usize
     ensures text { IfSome (note_at (fields_of fields.now) index)

@@ -39,7 +39,7 @@ pub fn write_short_text(sentence: &ShortText, out: &mut [u8]) -> usize
     whole.write_to(out)
 }
 
-/// Writes to `out` the text that `Display` prints for an error, in the same way as [`write_text`].
+/// Writes an error, as `Display` prints it, to `out` in the same way as [`write_text`].
 pub fn write_error(error: Error, out: &mut [u8]) -> usize
     ensures { IsWritten (printed_text error) result out.old out.new }
 {

@@ -1,4 +1,4 @@
--- The bits that are 1 in both of two words, for `radix_from_flags` and the flag groups of a word.
+-- The bitwise AND of two words, for `radix_from_flags` and the flag groups of a word.
 use Rattle.std.specs.Prelude.{ℕ, ◌^◌, ◌==◌, ◌&&◌, Bool, if◌then◌else◌, sum_by}
 use Rattle.std.specs.List.{range_with_len}
 use Rattle.lexical_flags.specs.Layout.{part}

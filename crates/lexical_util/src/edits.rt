@@ -263,8 +263,8 @@ const fn mask_of(setter: FlagSetter) -> u64
 /// Applies `edits` in order to `builder`, and returns the new builder.
 ///
 /// To build a new format, apply the edits to a new builder, and call
-/// [`build_strict`][NumberFormatBuilder::build_strict]. If no edit sets the exponent base or the exponent radix, the
-/// mantissa radix is used in its place.
+/// [`build_strict`][NumberFormatBuilder::build_strict]. For an exponent base or exponent radix that no edit sets, the
+/// mantissa radix is used.
 #[inline(always)]
 pub const fn apply_all(mut builder: NumberFormatBuilder, edits: &[Edit]) -> NumberFormatBuilder
     ensures fields { result ≡ after builder (all_writes edits.now) }

@@ -8,8 +8,7 @@ use std::fmt;
 /// A target into which text is put, piece by piece, such as a formatter or a buffer of your own.
 ///
 /// Each implementation defines how a piece changes the sink, and what it means for the sink to have failed. A caller
-/// knows that a sink has failed only after a call to [`Sink::put`] that returned an error, and only until the next
-/// call.
+/// knows that a sink has failed only between a call to [`Sink::put`] that returned an error and the next call.
 pub trait Sink {
     // Relates the sink before a successful call to `put`, the bytes of the piece, and the sink after the call.
     ghost takes: { Self → List ℕ → Self → Type 0 };

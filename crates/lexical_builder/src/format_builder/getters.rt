@@ -63,7 +63,7 @@ impl NumberFormatBuilder {
         NonZeroU8::new(self.bytes[BASE_SUFFIX])
     }
 
-    /// Returns the flag of [`Self::required_integer_digits`].
+    /// Returns the flag that [`Self::required_integer_digits`] sets.
     #[inline(always)]
     pub const fn get_required_integer_digits(&self) -> bool
         ensures { result ≡ self.now.flag layout.required_integer_digits }
@@ -71,7 +71,7 @@ impl NumberFormatBuilder {
         self.has_flag(flags::REQUIRED_INTEGER_DIGITS)
     }
 
-    /// Returns the flag of [`Self::required_fraction_digits`].
+    /// Returns the flag that [`Self::required_fraction_digits`] sets.
     #[inline(always)]
     pub const fn get_required_fraction_digits(&self) -> bool
         ensures { result ≡ self.now.flag layout.required_fraction_digits }
@@ -79,7 +79,7 @@ impl NumberFormatBuilder {
         self.has_flag(flags::REQUIRED_FRACTION_DIGITS)
     }
 
-    /// Returns the flag of [`Self::required_exponent_digits`].
+    /// Returns the flag that [`Self::required_exponent_digits`] sets.
     #[inline(always)]
     pub const fn get_required_exponent_digits(&self) -> bool
         ensures { result ≡ self.now.flag layout.required_exponent_digits }
@@ -87,7 +87,7 @@ impl NumberFormatBuilder {
         self.has_flag(flags::REQUIRED_EXPONENT_DIGITS)
     }
 
-    /// Returns the flag of [`Self::required_mantissa_digits`].
+    /// Returns the flag that [`Self::required_mantissa_digits`] sets.
     #[inline(always)]
     pub const fn get_required_mantissa_digits(&self) -> bool
         ensures { result ≡ self.now.flag layout.required_mantissa_digits }
@@ -95,7 +95,7 @@ impl NumberFormatBuilder {
         self.has_flag(flags::REQUIRED_MANTISSA_DIGITS)
     }
 
-    /// Returns the flag of [`Self::no_positive_mantissa_sign`].
+    /// Returns the flag that [`Self::no_positive_mantissa_sign`] sets.
     #[inline(always)]
     pub const fn get_no_positive_mantissa_sign(&self) -> bool
         ensures { result ≡ self.now.flag layout.no_positive_mantissa_sign }
@@ -103,7 +103,7 @@ impl NumberFormatBuilder {
         self.has_flag(flags::NO_POSITIVE_MANTISSA_SIGN)
     }
 
-    /// Returns the flag of [`Self::required_mantissa_sign`].
+    /// Returns the flag that [`Self::required_mantissa_sign`] sets.
     #[inline(always)]
     pub const fn get_required_mantissa_sign(&self) -> bool
         ensures { result ≡ self.now.flag layout.required_mantissa_sign }
@@ -111,7 +111,7 @@ impl NumberFormatBuilder {
         self.has_flag(flags::REQUIRED_MANTISSA_SIGN)
     }
 
-    /// Returns the flag of [`Self::no_exponent_notation`].
+    /// Returns the flag that [`Self::no_exponent_notation`] sets.
     #[inline(always)]
     pub const fn get_no_exponent_notation(&self) -> bool
         ensures { result ≡ self.now.flag layout.no_exponent_notation }
@@ -119,7 +119,7 @@ impl NumberFormatBuilder {
         self.has_flag(flags::NO_EXPONENT_NOTATION)
     }
 
-    /// Returns the flag of [`Self::no_positive_exponent_sign`].
+    /// Returns the flag that [`Self::no_positive_exponent_sign`] sets.
     #[inline(always)]
     pub const fn get_no_positive_exponent_sign(&self) -> bool
         ensures { result ≡ self.now.flag layout.no_positive_exponent_sign }
@@ -127,7 +127,7 @@ impl NumberFormatBuilder {
         self.has_flag(flags::NO_POSITIVE_EXPONENT_SIGN)
     }
 
-    /// Returns the flag of [`Self::required_exponent_sign`].
+    /// Returns the flag that [`Self::required_exponent_sign`] sets.
     #[inline(always)]
     pub const fn get_required_exponent_sign(&self) -> bool
         ensures { result ≡ self.now.flag layout.required_exponent_sign }
@@ -135,7 +135,7 @@ impl NumberFormatBuilder {
         self.has_flag(flags::REQUIRED_EXPONENT_SIGN)
     }
 
-    /// Returns the flag of [`Self::no_exponent_without_fraction`].
+    /// Returns the flag that [`Self::no_exponent_without_fraction`] sets.
     #[inline(always)]
     pub const fn get_no_exponent_without_fraction(&self) -> bool
         ensures { result ≡ self.now.flag layout.no_exponent_without_fraction }
@@ -143,7 +143,7 @@ impl NumberFormatBuilder {
         self.has_flag(flags::NO_EXPONENT_WITHOUT_FRACTION)
     }
 
-    /// Returns the flag of [`Self::no_special`].
+    /// Returns the flag that [`Self::no_special`] sets.
     #[inline(always)]
     pub const fn get_no_special(&self) -> bool
         ensures { result ≡ self.now.flag layout.no_special }
@@ -151,7 +151,7 @@ impl NumberFormatBuilder {
         self.has_flag(flags::NO_SPECIAL)
     }
 
-    /// Returns the flag of [`Self::case_sensitive_special`].
+    /// Returns the flag that [`Self::case_sensitive_special`] sets.
     #[inline(always)]
     pub const fn get_case_sensitive_special(&self) -> bool
         ensures { result ≡ self.now.flag layout.case_sensitive_special }
@@ -159,7 +159,7 @@ impl NumberFormatBuilder {
         self.has_flag(flags::CASE_SENSITIVE_SPECIAL)
     }
 
-    /// Returns the flag of [`Self::no_integer_leading_zeros`].
+    /// Returns the flag that [`Self::no_integer_leading_zeros`] sets.
     #[inline(always)]
     pub const fn get_no_integer_leading_zeros(&self) -> bool
         ensures { result ≡ self.now.flag layout.no_integer_leading_zeros }
@@ -167,7 +167,7 @@ impl NumberFormatBuilder {
         self.has_flag(flags::NO_INTEGER_LEADING_ZEROS)
     }
 
-    /// Returns the flag of [`Self::no_float_leading_zeros`].
+    /// Returns the flag that [`Self::no_float_leading_zeros`] sets.
     #[inline(always)]
     pub const fn get_no_float_leading_zeros(&self) -> bool
         ensures { result ≡ self.now.flag layout.no_float_leading_zeros }
@@ -175,7 +175,7 @@ impl NumberFormatBuilder {
         self.has_flag(flags::NO_FLOAT_LEADING_ZEROS)
     }
 
-    /// Returns the flag of [`Self::required_exponent_notation`].
+    /// Returns the flag that [`Self::required_exponent_notation`] sets.
     #[inline(always)]
     pub const fn get_required_exponent_notation(&self) -> bool
         ensures { result ≡ self.now.flag layout.required_exponent_notation }
@@ -183,7 +183,7 @@ impl NumberFormatBuilder {
         self.has_flag(flags::REQUIRED_EXPONENT_NOTATION)
     }
 
-    /// Returns the flag of [`Self::case_sensitive_exponent`].
+    /// Returns the flag that [`Self::case_sensitive_exponent`] sets.
     #[inline(always)]
     pub const fn get_case_sensitive_exponent(&self) -> bool
         ensures { result ≡ self.now.flag layout.case_sensitive_exponent }
@@ -191,7 +191,7 @@ impl NumberFormatBuilder {
         self.has_flag(flags::CASE_SENSITIVE_EXPONENT)
     }
 
-    /// Returns the flag of [`Self::case_sensitive_base_prefix`].
+    /// Returns the flag that [`Self::case_sensitive_base_prefix`] sets.
     #[inline(always)]
     pub const fn get_case_sensitive_base_prefix(&self) -> bool
         ensures { result ≡ self.now.flag layout.case_sensitive_base_prefix }
@@ -199,7 +199,7 @@ impl NumberFormatBuilder {
         self.has_flag(flags::CASE_SENSITIVE_BASE_PREFIX)
     }
 
-    /// Returns the flag of [`Self::case_sensitive_base_suffix`].
+    /// Returns the flag that [`Self::case_sensitive_base_suffix`] sets.
     #[inline(always)]
     pub const fn get_case_sensitive_base_suffix(&self) -> bool
         ensures { result ≡ self.now.flag layout.case_sensitive_base_suffix }
@@ -207,7 +207,7 @@ impl NumberFormatBuilder {
         self.has_flag(flags::CASE_SENSITIVE_BASE_SUFFIX)
     }
 
-    /// Returns the flag of [`Self::integer_internal_digit_separator`].
+    /// Returns the flag that [`Self::integer_internal_digit_separator`] sets.
     #[inline(always)]
     pub const fn get_integer_internal_digit_separator(&self) -> bool
         ensures { result ≡ self.now.flag layout.integer_internal_digit_separator }
@@ -215,7 +215,7 @@ impl NumberFormatBuilder {
         self.has_flag(flags::INTEGER_INTERNAL_DIGIT_SEPARATOR)
     }
 
-    /// Returns the flag of [`Self::fraction_internal_digit_separator`].
+    /// Returns the flag that [`Self::fraction_internal_digit_separator`] sets.
     #[inline(always)]
     pub const fn get_fraction_internal_digit_separator(&self) -> bool
         ensures { result ≡ self.now.flag layout.fraction_internal_digit_separator }
@@ -223,7 +223,7 @@ impl NumberFormatBuilder {
         self.has_flag(flags::FRACTION_INTERNAL_DIGIT_SEPARATOR)
     }
 
-    /// Returns the flag of [`Self::exponent_internal_digit_separator`].
+    /// Returns the flag that [`Self::exponent_internal_digit_separator`] sets.
     #[inline(always)]
     pub const fn get_exponent_internal_digit_separator(&self) -> bool
         ensures { result ≡ self.now.flag layout.exponent_internal_digit_separator }
@@ -231,7 +231,7 @@ impl NumberFormatBuilder {
         self.has_flag(flags::EXPONENT_INTERNAL_DIGIT_SEPARATOR)
     }
 
-    /// Returns the flag of [`Self::integer_leading_digit_separator`].
+    /// Returns the flag that [`Self::integer_leading_digit_separator`] sets.
     #[inline(always)]
     pub const fn get_integer_leading_digit_separator(&self) -> bool
         ensures { result ≡ self.now.flag layout.integer_leading_digit_separator }
@@ -239,7 +239,7 @@ impl NumberFormatBuilder {
         self.has_flag(flags::INTEGER_LEADING_DIGIT_SEPARATOR)
     }
 
-    /// Returns the flag of [`Self::fraction_leading_digit_separator`].
+    /// Returns the flag that [`Self::fraction_leading_digit_separator`] sets.
     #[inline(always)]
     pub const fn get_fraction_leading_digit_separator(&self) -> bool
         ensures { result ≡ self.now.flag layout.fraction_leading_digit_separator }
@@ -247,7 +247,7 @@ impl NumberFormatBuilder {
         self.has_flag(flags::FRACTION_LEADING_DIGIT_SEPARATOR)
     }
 
-    /// Returns the flag of [`Self::exponent_leading_digit_separator`].
+    /// Returns the flag that [`Self::exponent_leading_digit_separator`] sets.
     #[inline(always)]
     pub const fn get_exponent_leading_digit_separator(&self) -> bool
         ensures { result ≡ self.now.flag layout.exponent_leading_digit_separator }
@@ -255,7 +255,7 @@ impl NumberFormatBuilder {
         self.has_flag(flags::EXPONENT_LEADING_DIGIT_SEPARATOR)
     }
 
-    /// Returns the flag of [`Self::integer_trailing_digit_separator`].
+    /// Returns the flag that [`Self::integer_trailing_digit_separator`] sets.
     #[inline(always)]
     pub const fn get_integer_trailing_digit_separator(&self) -> bool
         ensures { result ≡ self.now.flag layout.integer_trailing_digit_separator }
@@ -263,7 +263,7 @@ impl NumberFormatBuilder {
         self.has_flag(flags::INTEGER_TRAILING_DIGIT_SEPARATOR)
     }
 
-    /// Returns the flag of [`Self::fraction_trailing_digit_separator`].
+    /// Returns the flag that [`Self::fraction_trailing_digit_separator`] sets.
     #[inline(always)]
     pub const fn get_fraction_trailing_digit_separator(&self) -> bool
         ensures { result ≡ self.now.flag layout.fraction_trailing_digit_separator }
@@ -271,7 +271,7 @@ impl NumberFormatBuilder {
         self.has_flag(flags::FRACTION_TRAILING_DIGIT_SEPARATOR)
     }
 
-    /// Returns the flag of [`Self::exponent_trailing_digit_separator`].
+    /// Returns the flag that [`Self::exponent_trailing_digit_separator`] sets.
     #[inline(always)]
     pub const fn get_exponent_trailing_digit_separator(&self) -> bool
         ensures { result ≡ self.now.flag layout.exponent_trailing_digit_separator }
@@ -279,7 +279,7 @@ impl NumberFormatBuilder {
         self.has_flag(flags::EXPONENT_TRAILING_DIGIT_SEPARATOR)
     }
 
-    /// Returns the flag of [`Self::integer_consecutive_digit_separator`].
+    /// Returns the flag that [`Self::integer_consecutive_digit_separator`] sets.
     #[inline(always)]
     pub const fn get_integer_consecutive_digit_separator(&self) -> bool
         ensures { result ≡ self.now.flag layout.integer_consecutive_digit_separator }
@@ -287,7 +287,7 @@ impl NumberFormatBuilder {
         self.has_flag(flags::INTEGER_CONSECUTIVE_DIGIT_SEPARATOR)
     }
 
-    /// Returns the flag of [`Self::fraction_consecutive_digit_separator`].
+    /// Returns the flag that [`Self::fraction_consecutive_digit_separator`] sets.
     #[inline(always)]
     pub const fn get_fraction_consecutive_digit_separator(&self) -> bool
         ensures { result ≡ self.now.flag layout.fraction_consecutive_digit_separator }
@@ -295,7 +295,7 @@ impl NumberFormatBuilder {
         self.has_flag(flags::FRACTION_CONSECUTIVE_DIGIT_SEPARATOR)
     }
 
-    /// Returns the flag of [`Self::exponent_consecutive_digit_separator`].
+    /// Returns the flag that [`Self::exponent_consecutive_digit_separator`] sets.
     #[inline(always)]
     pub const fn get_exponent_consecutive_digit_separator(&self) -> bool
         ensures { result ≡ self.now.flag layout.exponent_consecutive_digit_separator }
@@ -303,7 +303,7 @@ impl NumberFormatBuilder {
         self.has_flag(flags::EXPONENT_CONSECUTIVE_DIGIT_SEPARATOR)
     }
 
-    /// Returns the flag of [`Self::special_digit_separator`].
+    /// Returns the flag that [`Self::special_digit_separator`] sets.
     #[inline(always)]
     pub const fn get_special_digit_separator(&self) -> bool
         ensures { result ≡ self.now.flag layout.special_digit_separator }

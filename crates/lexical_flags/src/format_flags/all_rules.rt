@@ -34,13 +34,14 @@ pub enum Rule {
     BaseSuffixIsPunctuation,
     /// The digit separator, the base prefix and the base suffix all differ (see [`is_valid_punctuation`]).
     PunctuationDiffers,
-    /// Exponents are not both forbidden and required.
+    /// The flag that forbids exponents and the flag that requires them are not both set.
     ExponentFlagsAgree,
-    /// A sign before the mantissa is not required if `+` is forbidden there.
+    /// The flag that forbids `+` before the mantissa and the flag that requires a sign there are not both set.
     MantissaSignFlagsAgree,
-    /// A sign in the exponent is not required if `+` is forbidden there.
+    /// The flag that forbids `+` in the exponent and the flag that requires a sign there are not both set.
     ExponentSignFlagsAgree,
-    /// The flags that forbid special values (NaN and infinity) and make them case-sensitive are not both set.
+    /// The flag that forbids special values (NaN and infinity) and the flag that makes them case-sensitive are not both
+    /// set.
     SpecialCaseFlagsAgree,
     /// Digit separators are allowed in special values (NaN and infinity) only if special values are allowed.
     SpecialSeparatorFlagsAgree,

@@ -27,7 +27,7 @@ pub fn built_examples()
     ensures not_allowed { SeparatorAllowedOrAbsent (raw 0x00000A00_0000005F_00000000_0000000C) → ⊥ }
 {}
 
-/// States that some options fit a word without a prefix and a suffix, and that no options fit a word whose prefix and
+/// States that some options fit a word without a prefix or suffix, and that no options fit a word whose prefix and
 /// suffix are both `h`.
 pub fn room_examples()
     ensures room { SomeOptionsFit 0x0A0A0A00_00000000_00000000_0000000C }

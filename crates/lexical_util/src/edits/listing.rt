@@ -40,8 +40,8 @@ const fn is_separator_allowed_or_absent(format: u128) -> bool
 /// needed edits and the other edits are in the order of the bits that they write.
 ///
 /// A new builder to which the needed edits are applied has exactly the fields of `format`. This is also true if all
-/// edits are applied. If [`is_built`] returns `true` for `format`, this builder packs its fields into `format`. In this
-/// case, no list of single-field edits that is shorter than the list of needed edits builds `format`.
+/// edits are applied. If [`is_built`] returns `true` for `format`, this builder packs its fields into `format`, and a
+/// shorter list of edits builds `format` only if it contains an edit of a flag group.
 ///
 /// In plain Rust:
 ///

@@ -56,7 +56,7 @@ pub const SETTER_NAMES: [&str; SETTERS.len() + 7] = with_setters!(names());
 pub enum Argument {
     /// The value of a flag, or of every flag in a group.
     Flag(bool),
-    /// A byte that cannot be absent, which is a mantissa radix.
+    /// The mantissa radix, a byte that cannot be absent.
     Byte(u8),
     /// A byte that may be absent.
     OptionalByte(OptionU8),

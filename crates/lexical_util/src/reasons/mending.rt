@@ -16,8 +16,8 @@ use lexical_flags::format_flags::{RULES, Rule};
 pub const MAX_MENDING_EDITS: usize = 3;
 
 /// Returns the edits that mend one field of a format word, and their number. `reason` is a reason why the word breaks a
-/// rule. If it [blames][Reason] the field, the edits remove it. They are at the start of the array, and the other
-/// elements have no meaning. The number is 0 if `mend` finds no edits.
+/// rule. The edits remove the reason if it [blames][Reason] the field. They are at the start of the array, and the
+/// other elements have no meaning. The number is 0 if `mend` finds no edits.
 ///
 /// `field` is the edit that sets the field to its value in the word. The returned edits clear a flag or an optional
 /// byte, or they set the mantissa radix to 10 unless it is 10 already. If they set the mantissa radix, an absent
