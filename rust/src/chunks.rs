@@ -1,5 +1,4 @@
-//! Splits slices of bytes into chunks of a fixed length, for `ascii`. Stable Rust has `as_chunks` only since version
-//! 1.88.
+//! Splits slices of bytes into chunks of a fixed length, for `ascii`. `as_chunks` is stable only from Rust 1.88 on.
 
 /// Consecutive chunks of `N` bytes.
 pub(crate) struct Chunks<'a, const N: usize>(&'a [u8]);
@@ -43,7 +42,7 @@ impl<'a, const N: usize> Iterator for Chunks<'a, N> {
 mod tests {
     use super::SplitChunks;
 
-    /// Bytes whose values are their indices are split in the same way as by `chunks_exact`.
+    /// Bytes that equal their indices are split as `chunks_exact` splits them.
     #[test]
     fn each_chunk_and_each_block_is_met_in_order() {
         let bytes: [u8; 64] = core::array::from_fn(|index| index as u8);

@@ -1,5 +1,5 @@
-//! `Debug` of builders, views and formats. It prints the format word, each field that differs from a new builder's, and
-//! any reserved bits and broken rules.
+//! `Debug` for builders, views and formats. It prints the format word, each field that differs from a new builder's,
+//! and any reserved bits and broken rules.
 
 use core::fmt;
 
@@ -32,7 +32,7 @@ fn number(byte: OptionU8) -> u8 {
     byte.map_or(0, |byte| byte.get())
 }
 
-/// Writes a struct with `word` and with the fields that are stored in `fields`.
+/// Writes a struct with `word` and those fields of the format word `fields` that differ from a new builder's.
 fn write(f: &mut fmt::Formatter<'_>, name: &str, word: u128, fields: u128) -> fmt::Result {
     let mut text = f.debug_struct(name);
     text.field("word", &format_args!("{word:#034X}"));
@@ -68,8 +68,8 @@ impl fmt::Debug for BrokenRules {
     }
 }
 
-/// Writes the word that the builder packs, each field of the builder that differs from a new builder's, and any broken
-/// rules. A digit separator that no flag allows is written, although the builder does not pack it.
+/// Writes the packed word, each field of the builder that differs from a new builder's, and any broken rules. A digit
+/// separator that no flag allows is written, although the builder does not pack it.
 impl fmt::Debug for NumberFormatBuilder {
     fn fmt(&self, f: &mut fmt::Formatter<'_>) -> fmt::Result {
         let word = self.build_unchecked();

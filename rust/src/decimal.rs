@@ -1,4 +1,5 @@
-//! The decimal digits of a number as one text. A sink takes this text in one call, instead of one call for each digit.
+//! The decimal digits of a number as a string. A sink takes this string in one call, instead of one call for each
+//! digit.
 
 use core::str;
 

@@ -1,6 +1,6 @@
 // Made by rust/tools/erase.py from crates/*/specs: change those files.
 
-//! This module has the definitions that the clauses in the sections `Proved` use, directly or through other
+//! This module has the definitions that the clauses in the `Proved` sections use, directly or through other
 //! definitions.
 //!
 //! `f x` is `f` applied to `x`. `.now` is the value behind a reference. In a clause, a builder is the record of
@@ -49,7 +49,7 @@
 //!
 //! ## `uppercase`
 //!
-//! `uppercase byte` is the uppercase letter of `byte` if `byte` is a lowercase letter, and `byte` otherwise.
+//! `uppercase byte` is the uppercase form of `byte` if `byte` is a lowercase letter, and `byte` otherwise.
 //!
 //! ```text
 //! uppercase : ℕ → ℕ
@@ -145,7 +145,7 @@
 //!
 //! ## `base_flags`
 //!
-//! `base_flags` lists the flags from bit 0 up.
+//! `base_flags` lists the flags below bit 32.
 //!
 //! ```text
 //! base_flags : List Flag
@@ -221,7 +221,7 @@
 //!
 //! ## `integer_digit_separator_flags`
 //!
-//! `integer_digit_separator_flags` lists the digit separator flags of the integer.
+//! `integer_digit_separator_flags` lists the digit separator flags of the integer part.
 //!
 //! ```text
 //! integer_digit_separator_flags : List Flag
@@ -359,7 +359,7 @@
 //!
 //! ## `SeparatorAllowedOrAbsent`
 //!
-//! `SeparatorAllowedOrAbsent r` holds if some flag of `r` allows a digit separator, or if `r` has none.
+//! `SeparatorAllowedOrAbsent r` holds if `r` has no digit separator, or if some flag of `r` allows one.
 //!
 //! ```text
 //! SeparatorAllowedOrAbsent : Record → Type 0
@@ -413,7 +413,7 @@
 //!
 //! ## `IsBuilt`
 //!
-//! `IsBuilt word` holds if the reserved bits of `word` are 0, and it has no digit separator unless a flag allows one.
+//! `IsBuilt word` holds if `word` has no reserved bit set, and no digit separator unless a flag allows one.
 //!
 //! ```text
 //! record IsBuilt (word : ℕ) : Type 0 where
@@ -430,11 +430,11 @@
 //!   each : (b : Byte) → r.byte b < 256
 //! ```
 //!
-//! # The record of a new builder, and the record of one radix
+//! # The record of a new builder, and the record of a builder with a given radix
 //!
 //! ## `new_record`
 //!
-//! `new_record` is the record of a new builder: it has radix 10 and requires digits in mantissa and exponent.
+//! `new_record` is the record of a new builder: it has radix 10 and requires mantissa and exponent digits.
 //!
 //! ```text
 //! new_record : Record
@@ -518,7 +518,7 @@
 //!
 //! ## `last_flag`
 //!
-//! `last_flag writes f` is the last value that `writes` write to the flag `f`, or `None` if they do not write to `f`.
+//! `last_flag writes f` is the last value written to the flag `f` by `writes`, or `None` if there is none.
 //!
 //! ```text
 //! last_flag : List Write → Flag → Option Bool
@@ -527,7 +527,7 @@
 //!
 //! ## `last_byte`
 //!
-//! `last_byte writes b` is the last value that `writes` write to the byte `b`, or `None` if they do not write to `b`.
+//! `last_byte writes b` is the last value written to the byte `b` by `writes`, or `None` if there is none.
 //!
 //! ```text
 //! last_byte : List Write → Byte → Option ℕ
@@ -536,7 +536,7 @@
 //!
 //! ## `after`
 //!
-//! `after r writes` is `r` after `writes`: each field to which they write has the last value that they write to it.
+//! `after r writes` is `r` after `writes`: each field that is written has the last value written to it.
 //!
 //! ```text
 //! after : Record → List Write → Record
@@ -564,7 +564,7 @@
 //!   same_bytes : (b : Byte) → last_byte writes b ≡ last_byte others b
 //! ```
 //!
-//! # The writes of an edit, and the word that results if writes are applied to a word
+//! # The writes of an edit, and the word that results from applying writes to a word
 //!
 //! ## `flags_of`
 //!
@@ -608,7 +608,7 @@
 //!
 //! ## `edited`
 //!
-//! `edited word writes` is the word that results if the fields of `word` are filled, `writes` are applied to them in order, and the fields are packed.
+//! `edited word writes` is the result of filling the fields of `word`, applying `writes` to them in order, and packing them.
 //!
 //! ```text
 //! edited : ℕ → List Write → ℕ
@@ -635,7 +635,7 @@
 //!
 //! ## `field_writes`
 //!
-//! `field_writes r` lists the writes of all fields of `r` with their values in `r`, in the order of the fields' bits.
+//! `field_writes r` lists, for each field, the write of its value in `r`, in the order of the fields' bits.
 //!
 //! ```text
 //! field_writes : Record → List Write
@@ -683,7 +683,7 @@
 //! ArePairwise R (x ∷ xs) = AllByRecursion (R x) xs × ArePairwise R xs
 //! ```
 //!
-//! # The roles that bytes play in the numbers of a format, each as the set of the bytes that play it
+//! # The roles of bytes in the numbers of a format. A role is the set of the bytes that play it
 //!
 //! ## `are_disjoint`
 //!
@@ -942,7 +942,7 @@
 //!
 //! ## `radix_rules`
 //!
-//! `radix_rules` lists the radix rules, in their order.
+//! `radix_rules` lists the radix rules, in order.
 //!
 //! ```text
 //! radix_rules : List Rule
@@ -951,7 +951,7 @@
 //!
 //! ## `punctuation_rules`
 //!
-//! `punctuation_rules` lists the punctuation rules, in their order.
+//! `punctuation_rules` lists the punctuation rules, in order.
 //!
 //! ```text
 //! punctuation_rules : List Rule
@@ -961,7 +961,7 @@
 //!
 //! ## `flag_rules`
 //!
-//! `flag_rules` lists the flag rules, in their order.
+//! `flag_rules` lists the flag rules, in order.
 //!
 //! ```text
 //! flag_rules : List Rule
@@ -974,7 +974,7 @@
 //!
 //! ## `rules_in_order`
 //!
-//! `rules_in_order` lists all rules, in their order.
+//! `rules_in_order` lists all rules, in order.
 //!
 //! ```text
 //! rules_in_order : List Rule
@@ -1011,7 +1011,7 @@
 //!
 //! ## `LawfulParts`
 //!
-//! `LawfulParts word` holds if the radixes of `word` are in range, its flags agree, each other byte is absent or allowed ASCII, no byte plays two roles, and the reserved bits are 0.
+//! `LawfulParts word` holds if the radixes of `word` are in range, its flags agree, every other byte is absent or allowed ASCII, no byte plays two roles, and the reserved bits are 0.
 //!
 //! ```text
 //! record LawfulParts (word : ℕ) : Type 0 where
@@ -1063,7 +1063,7 @@
 //!
 //! ## `SomeOptionsFit`
 //!
-//! `SomeOptionsFit word` holds if there are an exponent character and a decimal point that fit `word`.
+//! `SomeOptionsFit word` holds if some exponent character and decimal point fit `word`.
 //!
 //! ```text
 //! record SomeOptionsFit (word : ℕ) : Type 0 where
@@ -1096,7 +1096,7 @@
 //!
 //! ## `normal_form_of`
 //!
-//! `normal_form_of word` is the word that results if `word` is edited by an empty list of writes.
+//! `normal_form_of word` is the result of editing `word` with an empty list of writes.
 //!
 //! ```text
 //! normal_form_of : ℕ → ℕ
@@ -1105,7 +1105,7 @@
 //!
 //! ## `SameFormat`
 //!
-//! `SameFormat r s` holds if `r` and `s` are equivalent: they have equal flags, an equal prefix, suffix and mantissa radix, and equal effective exponent bytes. If a flag of `r` allows a separator, their separators are equal too.
+//! `SameFormat r s` holds if `r` and `s` are equivalent: they have the same flags, prefix, suffix, mantissa radix and effective exponent bytes. If a flag of `r` allows a separator, they also have the same separator.
 //!
 //! ```text
 //! record SameFormat (r s : Record) : Type 0 where
@@ -1120,7 +1120,7 @@
 //!
 //! ## `IsNormal`
 //!
-//! `IsNormal word` holds if the reserved bits of `word` are 0, its separator is absent or a flag allows one, and its exponent bytes are not 0 unless the mantissa radix is 0 too.
+//! `IsNormal word` holds if the reserved bits of `word` are 0, its separator is absent or allowed by a flag, and its exponent bytes are not 0 unless the mantissa radix is 0 too.
 //!
 //! ```text
 //! record IsNormal (word : ℕ) : Type 0 where
@@ -1138,7 +1138,7 @@
 //! | `Bool` | The type of the truth values `true` and `false`. |
 //! | `List` | `[]` is the empty list, `x ∷ xs` is `x` followed by `xs`, and `xs ++ ys` is `xs` followed by `ys`. |
 //! | `Option` | As in Rust: `None`, or `Some value`. |
-//! | `≡` | `x ≡ y` holds if both are equal, and `x ≢ y` if they are not. |
+//! | `≡` | `x ≡ y` holds if `x` equals `y`, and `x ≢ y` if it does not. |
 //! | `↔` | `A ↔ B` holds if each of `A` and `B` follows from the other. |
 //! | `→` | `A → B` holds if `B` follows from `A`, and `(x : T) → A` holds if `A` holds for every `x` of the type `T`. Between types, it is the type of functions. |
 //! | `×` | `A × B` holds if both `A` and `B` hold. Its two parts are `.0` and `.1`. |
@@ -1146,30 +1146,30 @@
 //! | `⊤` | `⊤` always holds. |
 //! | `⊥` | `⊥` never holds. |
 //! | `λ` | `λ x. t` is the function that returns `t` for `x`. |
-//! | `+` | `a + b` is the sum. `*`, `/`, `%` and `^` are multiplication, division without remainder, remainder and power. |
+//! | `+` | `a + b` is the sum. `*`, `/`, `%` and `^` are multiplication, integer division, remainder and power. |
 //! | `-` | `a - b` is the difference, or 0 if `b` is larger. |
 //! | `<` | `a < b` holds if `a` is less than `b`, and `a ≤ b` if it is at most `b`. |
-//! | `==` | `x == y` is the truth value of `x ≡ y` for numbers, and `beq x y` is the one for truth values. |
-//! | `&&` | `a && b` is true if both are true, `a \|\| b` is true if one is true, and `not a` is true if `a` is false. |
+//! | `==` | `x == y` is the truth value of `x ≡ y` for numbers, and `beq x y` is that for truth values. |
+//! | `&&` | `a && b` is true if both are true, `a \|\| b` is true if either is true, and `not a` is true if `a` is false. |
 //! | `if` | `if b then x else y` is `x` if `b` is true, and `y` otherwise. |
-//! | `nat_le` | `nat_le a b` is the truth value of `a ≤ b`, and `nat_lt a b` is the one of `a < b`. |
+//! | `nat_le` | `nat_le a b` is the truth value of `a ≤ b`, and `nat_lt a b` is that of `a < b`. |
 //! | `min` | `min a b` is the smaller of two numbers. |
 //! | `IsTrue` | `IsTrue b` holds if `b` is `true`, and `IsFalse b` holds if it is `false`. |
 //! | `OkIff` | `OkIff result P x` holds if `result` is `Ok x` and `P` holds, or if it is an `Err` and `P` does not. |
 //! | `IfOk` | `IfOk result P` holds if `result` is an `Err`, or if it is `Ok x` and `P` holds for `x`. |
 //! | `IfErr` | `IfErr result P` holds if `result` is an `Ok`, or if it is `Err x` and `P` holds for `x`. |
 //! | `All` | `All P xs` holds if `P` holds for each entry of `xs`. `AllByRecursion P xs` is equivalent. |
-//! | `AllZip` | `AllZip P xs ys` holds if both lists have the same length and `P` holds for each two entries at the same index. |
+//! | `AllZip` | `AllZip P xs ys` holds if both lists have the same length and `P` holds for the two entries at each index. |
 //! | `length` | `length xs` is the number of entries of `xs`. |
 //! | `take` | `take n xs` is the list of the first `n` entries of `xs`. |
 //! | `range_with_len` | `range_with_len start n` is the list of the `n` numbers from `start` up. |
 //! | `map` | `map f xs` is the list of `f x` for each `x` in `xs`. |
 //! | `flat_map` | `flat_map f xs` joins the lists `f x` for each `x` in `xs`. |
-//! | `filter` | `filter p xs` is the list of each `x` in `xs` for which `p x` is true. |
-//! | `filter_map` | `filter_map f xs` is the list of each `y` for which `f x` is `Some y`, for `x` in `xs`. |
+//! | `filter` | `filter p xs` lists each `x` in `xs` for which `p x` is true. |
+//! | `filter_map` | `filter_map f xs` lists the `y` of each `f x` that is `Some y`, for `x` in `xs`. |
 //! | `list_any` | `list_any p xs` is true if `p x` is true for some `x` in `xs`, and `list_all p xs` if it is true for each. |
 //! | `sum_by` | `sum_by f xs` is the sum of `f x` for each `x` in `xs`. |
-//! | `last_or` | `last_or option xs` is `Some` of the last entry of `xs`, or `option` if `xs` is empty. |
-//! | `position` | `position p xs` is `Some` of the index of the first entry for which `p` is true, or `None`. |
+//! | `last_or` | `last_or option xs` is `Some x` if `x` is the last entry of `xs`, or `option` if `xs` is empty. |
+//! | `position` | `position p xs` is `Some i` if `p` is first true for the entry at index `i`, or `None`. |
 //! | `unwrap_or` | `unwrap_or option x` is the value in `option`, or `x` if it is `None`. |
-//! | `codes` | `codes text` is the list of the bytes of a text. |
+//! | `codes` | `codes text` is the list of the bytes of `text`. |

@@ -35,12 +35,11 @@ const fn byte_value(c: u8) -> u32 {
     VALUES[c as usize]
 }
 
-/// Returns the value of the byte `c` as a digit in the given radix. The result is meaningful only if `c` is such a
-/// digit.
+/// Returns the value of the byte `c` as a digit in the given radix. The result is meaningful only if
+/// [`char_to_digit_const`] returns `Some`.
 ///
 /// `radix` may be any number. If it is at most 10, the result is `c.wrapping_sub(b'0')`. If it is above 10, the result
-/// is at most 35 if `c` is one of `0` to `9` or a letter, and 255 otherwise. Call [`char_to_digit_const`] to
-/// test whether it is.
+/// is between 0 and 35 for a digit character, and 255 for any other byte.
 #[must_use]
 #[inline(always)]
 pub const fn char_to_valid_digit_const(c: u8, radix: u32) -> u32 {

@@ -73,8 +73,8 @@ pub use numbers::{
 };
 pub use text::{byte_from_decimal, SettingError};
 
-/// A setter of [`NumberFormatBuilder`] that takes a `bool`. It sets one flag, or all flags of one of the nine groups
-/// of flags. Each variant links to its setter.
+/// A setter of [`NumberFormatBuilder`] that takes a `bool`. It sets one flag, or all flags of one of the nine flag
+/// groups. Each variant links to its setter.
 #[derive(Debug, Clone, Copy, PartialEq, Eq, Hash, PartialOrd, Ord)]
 #[non_exhaustive]
 pub enum FlagSetter {
@@ -97,8 +97,8 @@ pub enum FlagSetter {
     /// writes `+1`. See
     /// [`required_mantissa_sign`][crate::format_builder::NumberFormatBuilder::required_mantissa_sign].
     RequiredMantissaSign,
-    /// Sets whether the format forbids an exponent in a float. If so, a parser rejects `1e5`, and a writer writes all
-    /// digits instead. See [`no_exponent_notation`][crate::format_builder::NumberFormatBuilder::no_exponent_notation].
+    /// Sets whether the format forbids an exponent in a float. If so, a parser rejects `1e5`, and a writer writes out
+    /// all digits. See [`no_exponent_notation`][crate::format_builder::NumberFormatBuilder::no_exponent_notation].
     NoExponentNotation,
     /// Sets whether the format forbids a `+` in the exponent. If so, a parser rejects `1e+5` but accepts `1e5` and
     /// `1e-5`. See
@@ -299,8 +299,8 @@ const fn mask_of(setter: FlagSetter) -> u64 {
 /// Applies `edits` in order to `builder`, and returns the new builder.
 ///
 /// To build a new format, apply the edits to a new builder, and call
-/// [`build_strict`][NumberFormatBuilder::build_strict]. If no edit sets the exponent base or the exponent radix, the
-/// mantissa radix is used in its place.
+/// [`build_strict`][NumberFormatBuilder::build_strict]. The mantissa radix is used in place of an exponent base or
+/// exponent radix that no edit sets.
 ///
 /// # Proved
 ///
@@ -328,8 +328,8 @@ pub const fn apply_all(mut builder: NumberFormatBuilder, edits: &[Edit]) -> Numb
 /// Applies `edits` in order to a format word, which need not be [lawful][flags::Rule], and returns the new word.
 ///
 /// Use this function to change a finished format. An edit of the mantissa radix changes neither the exponent base nor
-/// the exponent radix, even if they were absent, so that the old mantissa radix was used in their place. To build a new
-/// format, use [`apply_all`].
+/// the exponent radix. If either is absent, it is first set to the old mantissa radix. To build a new format, use
+/// [`apply_all`].
 ///
 /// The new word is computed in four steps:
 ///
@@ -411,8 +411,8 @@ pub const fn edit_word(format: u128, edits: &[Edit]) -> u128 {
 /// - The normal form of the result is the result itself.
 /// - A word is its own normal form if and only if it is normal ([`IsNormal`](crate::definitions#isnormal)).
 /// - The word and its normal form are equivalent ([`SameFormat`](crate::definitions#sameformat)).
-/// - For each list of flags, either both the word and its normal form have at least one of the flags set, or
-///   neither has ([`any_flag`](crate::definitions#any_flag)).
+/// - For each list of flags, the word and its normal form agree on whether any of the flags is set
+///   ([`any_flag`](crate::definitions#any_flag)).
 /// - For each list of flags, the bits of these flags are the same in the word and its normal form
 ///   ([`bits_of`](crate::definitions#bits_of)).
 /// - The normal form of a [`Lawful`](crate::definitions#lawful) word is lawful.
@@ -462,9 +462,8 @@ pub const fn normal_form(format: u128) -> u128 {
 
 /// Returns the [normal form][normal_form] of `format` if that form is [lawful][flags::Rule].
 ///
-/// Use this function for words that `lexical-util` stored, or that this crate stored before its rules changed. Reserved
-/// bits that are set, and a digit separator that no flag allows, are not errors, since the normal form does not have
-/// them.
+/// Use this function for stored words that `lexical-util` built, or that this crate built before its rules changed. Set
+/// reserved bits and a digit separator that no flag allows are not errors, since the normal form drops them.
 ///
 /// # Errors
 ///

@@ -62,7 +62,7 @@ impl<const FORMAT: u128> NumberFormat<FORMAT> {
         Self::VIEW.is_base_suffix(byte)
     }
 
-    /// Returns a new builder. The builder does not depend on the word.
+    /// Returns a new builder, which does not depend on any word.
     #[must_use]
     #[inline(always)]
     pub const fn builder() -> NumberFormatBuilder {
@@ -106,7 +106,7 @@ impl From<u128> for FormatView {
     }
 }
 
-/// Defines each field as a constant and as a method. A row has the documentation, both names and the type of a field.
+/// Defines each field as a constant and as a method. Each row gives a field's documentation, both names and type.
 macro_rules! fields {
     ($($(#[$doc:meta])* $CONST:ident $get:ident $Type:ty;)*) => {
         impl<const FORMAT: u128> NumberFormat<FORMAT> {
@@ -127,7 +127,7 @@ macro_rules! fields {
     };
 }
 
-/// Defines methods that have no constant. A row has the documentation, the name and the type of a method.
+/// Defines methods that have no constant. Each row gives a method's documentation, name and type.
 macro_rules! methods {
     ($($(#[$doc:meta])* $get:ident $Type:ty;)*) => {
         impl<const FORMAT: u128> NumberFormat<FORMAT> {

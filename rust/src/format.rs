@@ -1,4 +1,4 @@
-//! This module has all names related to number formats, as in `lexical-util`. These are the names of
+//! This module has all items related to number formats, as in `lexical-util`. These are the items of
 //! [`format_builder`][crate::format_builder] and [`format_flags`][crate::format_flags], and the types that read a
 //! format word.
 //!

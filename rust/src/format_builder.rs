@@ -149,8 +149,8 @@ impl NumberFormatBuilder {
 
     /// Packs the fields into a format word without checking whether the word is [lawful][flags::Rule].
     ///
-    /// If no flag allows digit separators, in a number or in a special value, the digit separator is dropped: its byte
-    /// in the word is 0. All other fields are packed as they are.
+    /// If no flag allows digit separators in numbers or special values, the digit separator is dropped: its byte in the
+    /// word is 0. All other fields are packed as they are.
     ///
     /// # Proved
     ///
@@ -161,9 +161,8 @@ impl NumberFormatBuilder {
     ///   that no flag allows ([`trim`](crate::definitions#trim)).
     /// - The reserved bits of the result are 0 ([`IsClean`](crate::definitions#isclean)).
     /// - Each byte of the builder is between 0 and 255 ([`HasBytes`](crate::definitions#hasbytes)).
-    /// - A record of fields whose bytes are between 0 and 255 ([`HasBytes`](crate::definitions#hasbytes)) packs into
-    ///   this word if and only if, once trimmed ([`trim`](crate::definitions#trim)), it equals the trimmed fields of
-    ///   the builder.
+    /// - A record whose bytes are between 0 and 255 ([`HasBytes`](crate::definitions#hasbytes)) packs into this word
+    ///   if and only if its trimmed fields ([`trim`](crate::definitions#trim)) equal those of the builder.
     ///
     /// ```text
     /// ensures word { result ≡ pack self.now }
@@ -193,7 +192,7 @@ impl NumberFormatBuilder {
     /// Packs the fields into a format word, and returns the word if it is [lawful][flags::Rule].
     ///
     /// In `lexical-util`, this method panics instead of returning an error. [`build_or_panic`][Self::build_or_panic]
-    /// panics too. Call that method in constants, where a `Result` cannot be unwrapped.
+    /// does this. Call it in constants, where a `Result` cannot be unwrapped.
     ///
     /// # Errors
     ///
@@ -247,7 +246,7 @@ impl NumberFormatBuilder {
 
     /// Returns a builder with exactly the fields of a format word.
     ///
-    /// An exponent base or exponent radix of 0 stays absent, so a later change of the mantissa radix affects it too. To
+    /// An exponent base or exponent radix of 0 stays absent, so a later change to the mantissa radix affects it too. To
     /// set it to the mantissa radix instead, call [`rebuild`][Self::rebuild]. The digit separator is kept even if no
     /// flag allows one. The reserved bits, which hold no field, are dropped.
     ///
@@ -289,7 +288,7 @@ impl NumberFormatBuilder {
     /// Returns a builder with the fields of a format word. An exponent base or exponent radix of 0 is set to the
     /// mantissa radix.
     ///
-    /// The exponent base and the exponent radix are therefore not affected by later changes of the mantissa radix. If
+    /// The exponent base and the exponent radix are therefore not affected by later changes to the mantissa radix. If
     /// the mantissa radix is 0 too, an exponent base or exponent radix of 0 stays 0. The digit separator is kept even
     /// if no flag allows one. The reserved bits, which hold no field, are dropped.
     ///
@@ -325,8 +324,7 @@ impl NumberFormatBuilder {
 
     // PARTS
 
-    /// Returns a builder with the given flags and bytes, in the form in which [`to_parts`][Self::to_parts] returns
-    /// them.
+    /// Returns a builder with the given flags and bytes, laid out as [`to_parts`][Self::to_parts] returns them.
     ///
     /// Bits of `flags` above the last flag are ignored.
     #[must_use]
@@ -341,8 +339,8 @@ impl NumberFormatBuilder {
 
     /// Returns the flags and the bytes of the builder.
     ///
-    /// Bits 0 to 30 of the first number are the flags, in the order of their bits in a format word. The bytes are, in
-    /// this order, the digit separator, the base prefix, the base suffix, the mantissa radix, the exponent base and the
+    /// Bits 0 to 30 of the `u32` are the flags, in the order of their bits in a format word. The bytes are, in this
+    /// order, the digit separator, the base prefix, the base suffix, the mantissa radix, the exponent base and the
     /// exponent radix. An absent byte is 0.
     #[must_use]
     #[inline(always)]
@@ -351,8 +349,8 @@ impl NumberFormatBuilder {
         (self.flags, self.bytes)
     }
 
-    /// Sets every flag in `mask` to `value`. A flag is in `mask` if the bit that holds the flag in a format word is 1
-    /// in `mask`. The other bits of `mask` have no effect.
+    /// Sets every flag in `mask` to `value`. A flag is in `mask` if its bit in a format word is 1 in `mask`. The other
+    /// bits of `mask` have no effect.
     #[must_use]
     #[inline(always)]
     #[doc(hidden)]

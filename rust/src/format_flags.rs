@@ -1,6 +1,6 @@
 // Made by rust/tools/erase.py from crates/lexical_flags/src/format_flags.rt: change that file.
 
-//! The layout of a format word: the bits of each flag and byte, and the functions that read them.
+//! The layout of a format word, and the functions that read its flags and bytes.
 //!
 //! A format word is a `u128`. Its lower 64 bits hold 31 flags in two runs, which start at bit 0 and at bit 32. Its
 //! upper 64 bits hold six bytes: the digit separator, base prefix, base suffix, mantissa radix, exponent base and
@@ -48,8 +48,8 @@ pub const NO_POSITIVE_MANTISSA_SIGN: u128 = 0x10;
 /// `+1`. See the [setter][crate::format_builder::NumberFormatBuilder::required_mantissa_sign].
 pub const REQUIRED_MANTISSA_SIGN: u128 = 0x20;
 
-/// The flag that forbids an exponent in a float. If it is set, a parser rejects `1e5`, and a writer writes all digits
-/// instead. See the [setter][crate::format_builder::NumberFormatBuilder::no_exponent_notation].
+/// The flag that forbids an exponent in a float. If it is set, a parser rejects `1e5`, and a writer writes out all
+/// digits. See the [setter][crate::format_builder::NumberFormatBuilder::no_exponent_notation].
 pub const NO_EXPONENT_NOTATION: u128 = 0x40;
 
 /// The flag that forbids a `+` in the exponent. If it is set, a parser rejects `1e+5` but accepts `1e5` and `1e-5`.
@@ -318,8 +318,8 @@ pub const fn exponent_radix(format: u128) -> u32 {
 ///
 /// # Panics
 ///
-/// Panics if `shift` is not in this range and overflow checks are enabled. If they are disabled, the result is
-/// unspecified.
+/// If `shift` is not in this range, panics if overflow checks are enabled, and otherwise returns an unspecified
+/// result.
 #[must_use]
 #[inline(always)]
 pub const fn radix_from_flags(format: u128, mask: u128, shift: i32) -> u32 {

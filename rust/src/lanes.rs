@@ -1,5 +1,5 @@
-//! Lanes of bytes. This is the part of `std::simd` that `ascii` uses. Stable Rust does not have `std::simd`. The
-//! compiler turns these loops of constant length into vector instructions.
+//! Lanes of bytes, which stand in for the part of `std::simd` that `ascii` uses. Stable Rust lacks `std::simd`. The
+//! compiler turns the fixed-length loops here into vector instructions.
 
 use core::array;
 use core::ops::{BitAnd, Sub};
@@ -24,7 +24,7 @@ impl<const N: usize> Simd<u8, N> {
         Simd(values)
     }
 
-    /// Applies `of` to each lane and the lane of `other` at the same index.
+    /// Applies `of` to each lane and its counterpart in `other`.
     #[inline(always)]
     fn zip(mut self, other: Self, of: impl Fn(u8, u8) -> u8) -> Self {
         for (lane, other) in self.0.iter_mut().zip(other.0) {
@@ -90,7 +90,7 @@ impl<const N: usize> Mask<N> {
 mod tests {
     use super::Simd;
 
-    /// Compares each operation on each pair of bytes, in the last of three lanes, with the same operation on integers.
+    /// For each pair of bytes in the last of three lanes, compares each operation with the same operation on integers.
     #[test]
     fn each_pair_of_bytes() {
         for a in 0..=255u8 {

@@ -1,4 +1,4 @@
-//! Format words that have been checked, and the calls that check a word.
+//! Checked format words, and the methods that check a word.
 
 use core::ops::Deref;
 

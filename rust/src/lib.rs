@@ -1,10 +1,10 @@
 //! A number format states how numbers may be written: their radix, prefix, signs and digit separators. Here, a format
-//! is a `u128` that holds 31 flags and six bytes. This crate is for authors of number parsers, writers and checkers. It
+//! is a `u128` that holds 31 flags and six bytes. This crate is for code that parses, writes or checks numbers. It
 //! builds, reads, checks and edits formats, and explains why a format is not lawful. It does not parse numbers.
 //!
-//! The [`u128`] is called the *format word*. It can be a const generic argument. The word is *lawful* if it keeps every
-//! [`Rule`]: each radix is between 2 and 36, no two flags contradict each other, each character is ASCII and has only
-//! one role, and the *reserved* bits, which hold no field, are 0.
+//! The [`u128`] is called the *format word*. It can be a const generic argument. The word is *lawful* if it satisfies
+//! every [`Rule`]: each radix is between 2 and 36, no two flags contradict each other, each character is ASCII and has
+//! only one role, and the *reserved* bits, which hold no field, are 0.
 //!
 //! ```
 //! use core::num::NonZeroU8;
@@ -37,7 +37,7 @@
 //! | take a checked format as an argument | [`Format`], or `impl Into<Format>` |
 //! | read the fields of any word, lawful or not | [`FormatView`]; [`NumberFormat`] for a word that is known at compile time |
 //! | parse settings | `str::parse` for each [`Edit`], [`collect`][Iterator::collect] to turn edits into a builder, and [`build_format`][NumberFormatBuilder::build_format] to check it |
-//! | report each problem of a word, and the edits that mend it | [`FormatView::reasons`], [`Reason::mask`], [`FormatView::mends`], [`FormatView::notes`] |
+//! | report the problems with a word, and the edits that mend them | [`FormatView::reasons`], [`Reason::mask`], [`FormatView::mends`], [`FormatView::notes`] |
 //! | derive a format from another | [`NumberFormatBuilder::from`], or [`edits::edit_word`] |
 //! | compare two formats | [`Format::normal_form`], [`edits::same_format`] |
 //! | store words as text | `Display` and `FromStr` of [`Format`] and [`FormatView`] |
@@ -59,13 +59,14 @@
 //!
 //! # What is proved
 //!
-//! The library is written in Rattle, which is Rust with contracts. A prover accepted every function with its contract.
-//! A program in the repository generated the files that begin with `Made by` from these sources. In the documentation,
-//! the sections named `Proved` state contracts, and [`definitions`] defines their terms.
+//! The library is written in Rattle, which is Rust with contracts. A prover verified that every function meets its
+//! contract. From this code, a program in the repository generated the files that begin with `Made by`. In the
+//! documentation, the sections named `Proved` state contracts, and [`definitions`] defines their terms.
 //!
 //! The following parts are written by hand: [`Format`], [`Mend`], [`NumberFormat`], the iterators and conversions,
-//! `Display`, `FromStr` and `Debug` of words, `build_or_panic`, decimal digits, and lanes and chunks of bytes. A build
-//! of this crate proves nothing. You trust the program that generated the files, the handwritten parts, and `rustc`.
+//! `Display`, `FromStr` and `Debug` of words, `build_or_panic`, and the private modules `decimal`, `lanes` and
+//! `chunks`. A build of this crate proves nothing. You trust the program that generated the files, the handwritten
+//! parts, and `rustc`.
 #![no_std]
 #![forbid(unsafe_code)]
 

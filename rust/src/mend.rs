@@ -36,8 +36,8 @@ impl FormatView {
     /// most one [`Mend`] for each field that the reason [blames][Reason]. A mend clears a flag or a byte, or sets the
     /// mantissa radix to 10.
     ///
-    /// If [`edit_word`][crate::edits::edit_word] applies the edits of one mend, the new word breaks no rule that the
-    /// old word satisfied, and it no longer breaks the rules that the old word broke only because of `reason`.
+    /// If [`edit_word`][crate::edits::edit_word] applies the edits of one mend, the new word satisfies every rule that
+    /// the old word satisfied or broke only because of `reason`.
     ///
     /// ```
     /// use peltzivar::{edits::edit_word, Format, FormatView};

@@ -28,8 +28,8 @@ pub const MAX_REASONS: usize = 3;
 pub const CANDIDATE_COUNT: usize = 24;
 
 /// A reason why a format word breaks one or more rules. If the reason concerns a byte of the word, it holds the
-/// [`Edit`] that sets the byte to its value in the word. A reason *blames* the bits on which it depends, which
-/// [`mask`][Self::mask] returns.
+/// [`Edit`] that sets the byte to its value in the word. A reason *blames* the bits on which it depends (see
+/// [`mask`][Self::mask]).
 #[derive(Debug, Clone, Copy, PartialEq, Eq, Hash)]
 #[non_exhaustive]
 pub enum Reason {
@@ -47,7 +47,7 @@ pub enum Reason {
     /// if the byte is a digit only in that radix, and otherwise the mantissa radix.
     IsDigit(Edit, Edit),
     /// Two bytes are equal, or they are the two cases of one letter. If they are equal, the flag is `None`. Otherwise,
-    /// they clash as long as the flag is not set. Setting it makes the base prefix or the base suffix case-sensitive.
+    /// they clash at least until the flag is set. Setting it makes the base prefix or the base suffix case-sensitive.
     Clash(Edit, Edit, Option<FlagSetter>),
     /// Two flags are both set, but they contradict each other.
     Contradict(FlagSetter, FlagSetter),
@@ -58,9 +58,9 @@ pub enum Reason {
     ReservedBits(u128),
 }
 
-/// Returns the reasons why a format word breaks rules. Each reason that a word can have has its own slot, which is
-/// `None` if the word does not have this reason. The slots are sorted by the rule that [`Reason::rule`] returns for
-/// each reason. All slots are `None` if and only if the word is lawful.
+/// Returns the reasons why a format word breaks rules. Each possible reason has its own slot, which is `None` if the
+/// word does not have this reason. The slots are sorted by the rule that [`Reason::rule`] returns for each reason. All
+/// slots are `None` if and only if the word is lawful.
 ///
 /// An absent exponent base or exponent radix is never a reason itself, since the mantissa radix is used in its place.
 /// [`Reason::breaks`] returns whether a word breaks a rule because of a reason, and [`Reason::mask`] returns the

@@ -18,14 +18,14 @@ const fn first_reason(word: u128) -> Option<Reason> {
     None
 }
 
-/// A text of at most 512 bytes that a `const fn` can build: the error of a word, and the first reason for it.
+/// Text of at most 512 bytes that a `const fn` can build: the error of a word, and its first reason.
 pub(crate) struct Refusal {
     bytes: [u8; 512],
     length: usize,
 }
 
 impl Refusal {
-    /// Returns `'DESCRIPTION': REASON`. The reason is the first one that [`FormatView::reasons`] returns, as a
+    /// Returns the description of the word's error, a colon, and the first reason of [`FormatView::reasons`] as a
     /// sentence.
     ///
     /// [`FormatView::reasons`]: crate::view::FormatView::reasons

@@ -1,4 +1,4 @@
-//! Conversions of words, edits and setters from and to text, and the trait `core::error::Error` for errors.
+//! Conversions of words, edits and setters from and to text, and implementations of the trait `core::error::Error`.
 
 use core::fmt;
 use core::str::FromStr;

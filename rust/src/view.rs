@@ -1,6 +1,6 @@
 // Made by rust/tools/erase.py from crates/lexical_util/src/feature_format.rt: change that file.
 
-//! The view of a format word, which reads the fields of the word and checks it.
+//! A view that reads the fields of a format word and checks the word.
 
 use crate::error::Error;
 use crate::format_builder::NumberFormatBuilder;
@@ -95,7 +95,7 @@ impl FormatView {
     }
 
     /// Checks the mantissa radix, the exponent base and the exponent radix, in this order. Returns the error of the
-    /// first one that is not between 2 and 36, or `Success` if all three are.
+    /// first one that is not between 2 and 36, or `Success` if there is none.
     #[must_use]
     #[inline(always)]
     pub const fn error_radix(&self) -> Error {
@@ -233,7 +233,7 @@ impl FormatView {
 
     // BUILDERS
 
-    /// Returns a new builder. The builder does not depend on the word.
+    /// Returns a new builder, which does not depend on any word.
     #[must_use]
     #[inline(always)]
     pub const fn builder() -> NumberFormatBuilder {

@@ -1,6 +1,6 @@
 // Made by rust/tools/erase.py from crates/lexical_util/src/format.rt: change that file.
 
-//! The standard format, the view of a format word, two functions that check a word, and all names of `format_flags` and
+//! The standard format, the view of a format word, two functions that check a word, and all items of `format_flags` and
 //! `format_builder`.
 
 use crate::error::Error;

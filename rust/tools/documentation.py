@@ -23,8 +23,8 @@ PROVED = {
             " allows (`trim`).",
             "clean": "The reserved bits of the result are 0 (`IsClean`).",
             "bytes": "Each byte of the builder is between 0 and 255 (`HasBytes`).",
-            "alike": "A record of fields whose bytes are between 0 and 255 (`HasBytes`) packs into this word if and only if,"
-            " once trimmed (`trim`), it equals the trimmed fields of the builder.",
+            "alike": "A record whose bytes are between 0 and 255 (`HasBytes`) packs into this word if and only if its trimmed"
+            " fields (`trim`) equal those of the builder.",
         },
         "build_strict": {
             "lawful": "The result is `Ok` if and only if the packed word (`pack`) is `Lawful`. An `Ok` holds this word.",
@@ -45,14 +45,14 @@ PROVED = {
         "is_valid_options_punctuation": {
             "accepted": "The result is true if and only if both bytes fit the format (`OptionsFit`).",
             "roles": "For a `Lawful` word, the result is true if and only if both bytes are allowed ASCII, and no"
-            " byte plays two of the seven roles (`OptionsHaveOneRole`).",
+            " byte plays two roles (`OptionsHaveOneRole`).",
             "exists": "For each `Lawful` word there is a pair of bytes that fits (`SomeOptionsFit`).",
         },
     },
     "edits/listing.rt": {
         "is_built": {
-            "rule": "The result is true if and only if the reserved bits are 0, and the digit separator is absent or a"
-            " flag allows one (`IsBuilt`).",
+            "rule": "The result is true if and only if the reserved bits are 0 and the digit separator is absent or allowed"
+            " by a flag (`IsBuilt`).",
             "image": "The result is true if and only if setter calls on a new builder can build the word"
             " (`IsBuiltByWrites`).",
         },
@@ -95,8 +95,8 @@ PROVED = {
             "idempotent": "The normal form of the result is the result itself.",
             "unchanged": "A word is its own normal form if and only if it is normal (`IsNormal`).",
             "same": "The word and its normal form are equivalent (`SameFormat`).",
-            "groups": "For each list of flags, either both the word and its normal form have at least one of the flags"
-            " set, or neither has (`any_flag`).",
+            "groups": "For each list of flags, the word and its normal form agree on whether any of the flags is set"
+            " (`any_flag`).",
             "flags": "For each list of flags, the bits of these flags are the same in the word and its normal form"
             " (`bits_of`).",
             "lawful": "The normal form of a `Lawful` word is lawful.",
@@ -142,17 +142,17 @@ PHRASES = [
     ("`lexical-util` has no such function.", ""),
     ("`lexical-util` has no such function, since its word is part of the type.", ""),
     ("This crate only defines the errors. The crates that depend on it return them.", ""),
-    ("This module re-exports the tests of the rules from `format_flags/rules.rt`.", ""),
-    ("In plain Rust, `build_or_panic` panics too.", "[`build_or_panic`][Self::build_or_panic] panics too."),
-    ("The contract requires that `digit` is below 36. In plain Rust, the result for any other `digit` is unspecified,"
+    ("This module re-exports the rule checks from `format_flags/rules.rt`.", ""),
+    ("In plain Rust, `build_or_panic` does this.", "[`build_or_panic`][Self::build_or_panic] does this."),
+    ("The contract requires `digit` to be below 36. In plain Rust, the result for any other `digit` is unspecified,"
      " and the call may panic if overflow checks are enabled.",
      "If `digit` is 36 or more, the result is unspecified, and the call may panic if overflow checks are enabled."),
-    ("The contract requires that `digit` is below 36. In plain Rust, a call with any other `digit` panics.",
+    ("The contract requires `digit` to be below 36. In plain Rust, a call with any other `digit` panics.",
      "Panics if `digit` is 36 or more."),
-    ("The contract requires that `shift` is in this range. In plain Rust, a call with any other `shift` panics if"
+    ("The contract requires `shift` to be in this range. In plain Rust, a call with any other `shift` panics if"
      " overflow checks are enabled, and returns an unspecified number otherwise.",
-     "Panics if `shift` is not in this range and overflow checks are enabled. If they are disabled, the result is"
-     " unspecified."),
+     "If `shift` is not in this range, panics if overflow checks are enabled, and otherwise returns an unspecified"
+     " result."),
     ("The comment of a variant is the name of its setter.", "Each variant links to its setter."),
     ("Prints what [`SettingError::text`] returns.",
      "Prints which values the setter takes, or why the string is not a setting."),
@@ -179,7 +179,7 @@ STD = {
     "Bool": "The type of the truth values `true` and `false`.",
     "List": "`[]` is the empty list, `x ∷ xs` is `x` followed by `xs`, and `xs ++ ys` is `xs` followed by `ys`.",
     "Option": "As in Rust: `None`, or `Some value`.",
-    "≡": "`x ≡ y` holds if both are equal, and `x ≢ y` if they are not.",
+    "≡": "`x ≡ y` holds if `x` equals `y`, and `x ≢ y` if it does not.",
     "↔": "`A ↔ B` holds if each of `A` and `B` follows from the other.",
     "→": "`A → B` holds if `B` follows from `A`, and `(x : T) → A` holds if `A` holds for every `x` of the type `T`."
     " Between types, it is the type of functions.",
@@ -188,35 +188,35 @@ STD = {
     "⊤": "`⊤` always holds.",
     "⊥": "`⊥` never holds.",
     "λ": "`λ x. t` is the function that returns `t` for `x`.",
-    "+": "`a + b` is the sum. `*`, `/`, `%` and `^` are multiplication, division without remainder, remainder and power.",
+    "+": "`a + b` is the sum. `*`, `/`, `%` and `^` are multiplication, integer division, remainder and power.",
     "-": "`a - b` is the difference, or 0 if `b` is larger.",
     "<": "`a < b` holds if `a` is less than `b`, and `a ≤ b` if it is at most `b`.",
-    "==": "`x == y` is the truth value of `x ≡ y` for numbers, and `beq x y` is the one for truth values.",
-    "&&": "`a && b` is true if both are true, `a || b` is true if one is true, and `not a` is true if `a` is false.",
+    "==": "`x == y` is the truth value of `x ≡ y` for numbers, and `beq x y` is that for truth values.",
+    "&&": "`a && b` is true if both are true, `a || b` is true if either is true, and `not a` is true if `a` is false.",
     "if": "`if b then x else y` is `x` if `b` is true, and `y` otherwise.",
-    "nat_le": "`nat_le a b` is the truth value of `a ≤ b`, and `nat_lt a b` is the one of `a < b`.",
+    "nat_le": "`nat_le a b` is the truth value of `a ≤ b`, and `nat_lt a b` is that of `a < b`.",
     "min": "`min a b` is the smaller of two numbers.",
     "IsTrue": "`IsTrue b` holds if `b` is `true`, and `IsFalse b` holds if it is `false`.",
     "OkIff": "`OkIff result P x` holds if `result` is `Ok x` and `P` holds, or if it is an `Err` and `P` does not.",
     "IfOk": "`IfOk result P` holds if `result` is an `Err`, or if it is `Ok x` and `P` holds for `x`.",
     "IfErr": "`IfErr result P` holds if `result` is an `Ok`, or if it is `Err x` and `P` holds for `x`.",
     "All": "`All P xs` holds if `P` holds for each entry of `xs`. `AllByRecursion P xs` is equivalent.",
-    "AllZip": "`AllZip P xs ys` holds if both lists have the same length and `P` holds for each two entries at the"
-    " same index.",
+    "AllZip": "`AllZip P xs ys` holds if both lists have the same length and `P` holds for the two entries at each"
+    " index.",
     "length": "`length xs` is the number of entries of `xs`.",
     "take": "`take n xs` is the list of the first `n` entries of `xs`.",
     "range_with_len": "`range_with_len start n` is the list of the `n` numbers from `start` up.",
     "map": "`map f xs` is the list of `f x` for each `x` in `xs`.",
     "flat_map": "`flat_map f xs` joins the lists `f x` for each `x` in `xs`.",
-    "filter": "`filter p xs` is the list of each `x` in `xs` for which `p x` is true.",
-    "filter_map": "`filter_map f xs` is the list of each `y` for which `f x` is `Some y`, for `x` in `xs`.",
+    "filter": "`filter p xs` lists each `x` in `xs` for which `p x` is true.",
+    "filter_map": "`filter_map f xs` lists the `y` of each `f x` that is `Some y`, for `x` in `xs`.",
     "list_any": "`list_any p xs` is true if `p x` is true for some `x` in `xs`, and `list_all p xs` if it is true for"
     " each.",
     "sum_by": "`sum_by f xs` is the sum of `f x` for each `x` in `xs`.",
-    "last_or": "`last_or option xs` is `Some` of the last entry of `xs`, or `option` if `xs` is empty.",
-    "position": "`position p xs` is `Some` of the index of the first entry for which `p` is true, or `None`.",
+    "last_or": "`last_or option xs` is `Some x` if `x` is the last entry of `xs`, or `option` if `xs` is empty.",
+    "position": "`position p xs` is `Some i` if `p` is first true for the entry at index `i`, or `None`.",
     "unwrap_or": "`unwrap_or option x` is the value in `option`, or `x` if it is `None`.",
-    "codes": "`codes text` is the list of the bytes of a text.",
+    "codes": "`codes text` is the list of the bytes of `text`.",
 }  # fmt: skip
 
 
@@ -399,7 +399,7 @@ def part(file, name):
 def definitions():
     """Returns the text of the module `definitions`: all definitions that the shown clauses cite."""
     head = (
-        "This module has the definitions that the clauses in the sections `Proved` use, directly or through other\n"
+        "This module has the definitions that the clauses in the `Proved` sections use, directly or through other\n"
         "definitions.\n\n"
         "`f x` is `f` applied to `x`. `.now` is the value behind a reference. In a clause, a builder is the record of\n"
         "its fields. Names such as `edits.Flag` or `rules.PunctuationDiffers` are variants of `Edit`, `FlagSetter`,\n"

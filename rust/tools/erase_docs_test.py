@@ -32,7 +32,7 @@ CUES = {"if and only if|the same error": "↔|OkIff", "[Nn]ever": "≢", "No oth
 # The words that each row of PHRASES adds, and texts that FOREIGN finds.
 ADDED = [
     "", "", "", "", "", "", "[`build_or_panic`][Self::build_or_panic]",
-    "If 36 or more,", "Panics if 36 or more.", "Panics if not range and enabled. If they are disabled, the result is unspecified.",
+    "If is 36 or more,", "Panics if is 36 or more.", "If is not range, otherwise result.",
     "Each links to", "which values the setter takes, or why the string is not a setting.",
     "the edit as `NAME=VALUE`, such as `mantissa_radix=16`, `no_special=true` or `digit_separator=none`.",
     "the variants of [`Rule`][crate::format_flags::Rule],",
@@ -48,29 +48,29 @@ SMALL = "the The is of if a an and it for in which that each by or to as are".sp
 MEANT = """
     type natural numbers / type truth values `true` `false`
     / `[]` empty list `x ∷ xs` `x` followed `xs` `xs ++ ys` `xs` followed `ys` / As Rust `None` `Some value`
-    / `x ≡ y` holds both equal `x ≢ y` they not / `A ↔ B` holds `A` `B` follows from other
+    / `x ≡ y` holds `x` equals `y` `x ≢ y` does not / `A ↔ B` holds `A` `B` follows from other
     / `A → B` holds `B` follows from `A` `(x : T) → A` holds `A` holds every `x` type `T` Between types type functions
     / `A × B` holds both `A` `B` hold Its two parts `.0` `.1` / `A ⊎ B` holds `A` `B` holds / `⊤` always holds
     / `⊥` never holds / `λ x. t` function returns `t` `x`
-    / `a + b` sum `*` `/` `%` `^` multiplication division without remainder remainder power
+    / `a + b` sum `*` `/` `%` `^` multiplication integer division remainder power
     / `a - b` difference 0 `b` larger / `a < b` holds `a` less than `b` `a ≤ b` at most `b`
-    / `x == y` truth value `x ≡ y` numbers `beq x y` one truth values
-    / `a && b` true both true `a || b` true one true `not a` true `a` false
-    / `if b then x else y` `x` `b` true `y` otherwise / `nat_le a b` truth value `a ≤ b` `nat_lt a b` one `a < b`
+    / `x == y` truth value `x ≡ y` numbers `beq x y` truth values
+    / `a && b` true both true `a || b` true either true `not a` true `a` false
+    / `if b then x else y` `x` `b` true `y` otherwise / `nat_le a b` truth value `a ≤ b` `nat_lt a b` `a < b`
     / `min a b` smaller two numbers / `IsTrue b` holds `b` `true` `IsFalse b` holds `false`
     / `OkIff result P x` holds `result` `Ok x` `P` holds `Err` `P` does not
     / `IfOk result P` holds `result` `Err` `Ok x` `P` holds `x`
     / `IfErr result P` holds `result` `Ok` `Err x` `P` holds `x`
     / `All P xs` holds `P` holds entry `xs` `AllByRecursion P xs` equivalent
-    / `AllZip P xs ys` holds both lists have same length `P` holds two entries at same index
+    / `AllZip P xs ys` holds both lists have same length `P` holds two entries at index
     / `length xs` number entries `xs` / `take n xs` list first `n` entries `xs`
     / `range_with_len start n` list `n` numbers from `start` up / `map f xs` list `f x` `x` `xs`
-    / `flat_map f xs` joins lists `f x` `x` `xs` / `filter p xs` list `x` `xs` `p x` true
-    / `filter_map f xs` list `y` `f x` `Some y` `x` `xs`
+    / `flat_map f xs` joins lists `f x` `x` `xs` / `filter p xs` lists `x` `xs` `p x` true
+    / `filter_map f xs` lists `y` `f x` `Some y` `x` `xs`
     / `list_any p xs` true `p x` true some `x` `xs` `list_all p xs` true / `sum_by f xs` sum `f x` `x` `xs`
-    / `last_or option xs` `Some` last entry `xs` `option` `xs` empty
-    / `position p xs` `Some` index first entry `p` true `None` / `unwrap_or option x` value `option` `x` `None`
-    / `codes text` list bytes text
+    / `last_or option xs` `Some x` `x` last entry `xs` `option` `xs` empty
+    / `position p xs` `Some i` `p` first true entry at index `i` `None` / `unwrap_or option x` value `option` `x` `None`
+    / `codes text` list bytes `text`
 """
 
 # The code that follows each reason of an `unsafe` in the exports.

@@ -8,7 +8,7 @@ use Rattle.lexical_base.specs.Ascii.{ByteSet, between}
 abbrev pub digit_characters : List ℕ
 digit_characters = codes "0123456789ABCDEFGHIJKLMNOPQRSTUVWXYZ"
 
--- `uppercase byte` is the uppercase letter of `byte` if `byte` is a lowercase letter, and `byte` otherwise.
+-- `uppercase byte` is the uppercase form of `byte` if `byte` is a lowercase letter, and `byte` otherwise.
 abbrev pub uppercase : ℕ → ℕ
 uppercase byte = if between 97 122 byte then byte - 32 else byte
 

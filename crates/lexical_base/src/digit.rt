@@ -38,12 +38,11 @@ const fn byte_value(c: u8) -> u32
     VALUES[c as usize] as u32
 }
 
-/// Returns the value of the byte `c` as a digit in the given radix. The result is meaningful only if `c` is such a
-/// digit.
+/// Returns the value of the byte `c` as a digit in the given radix. The result is meaningful only if
+/// [`char_to_digit_const`] returns `Some`.
 ///
 /// `radix` may be any number. If it is at most 10, the result is `c.wrapping_sub(b'0')`. If it is above 10, the result
-/// is at most 35 if `c` is one of `0` to `9` or a letter, and 255 otherwise. Call [`char_to_digit_const`] to
-/// test whether it is.
+/// is between 0 and 35 for a digit character, and 255 for any other byte.
 #[inline(always)]
 pub const fn char_to_valid_digit_const(c: u8, radix: u32) -> u32
     ensures small { radix ≤ 10 → result ≡ (c + 208) % 256 }
@@ -86,7 +85,7 @@ pub const fn char_is_digit_const(c: u8, radix: u32) -> bool
 ///
 /// # Panics
 ///
-/// The contract requires that `digit` is below 36. In plain Rust, the result for any other `digit` is unspecified, and
+/// The contract requires `digit` to be below 36. In plain Rust, the result for any other `digit` is unspecified, and
 /// the call may panic if overflow checks are enabled.
 #[inline(always)]
 #[tactic(auto, using(crate::proofs::ValueLemmas::values))]
@@ -133,7 +132,7 @@ pub const fn char_is_digit(c: u8, radix: u32) -> bool
 ///
 /// # Panics
 ///
-/// The contract requires that `digit` is below 36. In plain Rust, a call with any other `digit` panics.
+/// The contract requires `digit` to be below 36. In plain Rust, a call with any other `digit` panics.
 #[inline(always)]
 pub const fn digit_to_char(digit: u32) -> u8
     requires { digit < 36 }

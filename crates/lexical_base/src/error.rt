@@ -31,8 +31,8 @@ pub use sink::Sink;
 /// data.
 ///
 /// The *rank* of a variant is its index in the list of variants, from 0 to 48. Values are ordered by rank, then by the
-/// index that they hold. This order is total: two values compare as equal if and only if they are the same. Each of the
-/// 49 methods whose names begin with `is_` tests for one variant, so exactly one of them returns `true`.
+/// index that they hold. This order is total, and only identical values compare as equal. Each of the 49 `is_` methods
+/// tests for a different variant, so exactly one of them returns `true`.
 #[derive(Clone, Copy, Debug)]
 pub enum Error {
     // Parse errors. Each holds the index of the offending byte.
@@ -48,9 +48,9 @@ pub enum Error {
     EmptyMantissa(usize),
     /// No digit follows the exponent character.
     EmptyExponent(usize),
-    /// No digit precedes the decimal point, but the format requires one.
+    /// The digit that the format requires before the decimal point is missing.
     EmptyInteger(usize),
-    /// No digit follows the decimal point, but the format requires one.
+    /// The digit that the format requires after the decimal point is missing.
     EmptyFraction(usize),
     /// A `+` precedes the significant digits, but the format forbids it.
     InvalidPositiveMantissaSign(usize),
@@ -93,7 +93,7 @@ pub enum Error {
     InvalidBasePrefix,
     /// The base suffix is a digit, a sign, or a byte that [`is_valid_ascii`][crate::ascii::is_valid_ascii] rejects.
     InvalidBaseSuffix,
-    /// Two of the following are the same character: the digit separator, the base prefix, the base suffix, the exponent
+    /// Two of the following match the same byte: the digit separator, the base prefix, the base suffix, the exponent
     /// character and the decimal point. A base prefix, base suffix or exponent character that is a letter matches both
     /// cases of that letter unless a flag makes it case-sensitive.
     InvalidPunctuation,
@@ -122,15 +122,15 @@ pub enum Error {
     InvalidNanString,
     /// The NaN string is too long.
     NanStringTooLong,
-    /// The short spelling of infinity, such as `inf`, does not start with `i`.
+    /// The short spelling of infinity does not start with `i`.
     InvalidInfString,
-    /// The short spelling of infinity, such as `inf`, is too long.
+    /// The short spelling of infinity is too long.
     InfStringTooLong,
-    /// The long spelling of infinity, such as `infinity`, does not start with `i`.
+    /// The long spelling of infinity does not start with `i`.
     InvalidInfinityString,
-    /// The long spelling of infinity, such as `infinity`, is too long.
+    /// The long spelling of infinity is too long.
     InfinityStringTooLong,
-    /// The long spelling of infinity, such as `infinity`, is shorter than the short one, such as `inf`.
+    /// The long spelling of infinity is shorter than the short spelling.
     InfinityStringTooShort,
     /// Two mutually exclusive algorithms for parsing floats are requested.
     InvalidFloatParseAlgorithm,
@@ -138,9 +138,9 @@ pub enum Error {
     InvalidRadix,
     /// The minimum number of digits is greater than the maximum.
     InvalidFloatPrecision,
-    /// The option `negative_exponent_break` of a writer is greater than 0.
+    /// The writer option `negative_exponent_break` is greater than 0.
     InvalidNegativeExponentBreak,
-    /// The option `positive_exponent_break` of a writer is less than 0.
+    /// The writer option `positive_exponent_break` is less than 0.
     InvalidPositiveExponentBreak,
 
     // No error.

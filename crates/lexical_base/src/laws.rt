@@ -3,7 +3,7 @@
 ghost use Rattle.std.specs.Prelude.{◌≡◌, ◌↔◌, ◌⊎◌, ℕ, ◌<◌, max, IsSome, IsTrue, ◌||◌};
 ghost use Rattle.lexical_base.specs.Digits.{byte_value, digit_of, digits_of};
 
-/// States which values a byte can have, which bytes are digits of a radix, and which are digits of one of two radixes.
+/// States which values bytes have, and which bytes are digits of a radix or of at least one of two radixes.
 #[inline(always)]
 pub const fn digit_facts()
     // The value of a byte is either below 36 or 255.

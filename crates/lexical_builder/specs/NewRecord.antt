@@ -1,10 +1,10 @@
--- The record of a new builder, and the record of one radix.
+-- The record of a new builder, and the record of a builder with a given radix.
 use Rattle.std.specs.Prelude.{ℕ, ◌==◌, ◌||◌, if◌then◌else◌}
 use Rattle.lexical_flags.specs.Layout.{bit, shift}
 use Rattle.lexical_flags.specs.Layout as layout
 use Rattle.lexical_flags.specs.Record.{Record, set_byte}
 
--- `new_record` is the record of a new builder: it has radix 10 and requires digits in mantissa and exponent.
+-- `new_record` is the record of a new builder: it has radix 10 and requires mantissa and exponent digits.
 abbrev pub new_record : Record
 new_record = record {
   flag = λ f. bit f == bit layout.required_exponent_digits || bit f == bit layout.required_mantissa_digits;

@@ -31,15 +31,15 @@ abbrev pub byte_written : Write → Byte → Option ℕ
 byte_written (write_flag f value) b = None
 byte_written (write_byte c value) b = if shift c == shift b then Some value else None
 
--- `last_flag writes f` is the last value that `writes` write to the flag `f`, or `None` if they do not write to `f`.
+-- `last_flag writes f` is the last value written to the flag `f` by `writes`, or `None` if there is none.
 abbrev pub last_flag : List Write → Flag → Option Bool
 last_flag writes f = last_or None (filter_map (λ x. flag_written x f) writes)
 
--- `last_byte writes b` is the last value that `writes` write to the byte `b`, or `None` if they do not write to `b`.
+-- `last_byte writes b` is the last value written to the byte `b` by `writes`, or `None` if there is none.
 abbrev pub last_byte : List Write → Byte → Option ℕ
 last_byte writes b = last_or None (filter_map (λ x. byte_written x b) writes)
 
--- `after r writes` is `r` after `writes`: each field to which they write has the last value that they write to it.
+-- `after r writes` is `r` after `writes`: each field that is written has the last value written to it.
 unfoldable pub after : Record → List Write → Record
 after r writes =
     record { flag = λ f. unwrap_or (last_flag writes f) (r.flag f); byte = λ b. unwrap_or (last_byte writes b) (r.byte b) }

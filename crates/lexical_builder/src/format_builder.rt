@@ -201,8 +201,8 @@ impl NumberFormatBuilder {
 
     /// Packs the fields into a format word without checking whether the word is [lawful][flags::Rule].
     ///
-    /// If no flag allows digit separators, in a number or in a special value, the digit separator is dropped: its byte
-    /// in the word is 0. All other fields are packed as they are.
+    /// If no flag allows digit separators in numbers or special values, the digit separator is dropped: its byte in the
+    /// word is 0. All other fields are packed as they are.
     #[inline(always)]
     pub const fn build_unchecked(&self) -> u128
         ensures word { result ≡ pack self.now }
@@ -235,8 +235,8 @@ impl NumberFormatBuilder {
 
     /// Packs the fields into a format word, and returns the word if it is [lawful][flags::Rule].
     ///
-    /// In `lexical-util`, this method panics instead of returning an error. In plain Rust, `build_or_panic` panics too.
-    /// Call that method in constants, where a `Result` cannot be unwrapped.
+    /// In `lexical-util`, this method panics instead of returning an error. In plain Rust, `build_or_panic` does this.
+    /// Call it in constants, where a `Result` cannot be unwrapped.
     ///
     /// # Errors
     ///
@@ -266,7 +266,7 @@ impl NumberFormatBuilder {
 
     /// Returns a builder with exactly the fields of a format word.
     ///
-    /// An exponent base or exponent radix of 0 stays absent, so a later change of the mantissa radix affects it too. To
+    /// An exponent base or exponent radix of 0 stays absent, so a later change to the mantissa radix affects it too. To
     /// set it to the mantissa radix instead, call [`rebuild`][Self::rebuild]. The digit separator is kept even if no
     /// flag allows one. The reserved bits, which hold no field, are dropped.
     ///
@@ -301,7 +301,7 @@ impl NumberFormatBuilder {
     /// Returns a builder with the fields of a format word. An exponent base or exponent radix of 0 is set to the
     /// mantissa radix.
     ///
-    /// The exponent base and the exponent radix are therefore not affected by later changes of the mantissa radix. If
+    /// The exponent base and the exponent radix are therefore not affected by later changes to the mantissa radix. If
     /// the mantissa radix is 0 too, an exponent base or exponent radix of 0 stays 0. The digit separator is kept even
     /// if no flag allows one. The reserved bits, which hold no field, are dropped.
     #[inline(always)]
@@ -327,8 +327,7 @@ impl NumberFormatBuilder {
 
     // PARTS
 
-    /// Returns a builder with the given flags and bytes, in the form in which [`to_parts`][Self::to_parts] returns
-    /// them.
+    /// Returns a builder with the given flags and bytes, laid out as [`to_parts`][Self::to_parts] returns them.
     ///
     /// Bits of `flags` above the last flag are ignored.
     #[inline(always)]
@@ -343,8 +342,8 @@ impl NumberFormatBuilder {
 
     /// Returns the flags and the bytes of the builder.
     ///
-    /// Bits 0 to 30 of the first number are the flags, in the order of their bits in a format word. The bytes are, in
-    /// this order, the digit separator, the base prefix, the base suffix, the mantissa radix, the exponent base and the
+    /// Bits 0 to 30 of the `u32` are the flags, in the order of their bits in a format word. The bytes are, in this
+    /// order, the digit separator, the base prefix, the base suffix, the mantissa radix, the exponent base and the
     /// exponent radix. An absent byte is 0.
     #[inline(always)]
     pub const fn to_parts(&self) -> (u32, [u8; 6])
@@ -354,8 +353,8 @@ impl NumberFormatBuilder {
         (self.flags, self.bytes)
     }
 
-    /// Sets every flag in `mask` to `value`. A flag is in `mask` if the bit that holds the flag in a format word is 1
-    /// in `mask`. The other bits of `mask` have no effect.
+    /// Sets every flag in `mask` to `value`. A flag is in `mask` if its bit in a format word is 1 in `mask`. The other
+    /// bits of `mask` have no effect.
     #[inline(always)]
     pub const fn with_flags(mut self, mask: u128, value: bool) -> Self
         ensures { result ≡ after self (write_flags (flags_with mask) value) }

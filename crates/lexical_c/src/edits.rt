@@ -19,7 +19,7 @@ use lexical_util::edits::{Edit, FIELD_COUNT, apply, edits_of};
 use lexical_util::format_builder::NumberFormatBuilder;
 use lexical_util::laws::write_facts;
 
-/// Applies the edits, in order, to a builder and returns the new builder. If an edit has an unknown setter, returns
+/// Applies the edits to a builder in order and returns the new builder. If an edit has an unknown setter, returns
 /// `None`.
 #[inline(always)]
 pub fn apply_edits(
@@ -39,8 +39,8 @@ pub fn apply_edits(
     Some(builder)
 }
 
-/// Returns the fields of a word. In the result, the mantissa radix replaces each absent exponent byte, and the bits
-/// above the flags are 0.
+/// Returns the fields of a word. The mantissa radix replaces an absent exponent base or exponent radix. The bits above
+/// the flags are 0.
 #[unsafe(no_mangle)]
 pub extern "C" fn peltzivar_fields_of(format: Word) -> Fields
     ensures fields { fields_of result ≡ fill (raw format) }
@@ -49,7 +49,7 @@ pub extern "C" fn peltzivar_fields_of(format: Word) -> Fields
     Fields::new(&NumberFormatBuilder::rebuild(format.number()))
 }
 
-/// Applies the edits, in order, to the fields, clears the bits above the flags and returns `true`. If an edit has an
+/// Applies the edits to the fields in order, clears the bits above the flags and returns `true`. If an edit has an
 /// unknown setter, returns `false` and leaves the fields unchanged.
 #[unsafe(no_mangle)]
 pub extern "C" fn peltzivar_edit_fields(fields: &mut Fields, edits: &[NumberedEdit]) -> bool
@@ -76,7 +76,7 @@ pub extern "C" fn peltzivar_pack(fields: &Fields) -> Word
     Word::new(fields.builder().build_unchecked())
 }
 
-/// Applies the edits, in order, to a copy of the fields, packs the copy, writes the word and returns `true`. If an edit
+/// Applies the edits to a copy of the fields in order, packs the copy, writes the word and returns `true`. If an edit
 /// has an unknown setter, returns `false` and writes nothing.
 #[unsafe(no_mangle)]
 pub extern "C" fn peltzivar_build(fields: &Fields, edits: &[NumberedEdit], out: &mut Word) -> bool
@@ -94,7 +94,7 @@ pub extern "C" fn peltzivar_build(fields: &Fields, edits: &[NumberedEdit], out: 
 }
 
 /// Packs the fields into a word. If the word is lawful, writes it and returns 0. Otherwise, writes nothing and returns
-/// the number of the error of the first rule that the word breaks.
+/// the error number of the first rule that the word breaks.
 #[unsafe(no_mangle)]
 pub extern "C" fn peltzivar_build_strict(fields: &Fields, out: &mut Word) -> ErrorNumber
     ensures { IsWrittenIfLawful (pack (fields_of fields.now)) result out.old out.new }
@@ -102,7 +102,7 @@ pub extern "C" fn peltzivar_build_strict(fields: &Fields, out: &mut Word) -> Err
     write_if_lawful(fields.builder().build_strict(), out)
 }
 
-/// Applies the edits, in order, to a word, writes the new word and returns `true`. If an edit has an unknown setter,
+/// Applies the edits to a word in order, writes the new word and returns `true`. If an edit has an unknown setter,
 /// returns `false` and writes nothing.
 #[unsafe(no_mangle)]
 pub extern "C" fn peltzivar_edit_word(format: Word, edits: &[NumberedEdit], out: &mut Word) -> bool
@@ -133,7 +133,7 @@ pub extern "C" fn peltzivar_normal_form(format: Word) -> Word
 }
 
 /// If the normal form of a word is lawful, writes the normal form and returns 0. Otherwise, writes nothing and returns
-/// the number of the error of the first rule that the normal form breaks.
+/// the error number of the first rule that the normal form breaks.
 #[unsafe(no_mangle)]
 pub extern "C" fn peltzivar_migrate(format: Word, out: &mut Word) -> ErrorNumber
     ensures { IsWrittenIfLawful (normal_form_of format) result out.old out.new }
@@ -150,7 +150,7 @@ pub extern "C" fn peltzivar_same_format(a: Word, b: Word) -> bool
     edits::same_format(a.number(), b.number())
 }
 
-/// Returns whether [`peltzivar_pack`] can return a word.
+/// Returns whether some fields pack into the word.
 #[unsafe(no_mangle)]
 pub extern "C" fn peltzivar_is_built(format: Word) -> bool
     ensures rule { IsTrue result ↔ IsBuilt format }
@@ -159,8 +159,8 @@ pub extern "C" fn peltzivar_is_built(format: Word) -> bool
     edits::is_built(format.number())
 }
 
-/// Writes one edit for each field of a word. The edits of fields in which the word differs from a new builder come
-/// first. Returns the number of these edits.
+/// Writes one edit for each field of a word. The edits that change a new builder come first, and their number is
+/// returned.
 #[unsafe(no_mangle)]
 pub extern "C" fn peltzivar_edits_of(format: Word, edits: &mut [NumberedEdit; FIELD_COUNT]) -> usize
     ensures numbers { edits.new ≡ map encode_edit (needed_edits (raw format) ++ other_edits (raw format)) }

@@ -5,7 +5,7 @@ ghost use Rattle.lexical_util.specs.declared.error.Error.TheVariants as errors;
 ghost use Rattle.lexical_c.specs.Outcomes.{IsCodeOfSome, IsWrittenIfLawful};
 ghost use Rattle.lexical_c.specs.Texts.{IsWritten};
 
-/// States that the number of `Success` is 0, and what writing a string to a buffer that is too short does.
+/// States the number for `Success`, and the result of writing a string to a buffer.
 pub fn returned_examples()
     ensures success { IsCodeOfSome (λ error. error ≡ errors.Success) 0 }
     ensures other_number { IsCodeOfSome (λ error. error ≡ errors.Success) 48 → ⊥ }
@@ -15,8 +15,8 @@ pub fn returned_examples()
     ensures other_byte { IsWritten (1 ∷ 2 ∷ []) 2 (9 ∷ 9 ∷ []) (1 ∷ 2 ∷ []) → ⊥ }
 {}
 
-/// States that a function breaks its contract if it leaves the output unchanged although the word is lawful. Each call
-/// of such a function proves an example in which the contract holds.
+/// States that a function that must write a lawful word breaks its contract if it leaves its output unchanged. Each
+/// call to such a function proves an example in which the contract holds.
 #[tactic(auto, unfolding(lexical_util::specs::Unfoldable::on_literals))]
 pub fn written_examples()
     ensures unchanged { IsWrittenIfLawful 0x00000A00_00000000_00000000_0000000C 0 7 7 → ⊥ }

@@ -28,7 +28,7 @@ pub fn error_number(error: Error) -> ErrorNumber
     }
 }
 
-/// If `word` is `Ok`, writes the word and returns 0. Otherwise, writes nothing and returns the number of the error.
+/// If `word` is `Ok`, writes the word and returns 0. Otherwise, writes nothing and returns the error number.
 #[inline(always)]
 pub fn write_if_lawful(word: Result<u128, Error>, out: &mut Word) -> ErrorNumber
     ensures { (lawful : ℕ) → OkIff word (Lawful lawful) lawful → IfErr word (IsErrorOf lawful)
@@ -59,7 +59,7 @@ pub extern "C" fn peltzivar_description(error: ErrorNumber, text: &mut [u8]) -> 
 }
 
 /// Writes the text that `Display` prints for the error with the given number, or an empty string if no error has that
-/// number. Success has the number 0. A parse error has the index `index`.
+/// number. Success has the number 0. A parse error holds `index`.
 #[unsafe(no_mangle)]
 pub extern "C" fn peltzivar_text(error: ErrorNumber, index: usize, text: &mut [u8]) -> usize
     ensures text { error < outcome_count → IsCodeOfSome (λ outcome. IsAt index outcome

@@ -21,8 +21,8 @@ use lexical_util::reasons::{
     MAX_MENDING_EDITS, Note, Reason, mend, notes_of_fields, reasons, reasons_of,
 };
 
-/// Writes one of the reasons why a word breaks a rule. There are three slots, with the indices 0 to 2. Writes an empty
-/// string if the slot is empty or `rule` is not the number of a rule.
+/// Writes a reason why a word breaks a rule: the one in slot `index`, from 0 to 2. Writes an empty string if the slot
+/// is empty or `rule` is not the number of a rule.
 #[unsafe(no_mangle)]
 pub extern "C" fn peltzivar_reason(format: Word, rule: u8, index: u8, text: &mut [u8]) -> usize
     ensures text { IfSome (reason_at (rule_of rule) format index)
@@ -38,8 +38,8 @@ pub extern "C" fn peltzivar_reason(format: Word, rule: u8, index: u8, text: &mut
     }
 }
 
-/// Writes the text of the reason in a slot. A word has 24 slots, with the indices 0 to 23. The text of an empty slot is
-/// empty.
+/// Writes a reason why a word breaks rules: the one in slot `index`, from 0 to 23. Writes an empty string if the slot
+/// is empty.
 #[unsafe(no_mangle)]
 pub extern "C" fn peltzivar_word_reason(format: Word, index: u8, text: &mut [u8]) -> usize
     ensures text { IfSome (word_reason_at format index) (λ reason. IsWritten (reason_text reason) result text.old text.new) }
@@ -63,8 +63,8 @@ pub extern "C" fn peltzivar_word_reason_mask(format: Word, index: u8) -> Word
     }
 }
 
-/// Returns the number of the first rule that a word breaks for the reason in a slot, or the number of rules if the slot
-/// is empty.
+/// Returns the index of the first rule that a word breaks because of the reason in a slot, or the number of rules if
+/// the slot is empty.
 #[unsafe(no_mangle)]
 pub extern "C" fn peltzivar_word_reason_rule(format: Word, index: u8) -> u8
     ensures rule { IfSome (word_reason_at format index) (λ reason. rule_of result ≡ Some (rule_of_reason reason)) }
@@ -76,8 +76,8 @@ pub extern "C" fn peltzivar_word_reason_rule(format: Word, index: u8) -> u8
     }
 }
 
-/// Returns whether a word breaks a rule for the reason in a slot, or `false` if the slot is empty or `rule` is not the
-/// number of a rule.
+/// Returns whether a word breaks a rule because of the reason in a slot, or `false` if the slot is empty or `rule` is
+/// not the number of a rule.
 #[unsafe(no_mangle)]
 pub extern "C" fn peltzivar_word_reason_breaks(format: Word, index: u8, rule: u8) -> bool
     ensures { IsTrue result ↔ BreaksAt (word_reason_at format index) (rule_of rule) }
@@ -85,8 +85,8 @@ pub extern "C" fn peltzivar_word_reason_breaks(format: Word, index: u8, rule: u8
     breaks_at(word_reason_at(format, index), rule_of(rule))
 }
 
-/// Writes edits of a field that mend a word for the reason in a slot, and returns the number of these edits. If the
-/// number is 0, writes nothing.
+/// Writes edits that mend a word by changing one field, given the reason in a slot, and returns their number. If it is
+/// 0, writes nothing.
 #[unsafe(no_mangle)]
 pub extern "C" fn peltzivar_word_reason_mend(
     format: Word,
@@ -116,9 +116,8 @@ pub extern "C" fn peltzivar_word_reason_mend(
     count
 }
 
-/// Writes the text of the note in a slot. Fields have three slots, with the indices 0 to 2. Writes an empty string if
-/// the slot is empty. This function takes fields rather than a word, since packing drops a digit separator that no flag
-/// allows.
+/// Writes a note on the fields: the one in slot `index`, from 0 to 2. Writes an empty string if the slot is empty. This
+/// function takes fields rather than a word, since packing drops a digit separator that no flag allows.
 #[unsafe(no_mangle)]
 pub extern "C" fn peltzivar_note(fields: &Fields, index: u8, text: &mut [u8]) -> usize
     ensures text { IfSome (note_at (fields_of fields.now) index)

@@ -1,4 +1,4 @@
-//! Functions that check the rules of words and the roles of bytes.
+//! Functions that check words against the rules, and the roles of bytes.
 
 ghost use Rattle.std.specs.Prelude.{◌≡◌, ◌↔◌, ◌<◌, ◌^◌, ◌-◌, ◌/◌, ◌%◌, IsTrue, IsFalse, IfSome, None};
 ghost use Rattle.lexical_util.specs.Layout as layout;
@@ -18,7 +18,7 @@ use lexical_util::format::{NumberFormat, format_error};
 use lexical_util::format_flags as flags;
 use lexical_util::format_flags::{RULES, Rule};
 
-/// Returns the number of the error of the first rule that a word breaks, or 0 if it is lawful.
+/// Returns the error number of the first rule that a word breaks, or 0 if the word is lawful.
 #[unsafe(no_mangle)]
 pub extern "C" fn peltzivar_format_error(format: Word) -> ErrorNumber
     ensures first { IsCodeOfSome (IsErrorOf format) result }
@@ -27,8 +27,8 @@ pub extern "C" fn peltzivar_format_error(format: Word) -> ErrorNumber
     error_number(format_error(format.number()))
 }
 
-/// Returns the number of the error of the first radix rule that a word breaks, or 0 if the word satisfies all three
-/// radix rules.
+/// Returns the error number of the first radix rule that a word breaks, or 0 if the word satisfies all three radix
+/// rules.
 #[unsafe(no_mangle)]
 pub extern "C" fn peltzivar_radix_error(format: Word) -> ErrorNumber
     ensures { IsCodeOfSome (IsFirstError radix_rules format) result }
@@ -44,7 +44,7 @@ pub extern "C" fn peltzivar_is_valid_radix(radix: u32) -> bool
     flags::is_valid_radix(radix)
 }
 
-/// Returns whether the flags that require and forbid exponents are not both set.
+/// Returns whether the flag that requires exponents and the flag that forbids them are not both set.
 #[unsafe(no_mangle)]
 pub extern "C" fn peltzivar_is_valid_exponent_flags(format: Word) -> bool
     ensures { IsTrue result ↔ Holds rules.ExponentFlagsAgree format }
@@ -84,7 +84,7 @@ pub extern "C" fn peltzivar_is_valid_punctuation(format: Word) -> bool
     flags::is_valid_punctuation(format.number())
 }
 
-/// Returns whether an exponent character and a decimal point fit a word.
+/// Returns whether `exponent` and `decimal_point` can be the exponent character and the decimal point of a word.
 #[unsafe(no_mangle)]
 pub extern "C" fn peltzivar_is_valid_options_punctuation(
     format: Word,
@@ -98,7 +98,8 @@ pub extern "C" fn peltzivar_is_valid_options_punctuation(
     flags::is_valid_options_punctuation(format.number(), exponent, decimal_point)
 }
 
-/// Returns 0 if an exponent character and a decimal point fit a word, and the number of the error otherwise.
+/// Returns 0 if `exponent` and `decimal_point` can be the exponent character and the decimal point of a word, and
+/// otherwise the error number.
 #[unsafe(no_mangle)]
 pub extern "C" fn peltzivar_options_error(
     format: Word,
@@ -123,8 +124,8 @@ pub extern "C" fn peltzivar_keeps_rule(format: Word, rule: u8) -> bool
     }
 }
 
-/// Returns the number of the error of a word that breaks the given rule and no rule before it. Returns 0 if `rule` is
-/// not the number of a rule.
+/// Returns the error number of a word that breaks the given rule but no earlier one. Returns 0 if `rule` is not the
+/// number of a rule.
 #[unsafe(no_mangle)]
 pub extern "C" fn peltzivar_rule_error(rule: u8) -> ErrorNumber
     ensures error { IfSome (rule_of rule) (λ known. result ≡ error_number (error_of known)) }

@@ -27,7 +27,7 @@ pub extern "C" fn peltzivar_text_of_word(format: Word, text: &mut [u8]) -> usize
 }
 
 /// Parses a string. If the string is `0x` followed by 1 to 32 hexadecimal digits, writes the word and returns 0.
-/// Otherwise, writes nothing and returns the number of the error.
+/// Otherwise, writes nothing and returns the error number.
 #[unsafe(no_mangle)]
 pub extern "C" fn peltzivar_word_of_text(text: &[u8], out: &mut Word) -> ErrorNumber
     ensures word { IsUtf8 text.now → IfOk (parsed_word text.now) (λ word. (result ≡ SUCCESS) × (out.new ≡ word)) }
@@ -71,7 +71,7 @@ fn flag_setter(number: u8) -> Option<FlagSetter>
     }
 }
 
-/// Writes the builder expression of a word.
+/// Writes a word as Rust code that builds it.
 #[unsafe(no_mangle)]
 pub extern "C" fn peltzivar_source(format: Word, text: &mut [u8]) -> usize
     ensures text { IsWritten (source_text format) result text.old text.new }

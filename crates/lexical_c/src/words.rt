@@ -84,7 +84,7 @@ impl NumberedEdit {
 }
 
 /// The fields of a builder. The first flag is bit 0 of `flags`. The bits above the flags are ignored. `bytes` has the
-/// six bytes in the order of their bits. An absent byte is 0.
+/// six bytes as in a word, lowest first. An absent byte is 0.
 #[repr(C)]
 #[derive(Clone, Copy)]
 pub struct Fields {

@@ -91,7 +91,7 @@ shift mantissa_radix = 104
 shift exponent_base = 112
 shift exponent_radix = 120
 
--- `base_flags` lists the flags from bit 0 up.
+-- `base_flags` lists the flags below bit 32.
 abbrev pub base_flags : List Flag
 base_flags =
     required_integer_digits ∷ required_fraction_digits ∷ required_exponent_digits ∷ required_mantissa_digits ∷
@@ -132,7 +132,7 @@ digit_separator_flags =
     internal_digit_separator ++ leading_digit_separator ++ trailing_digit_separator ++
     consecutive_digit_separator ++ special_digit_separator ∷ []
 
--- `integer_digit_separator_flags` lists the digit separator flags of the integer.
+-- `integer_digit_separator_flags` lists the digit separator flags of the integer part.
 abbrev pub integer_digit_separator_flags : List Flag
 integer_digit_separator_flags =
     integer_internal_digit_separator ∷ integer_leading_digit_separator ∷

@@ -31,7 +31,7 @@ pub record OptionsHaveOneRole (word exponent_byte point_byte : ℕ) : Type 0 whe
   pub point_is_text : IsTrue (allowed_ascii point_byte)
   pub roles : AreDisjoint (seven_roles (raw word) exponent_byte point_byte)
 
--- `SomeOptionsFit word` holds if there are an exponent character and a decimal point that fit `word`.
+-- `SomeOptionsFit word` holds if some exponent character and decimal point fit `word`.
 pub record SomeOptionsFit (word : ℕ) : Type 0 where
   pub exponent_byte : ℕ
   pub point_byte : ℕ

@@ -38,7 +38,7 @@ fill r =
 abbrev pub separator_allowed : Record → Bool
 separator_allowed r = list_any r.flag digit_separator_flags
 
--- `SeparatorAllowedOrAbsent r` holds if some flag of `r` allows a digit separator, or if `r` has none.
+-- `SeparatorAllowedOrAbsent r` holds if `r` has no digit separator, or if some flag of `r` allows one.
 abbrev pub SeparatorAllowedOrAbsent : Record → Type 0
 SeparatorAllowedOrAbsent r = IsTrue (separator_allowed r) ⊎ (r.byte layout.digit_separator ≡ 0)
 
@@ -62,7 +62,7 @@ word_of r = sum_by (flag_bits r) flags + sum_by (byte_bits r) bytes
 abbrev pub pack : Record → ℕ
 pack r = word_of (trim r)
 
--- `IsBuilt word` holds if the reserved bits of `word` are 0, and it has no digit separator unless a flag allows one.
+-- `IsBuilt word` holds if `word` has no reserved bit set, and no digit separator unless a flag allows one.
 pub record IsBuilt (word : ℕ) : Type 0 where
   pub clean : IsClean word
   pub separator_used : SeparatorAllowedOrAbsent (raw word)

@@ -1,4 +1,4 @@
--- The roles that bytes play in the numbers of a format, each as the set of the bytes that play it.
+-- The roles of bytes in the numbers of a format. A role is the set of the bytes that play it.
 use Rattle.std.specs.Prelude.{ℕ, ◌+◌, ◌-◌, Bool, true, IsTrue, if◌then◌else◌, ◌==◌, ◌&&◌, ◌||◌, not, List, [], ◌∷◌}
 use Rattle.std.specs.List.{list_all, range_with_len}
 use Rattle.lexical_base.specs.Ascii.{ByteSet, between}

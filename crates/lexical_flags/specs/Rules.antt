@@ -93,16 +93,16 @@ error_of rules.FractionConsecutiveIsAllowed = errors.InvalidConsecutiveFractionD
 error_of rules.ExponentConsecutiveIsAllowed = errors.InvalidConsecutiveExponentDigitSeparator
 error_of rules.ReservedBitsAreZero = errors.InvalidFlags
 
--- `radix_rules` lists the radix rules, in their order.
+-- `radix_rules` lists the radix rules, in order.
 abbrev pub radix_rules : List Rule
 radix_rules = rules.MantissaRadixInRange ∷ rules.ExponentBaseInRange ∷ rules.ExponentRadixInRange ∷ []
 
--- `punctuation_rules` lists the punctuation rules, in their order.
+-- `punctuation_rules` lists the punctuation rules, in order.
 abbrev pub punctuation_rules : List Rule
 punctuation_rules =
     rules.DigitSeparatorIsPunctuation ∷ rules.BasePrefixIsPunctuation ∷ rules.BaseSuffixIsPunctuation ∷ rules.PunctuationDiffers ∷ []
 
--- `flag_rules` lists the flag rules, in their order.
+-- `flag_rules` lists the flag rules, in order.
 abbrev pub flag_rules : List Rule
 flag_rules =
     rules.ExponentFlagsAgree ∷ rules.MantissaSignFlagsAgree ∷ rules.ExponentSignFlagsAgree ∷
@@ -110,7 +110,7 @@ flag_rules =
     rules.IntegerConsecutiveIsAllowed ∷ rules.FractionConsecutiveIsAllowed ∷
     rules.ExponentConsecutiveIsAllowed ∷ []
 
--- `rules_in_order` lists all rules, in their order.
+-- `rules_in_order` lists all rules, in order.
 abbrev pub rules_in_order : List Rule
 rules_in_order = radix_rules ++ punctuation_rules ++ flag_rules ++ rules.ReservedBitsAreZero ∷ []
 
@@ -128,8 +128,8 @@ IsFirstError (rule ∷ rules) word error = ErrorUnless (Holds rule word) (error_
 unfoldable pub IsErrorOf : ℕ → Error → Type 0
 IsErrorOf word error = IsFirstError rules_in_order word error
 
--- `LawfulParts word` holds if the radixes of `word` are in range, its flags agree, each other byte is absent or allowed
--- ASCII, no byte plays two roles, and the reserved bits are 0.
+-- `LawfulParts word` holds if the radixes of `word` are in range, its flags agree, every other byte is absent or
+-- allowed ASCII, no byte plays two roles, and the reserved bits are 0.
 pub record LawfulParts (word : ℕ) : Type 0 where
   pub mantissa_radix : IsRadix ((raw word).byte layout.mantissa_radix)
   pub exponent_base : IsRadix (effective_exponent_base (raw word))

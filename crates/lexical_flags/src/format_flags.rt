@@ -1,5 +1,5 @@
-//! The layout of a format word: the bits of each flag and byte, and the functions that read them. This module
-//! re-exports the tests of the rules from `format_flags/rules.rt`.
+//! The layout of a format word, and the functions that read its flags and bytes. This module re-exports the rule checks
+//! from `format_flags/rules.rt`.
 //!
 //! A format word is a `u128`. Its lower 64 bits hold 31 flags in two runs, which start at bit 0 and at bit 32. Its
 //! upper 64 bits hold six bytes: the digit separator, base prefix, base suffix, mantissa radix, exponent base and
@@ -26,114 +26,114 @@ pub use crate::format_flags::rules::{
 
 // FLAGS OTHER THAN DIGIT SEPARATOR FLAGS
 
-/// The mask of the [flag][lexical_builder::format_builder::NumberFormatBuilder::required_integer_digits].
+/// The mask of this [flag][lexical_builder::format_builder::NumberFormatBuilder::required_integer_digits].
 pub const REQUIRED_INTEGER_DIGITS: u128 = 0x1;
 
-/// The mask of the [flag][lexical_builder::format_builder::NumberFormatBuilder::required_fraction_digits].
+/// The mask of this [flag][lexical_builder::format_builder::NumberFormatBuilder::required_fraction_digits].
 pub const REQUIRED_FRACTION_DIGITS: u128 = 0x2;
 
-/// The mask of the [flag][lexical_builder::format_builder::NumberFormatBuilder::required_exponent_digits].
+/// The mask of this [flag][lexical_builder::format_builder::NumberFormatBuilder::required_exponent_digits].
 pub const REQUIRED_EXPONENT_DIGITS: u128 = 0x4;
 
-/// The mask of the [flag][lexical_builder::format_builder::NumberFormatBuilder::required_mantissa_digits].
+/// The mask of this [flag][lexical_builder::format_builder::NumberFormatBuilder::required_mantissa_digits].
 pub const REQUIRED_MANTISSA_DIGITS: u128 = 0x8;
 
-/// The mask of the [group][lexical_builder::format_builder::NumberFormatBuilder::required_digits].
+/// The mask of this [group][lexical_builder::format_builder::NumberFormatBuilder::required_digits].
 pub const REQUIRED_DIGITS: u128 = 0xF;
 
-/// The mask of the [flag][lexical_builder::format_builder::NumberFormatBuilder::no_positive_mantissa_sign].
+/// The mask of this [flag][lexical_builder::format_builder::NumberFormatBuilder::no_positive_mantissa_sign].
 pub const NO_POSITIVE_MANTISSA_SIGN: u128 = 0x10;
 
-/// The mask of the [flag][lexical_builder::format_builder::NumberFormatBuilder::required_mantissa_sign].
+/// The mask of this [flag][lexical_builder::format_builder::NumberFormatBuilder::required_mantissa_sign].
 pub const REQUIRED_MANTISSA_SIGN: u128 = 0x20;
 
-/// The mask of the [flag][lexical_builder::format_builder::NumberFormatBuilder::no_exponent_notation].
+/// The mask of this [flag][lexical_builder::format_builder::NumberFormatBuilder::no_exponent_notation].
 pub const NO_EXPONENT_NOTATION: u128 = 0x40;
 
-/// The mask of the [flag][lexical_builder::format_builder::NumberFormatBuilder::no_positive_exponent_sign].
+/// The mask of this [flag][lexical_builder::format_builder::NumberFormatBuilder::no_positive_exponent_sign].
 pub const NO_POSITIVE_EXPONENT_SIGN: u128 = 0x80;
 
-/// The mask of the [flag][lexical_builder::format_builder::NumberFormatBuilder::required_exponent_sign].
+/// The mask of this [flag][lexical_builder::format_builder::NumberFormatBuilder::required_exponent_sign].
 pub const REQUIRED_EXPONENT_SIGN: u128 = 0x100;
 
-/// The mask of the [flag][lexical_builder::format_builder::NumberFormatBuilder::no_exponent_without_fraction].
+/// The mask of this [flag][lexical_builder::format_builder::NumberFormatBuilder::no_exponent_without_fraction].
 pub const NO_EXPONENT_WITHOUT_FRACTION: u128 = 0x200;
 
-/// The mask of the [flag][lexical_builder::format_builder::NumberFormatBuilder::no_special].
+/// The mask of this [flag][lexical_builder::format_builder::NumberFormatBuilder::no_special].
 pub const NO_SPECIAL: u128 = 0x400;
 
-/// The mask of the [flag][lexical_builder::format_builder::NumberFormatBuilder::case_sensitive_special].
+/// The mask of this [flag][lexical_builder::format_builder::NumberFormatBuilder::case_sensitive_special].
 pub const CASE_SENSITIVE_SPECIAL: u128 = 0x800;
 
-/// The mask of the [flag][lexical_builder::format_builder::NumberFormatBuilder::no_integer_leading_zeros].
+/// The mask of this [flag][lexical_builder::format_builder::NumberFormatBuilder::no_integer_leading_zeros].
 pub const NO_INTEGER_LEADING_ZEROS: u128 = 0x1000;
 
-/// The mask of the [flag][lexical_builder::format_builder::NumberFormatBuilder::no_float_leading_zeros].
+/// The mask of this [flag][lexical_builder::format_builder::NumberFormatBuilder::no_float_leading_zeros].
 pub const NO_FLOAT_LEADING_ZEROS: u128 = 0x2000;
 
-/// The mask of the [flag][lexical_builder::format_builder::NumberFormatBuilder::required_exponent_notation].
+/// The mask of this [flag][lexical_builder::format_builder::NumberFormatBuilder::required_exponent_notation].
 pub const REQUIRED_EXPONENT_NOTATION: u128 = 0x4000;
 
-/// The mask of the [flag][lexical_builder::format_builder::NumberFormatBuilder::case_sensitive_exponent].
+/// The mask of this [flag][lexical_builder::format_builder::NumberFormatBuilder::case_sensitive_exponent].
 pub const CASE_SENSITIVE_EXPONENT: u128 = 0x8000;
 
-/// The mask of the [flag][lexical_builder::format_builder::NumberFormatBuilder::case_sensitive_base_prefix].
+/// The mask of this [flag][lexical_builder::format_builder::NumberFormatBuilder::case_sensitive_base_prefix].
 pub const CASE_SENSITIVE_BASE_PREFIX: u128 = 0x1_0000;
 
-/// The mask of the [flag][lexical_builder::format_builder::NumberFormatBuilder::case_sensitive_base_suffix].
+/// The mask of this [flag][lexical_builder::format_builder::NumberFormatBuilder::case_sensitive_base_suffix].
 pub const CASE_SENSITIVE_BASE_SUFFIX: u128 = 0x2_0000;
 
 // DIGIT SEPARATOR FLAGS
 
-/// The mask of the [flag][lexical_builder::format_builder::NumberFormatBuilder::integer_internal_digit_separator].
+/// The mask of this [flag][lexical_builder::format_builder::NumberFormatBuilder::integer_internal_digit_separator].
 pub const INTEGER_INTERNAL_DIGIT_SEPARATOR: u128 = 0x1_0000_0000;
 
-/// The mask of the [flag][lexical_builder::format_builder::NumberFormatBuilder::fraction_internal_digit_separator].
+/// The mask of this [flag][lexical_builder::format_builder::NumberFormatBuilder::fraction_internal_digit_separator].
 pub const FRACTION_INTERNAL_DIGIT_SEPARATOR: u128 = 0x2_0000_0000;
 
-/// The mask of the [flag][lexical_builder::format_builder::NumberFormatBuilder::exponent_internal_digit_separator].
+/// The mask of this [flag][lexical_builder::format_builder::NumberFormatBuilder::exponent_internal_digit_separator].
 pub const EXPONENT_INTERNAL_DIGIT_SEPARATOR: u128 = 0x4_0000_0000;
 
-/// The mask of the [flag][lexical_builder::format_builder::NumberFormatBuilder::integer_leading_digit_separator].
+/// The mask of this [flag][lexical_builder::format_builder::NumberFormatBuilder::integer_leading_digit_separator].
 pub const INTEGER_LEADING_DIGIT_SEPARATOR: u128 = 0x8_0000_0000;
 
-/// The mask of the [flag][lexical_builder::format_builder::NumberFormatBuilder::fraction_leading_digit_separator].
+/// The mask of this [flag][lexical_builder::format_builder::NumberFormatBuilder::fraction_leading_digit_separator].
 pub const FRACTION_LEADING_DIGIT_SEPARATOR: u128 = 0x10_0000_0000;
 
-/// The mask of the [flag][lexical_builder::format_builder::NumberFormatBuilder::exponent_leading_digit_separator].
+/// The mask of this [flag][lexical_builder::format_builder::NumberFormatBuilder::exponent_leading_digit_separator].
 pub const EXPONENT_LEADING_DIGIT_SEPARATOR: u128 = 0x20_0000_0000;
 
-/// The mask of the [flag][lexical_builder::format_builder::NumberFormatBuilder::integer_trailing_digit_separator].
+/// The mask of this [flag][lexical_builder::format_builder::NumberFormatBuilder::integer_trailing_digit_separator].
 pub const INTEGER_TRAILING_DIGIT_SEPARATOR: u128 = 0x40_0000_0000;
 
-/// The mask of the [flag][lexical_builder::format_builder::NumberFormatBuilder::fraction_trailing_digit_separator].
+/// The mask of this [flag][lexical_builder::format_builder::NumberFormatBuilder::fraction_trailing_digit_separator].
 pub const FRACTION_TRAILING_DIGIT_SEPARATOR: u128 = 0x80_0000_0000;
 
-/// The mask of the [flag][lexical_builder::format_builder::NumberFormatBuilder::exponent_trailing_digit_separator].
+/// The mask of this [flag][lexical_builder::format_builder::NumberFormatBuilder::exponent_trailing_digit_separator].
 pub const EXPONENT_TRAILING_DIGIT_SEPARATOR: u128 = 0x100_0000_0000;
 
-/// The mask of the [flag][lexical_builder::format_builder::NumberFormatBuilder::integer_consecutive_digit_separator].
+/// The mask of this [flag][lexical_builder::format_builder::NumberFormatBuilder::integer_consecutive_digit_separator].
 pub const INTEGER_CONSECUTIVE_DIGIT_SEPARATOR: u128 = 0x200_0000_0000;
 
-/// The mask of the [flag][lexical_builder::format_builder::NumberFormatBuilder::fraction_consecutive_digit_separator].
+/// The mask of this [flag][lexical_builder::format_builder::NumberFormatBuilder::fraction_consecutive_digit_separator].
 pub const FRACTION_CONSECUTIVE_DIGIT_SEPARATOR: u128 = 0x400_0000_0000;
 
-/// The mask of the [flag][lexical_builder::format_builder::NumberFormatBuilder::exponent_consecutive_digit_separator].
+/// The mask of this [flag][lexical_builder::format_builder::NumberFormatBuilder::exponent_consecutive_digit_separator].
 pub const EXPONENT_CONSECUTIVE_DIGIT_SEPARATOR: u128 = 0x800_0000_0000;
 
-/// The mask of the [group][lexical_builder::format_builder::NumberFormatBuilder::internal_digit_separator].
+/// The mask of this [group][lexical_builder::format_builder::NumberFormatBuilder::internal_digit_separator].
 pub const INTERNAL_DIGIT_SEPARATOR: u128 = 0x7_0000_0000;
 
-/// The mask of the [group][lexical_builder::format_builder::NumberFormatBuilder::leading_digit_separator].
+/// The mask of this [group][lexical_builder::format_builder::NumberFormatBuilder::leading_digit_separator].
 pub const LEADING_DIGIT_SEPARATOR: u128 = 0x38_0000_0000;
 
-/// The mask of the [group][lexical_builder::format_builder::NumberFormatBuilder::trailing_digit_separator].
+/// The mask of this [group][lexical_builder::format_builder::NumberFormatBuilder::trailing_digit_separator].
 pub const TRAILING_DIGIT_SEPARATOR: u128 = 0x1C0_0000_0000;
 
-/// The mask of the [group][lexical_builder::format_builder::NumberFormatBuilder::consecutive_digit_separator].
+/// The mask of this [group][lexical_builder::format_builder::NumberFormatBuilder::consecutive_digit_separator].
 pub const CONSECUTIVE_DIGIT_SEPARATOR: u128 = 0xE00_0000_0000;
 
-/// The mask of the [flag][lexical_builder::format_builder::NumberFormatBuilder::special_digit_separator].
+/// The mask of this [flag][lexical_builder::format_builder::NumberFormatBuilder::special_digit_separator].
 pub const SPECIAL_DIGIT_SEPARATOR: u128 = 0x1000_0000_0000;
 
 // BYTES
@@ -192,19 +192,19 @@ pub const FLAG_MASK: u128 = 0x1FFF_0003_FFFF;
 /// [`CASE_SENSITIVE_EXPONENT`] and [`SPECIAL_DIGIT_SEPARATOR`].
 pub const INTERFACE_FLAG_MASK: u128 = 0xFFF_0000_63CF;
 
-/// The mask of the [group][lexical_builder::format_builder::NumberFormatBuilder::digit_separator_flags].
+/// The mask of this [group][lexical_builder::format_builder::NumberFormatBuilder::digit_separator_flags].
 pub const DIGIT_SEPARATOR_FLAG_MASK: u128 = 0x1FFF_0000_0000;
 
 /// The mask of all flags that affect exponents, except [`CASE_SENSITIVE_EXPONENT`].
 pub const EXPONENT_FLAG_MASK: u128 = 0x924_0000_43C4;
 
-/// The mask of the [group][lexical_builder::format_builder::NumberFormatBuilder::integer_digit_separator_flags].
+/// The mask of this [group][lexical_builder::format_builder::NumberFormatBuilder::integer_digit_separator_flags].
 pub const INTEGER_DIGIT_SEPARATOR_FLAG_MASK: u128 = 0x249_0000_0000;
 
-/// The mask of the [group][lexical_builder::format_builder::NumberFormatBuilder::fraction_digit_separator_flags].
+/// The mask of this [group][lexical_builder::format_builder::NumberFormatBuilder::fraction_digit_separator_flags].
 pub const FRACTION_DIGIT_SEPARATOR_FLAG_MASK: u128 = 0x492_0000_0000;
 
-/// The mask of the [group][lexical_builder::format_builder::NumberFormatBuilder::exponent_digit_separator_flags].
+/// The mask of this [group][lexical_builder::format_builder::NumberFormatBuilder::exponent_digit_separator_flags].
 pub const EXPONENT_DIGIT_SEPARATOR_FLAG_MASK: u128 = 0x924_0000_0000;
 
 // The mask of the reserved bits: all bits except the flags, the digit separator, and the bits from the lowest bit of
@@ -282,7 +282,7 @@ pub const fn exponent_radix(format: u128) -> u32
 ///
 /// # Panics
 ///
-/// The contract requires that `shift` is in this range. In plain Rust, a call with any other `shift` panics if overflow
+/// The contract requires `shift` to be in this range. In plain Rust, a call with any other `shift` panics if overflow
 /// checks are enabled, and returns an unspecified number otherwise.
 #[inline(always)]
 #[tactic(auto, using(crate::proofs::ByteParts::byte_parts, crate::proofs::CommonLemmas::common_part))]

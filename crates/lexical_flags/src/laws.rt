@@ -1,4 +1,4 @@
-//! Theorems on the layout, the rules and the roles. Each is a clause of a function with an empty body.
+//! Theorems on the layout, the rules and the roles of bytes. Each is a clause of a function with an empty body.
 
 ghost use Rattle.std.specs.Prelude.{◌≡◌, ℕ, ◌*◌, ◌/◌, ◌^◌, ◌<◌, ◌↔◌, [], ◌∷◌, length, map, pos, bit_or, IsTrue, bit_and};
 ghost use Rattle.lexical_base.specs.declared.error.Error.{Error};
@@ -66,8 +66,8 @@ pub fn layout_facts()
         (bit_or EXPONENT_DIGIT_SEPARATOR_FLAG_MASK SPECIAL_DIGIT_SEPARATOR)) ≡ DIGIT_SEPARATOR_FLAG_MASK }
 {}
 
-/// States how filling and trimming a word affect its error, that a word is lawful if and only if it satisfies every
-/// rule, which bits decide whether a word satisfies a rule, and that a word has at most one error.
+/// States how the error of a word and of its normal form are related, which bits decide whether a word satisfies a
+/// rule, that a word is lawful if and only if it satisfies every rule, and that it has at most one error.
 #[inline(always)]
 pub const fn rule_facts()
     // If `word` is lawful, then so is `normal`, the clean word whose fields are the filled and trimmed fields of
@@ -90,7 +90,8 @@ pub const fn rule_facts()
         → error ≡ other }
 {}
 
-/// States when two sets are disjoint, and that no byte plays two roles in a lawful format with accepted options.
+/// States when two sets of bytes are disjoint, and that no byte plays two roles in a lawful format with accepted
+/// options.
 pub fn role_facts()
     // Two sets are disjoint if and only if no byte is in both.
     ensures disjoint { (A B : ByteSet)

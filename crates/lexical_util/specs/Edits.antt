@@ -1,4 +1,4 @@
--- The writes of an edit, and the word that results if writes are applied to a word.
+-- The writes of an edit, and the word that results from applying writes to a word.
 use Rattle.std.specs.Prelude.{ℕ, List, [], ◌∷◌, flat_map}
 use Rattle.lexical_flags.specs.Layout.{Flag}
 use Rattle.lexical_flags.specs.Layout as layout
@@ -68,7 +68,7 @@ writes_of (edits.ExponentRadix radix) = write_byte layout.exponent_radix (byte_o
 abbrev pub all_writes : List Edit → List Write
 all_writes list = flat_map writes_of list
 
--- `edited word writes` is the word that results if the fields of `word` are filled, `writes` are applied to them in
--- order, and the fields are packed.
+-- `edited word writes` is the result of filling the fields of `word`, applying `writes` to them in order, and packing
+-- them.
 abbrev pub edited : ℕ → List Write → ℕ
 edited word writes = pack (after (fill (raw word)) writes)

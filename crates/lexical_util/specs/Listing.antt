@@ -20,7 +20,7 @@ IsEditOf (write_byte layout.mantissa_radix value) edit = edit ≡ edits.Mantissa
 IsEditOf (write_byte layout.exponent_base value) edit = edit ≡ edits.ExponentBase (option_of_byte value)
 IsEditOf (write_byte layout.exponent_radix value) edit = edit ≡ edits.ExponentRadix (option_of_byte value)
 
--- `field_writes r` lists the writes of all fields of `r` with their values in `r`, in the order of the fields' bits.
+-- `field_writes r` lists, for each field, the write of its value in `r`, in the order of the fields' bits.
 abbrev pub field_writes : Record → List Write
 field_writes r = map (λ f. write_flag f (r.flag f)) flags ++ map (λ b. write_byte b (r.byte b)) bytes
 

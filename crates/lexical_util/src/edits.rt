@@ -86,8 +86,8 @@ pub use numbers::{
 };
 pub use text::{SettingError, byte_from_decimal};
 
-/// A setter of [`NumberFormatBuilder`] that takes a `bool`. It sets one flag, or all flags of one of the nine groups of
-/// flags. The comment of a variant is the name of its setter.
+/// A setter of [`NumberFormatBuilder`] that takes a `bool`. It sets one flag, or all flags of one of the nine flag
+/// groups. The comment of a variant is the name of its setter.
 #[derive(Debug, Clone, Copy, PartialEq, Eq, Hash)]
 pub enum FlagSetter {
     /// `required_integer_digits`
@@ -263,8 +263,8 @@ const fn mask_of(setter: FlagSetter) -> u64
 /// Applies `edits` in order to `builder`, and returns the new builder.
 ///
 /// To build a new format, apply the edits to a new builder, and call
-/// [`build_strict`][NumberFormatBuilder::build_strict]. For an exponent base or exponent radix that no edit sets, the
-/// mantissa radix is used.
+/// [`build_strict`][NumberFormatBuilder::build_strict]. The mantissa radix is used in place of an exponent base or
+/// exponent radix that no edit sets.
 #[inline(always)]
 pub const fn apply_all(mut builder: NumberFormatBuilder, edits: &[Edit]) -> NumberFormatBuilder
     ensures fields { result ≡ after builder (all_writes edits.now) }
@@ -281,8 +281,8 @@ pub const fn apply_all(mut builder: NumberFormatBuilder, edits: &[Edit]) -> Numb
 /// Applies `edits` in order to a format word, which need not be [lawful][flags::Rule], and returns the new word.
 ///
 /// Use this function to change a finished format. An edit of the mantissa radix changes neither the exponent base nor
-/// the exponent radix, even if they were absent, so that the old mantissa radix was used in their place. To build a new
-/// format, use [`apply_all`].
+/// the exponent radix. If either is absent, it is first set to the old mantissa radix. To build a new format, use
+/// [`apply_all`].
 ///
 /// The new word is computed in four steps:
 ///
@@ -370,9 +370,8 @@ pub const fn normal_form(format: u128) -> u128
 
 /// Returns the [normal form][normal_form] of `format` if that form is [lawful][flags::Rule].
 ///
-/// Use this function for words that `lexical-util` stored, or that this crate stored before its rules changed. Reserved
-/// bits that are set, and a digit separator that no flag allows, are not errors, since the normal form does not have
-/// them.
+/// Use this function for stored words that `lexical-util` built, or that this crate built before its rules changed. Set
+/// reserved bits and a digit separator that no flag allows are not errors, since the normal form drops them.
 ///
 /// # Errors
 ///

@@ -1,4 +1,4 @@
-//! The view of a format word, which reads the fields of the word and checks it.
+//! A view that reads the fields of a format word and checks the word.
 #![tactic(auto, using(crate::proofs::ViewLemmas::masks_and_powers))]
 
 ghost use Rattle.std.specs.Prelude.{◌≡◌, ◌≢◌, ℕ, ◌↔◌, ◌%◌, ◌^◌, IsTrue};
@@ -118,7 +118,7 @@ impl NumberFormat {
     }
 
     /// Checks the mantissa radix, the exponent base and the exponent radix, in this order. Returns the error of the
-    /// first one that is not between 2 and 36, or `Success` if all three are.
+    /// first one that is not between 2 and 36, or `Success` if there is none.
     #[inline(always)]
     pub const fn error_radix(&self) -> Error
         ensures first { IsFirstError radix_rules self.now result }
@@ -278,7 +278,7 @@ impl NumberFormat {
 
     // BUILDERS
 
-    /// Returns a new builder. The builder does not depend on the word.
+    /// Returns a new builder, which does not depend on any word.
     #[inline(always)]
     pub const fn builder() -> NumberFormatBuilder
         ensures { result ≡ new_record }

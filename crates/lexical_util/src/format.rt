@@ -1,4 +1,4 @@
-//! The standard format, the view of a format word, two functions that check a word, and all names of `format_flags` and
+//! The standard format, the view of a format word, two functions that check a word, and all items of `format_flags` and
 //! `format_builder`.
 
 ghost use Rattle.std.specs.Prelude.{◌≡◌, ◌↔◌, IsTrue};

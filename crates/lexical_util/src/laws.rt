@@ -1,4 +1,4 @@
-//! Laws: public functions with an empty body, whose clauses are theorems. To use a law, call its function.
+//! Laws: public functions with empty bodies, whose clauses are theorems. To use a law, call it.
 
 ghost use Rattle.std.specs.Prelude.{◌≡◌, ◌↔◌, ◌+◌, ℕ, List, [], ◌++◌};
 ghost use Rattle.lexical_flags.specs.Record.{Record, raw};

@@ -15,9 +15,9 @@ use lexical_base::error::Error;
 ///
 /// # Errors
 ///
-/// The error holds the index of the first byte that does not fit. It is [`Error::Overflow`] if this byte is a 33rd
-/// digit, and [`Error::InvalidDigit`] if it is any other byte. If every byte fits but the text ends before the first
-/// digit, the error is [`Error::Empty`] with the length of the text.
+/// The error holds the index of the first unexpected byte. It is [`Error::Overflow`] if this byte is a 33rd digit, and
+/// [`Error::InvalidDigit`] if it is any other byte. If no byte is unexpected but the text ends before the first digit,
+/// the error is [`Error::Empty`] with the length of the text.
 ///
 /// In plain Rust:
 ///
@@ -41,8 +41,8 @@ pub fn parse_word(text: &str) -> Result<u128, Error>
     Err(misfit_error(text, first_misfit(text)))
 }
 
-/// Returns `word` as text: `0x` followed by 32 hexadecimal digits with uppercase letters. [`parse_word`] parses this
-/// text into the same word.
+/// Returns `word` as text: `0x` followed by 32 uppercase hexadecimal digits. [`parse_word`] parses this text into the
+/// same word.
 pub fn word_text(word: u128) -> [u8; 34]
     ensures text { result ≡ printed word }
     ensures form { IsPrintedForm result }

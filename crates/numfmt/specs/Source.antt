@@ -1,4 +1,4 @@
--- The answer to `source`: the builder expression of a word, after comments that state what the expression loses.
+-- The answer to `source`: the builder expression of a word, after comments that state what is lost.
 use Rattle.std.specs.Prelude.{ℕ, ◌==◌, ◌||◌, bit_and, if◌then◌else◌, List, [], ◌++◌, Option, None, Some, codes}
 use Rattle.lexical_util.specs.ShortTexts.{hexadecimal, quoted_byte}
 use Rattle.lexical_util.specs.Layout as layout

@@ -1,5 +1,5 @@
-//! A law, which states that arguments have only one response, and examples of each predicate: one case that holds and
-//! one that does not. No code calls these functions.
+//! A law that any arguments have only one response, and for each predicate, an example that holds and one that does
+//! not. No code calls the functions of this module.
 
 ghost use Rattle.std.specs.Prelude.{◌≡◌, ℕ, List, Ok};
 ghost use Rattle.numfmt.specs.Command.{Responds, request_of};

@@ -18,7 +18,7 @@ use std::io;
 /// For a reason, this function writes its sentence, the errors of the broken rules, and the fields that it blames. For
 /// each of these fields, it also writes the edits of the field, if any, that remove the reason.
 ///
-/// `word` may be any word. After an error, the contract does not state what was written.
+/// `word` may be any word. After an error, what was written is unspecified.
 pub fn write_explanation<W: Output>(word: u128, out: &mut W) -> io::Result<()>
     ensures text { OnOk result (Appends (W.contents out.old) (W.contents out.new) (explanation word)) }
     ensures failed { IsErr result → W.has_failed out.new }

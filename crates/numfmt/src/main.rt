@@ -9,9 +9,9 @@
 //! | `edit WORD NAME=VALUE ..` | the word after the edits; without edits, its normal form |
 //! | `check WORD` | the error of the first rule that the word breaks, or success |
 //! | `same A B` | whether the two words are equivalent: `same` or `different` |
-//! | `options WORD E P` | whether E fits the word as exponent byte and P as point byte: `accepted` or `refused` |
+//! | `options WORD E P` | whether E can be the exponent character and P the decimal point: `accepted` or `refused` |
 //! | `migrate WORD` | the normal form of an old word, or the error of the normal form |
-//! | `source WORD` | the builder expression with the fewest single-field setter calls that give the word's fields |
+//! | `source WORD` | a builder expression that sets the word's fields in the fewest single-field setter calls |
 //! | `explain WORD` | each reason why the word breaks rules, with errors, fields and mending edits; then the notes |
 //!
 //! The exit status is 0 on success, 1 if the answer is no, and 2 if the arguments are refused (one line states the

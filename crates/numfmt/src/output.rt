@@ -1,5 +1,5 @@
-//! The writer of the program. Unlike std's `Write`, it has predicates that state if a call has failed and if all bytes
-//! are flushed.
+//! The writer of the program. Unlike std's `Write`, it has predicates that state whether a call has failed and whether
+//! all bytes are flushed.
 
 ghost use Rattle.std.specs.Prelude.{⊤, ℕ, IfSome, IsErr, List, OnOk, Option};
 ghost use Rattle.std.specs.Io.KnownBytes.{Appends, Keeps};
@@ -8,15 +8,15 @@ use std::fmt::Display;
 use std::io;
 use std::io::Write;
 
-/// A writer that may fail, and that may hold back written bytes.
+/// A writer that may fail, and that may buffer bytes.
 ///
-/// Each writer defines `has_failed` and `is_flushed`. So for any `Output`, a proof can derive `has_failed` only from a
-/// failed call, and `is_flushed` only from a flush. After the next call, neither is known.
+/// Each writer defines `has_failed` and `is_flushed`. So if only the trait is known, a proof can derive `has_failed`
+/// only from a failed call, and `is_flushed` only from a flush. The next call invalidates both.
 pub trait Output {
     // The bytes that were written, if they are known.
     ghost contents: { Self → Option (List ℕ) };
 
-    // Holds if no written bytes are held back.
+    // Holds if no bytes are buffered.
     ghost is_flushed: { Self → Type 0 };
 
     // Holds if the last call failed.
@@ -32,7 +32,7 @@ pub trait Output {
         ensures bytes { OnOk result (IfSome (D.output text) (Appends (contents self.old) (contents self.new))) }
         ensures failed { IsErr result → has_failed self.new };
 
-    /// Passes on all bytes that the writer holds back.
+    /// Passes on all buffered bytes.
     fn flush(&mut self) -> io::Result<()>
         ensures bytes { Keeps (contents self.old) (contents self.new) }
         ensures flushed { OnOk result (is_flushed self.new) }

@@ -10,7 +10,7 @@ use crate::output::Output;
 use crate::response::{exit_status, print};
 
 /// Runs the command in `args`, the program's arguments without its name, and returns the exit status: 0 for success or
-/// a positive answer, 1 for a negative answer, 2 if the arguments are refused, and 3 if a write to `out` or its flush
+/// a positive answer, 1 for a negative answer, 2 if the arguments are refused, and 3 if writing to `out` or flushing it
 /// fails.
 ///
 /// All text is written to `out`, which is flushed at the end. After a write or a flush fails, nothing more is written.

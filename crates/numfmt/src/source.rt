@@ -1,4 +1,4 @@
-//! The function that writes a format word as Rust code, after comments that state what the code loses.
+//! The function that writes a format word as Rust code, after comments that state what is lost.
 
 ghost use Rattle.std.specs.Prelude.{◌≡◌, IsErr, OnOk};
 ghost use Rattle.std.specs.Io.KnownBytes.{Appends};
@@ -15,9 +15,8 @@ use std::io;
 /// builder, a setter call for each field in which the word differs from that builder, and the call that packs the
 /// fields.
 ///
-/// `word` may be any word. If the code builds a different word, comments before it state what is lost: reserved
-/// bits that are set, and a digit separator that no flag allows. After an error, the contract does not state what was
-/// written.
+/// `word` may be any word. If the code builds a different word, comments before it state what is lost: reserved bits
+/// that are set, and a digit separator that no flag allows. After an error, what was written is unspecified.
 pub fn write_source<W: Output>(word: u128, out: &mut W) -> io::Result<()>
     ensures text { OnOk result (Appends (W.contents out.old) (W.contents out.new) (source_lines word)) }
     ensures failed { IsErr result → W.has_failed out.new }

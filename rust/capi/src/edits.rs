@@ -8,7 +8,7 @@ use peltzivar::edits;
 use peltzivar::edits::{apply, edits_of, Edit, FIELD_COUNT};
 use peltzivar::format_builder::NumberFormatBuilder;
 
-/// Applies the edits, in order, to a builder and returns the new builder. If an edit has an unknown setter, returns
+/// Applies the edits to a builder in order and returns the new builder. If an edit has an unknown setter, returns
 /// `None`.
 #[must_use]
 #[inline(always)]
@@ -25,15 +25,15 @@ pub fn apply_edits(
     Some(builder)
 }
 
-/// Returns the fields of a word. In the result, the mantissa radix replaces each absent exponent byte, and the bits
-/// above the flags are 0.
+/// Returns the fields of a word. The mantissa radix replaces an absent exponent base or exponent radix. The bits above
+/// the flags are 0.
 // SAFETY: no other library has names that begin with `peltzivar_`.
 #[unsafe(no_mangle)]
 pub extern "C" fn peltzivar_fields_of(format: Word) -> Fields {
     Fields::new(&NumberFormatBuilder::rebuild(format.number()))
 }
 
-/// Applies the edits, in order, to the fields, clears the bits above the flags and returns `true`. If an edit has an
+/// Applies the edits to the fields in order, clears the bits above the flags and returns `true`. If an edit has an
 /// unknown setter, returns `false` and leaves the fields unchanged.
 // SAFETY: no other library has names that begin with `peltzivar_`.
 #[unsafe(no_mangle)]
@@ -58,7 +58,7 @@ pub extern "C" fn peltzivar_pack(fields: &Fields) -> Word {
     Word::new(fields.builder().build_unchecked())
 }
 
-/// Applies the edits, in order, to a copy of the fields, packs the copy, writes the word and returns `true`. If an edit
+/// Applies the edits to a copy of the fields in order, packs the copy, writes the word and returns `true`. If an edit
 /// has an unknown setter, returns `false` and writes nothing.
 // SAFETY: no other library has names that begin with `peltzivar_`.
 #[unsafe(no_mangle)]
@@ -78,7 +78,7 @@ pub unsafe extern "C" fn peltzivar_build(
 }
 
 /// Packs the fields into a word. If the word is lawful, writes it and returns 0. Otherwise, writes nothing and returns
-/// the number of the error of the first rule that the word breaks.
+/// the error number of the first rule that the word breaks.
 // SAFETY: no other library has names that begin with `peltzivar_`.
 #[unsafe(no_mangle)]
 pub extern "C" fn peltzivar_build_strict(
@@ -88,7 +88,7 @@ pub extern "C" fn peltzivar_build_strict(
     write_if_lawful(fields.builder().build_strict(), out)
 }
 
-/// Applies the edits, in order, to a word, writes the new word and returns `true`. If an edit has an unknown setter,
+/// Applies the edits to a word in order, writes the new word and returns `true`. If an edit has an unknown setter,
 /// returns `false` and writes nothing.
 // SAFETY: no other library has names that begin with `peltzivar_`.
 #[unsafe(no_mangle)]
@@ -116,7 +116,7 @@ pub extern "C" fn peltzivar_normal_form(format: Word) -> Word {
 }
 
 /// If the normal form of a word is lawful, writes the normal form and returns 0. Otherwise, writes nothing and returns
-/// the number of the error of the first rule that the normal form breaks.
+/// the error number of the first rule that the normal form breaks.
 // SAFETY: no other library has names that begin with `peltzivar_`.
 #[unsafe(no_mangle)]
 pub extern "C" fn peltzivar_migrate(format: Word, out: crate::outputs::Out<Word>) -> ErrorNumber {
@@ -130,15 +130,15 @@ pub extern "C" fn peltzivar_same_format(a: Word, b: Word) -> bool {
     edits::same_format(a.number(), b.number())
 }
 
-/// Returns whether [`peltzivar_pack`] can return a word.
+/// Returns whether some fields pack into the word.
 // SAFETY: no other library has names that begin with `peltzivar_`.
 #[unsafe(no_mangle)]
 pub extern "C" fn peltzivar_is_built(format: Word) -> bool {
     edits::is_built(format.number())
 }
 
-/// Writes one edit for each field of a word. The edits of fields in which the word differs from a new builder come
-/// first. Returns the number of these edits.
+/// Writes one edit for each field of a word. The edits that change a new builder come first, and their number is
+/// returned.
 // SAFETY: no other library has names that begin with `peltzivar_`.
 #[unsafe(no_mangle)]
 pub extern "C" fn peltzivar_edits_of(

@@ -20,7 +20,7 @@ pub fn error_number(error: Error) -> ErrorNumber {
     }
 }
 
-/// If `word` is `Ok`, writes the word and returns 0. Otherwise, writes nothing and returns the number of the error.
+/// If `word` is `Ok`, writes the word and returns 0. Otherwise, writes nothing and returns the error number.
 #[must_use]
 #[inline(always)]
 pub fn write_if_lawful(word: Result<u128, Error>, out: crate::outputs::Out<Word>) -> ErrorNumber {
@@ -51,7 +51,7 @@ pub unsafe extern "C" fn peltzivar_description(
 }
 
 /// Writes the text that `Display` prints for the error with the given number, or an empty string if no error has that
-/// number. Success has the number 0. A parse error has the index `index`.
+/// number. Success has the number 0. A parse error holds `index`.
 // SAFETY: no other library has names that begin with `peltzivar_`.
 #[unsafe(no_mangle)]
 pub unsafe extern "C" fn peltzivar_text(

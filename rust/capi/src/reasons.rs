@@ -12,8 +12,8 @@ use peltzivar::reasons::{
     mend, notes_of_fields, reasons, reasons_of, Note, Reason, MAX_MENDING_EDITS,
 };
 
-/// Writes one of the reasons why a word breaks a rule. There are three slots, with the indices 0 to 2. Writes an empty
-/// string if the slot is empty or `rule` is not the number of a rule.
+/// Writes a reason why a word breaks a rule: the one in slot `index`, from 0 to 2. Writes an empty string if the slot
+/// is empty or `rule` is not the number of a rule.
 // SAFETY: no other library has names that begin with `peltzivar_`.
 #[unsafe(no_mangle)]
 pub unsafe extern "C" fn peltzivar_reason(
@@ -34,8 +34,8 @@ pub unsafe extern "C" fn peltzivar_reason(
     }
 }
 
-/// Writes the reason in a slot of a word. There are 24 slots, with the indices 0 to 23. Writes an empty string if the
-/// slot is empty.
+/// Writes a reason why a word breaks rules: the one in slot `index`, from 0 to 23. Writes an empty string if the slot
+/// is empty.
 // SAFETY: no other library has names that begin with `peltzivar_`.
 #[unsafe(no_mangle)]
 pub unsafe extern "C" fn peltzivar_word_reason(
@@ -62,8 +62,8 @@ pub extern "C" fn peltzivar_word_reason_mask(format: Word, index: u8) -> Word {
     }
 }
 
-/// Returns the number of the first rule that a word breaks for the reason in a slot, or the number of rules if the slot
-/// is empty.
+/// Returns the index of the first rule that a word breaks because of the reason in a slot, or the number of rules if
+/// the slot is empty.
 // SAFETY: no other library has names that begin with `peltzivar_`.
 #[unsafe(no_mangle)]
 pub extern "C" fn peltzivar_word_reason_rule(format: Word, index: u8) -> u8 {
@@ -73,16 +73,16 @@ pub extern "C" fn peltzivar_word_reason_rule(format: Word, index: u8) -> u8 {
     }
 }
 
-/// Returns whether a word breaks a rule for the reason in a slot, or `false` if the slot is empty or `rule` is not the
-/// number of a rule.
+/// Returns whether a word breaks a rule because of the reason in a slot, or `false` if the slot is empty or `rule` is
+/// not the number of a rule.
 // SAFETY: no other library has names that begin with `peltzivar_`.
 #[unsafe(no_mangle)]
 pub extern "C" fn peltzivar_word_reason_breaks(format: Word, index: u8, rule: u8) -> bool {
     breaks_at(word_reason_at(format, index), rule_of(rule))
 }
 
-/// Writes edits of a field that mend a word for the reason in a slot, and returns the number of these edits. If the
-/// number is 0, writes nothing.
+/// Writes edits that mend a word by changing one field, given the reason in a slot, and returns their number. If it is
+/// 0, writes nothing.
 // SAFETY: no other library has names that begin with `peltzivar_`.
 #[unsafe(no_mangle)]
 pub extern "C" fn peltzivar_word_reason_mend(
@@ -107,9 +107,8 @@ pub extern "C" fn peltzivar_word_reason_mend(
     count
 }
 
-/// Writes the note in a slot for notes on fields. There are three slots, with the indices 0 to 2. Writes an empty
-/// string if the slot is empty. This function takes fields rather than a word, since packing drops a digit
-/// separator that no flag allows.
+/// Writes a note on the fields: the one in slot `index`, from 0 to 2. Writes an empty string if the slot is empty. This
+/// function takes fields rather than a word, since packing drops a digit separator that no flag allows.
 // SAFETY: no other library has names that begin with `peltzivar_`.
 #[unsafe(no_mangle)]
 pub unsafe extern "C" fn peltzivar_note(

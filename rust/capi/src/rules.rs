@@ -1,6 +1,6 @@
 // Made by rust/tools/erase.py from crates/lexical_c/src/rules.rt: change that file.
 
-//! Functions that check the rules of words and the roles of bytes.
+//! Functions that check words against the rules, and the roles of bytes.
 
 use crate::outcomes::{error_number, ErrorNumber};
 use crate::words::Word;
@@ -8,15 +8,15 @@ use peltzivar::format_flags as flags;
 use peltzivar::format_flags::{Rule, RULES};
 use peltzivar::word::{format_error, FormatView};
 
-/// Returns the number of the error of the first rule that a word breaks, or 0 if it is lawful.
+/// Returns the error number of the first rule that a word breaks, or 0 if the word is lawful.
 // SAFETY: no other library has names that begin with `peltzivar_`.
 #[unsafe(no_mangle)]
 pub extern "C" fn peltzivar_format_error(format: Word) -> ErrorNumber {
     error_number(format_error(format.number()))
 }
 
-/// Returns the number of the error of the first radix rule that a word breaks, or 0 if the word satisfies all three
-/// radix rules.
+/// Returns the error number of the first radix rule that a word breaks, or 0 if the word satisfies all three radix
+/// rules.
 // SAFETY: no other library has names that begin with `peltzivar_`.
 #[unsafe(no_mangle)]
 pub extern "C" fn peltzivar_radix_error(format: Word) -> ErrorNumber {
@@ -30,7 +30,7 @@ pub extern "C" fn peltzivar_is_valid_radix(radix: u32) -> bool {
     flags::is_valid_radix(radix)
 }
 
-/// Returns whether the flags that require and forbid exponents are not both set.
+/// Returns whether the flag that requires exponents and the flag that forbids them are not both set.
 // SAFETY: no other library has names that begin with `peltzivar_`.
 #[unsafe(no_mangle)]
 pub extern "C" fn peltzivar_is_valid_exponent_flags(format: Word) -> bool {
@@ -65,7 +65,7 @@ pub extern "C" fn peltzivar_is_valid_punctuation(format: Word) -> bool {
     flags::is_valid_punctuation(format.number())
 }
 
-/// Returns whether an exponent character and a decimal point fit a word.
+/// Returns whether `exponent` and `decimal_point` can be the exponent character and the decimal point of a word.
 // SAFETY: no other library has names that begin with `peltzivar_`.
 #[unsafe(no_mangle)]
 pub extern "C" fn peltzivar_is_valid_options_punctuation(
@@ -76,7 +76,8 @@ pub extern "C" fn peltzivar_is_valid_options_punctuation(
     flags::is_valid_options_punctuation(format.number(), exponent, decimal_point)
 }
 
-/// Returns 0 if an exponent character and a decimal point fit a word, and the number of the error otherwise.
+/// Returns 0 if `exponent` and `decimal_point` can be the exponent character and the decimal point of a word, and
+/// otherwise the error number.
 // SAFETY: no other library has names that begin with `peltzivar_`.
 #[unsafe(no_mangle)]
 pub extern "C" fn peltzivar_options_error(
@@ -101,8 +102,8 @@ pub extern "C" fn peltzivar_keeps_rule(format: Word, rule: u8) -> bool {
     }
 }
 
-/// Returns the number of the error of a word that breaks the given rule and no rule before it. Returns 0 if `rule` is
-/// not the number of a rule.
+/// Returns the error number of a word that breaks the given rule but no earlier one. Returns 0 if `rule` is not the
+/// number of a rule.
 // SAFETY: no other library has names that begin with `peltzivar_`.
 #[unsafe(no_mangle)]
 pub extern "C" fn peltzivar_rule_error(rule: u8) -> ErrorNumber {

@@ -32,7 +32,7 @@ pub fn write_short_text(sentence: &ShortText, out: &mut crate::outputs::Buffer) 
     whole.write_to(out)
 }
 
-/// Writes to `out` the text that `Display` prints for an error, in the same way as [`write_text`].
+/// Writes an error, as `Display` prints it, to `out` in the same way as [`write_text`].
 #[must_use]
 pub fn write_error(error: Error, out: &mut crate::outputs::Buffer) -> usize {
     let mut whole = Text::new();

@@ -24,7 +24,7 @@ pub unsafe extern "C" fn peltzivar_text_of_word(
 }
 
 /// Parses a string. If the string is `0x` followed by 1 to 32 hexadecimal digits, writes the word and returns 0.
-/// Otherwise, writes nothing and returns the number of the error.
+/// Otherwise, writes nothing and returns the error number.
 // SAFETY: no other library has names that begin with `peltzivar_`.
 #[unsafe(no_mangle)]
 pub unsafe extern "C" fn peltzivar_word_of_text(
@@ -66,7 +66,7 @@ fn flag_setter(number: u8) -> Option<FlagSetter> {
     }
 }
 
-/// Writes the builder expression of a word.
+/// Writes a word as Rust code that builds it.
 // SAFETY: no other library has names that begin with `peltzivar_`.
 #[unsafe(no_mangle)]
 pub unsafe extern "C" fn peltzivar_source(format: Word, text: *mut u8, text_len: usize) -> usize {

@@ -11,10 +11,10 @@ use std::io;
 /// Writes each reason why `word` breaks rules, then each note. If the word has neither reasons nor notes, nothing is
 /// written.
 ///
-/// A reason is written as its sentence, the errors of the broken rules, the fields that it blames, and for each of
-/// these fields, the edits of the field, if any, that remove the reason.
+/// For a reason, this function writes its sentence, the errors of the broken rules, and the fields that it blames. For
+/// each of these fields, it also writes the edits of the field, if any, that remove the reason.
 ///
-/// `word` may be any word. After an error, the contract does not state what was written.
+/// `word` may be any word. After an error, what was written is unspecified.
 pub fn write_explanation<W: Output>(word: u128, out: &mut W) -> io::Result<()> {
     for reason in &reasons(word) {
         if let Some(reason) = reason {

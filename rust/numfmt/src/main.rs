@@ -2,8 +2,8 @@
 //! file and `tests` are written by hand. `rust/tools/erase.py` generates the other files from `crates/numfmt`, whose
 //! `src/main.rt` describes the commands.
 //!
-//! Two exit statuses are not the same as in the proved program, since std determines them. If memory runs out, this
-//! program aborts. An output that is closed or read-only is treated as `/dev/null`.
+//! In two cases, std makes the exit status differ from the proved program's. If memory runs out, this program aborts.
+//! Standard output that is closed or read-only is treated as `/dev/null`.
 
 #[allow(clippy::ptr_arg, reason = "as it is proved")]
 mod command;

@@ -21,7 +21,7 @@ pub enum Answer {
     Sameness(bool),
     /// The error of the first rule that a format word breaks, or `Success`.
     Outcome(Error),
-    /// The answer to `options`: `true` if the exponent byte and the point byte fit the format word.
+    /// The answer to `options`: `true` if the exponent character and the decimal point fit the format word.
     Acceptance(bool),
     /// A format word to write as a builder expression, and whether the expression builds this very word.
     Source(u128, bool),

@@ -1,6 +1,6 @@
 // Made by rust/tools/erase.py from crates/numfmt/src/source.rt: change that file.
 
-//! The function that writes a format word as Rust code, after comments that state what the code loses.
+//! The function that writes a format word as Rust code, after comments that state what is lost.
 
 use crate::output::Output;
 use peltzivar::error::{Piece, ShortText, EMPTY_PIECE};
@@ -13,9 +13,8 @@ use std::io;
 /// builder, a setter call for each field in which the word differs from that builder, and the call that packs the
 /// fields.
 ///
-/// `word` may be any word. If the code builds a different word, comments before it state what is lost: reserved
-/// bits that are set, and a digit separator that no flag allows. After an error, the contract does not state what was
-/// written.
+/// `word` may be any word. If the code builds a different word, comments before it state what is lost: reserved bits
+/// that are set, and a digit separator that no flag allows. After an error, what was written is unspecified.
 pub fn write_source<W: Output>(word: u128, out: &mut W) -> io::Result<()> {
     write_loss(reserved_loss(word), out)?;
     write_loss(separator_loss(word), out)?;

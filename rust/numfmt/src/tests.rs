@@ -1,4 +1,4 @@
-//! `run` over lists of arguments and writers.
+//! Tests `run` on lists of arguments, and with writers that fail.
 
 use crate::program::run;
 use std::io::{self, Error, ErrorKind, Write};
@@ -61,7 +61,7 @@ const PREFIX_B_EXPLAINED: &str = "the base prefix 'b' is a digit in radix 16
     mend: mantissa_radix=10
 note: no number can have the digit separator '_': no flag allows one";
 
-/// Arguments, the text without its last newline, and the exit status.
+/// Arguments, output without its last newline, and exit status.
 #[rustfmt::skip]
 const RUNS: [(&[&str], &str, u8); 51] = [
     (&[], STANDARD_FIELDS, 0),
@@ -121,7 +121,7 @@ fn arguments(args: &[&str]) -> Vec<String> {
     args.iter().map(|text| text.to_string()).collect()
 }
 
-/// A run with these arguments writes the text and a newline, and returns the status.
+/// Checks that `run` with these arguments writes the text and a newline, and returns the status.
 fn check_run(args: &[&str], text: &str, status: u8) {
     let mut out = Vec::new();
     assert_eq!(run(&arguments(args), &mut out), status, "for {args:?}");
@@ -135,7 +135,7 @@ fn prints_each_text_with_its_status() {
     }
 }
 
-/// One edit more is refused before the word is looked at.
+/// A 65th edit is refused before the word is read.
 #[test]
 fn takes_64_edits() {
     let mut args = ["radix=16"; 67];
@@ -146,8 +146,8 @@ fn takes_64_edits() {
     check_run(&args, "numfmt: too many edits", 2);
 }
 
-/// A writer that takes at most seven bytes at a time, and holds them back until it is flushed. The call with the number
-/// `failing_call` fails.
+/// A writer that takes at most seven bytes at a time, and buffers them until it is flushed. Call number `failing_call`
+/// fails.
 struct HoldingWriter {
     failing_call: u32,
     calls: u32,
@@ -180,8 +180,8 @@ impl Write for HoldingWriter {
     }
 }
 
-/// Each call fails in turn, the flush last: the status is 3, and no call follows. If no call fails, the whole text is
-/// passed on. No clause of std states what a flush does.
+/// If any call fails, even the final flush, the status is 3 and no call follows. If no call fails, the whole text is
+/// passed on. No contract of std states what a flush does.
 #[test]
 fn ends_at_a_call_that_fails() {
     for (args, text, status) in RUNS {

@@ -10,8 +10,8 @@ pub fn read_word(text: &str) -> Option<u128> {
     word_text::parse_word(text).ok()
 }
 
-/// Returns the text of `word` as it is printed: `0x` and 32 hexadecimal digits with uppercase letters. [`read_word`]
-/// returns `word` for this text.
+/// Returns the text of `word` as it is printed: `0x` and 32 uppercase hexadecimal digits. [`read_word`] returns `word`
+/// for this text.
 #[must_use]
 pub fn word_text(word: u128) -> [u8; 34] {
     word_text::word_text(word)

@@ -7,15 +7,15 @@ use crate::format_builder::NonZeroU8;
 use crate::format_flags as flags;
 use crate::view::FormatView;
 
-/// Returns whether a builder can pack its fields into `format`. This is possible if and only if the reserved bits,
-/// which hold no field, are 0, and the digit separator is absent or a flag allows one.
+/// Returns whether a builder can build `format`. This is possible if and only if all reserved bits are 0, and the digit
+/// separator is absent or allowed by a flag.
 ///
 /// # Proved
 ///
 /// For all arguments:
 ///
-/// - The result is true if and only if the reserved bits are 0, and the digit separator is absent or a flag
-///   allows one ([`IsBuilt`](crate::definitions#isbuilt)).
+/// - The result is true if and only if the reserved bits are 0 and the digit separator is absent or allowed by a
+///   flag ([`IsBuilt`](crate::definitions#isbuilt)).
 /// - The result is true if and only if setter calls on a new builder can build the word
 ///   ([`IsBuiltByWrites`](crate::definitions#isbuiltbywrites)).
 ///
@@ -37,13 +37,13 @@ const fn is_separator_allowed_or_absent(format: u128) -> bool {
 
 /// Returns edits that give a new builder the fields of `format`, and the number of edits that are needed for this.
 ///
-/// The array has one edit for each field, which sets the field to its value in `format`. The needed edits, which change
-/// a new builder, come first, and the other edits follow. The returned number is the number of needed edits. Both the
-/// needed edits and the other edits are in the order of the bits that they write.
+/// For each field, the array has one edit, which sets the field to its value in `format`. The needed edits, which
+/// change a new builder, come first, and the other edits follow. The returned number is the number of needed edits.
+/// Both the needed edits and the other edits are in the order of the bits that they write.
 ///
 /// A new builder to which the needed edits are applied has exactly the fields of `format`. This is also true if all
-/// edits are applied. If [`is_built`] returns `true` for `format`, this builder packs its fields into `format`. In this
-/// case, no list of single-field edits that is shorter than the list of needed edits builds `format`.
+/// edits are applied. If [`is_built`] returns `true` for `format`, this builder packs its fields into `format`, and a
+/// shorter list of edits builds `format` only if it contains an edit of a flag group.
 ///
 /// ```
 /// use peltzivar::edits::{edits_of, Edit, FlagSetter};

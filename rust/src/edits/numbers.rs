@@ -41,7 +41,7 @@ macro_rules! names {
 }
 
 /// The names of all setters. The index of a name is the number of its setter. The names of the setters in [`SETTERS`]
-/// come first, in the same order, and then the names of the seven byte setters.
+/// come first, in the same order. The names of the seven byte setters follow.
 #[doc(hidden)]
 pub const SETTER_NAMES: [&str; SETTERS.len() + 7] = with_setters!(names());
 
@@ -51,7 +51,7 @@ pub const SETTER_NAMES: [&str; SETTERS.len() + 7] = with_setters!(names());
 pub enum Argument {
     /// The value of a flag, or of every flag in a group.
     Flag(bool),
-    /// A byte that cannot be absent, which is a mantissa radix.
+    /// A byte that cannot be absent: the mantissa radix.
     Byte(u8),
     /// A byte that may be absent.
     OptionalByte(OptionU8),

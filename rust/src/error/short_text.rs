@@ -26,8 +26,8 @@ pub enum Piece {
 #[doc(hidden)]
 pub const EMPTY_PIECE: Piece = Piece::Words("");
 
-/// Short text that consists of four pieces, each of which may be empty. Each `ShortText` that the library returns has
-/// fewer than 256 bytes.
+/// Short text that consists of four pieces, each of which may be empty. The text of each `ShortText` that the library
+/// returns has fewer than 256 bytes.
 #[derive(Clone, Copy)]
 #[doc(hidden)]
 pub struct ShortText(pub Piece, pub Piece, pub Piece, pub Piece);

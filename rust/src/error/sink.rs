@@ -7,8 +7,7 @@ use core::fmt;
 /// A target into which text is put, piece by piece, such as a formatter or a buffer of your own.
 ///
 /// Each implementation defines how a piece changes the sink, and what it means for the sink to have failed. A caller
-/// knows that a sink has failed only after a call to [`Sink::put`] that returned an error, and only until the next
-/// call.
+/// knows that a sink has failed only between a call to [`Sink::put`] that returned an error and the next call.
 #[doc(hidden)]
 pub trait Sink {
     /// Puts a piece into the sink.

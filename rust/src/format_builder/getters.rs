@@ -104,7 +104,7 @@ impl NumberFormatBuilder {
     }
 
     /// Returns whether the format forbids an exponent in a float. If so, a parser rejects `1e5`, and a writer writes
-    /// all digits instead. See the [setter][Self::no_exponent_notation].
+    /// out all digits. See the [setter][Self::no_exponent_notation].
     #[must_use]
     #[inline(always)]
     pub const fn get_no_exponent_notation(&self) -> bool {

@@ -31,13 +31,13 @@ pub enum Rule {
     BaseSuffixIsPunctuation,
     /// The digit separator, the base prefix and the base suffix all differ (see [`is_valid_punctuation`]).
     PunctuationDiffers,
-    /// Exponents are not both forbidden and required.
+    /// Exponents are required only if they are allowed.
     ExponentFlagsAgree,
-    /// A sign before the mantissa is not required if `+` is forbidden there.
+    /// A sign is required before the mantissa only if `+` is allowed there.
     MantissaSignFlagsAgree,
-    /// A sign in the exponent is not required if `+` is forbidden there.
+    /// A sign is required in the exponent only if `+` is allowed there.
     ExponentSignFlagsAgree,
-    /// The flags that forbid special values (NaN and infinity) and make them case-sensitive are not both set.
+    /// Special values (NaN and infinity) are case-sensitive only if they are allowed.
     SpecialCaseFlagsAgree,
     /// Digit separators are allowed in special values (NaN and infinity) only if special values are allowed.
     SpecialSeparatorFlagsAgree,
@@ -167,8 +167,8 @@ impl Rule {
     }
 }
 
-/// Returns the rules that `format` breaks. Each entry holds the rule at the same index in [`RULES`] if the word breaks
-/// this rule, and is `None` otherwise.
+/// Returns the rules that `format` breaks. The entry at each index is the rule at this index in [`RULES`] if the word
+/// breaks the rule, and `None` otherwise.
 ///
 /// `broken_rules(format).into_iter().flatten()` iterates over the broken rules. The error of the first one is the
 /// result of [`format_error_impl`].

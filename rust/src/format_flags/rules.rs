@@ -2,7 +2,7 @@
 
 //! Functions that test the rules, and functions that return the error of the first rule that a word breaks.
 //!
-//! A word that breaks no rule is *lawful*. The view of a word calls it *valid*, as `lexical-util` does.
+//! A word that breaks no rule is *lawful*. `FormatView` and `lexical-util` call such a word *valid*.
 
 use crate::ascii::is_valid_letter;
 use crate::digit::char_is_digit;
@@ -37,7 +37,7 @@ const fn larger(a: u32, b: u32) -> u32 {
     }
 }
 
-/// Returns whether `byte` is a digit of the mantissa radix or of the exponent radix of `format`.
+/// Returns whether `byte` is a digit in the mantissa radix or the exponent radix of `format`.
 ///
 /// The case of a letter does not matter: in radix 16, both `f` and `F` are digits. If the exponent radix is 0, the
 /// mantissa radix replaces it. The exponent base does not affect the result. `format` need not be [lawful][Rule].
@@ -171,9 +171,9 @@ pub const fn is_valid_base_suffix(format: u128) -> bool {
 ///
 /// A byte of 0 is absent, and is not compared. A base prefix that is a letter matches both cases of that letter unless
 /// [`CASE_SENSITIVE_BASE_PREFIX`] is set. Likewise, a base suffix that is a letter matches both cases unless
-/// [`CASE_SENSITIVE_BASE_SUFFIX`] is set. So the prefix `h` and the suffix `H` do not count as different unless both
-/// flags are set. The digit separator is always case-sensitive. `lexical-util` compares the raw bytes, so it accepts
-/// the prefix `h` with the suffix `H` regardless of the flags.
+/// [`CASE_SENSITIVE_BASE_SUFFIX`] is set. So the prefix `h` and the suffix `H` count as different only if both flags
+/// are set. The digit separator is always case-sensitive. `lexical-util` compares the raw bytes, so it accepts the
+/// prefix `h` with the suffix `H` regardless of the flags.
 #[must_use]
 #[inline(always)]
 pub const fn is_valid_punctuation(format: u128) -> bool {
@@ -219,16 +219,16 @@ const fn is_disjoint_from_format_roles(format: u128, byte: u8, case_sensitive: b
         && roles_disjoint_fast(byte, case_sensitive, base_suffix(format), suffix_case)
 }
 
-/// Returns whether `exponent` can be the exponent character, and `decimal_point` the decimal point, in numbers of
-/// `format`.
+/// Returns whether numbers in `format` can have the exponent character `exponent` and the decimal point
+/// `decimal_point`.
 ///
 /// Each must be a byte that [`is_valid_ascii`][crate::ascii::is_valid_ascii] accepts and that is neither a sign
 /// (`+` or `-`) nor a [digit][is_digit] of `format`. So neither may be 0. The two must differ from each other, and from
 /// the digit separator, the base prefix and the base suffix. If the exponent character is a letter, it matches both
 /// cases of that letter unless [`CASE_SENSITIVE_EXPONENT`] is set. The base prefix and the base suffix are compared as
 /// in [`is_valid_punctuation`]. The decimal point is always case-sensitive. Every [lawful][Rule] format accepts at
-/// least one pair. With such a pair, no byte has two meanings in a number. `lexical-util` compares the raw bytes, so
-/// there a letter matches only its own case.
+/// least one pair. With such a pair, no byte has two meanings in a number. `lexical-util` compares the raw bytes, so a
+/// letter matches only its own case there.
 ///
 /// ```
 /// use peltzivar::format::{is_valid_options_punctuation, STANDARD};
@@ -244,8 +244,7 @@ const fn is_disjoint_from_format_roles(format: u128, byte: u8, case_sensitive: b
 ///
 /// - The result is true if and only if both bytes fit the format ([`OptionsFit`](crate::definitions#optionsfit)).
 /// - For a [`Lawful`](crate::definitions#lawful) word, the result is true if and only if both bytes are allowed
-///   ASCII, and no byte plays two of the seven roles
-///   ([`OptionsHaveOneRole`](crate::definitions#optionshaveonerole)).
+///   ASCII, and no byte plays two roles ([`OptionsHaveOneRole`](crate::definitions#optionshaveonerole)).
 /// - For each [`Lawful`](crate::definitions#lawful) word there is a pair of bytes that fits
 ///   ([`SomeOptionsFit`](crate::definitions#someoptionsfit)).
 ///
@@ -433,7 +432,7 @@ const fn first_broken(format: u128) -> Error {
     first_broken_reserved(format)
 }
 
-/// Returns the error of the first radix of `format` that is not between 2 and 36, or `Success` if all of them are.
+/// Returns the error of the first radix of `format` that is not between 2 and 36, or `Success` if there is none.
 ///
 /// The radixes are tested in this order: the mantissa radix, the exponent base, the exponent radix. If the exponent
 /// base or the exponent radix is 0, the mantissa radix is tested instead.

@@ -73,8 +73,8 @@ impl Reason {
     ///
     /// The mask has the bits of every byte and every flag in the variant. For [`Reason::NeedsPosition`], it has the
     /// bits of all flags that allow digit separators in the same part of the number. If the word was built from a list
-    /// of settings, a setting is to blame if its [`Edit::mask`] shares a bit with this mask, and if no later setting
-    /// overrides this bit.
+    /// of settings, a setting is to blame if its [`Edit::mask`] shares with this mask a bit that no later setting
+    /// overrides.
     #[must_use]
     pub const fn mask(&self) -> u128 {
         match self {

@@ -20,8 +20,8 @@ pub const MAX_NOTES: usize = 3;
 #[derive(Debug, Clone, Copy, PartialEq, Eq, Hash)]
 #[non_exhaustive]
 pub enum Note {
-    /// The digit separator is set, but no flag allows one. A builder drops it when it packs the fields, and the normal
-    /// form does not have it.
+    /// The digit separator is set, but no flag allows one. Packing the fields of a builder drops the separator, and the
+    /// normal form has none.
     SeparatorWithoutFlag(Edit),
     /// One or more flags allow digit separators, but the digit separator is absent.
     FlagsWithoutSeparator,

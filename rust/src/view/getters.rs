@@ -1,6 +1,6 @@
 // Made by rust/tools/erase.py from crates/lexical_util/src/feature_format/getters.rt: change that file.
 
-//! Getters for the flags of a viewed word, one by one and in groups.
+//! Getters for the flags of a format word, individually and in groups.
 
 use super::FormatView;
 use crate::format_flags as flags;
@@ -65,7 +65,7 @@ impl FormatView {
     }
 
     /// Returns whether the format forbids an exponent in a float. If so, a parser rejects `1e5`, and a writer writes
-    /// all digits instead. See the [setter][super::NumberFormatBuilder::no_exponent_notation].
+    /// out all digits. See the [setter][super::NumberFormatBuilder::no_exponent_notation].
     #[must_use]
     #[inline(always)]
     pub const fn no_exponent_notation(&self) -> bool {

@@ -27,8 +27,8 @@ pub enum Piece {
 /// A piece without text.
 pub const EMPTY_PIECE: Piece = Piece::Words("");
 
-/// Short text that consists of four pieces, each of which may be empty. Each `ShortText` that the library returns has
-/// fewer than 256 bytes.
+/// Short text that consists of four pieces, each of which may be empty. The text of each `ShortText` that the library
+/// returns has fewer than 256 bytes.
 #[derive(Drop)]
 pub struct ShortText(pub Piece, pub Piece, pub Piece, pub Piece);
 

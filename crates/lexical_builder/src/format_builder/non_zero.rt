@@ -5,7 +5,7 @@ ghost use Rattle.lexical_builder.specs.OptionByte.{option_of_byte};
 
 use std::marker::Model;
 
-/// A byte that is not 0. In a format word, a byte field of 0 is absent.
+/// A byte that is not 0. In a format word, a byte other than the mantissa radix is absent if it is 0.
 #[derive(Debug, Clone, Copy, PartialEq, Eq, PartialOrd, Ord, Hash)]
 pub struct NonZeroU8 {
     value: u8,

@@ -18,8 +18,8 @@ impl NumberFormatBuilder {
     /// Sets the digit separator: the byte that separates groups of digits, such as the `_` in `1_000`.
     ///
     /// The digit separator flags define where the digit separator is allowed. If none of these flags is set, the digit
-    /// separator is not packed into the word. In a lawful format, it is punctuation: allowed ASCII (see
-    /// `is_valid_ascii`) that is neither a sign nor a digit of the mantissa or the exponent.
+    /// separator is not packed into the word. In a lawful format, it is punctuation: a byte that `is_valid_ascii`
+    /// accepts and that is neither a sign nor a digit in the mantissa radix or the exponent radix.
     #[inline(always)]
     pub const fn digit_separator(self, character: OptionU8) -> Self
         ensures { result ≡ after self (write_byte layout.digit_separator (byte_of_option character) ∷ []) }
@@ -69,8 +69,8 @@ impl NumberFormatBuilder {
 
     /// Sets the base prefix: the byte that may follow a leading zero to indicate the radix, such as the `x` in `0x1F`.
     ///
-    /// In a lawful format, it is punctuation: allowed ASCII (see `is_valid_ascii`) that is neither a sign nor a digit
-    /// of the mantissa or the exponent.
+    /// In a lawful format, it is punctuation: a byte that `is_valid_ascii` accepts and that is neither a sign nor a
+    /// digit in the mantissa radix or the exponent radix.
     #[inline(always)]
     pub const fn base_prefix(self, base_prefix: OptionU8) -> Self
         ensures { result ≡ after self (write_byte layout.base_prefix (byte_of_option base_prefix) ∷ []) }
@@ -80,8 +80,8 @@ impl NumberFormatBuilder {
 
     /// Sets the base suffix: the byte that may follow the digits to indicate the radix, such as the `h` in `1Fh`.
     ///
-    /// In a lawful format, it is punctuation: allowed ASCII (see `is_valid_ascii`) that is neither a sign nor a digit
-    /// of the mantissa or the exponent.
+    /// In a lawful format, it is punctuation: a byte that `is_valid_ascii` accepts and that is neither a sign nor a
+    /// digit in the mantissa radix or the exponent radix.
     #[inline(always)]
     pub const fn base_suffix(self, base_suffix: OptionU8) -> Self
         ensures { result ≡ after self (write_byte layout.base_suffix (byte_of_option base_suffix) ∷ []) }
@@ -149,8 +149,8 @@ impl NumberFormatBuilder {
         self.with_flags(flags::REQUIRED_MANTISSA_SIGN, flag)
     }
 
-    /// Sets whether the format forbids an exponent in a float. If so, a parser rejects `1e5`, and a writer writes all
-    /// digits instead.
+    /// Sets whether the format forbids an exponent in a float. If so, a parser rejects `1e5`, and a writer writes out
+    /// all digits.
     #[inline(always)]
     pub const fn no_exponent_notation(self, flag: bool) -> Self
         ensures { result ≡ after self (write_flag layout.no_exponent_notation flag ∷ []) }

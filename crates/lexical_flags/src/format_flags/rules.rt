@@ -1,6 +1,6 @@
 //! Functions that test the rules, and functions that return the error of the first rule that a word breaks.
 //!
-//! A word that breaks no rule is *lawful*. The view of a word calls it *valid*, as `lexical-util` does.
+//! A word that breaks no rule is *lawful*. `NumberFormat` and `lexical-util` call such a word *valid*.
 #![tactic(auto, using(crate::proofs::FlagBits::flag_tests), unfolding(crate::specs::Rules::Holds, crate::specs::Rules::IsPunctuation))]
 
 ghost use Rattle.std.specs.Prelude.{◌≡◌, ◌≢◌, ◌↔◌, [], ◌∷◌, Err, IfErr, IsTrue, bit_or, max};
@@ -50,7 +50,7 @@ const fn larger(a: u32, b: u32) -> u32
     if a < b { b } else { a }
 }
 
-/// Returns whether `byte` is a digit of the mantissa radix or of the exponent radix of `format`.
+/// Returns whether `byte` is a digit in the mantissa radix or the exponent radix of `format`.
 ///
 /// The case of a letter does not matter: in radix 16, both `f` and `F` are digits. If the exponent radix is 0, the
 /// mantissa radix replaces it. The exponent base does not affect the result. `format` need not be [lawful][Rule].
@@ -219,9 +219,9 @@ pub const fn is_valid_base_suffix(format: u128) -> bool
 ///
 /// A byte of 0 is absent, and is not compared. A base prefix that is a letter matches both cases of that letter unless
 /// [`CASE_SENSITIVE_BASE_PREFIX`] is set. Likewise, a base suffix that is a letter matches both cases unless
-/// [`CASE_SENSITIVE_BASE_SUFFIX`] is set. So the prefix `h` and the suffix `H` do not count as different unless both
-/// flags are set. The digit separator is always case-sensitive. `lexical-util` compares the raw bytes, so it accepts
-/// the prefix `h` with the suffix `H` regardless of the flags.
+/// [`CASE_SENSITIVE_BASE_SUFFIX`] is set. So the prefix `h` and the suffix `H` count as different only if both flags
+/// are set. The digit separator is always case-sensitive. `lexical-util` compares the raw bytes, so it accepts the
+/// prefix `h` with the suffix `H` regardless of the flags.
 #[inline(always)]
 pub const fn is_valid_punctuation(format: u128) -> bool
     ensures { IsTrue result ↔ Holds rules.PunctuationDiffers format }
@@ -272,16 +272,16 @@ const fn is_disjoint_from_format_roles(format: u128, byte: u8, case_sensitive: b
         && roles_disjoint_fast(byte, case_sensitive, base_suffix(format), suffix_case)
 }
 
-/// Returns whether `exponent` can be the exponent character, and `decimal_point` the decimal point, in numbers of
-/// `format`.
+/// Returns whether numbers in `format` can have the exponent character `exponent` and the decimal point
+/// `decimal_point`.
 ///
 /// Each must be a byte that [`is_valid_ascii`][lexical_base::ascii::is_valid_ascii] accepts and that is neither a sign
 /// (`+` or `-`) nor a [digit][is_digit] of `format`. So neither may be 0. The two must differ from each other, and from
 /// the digit separator, the base prefix and the base suffix. If the exponent character is a letter, it matches both
 /// cases of that letter unless [`CASE_SENSITIVE_EXPONENT`] is set. The base prefix and the base suffix are compared as
 /// in [`is_valid_punctuation`]. The decimal point is always case-sensitive. Every [lawful][Rule] format accepts at
-/// least one pair. With such a pair, no byte has two meanings in a number. `lexical-util` compares the raw bytes, so
-/// there a letter matches only its own case.
+/// least one pair. With such a pair, no byte has two meanings in a number. `lexical-util` compares the raw bytes, so a
+/// letter matches only its own case there.
 ///
 /// In plain Rust:
 ///
@@ -513,7 +513,7 @@ const fn first_broken(format: u128) -> Error
     first_broken_reserved(format)
 }
 
-/// Returns the error of the first radix of `format` that is not between 2 and 36, or `Success` if every radix is.
+/// Returns the error of the first radix of `format` that is not between 2 and 36, or `Success` if there is none.
 ///
 /// The radixes are tested in this order: the mantissa radix, the exponent base, the exponent radix. If the exponent
 /// base or the exponent radix is 0, the mantissa radix is tested instead.

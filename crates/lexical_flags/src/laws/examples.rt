@@ -1,5 +1,5 @@
-//! Examples of the predicates that public clauses use on only one side: for each, one case that holds and one that does
-//! not.
+//! For each predicate that public clauses use only as a premise or only as a conclusion, an example that holds and one
+//! that does not.
 #![tactic(auto, unfolding(crate::specs::Literals::on_literals))]
 
 ghost use Rattle.std.specs.Prelude.{[], ◌∷◌, Some, None};
@@ -11,7 +11,7 @@ ghost use Rattle.lexical_flags.specs.declared.format_flags.all_rules.Rule.TheVar
 ghost use Rattle.lexical_flags.specs.Pairs.{ArePairwise};
 ghost use Rattle.lexical_flags.specs.Record.{raw, SeparatorAllowedOrAbsent};
 
-/// States examples of masks that share a bit, and of masks that do not.
+/// Gives examples of masks that share a bit, and of masks that do not.
 pub fn mask_examples()
     ensures no_bit { ShareNoBit 0x55 0xAA }
     ensures common { ShareNoBit 1 3 → ⊥ }
@@ -21,7 +21,7 @@ pub fn mask_examples()
     ensures first_and_third { ArePairwise ShareNoBit (1 ∷ 2 ∷ 5 ∷ []) → ⊥ }
 {}
 
-/// States an example of a separator that flag 44 allows, and an example of one that no flag allows.
+/// Gives an example of a separator that flag 44 allows, and an example of one that no flag allows.
 pub fn built_examples()
     ensures allowed { SeparatorAllowedOrAbsent (raw 0x00000A00_0000005F_00001000_0000000C) }
     ensures not_allowed { SeparatorAllowedOrAbsent (raw 0x00000A00_0000005F_00000000_0000000C) → ⊥ }
@@ -34,7 +34,7 @@ pub fn room_examples()
     ensures no_room { SomeOptionsFit 0x00000A68_68000000_00000000_0000000C → ⊥ }
 {}
 
-/// States which of two rules a word breaks if its flags 4 and 5 are both set.
+/// States that a word whose flags 4 and 5 are set breaks `MantissaSignFlagsAgree` and satisfies `ExponentFlagsAgree`.
 pub fn broken_examples()
     ensures broken { AllZip (ReportsRule 0x0A0A0A00_00000000_00000000_0000003C)
         (rules.ExponentFlagsAgree ∷ rules.MantissaSignFlagsAgree ∷ []) (None ∷ Some rules.MantissaSignFlagsAgree ∷ []) }

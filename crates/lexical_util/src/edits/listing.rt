@@ -15,8 +15,8 @@ use crate::feature_format::NumberFormat;
 use lexical_builder::format_builder::NonZeroU8;
 use lexical_flags::format_flags as flags;
 
-/// Returns whether a builder can pack its fields into `format`. This is possible if and only if the reserved bits,
-/// which hold no field, are 0, and the digit separator is absent or a flag allows one.
+/// Returns whether a builder can build `format`. This is possible if and only if all reserved bits are 0, and the digit
+/// separator is absent or allowed by a flag.
 pub const fn is_built(format: u128) -> bool
     ensures rule { IsTrue result ↔ IsBuilt format }
 
@@ -35,9 +35,9 @@ const fn is_separator_allowed_or_absent(format: u128) -> bool
 
 /// Returns edits that give a new builder the fields of `format`, and the number of edits that are needed for this.
 ///
-/// The array has one edit for each field, which sets the field to its value in `format`. The needed edits, which change
-/// a new builder, come first, and the other edits follow. The returned number is the number of needed edits. Both the
-/// needed edits and the other edits are in the order of the bits that they write.
+/// For each field, the array has one edit, which sets the field to its value in `format`. The needed edits, which
+/// change a new builder, come first, and the other edits follow. The returned number is the number of needed edits.
+/// Both the needed edits and the other edits are in the order of the bits that they write.
 ///
 /// A new builder to which the needed edits are applied has exactly the fields of `format`. This is also true if all
 /// edits are applied. If [`is_built`] returns `true` for `format`, this builder packs its fields into `format`, and a

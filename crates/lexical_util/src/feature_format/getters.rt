@@ -1,4 +1,4 @@
-//! Getters for the flags of a viewed word, one by one and in groups.
+//! Getters for the flags of a format word, individually and in groups.
 #![tactic(auto, using(crate::proofs::ViewLemmas::masks_and_powers))]
 
 ghost use Rattle.std.specs.Prelude.{◌≡◌, ◌≢◌, ◌↔◌, IsTrue};
@@ -15,7 +15,7 @@ use lexical_flags::format_flags as flags;
 impl NumberFormat {
     // FLAGS OTHER THAN DIGIT SEPARATOR FLAGS
 
-    /// Returns whether the [flag][super::NumberFormatBuilder::required_integer_digits] is set.
+    /// Returns whether this [flag][super::NumberFormatBuilder::required_integer_digits] is set.
     #[inline(always)]
     pub const fn required_integer_digits(&self) -> bool
         ensures { result ≡ (raw self.now).flag layout.required_integer_digits }
@@ -23,7 +23,7 @@ impl NumberFormat {
         has_any!(self, REQUIRED_INTEGER_DIGITS)
     }
 
-    /// Returns whether the [flag][super::NumberFormatBuilder::required_fraction_digits] is set.
+    /// Returns whether this [flag][super::NumberFormatBuilder::required_fraction_digits] is set.
     #[inline(always)]
     pub const fn required_fraction_digits(&self) -> bool
         ensures { result ≡ (raw self.now).flag layout.required_fraction_digits }
@@ -31,7 +31,7 @@ impl NumberFormat {
         has_any!(self, REQUIRED_FRACTION_DIGITS)
     }
 
-    /// Returns whether the [flag][super::NumberFormatBuilder::required_exponent_digits] is set.
+    /// Returns whether this [flag][super::NumberFormatBuilder::required_exponent_digits] is set.
     #[inline(always)]
     pub const fn required_exponent_digits(&self) -> bool
         ensures { result ≡ (raw self.now).flag layout.required_exponent_digits }
@@ -39,7 +39,7 @@ impl NumberFormat {
         has_any!(self, REQUIRED_EXPONENT_DIGITS)
     }
 
-    /// Returns whether the [flag][super::NumberFormatBuilder::required_mantissa_digits] is set.
+    /// Returns whether this [flag][super::NumberFormatBuilder::required_mantissa_digits] is set.
     #[inline(always)]
     pub const fn required_mantissa_digits(&self) -> bool
         ensures { result ≡ (raw self.now).flag layout.required_mantissa_digits }
@@ -47,7 +47,7 @@ impl NumberFormat {
         has_any!(self, REQUIRED_MANTISSA_DIGITS)
     }
 
-    /// Returns whether any flag of the [group][super::NumberFormatBuilder::required_digits] is set.
+    /// Returns whether any flag of this [group][super::NumberFormatBuilder::required_digits] is set.
     #[inline(always)]
     pub const fn required_digits(&self) -> bool
         ensures any { result ≡ any_flag self.now layout.required_digits }
@@ -56,7 +56,7 @@ impl NumberFormat {
         has_any!(self, REQUIRED_DIGITS)
     }
 
-    /// Returns whether the [flag][super::NumberFormatBuilder::no_positive_mantissa_sign] is set.
+    /// Returns whether this [flag][super::NumberFormatBuilder::no_positive_mantissa_sign] is set.
     #[inline(always)]
     pub const fn no_positive_mantissa_sign(&self) -> bool
         ensures { result ≡ (raw self.now).flag layout.no_positive_mantissa_sign }
@@ -64,7 +64,7 @@ impl NumberFormat {
         has_any!(self, NO_POSITIVE_MANTISSA_SIGN)
     }
 
-    /// Returns whether the [flag][super::NumberFormatBuilder::required_mantissa_sign] is set.
+    /// Returns whether this [flag][super::NumberFormatBuilder::required_mantissa_sign] is set.
     #[inline(always)]
     pub const fn required_mantissa_sign(&self) -> bool
         ensures { result ≡ (raw self.now).flag layout.required_mantissa_sign }
@@ -72,7 +72,7 @@ impl NumberFormat {
         has_any!(self, REQUIRED_MANTISSA_SIGN)
     }
 
-    /// Returns whether the [flag][super::NumberFormatBuilder::no_exponent_notation] is set.
+    /// Returns whether this [flag][super::NumberFormatBuilder::no_exponent_notation] is set.
     #[inline(always)]
     pub const fn no_exponent_notation(&self) -> bool
         ensures { result ≡ (raw self.now).flag layout.no_exponent_notation }
@@ -80,7 +80,7 @@ impl NumberFormat {
         has_any!(self, NO_EXPONENT_NOTATION)
     }
 
-    /// Returns whether the [flag][super::NumberFormatBuilder::no_positive_exponent_sign] is set.
+    /// Returns whether this [flag][super::NumberFormatBuilder::no_positive_exponent_sign] is set.
     #[inline(always)]
     pub const fn no_positive_exponent_sign(&self) -> bool
         ensures { result ≡ (raw self.now).flag layout.no_positive_exponent_sign }
@@ -88,7 +88,7 @@ impl NumberFormat {
         has_any!(self, NO_POSITIVE_EXPONENT_SIGN)
     }
 
-    /// Returns whether the [flag][super::NumberFormatBuilder::required_exponent_sign] is set.
+    /// Returns whether this [flag][super::NumberFormatBuilder::required_exponent_sign] is set.
     #[inline(always)]
     pub const fn required_exponent_sign(&self) -> bool
         ensures { result ≡ (raw self.now).flag layout.required_exponent_sign }
@@ -96,7 +96,7 @@ impl NumberFormat {
         has_any!(self, REQUIRED_EXPONENT_SIGN)
     }
 
-    /// Returns whether the [flag][super::NumberFormatBuilder::no_exponent_without_fraction] is set.
+    /// Returns whether this [flag][super::NumberFormatBuilder::no_exponent_without_fraction] is set.
     #[inline(always)]
     pub const fn no_exponent_without_fraction(&self) -> bool
         ensures { result ≡ (raw self.now).flag layout.no_exponent_without_fraction }
@@ -104,7 +104,7 @@ impl NumberFormat {
         has_any!(self, NO_EXPONENT_WITHOUT_FRACTION)
     }
 
-    /// Returns whether the [flag][super::NumberFormatBuilder::no_special] is set.
+    /// Returns whether this [flag][super::NumberFormatBuilder::no_special] is set.
     #[inline(always)]
     pub const fn no_special(&self) -> bool
         ensures { result ≡ (raw self.now).flag layout.no_special }
@@ -112,7 +112,7 @@ impl NumberFormat {
         has_any!(self, NO_SPECIAL)
     }
 
-    /// Returns whether the [flag][super::NumberFormatBuilder::case_sensitive_special] is set.
+    /// Returns whether this [flag][super::NumberFormatBuilder::case_sensitive_special] is set.
     #[inline(always)]
     pub const fn case_sensitive_special(&self) -> bool
         ensures { result ≡ (raw self.now).flag layout.case_sensitive_special }
@@ -120,7 +120,7 @@ impl NumberFormat {
         has_any!(self, CASE_SENSITIVE_SPECIAL)
     }
 
-    /// Returns whether the [flag][super::NumberFormatBuilder::no_integer_leading_zeros] is set.
+    /// Returns whether this [flag][super::NumberFormatBuilder::no_integer_leading_zeros] is set.
     #[inline(always)]
     pub const fn no_integer_leading_zeros(&self) -> bool
         ensures { result ≡ (raw self.now).flag layout.no_integer_leading_zeros }
@@ -128,7 +128,7 @@ impl NumberFormat {
         has_any!(self, NO_INTEGER_LEADING_ZEROS)
     }
 
-    /// Returns whether the [flag][super::NumberFormatBuilder::no_float_leading_zeros] is set.
+    /// Returns whether this [flag][super::NumberFormatBuilder::no_float_leading_zeros] is set.
     #[inline(always)]
     pub const fn no_float_leading_zeros(&self) -> bool
         ensures { result ≡ (raw self.now).flag layout.no_float_leading_zeros }
@@ -136,7 +136,7 @@ impl NumberFormat {
         has_any!(self, NO_FLOAT_LEADING_ZEROS)
     }
 
-    /// Returns whether the [flag][super::NumberFormatBuilder::required_exponent_notation] is set.
+    /// Returns whether this [flag][super::NumberFormatBuilder::required_exponent_notation] is set.
     #[inline(always)]
     pub const fn required_exponent_notation(&self) -> bool
         ensures { result ≡ (raw self.now).flag layout.required_exponent_notation }
@@ -144,7 +144,7 @@ impl NumberFormat {
         has_any!(self, REQUIRED_EXPONENT_NOTATION)
     }
 
-    /// Returns whether the [flag][super::NumberFormatBuilder::case_sensitive_exponent] is set.
+    /// Returns whether this [flag][super::NumberFormatBuilder::case_sensitive_exponent] is set.
     #[inline(always)]
     pub const fn case_sensitive_exponent(&self) -> bool
         ensures { result ≡ (raw self.now).flag layout.case_sensitive_exponent }
@@ -152,7 +152,7 @@ impl NumberFormat {
         has_any!(self, CASE_SENSITIVE_EXPONENT)
     }
 
-    /// Returns whether the [flag][super::NumberFormatBuilder::case_sensitive_base_prefix] is set.
+    /// Returns whether this [flag][super::NumberFormatBuilder::case_sensitive_base_prefix] is set.
     #[inline(always)]
     pub const fn case_sensitive_base_prefix(&self) -> bool
         ensures { result ≡ (raw self.now).flag layout.case_sensitive_base_prefix }
@@ -160,7 +160,7 @@ impl NumberFormat {
         has_any!(self, CASE_SENSITIVE_BASE_PREFIX)
     }
 
-    /// Returns whether the [flag][super::NumberFormatBuilder::case_sensitive_base_suffix] is set.
+    /// Returns whether this [flag][super::NumberFormatBuilder::case_sensitive_base_suffix] is set.
     #[inline(always)]
     pub const fn case_sensitive_base_suffix(&self) -> bool
         ensures { result ≡ (raw self.now).flag layout.case_sensitive_base_suffix }
@@ -170,7 +170,7 @@ impl NumberFormat {
 
     // DIGIT SEPARATOR FLAGS
 
-    /// Returns whether the [flag][super::NumberFormatBuilder::integer_internal_digit_separator] is set.
+    /// Returns whether this [flag][super::NumberFormatBuilder::integer_internal_digit_separator] is set.
     #[inline(always)]
     pub const fn integer_internal_digit_separator(&self) -> bool
         ensures { result ≡ (raw self.now).flag layout.integer_internal_digit_separator }
@@ -178,7 +178,7 @@ impl NumberFormat {
         has_any!(self, INTEGER_INTERNAL_DIGIT_SEPARATOR)
     }
 
-    /// Returns whether the [flag][super::NumberFormatBuilder::fraction_internal_digit_separator] is set.
+    /// Returns whether this [flag][super::NumberFormatBuilder::fraction_internal_digit_separator] is set.
     #[inline(always)]
     pub const fn fraction_internal_digit_separator(&self) -> bool
         ensures { result ≡ (raw self.now).flag layout.fraction_internal_digit_separator }
@@ -186,7 +186,7 @@ impl NumberFormat {
         has_any!(self, FRACTION_INTERNAL_DIGIT_SEPARATOR)
     }
 
-    /// Returns whether the [flag][super::NumberFormatBuilder::exponent_internal_digit_separator] is set.
+    /// Returns whether this [flag][super::NumberFormatBuilder::exponent_internal_digit_separator] is set.
     #[inline(always)]
     pub const fn exponent_internal_digit_separator(&self) -> bool
         ensures { result ≡ (raw self.now).flag layout.exponent_internal_digit_separator }
@@ -194,7 +194,7 @@ impl NumberFormat {
         has_any!(self, EXPONENT_INTERNAL_DIGIT_SEPARATOR)
     }
 
-    /// Returns whether the [flag][super::NumberFormatBuilder::integer_leading_digit_separator] is set.
+    /// Returns whether this [flag][super::NumberFormatBuilder::integer_leading_digit_separator] is set.
     #[inline(always)]
     pub const fn integer_leading_digit_separator(&self) -> bool
         ensures { result ≡ (raw self.now).flag layout.integer_leading_digit_separator }
@@ -202,7 +202,7 @@ impl NumberFormat {
         has_any!(self, INTEGER_LEADING_DIGIT_SEPARATOR)
     }
 
-    /// Returns whether the [flag][super::NumberFormatBuilder::fraction_leading_digit_separator] is set.
+    /// Returns whether this [flag][super::NumberFormatBuilder::fraction_leading_digit_separator] is set.
     #[inline(always)]
     pub const fn fraction_leading_digit_separator(&self) -> bool
         ensures { result ≡ (raw self.now).flag layout.fraction_leading_digit_separator }
@@ -210,7 +210,7 @@ impl NumberFormat {
         has_any!(self, FRACTION_LEADING_DIGIT_SEPARATOR)
     }
 
-    /// Returns whether the [flag][super::NumberFormatBuilder::exponent_leading_digit_separator] is set.
+    /// Returns whether this [flag][super::NumberFormatBuilder::exponent_leading_digit_separator] is set.
     #[inline(always)]
     pub const fn exponent_leading_digit_separator(&self) -> bool
         ensures { result ≡ (raw self.now).flag layout.exponent_leading_digit_separator }
@@ -218,7 +218,7 @@ impl NumberFormat {
         has_any!(self, EXPONENT_LEADING_DIGIT_SEPARATOR)
     }
 
-    /// Returns whether the [flag][super::NumberFormatBuilder::integer_trailing_digit_separator] is set.
+    /// Returns whether this [flag][super::NumberFormatBuilder::integer_trailing_digit_separator] is set.
     #[inline(always)]
     pub const fn integer_trailing_digit_separator(&self) -> bool
         ensures { result ≡ (raw self.now).flag layout.integer_trailing_digit_separator }
@@ -226,7 +226,7 @@ impl NumberFormat {
         has_any!(self, INTEGER_TRAILING_DIGIT_SEPARATOR)
     }
 
-    /// Returns whether the [flag][super::NumberFormatBuilder::fraction_trailing_digit_separator] is set.
+    /// Returns whether this [flag][super::NumberFormatBuilder::fraction_trailing_digit_separator] is set.
     #[inline(always)]
     pub const fn fraction_trailing_digit_separator(&self) -> bool
         ensures { result ≡ (raw self.now).flag layout.fraction_trailing_digit_separator }
@@ -234,7 +234,7 @@ impl NumberFormat {
         has_any!(self, FRACTION_TRAILING_DIGIT_SEPARATOR)
     }
 
-    /// Returns whether the [flag][super::NumberFormatBuilder::exponent_trailing_digit_separator] is set.
+    /// Returns whether this [flag][super::NumberFormatBuilder::exponent_trailing_digit_separator] is set.
     #[inline(always)]
     pub const fn exponent_trailing_digit_separator(&self) -> bool
         ensures { result ≡ (raw self.now).flag layout.exponent_trailing_digit_separator }
@@ -242,7 +242,7 @@ impl NumberFormat {
         has_any!(self, EXPONENT_TRAILING_DIGIT_SEPARATOR)
     }
 
-    /// Returns whether the [flag][super::NumberFormatBuilder::integer_consecutive_digit_separator] is set.
+    /// Returns whether this [flag][super::NumberFormatBuilder::integer_consecutive_digit_separator] is set.
     #[inline(always)]
     pub const fn integer_consecutive_digit_separator(&self) -> bool
         ensures { result ≡ (raw self.now).flag layout.integer_consecutive_digit_separator }
@@ -250,7 +250,7 @@ impl NumberFormat {
         has_any!(self, INTEGER_CONSECUTIVE_DIGIT_SEPARATOR)
     }
 
-    /// Returns whether the [flag][super::NumberFormatBuilder::fraction_consecutive_digit_separator] is set.
+    /// Returns whether this [flag][super::NumberFormatBuilder::fraction_consecutive_digit_separator] is set.
     #[inline(always)]
     pub const fn fraction_consecutive_digit_separator(&self) -> bool
         ensures { result ≡ (raw self.now).flag layout.fraction_consecutive_digit_separator }
@@ -258,7 +258,7 @@ impl NumberFormat {
         has_any!(self, FRACTION_CONSECUTIVE_DIGIT_SEPARATOR)
     }
 
-    /// Returns whether the [flag][super::NumberFormatBuilder::exponent_consecutive_digit_separator] is set.
+    /// Returns whether this [flag][super::NumberFormatBuilder::exponent_consecutive_digit_separator] is set.
     #[inline(always)]
     pub const fn exponent_consecutive_digit_separator(&self) -> bool
         ensures { result ≡ (raw self.now).flag layout.exponent_consecutive_digit_separator }
@@ -266,7 +266,7 @@ impl NumberFormat {
         has_any!(self, EXPONENT_CONSECUTIVE_DIGIT_SEPARATOR)
     }
 
-    /// Returns whether any flag of the [group][super::NumberFormatBuilder::internal_digit_separator] is set.
+    /// Returns whether any flag of this [group][super::NumberFormatBuilder::internal_digit_separator] is set.
     #[inline(always)]
     pub const fn internal_digit_separator(&self) -> bool
         ensures any { result ≡ any_flag self.now layout.internal_digit_separator }
@@ -275,7 +275,7 @@ impl NumberFormat {
         has_any!(self, INTERNAL_DIGIT_SEPARATOR)
     }
 
-    /// Returns whether any flag of the [group][super::NumberFormatBuilder::leading_digit_separator] is set.
+    /// Returns whether any flag of this [group][super::NumberFormatBuilder::leading_digit_separator] is set.
     #[inline(always)]
     pub const fn leading_digit_separator(&self) -> bool
         ensures any { result ≡ any_flag self.now layout.leading_digit_separator }
@@ -284,7 +284,7 @@ impl NumberFormat {
         has_any!(self, LEADING_DIGIT_SEPARATOR)
     }
 
-    /// Returns whether any flag of the [group][super::NumberFormatBuilder::trailing_digit_separator] is set.
+    /// Returns whether any flag of this [group][super::NumberFormatBuilder::trailing_digit_separator] is set.
     #[inline(always)]
     pub const fn trailing_digit_separator(&self) -> bool
         ensures any { result ≡ any_flag self.now layout.trailing_digit_separator }
@@ -293,7 +293,7 @@ impl NumberFormat {
         has_any!(self, TRAILING_DIGIT_SEPARATOR)
     }
 
-    /// Returns whether any flag of the [group][super::NumberFormatBuilder::consecutive_digit_separator] is set.
+    /// Returns whether any flag of this [group][super::NumberFormatBuilder::consecutive_digit_separator] is set.
     #[inline(always)]
     pub const fn consecutive_digit_separator(&self) -> bool
         ensures any { result ≡ any_flag self.now layout.consecutive_digit_separator }
@@ -302,7 +302,7 @@ impl NumberFormat {
         has_any!(self, CONSECUTIVE_DIGIT_SEPARATOR)
     }
 
-    /// Returns whether the [flag][super::NumberFormatBuilder::special_digit_separator] is set.
+    /// Returns whether this [flag][super::NumberFormatBuilder::special_digit_separator] is set.
     #[inline(always)]
     pub const fn special_digit_separator(&self) -> bool
         ensures { result ≡ (raw self.now).flag layout.special_digit_separator }

@@ -1,5 +1,5 @@
-//! Examples of predicates. Each predicate that only one side of a public clause names has an example that holds, and an
-//! example that does not hold.
+//! Examples of predicates. For each predicate that public clauses use only as a premise or only as a conclusion, an
+//! example that holds and one that does not.
 
 ghost use Rattle.std.specs.Prelude.{◌≡◌, [], ◌∷◌, true, false, Some, None, Ok};
 ghost use Rattle.lexical_flags.specs.Layout as layout;
@@ -14,7 +14,7 @@ ghost use Rattle.lexical_util.specs.declared.edits.Edit.TheVariants as edits;
 ghost use Rattle.lexical_util.specs.declared.edits.FlagSetter.TheVariants as setters;
 ghost use Rattle.lexical_util.specs.declared.reasons.Reason.TheVariants as reasons;
 
-/// States that two lists of writes have the same last values, and that two other lists do not.
+/// States that two lists of writes give each field the same last value, and that two other lists do not.
 pub fn write_examples()
     // The order of writes to different fields does not matter.
     ensures order { SameWrites
@@ -28,7 +28,7 @@ pub fn write_examples()
 {}
 
 /// States that an edit of a flag makes a single write, and that an edit of a group does not. States that a mantissa
-/// radix of 16 is a byte, and that one of 256 is not.
+/// radix of 16 is a byte, and that 256 is not.
 pub fn edit_examples()
     ensures flag { IsEditOf (write_flag layout.required_integer_digits true)
         (edits.Flag setters.RequiredIntegerDigits true) }
@@ -38,8 +38,8 @@ pub fn edit_examples()
     ensures large { HasByte (edits.MantissaRadix 256) → ⊥ }
 {}
 
-/// States examples of notes: the word without the case flag of an absent prefix, a word with another flag, words that
-/// satisfy the same rules, and words that do not.
+/// Gives examples for `notes`: a word that only clears a case-sensitivity flag, one that also sets another flag, words
+/// that satisfy the same rules, and words that do not.
 #[tactic(auto, unfolding(crate::specs::Unfoldable::on_literals))]
 pub fn note_examples()
     ensures cleared { ReplacesFields
@@ -54,7 +54,7 @@ pub fn note_examples()
     ensures other_radix { SameOtherRules 0x00000A00_00000000_00000000_0000000C 12 → ⊥ }
 {}
 
-/// States examples of reasons: a reason that a word has and one that it does not have, edits that mend a word, and
+/// Gives examples for `reasons`: a reason that a word has and one that it does not have, edits that mend a word, and
 /// edits that do not.
 #[tactic(auto, unfolding(crate::specs::Unfoldable::on_literals))]
 pub fn reason_examples()
