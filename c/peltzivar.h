@@ -20,7 +20,7 @@
  * This includes *fields in peltzivar_edit_fields, since *fields is both input and output. Memory that is only
  * output need not be initialised. Memory that a function writes to must not overlap memory to which another argument
  * points. No function allocates memory, retains a pointer or sets errno. Several threads may call these functions
- * at the same time, provided that no call writes to memory that another call reads or writes to.
+ * at the same time, provided that no call writes memory that another call reads or writes.
  *
  * Each field occupies the same bits of a word in every version of the library. A minor version that adds a flag
  * renumbers the setters and the bits of `flags` in peltzivar_fields. Therefore, store a word rather than a
@@ -76,7 +76,7 @@ typedef struct {
 } peltzivar_word;
 
 /* A peltzivar_fields holds the fields of a format in unpacked form. Bit n of `flags` is the flag whose setter has
- * number n. The other bits of `flags` are ignored on input and are 0 on output. */
+ * number n. Bit 31 of `flags` is ignored on input and is 0 on output. */
 typedef struct {
     uint32_t flags;
     uint8_t digit_separator;
@@ -339,15 +339,14 @@ PELTZIVAR_MUST_USE PELTZIVAR_API peltzivar_error peltzivar_migrate(peltzivar_wor
 /* Returns whether two words have the same normal form. */
 PELTZIVAR_API bool peltzivar_same_format(peltzivar_word a, peltzivar_word b);
 
-/* Returns whether a word is one that peltzivar_pack can return. This means that all its reserved bits are 0, and that
- * at least one of its digit separator flags is set unless its digit separator is 0. */
+/* Returns whether a word is one that peltzivar_pack can return: all its reserved bits are 0, and at least one of its
+ * digit separator flags is set unless its digit separator is 0. */
 PELTZIVAR_API bool peltzivar_is_built(peltzivar_word format);
 
-/* Fills the array with one edit for each field of a word. The edits of fields in which the word differs from
- * PELTZIVAR_NEW_FIELDS come first. Returns the number of these edits. Applying only these edits to a copy of
- * PELTZIVAR_NEW_FIELDS yields the fields of the word. For an absent exponent byte, the value of the edit is 0, not the
- * mantissa radix. If peltzivar_is_built returns true for the word, packing the copy gives the word, and any shorter
- * list of edits with this result uses a group setter. */
+/* Fills the array with one edit for each field of a word. The edits that change PELTZIVAR_NEW_FIELDS come first, and
+ * their number is returned. Applying only these edits to a copy of PELTZIVAR_NEW_FIELDS yields the fields of the word.
+ * For an absent exponent byte, the value of the edit is 0, not the mantissa radix. If peltzivar_is_built returns true
+ * for the word, packing the copy gives the word, and any shorter list of edits with this result uses a group setter. */
 PELTZIVAR_API size_t peltzivar_edits_of(peltzivar_word format, peltzivar_edit edits[PELTZIVAR_FIELD_COUNT]);
 
 /* RULES */
@@ -423,24 +422,24 @@ PELTZIVAR_API bool peltzivar_flag(peltzivar_word format, uint8_t setter);
  * to blame for the reason if it wrote one of these bits and no later edit wrote that bit (see peltzivar_edit_mask). */
 PELTZIVAR_API peltzivar_word peltzivar_word_reason_mask(peltzivar_word format, uint8_t index);
 
-/* Returns the first rule that a word breaks for the reason in a slot, or PELTZIVAR_RULE_COUNT if the slot is empty. */
+/* Returns the first rule that a word breaks because of the reason in a slot, or PELTZIVAR_RULE_COUNT if the slot is
+ * empty. */
 PELTZIVAR_API uint8_t peltzivar_word_reason_rule(peltzivar_word format, uint8_t index);
 
-/* Returns whether a word breaks a rule for the reason in a slot. If the slot is empty or `rule` is not the number of a
- * rule, returns false. A word can break several rules for the same reason: if the mantissa radix is out of range and an
- * exponent byte is absent, the word also breaks the radix rule for that exponent byte. */
+/* Returns whether a word breaks a rule because of the reason in a slot. Returns false if the slot is empty or `rule` is
+ * not the number of a rule. A word can break several rules because of the same reason: if the mantissa radix is out of
+ * range and an exponent byte is absent, the word also breaks the radix rule for that exponent byte. */
 PELTZIVAR_API bool peltzivar_word_reason_breaks(peltzivar_word format, uint8_t index, uint8_t rule);
 
 /* Writes edits that mend a word by changing one field, and returns the number of these edits. If peltzivar_edit_word
- * applies them to the word, the new word satisfies each rule that the old word satisfied, and each rule that the old
- * word broke only for the reason in the slot. If no such edits exist, if the slot is empty, or if `field` is not the
- * number of a field, returns 0 and leaves the array unchanged. Otherwise, the array elements that follow these edits
- * are unspecified.
+ * applies them to the word, the new word satisfies each rule that the old word satisfied or broke only because of the
+ * reason in the slot. If no such edits exist, if the slot is empty, or if `field` is not the number of a field, returns
+ * 0 and leaves the array unchanged. Otherwise, the array elements that follow these edits are unspecified.
  *
  * The fields are numbered from 0 to PELTZIVAR_FIELD_COUNT - 1: first the flags in the order of their setters, then the
- * six bytes in the order of their bits. The edits set a flag to false, make a byte absent, or set the mantissa radix to
- * 10 and keep absent exponent bytes absent. If the word breaks a rule for several reasons, the edits do not always
- * remove the reason in the slot. Ignore edits that write none of the bits on which this reason depends (see
+ * six bytes in the order of their bits. The edits set the mantissa radix to 10 and keep absent exponent bytes absent,
+ * or set a flag to false, or make another byte absent. If the word breaks a rule for several reasons, the edits do not
+ * always remove the reason in the slot. Ignore edits that write none of the bits on which this reason depends (see
  * peltzivar_word_reason_mask), since they never remove it. */
 PELTZIVAR_API size_t peltzivar_word_reason_mend(
     peltzivar_word format, uint8_t index, uint8_t field, peltzivar_edit edits[PELTZIVAR_MAX_MENDING_EDITS]);
@@ -585,8 +584,8 @@ PELTZIVAR_API uint8_t peltzivar_setter_of_name(const char *name, size_t len);
 PELTZIVAR_MUST_USE PELTZIVAR_API uint32_t peltzivar_edit_of_text(const char *text, size_t len, peltzivar_edit *out);
 
 /* Writes the reason why peltzivar_edit_of_text rejects a string, such as "no_special takes `true` or `false`". The
- * string has len bytes. The reason is written to the buffer `to`, which has to_len bytes. If peltzivar_edit_of_text
- * accepts the string, the reason is empty. */
+ * string has len bytes, and the buffer `to` has to_len bytes. If peltzivar_edit_of_text accepts the string, writes an
+ * empty string. */
 PELTZIVAR_API size_t peltzivar_setting_error(const char *text, size_t len, char *to, size_t to_len);
 
 /* Writes an edit as NAME=VALUE. For a flag setter or a group setter, VALUE is `true` or `false`. If the edit makes a

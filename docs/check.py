@@ -214,7 +214,7 @@ def examples(text):
 
 def substituted(text):
     """Returns the numbers of rows in the eraser's tables that differ from the page."""
-    counts = {"pieces of code": len(erase.SUBSTITUTIONS + erase.EVERYWHERE), "items that define": len(erase.ITEMS)}
+    counts = {"code replacements": len(erase.SUBSTITUTIONS + erase.EVERYWHERE), "items that define": len(erase.ITEMS)}
     for name, count in counts.items():
         number = re.search(rf"(\w+) {name}", text.partition("## The plain Rust")[2])[1]
         if {"two": "2", **WORDS}.get(number, number) != str(count):

@@ -19,7 +19,7 @@ CALLED = {
     "`is_..`": "is_success",
     "group getters": "required_digits internal_digit_separator leading_digit_separator trailing_digit_separator"
     " consecutive_digit_separator",
-    "flag groups": "flags interface_flags digit_separator_flags exponent_flags integer_digit_separator_flags"
+    "`interface_flags`": "flags interface_flags digit_separator_flags exponent_flags integer_digit_separator_flags"
     " fraction_digit_separator_flags exponent_digit_separator_flags",
 }
 # Rows that do not name all clauses of their functions, with the reason.

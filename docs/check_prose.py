@@ -51,7 +51,6 @@ KEPT = [
     ("README.md", "the Rust crate", "the Rust crate `lexical-util` 1.0.7", "names the crate"),
     ("README.md", "alone", "With cargo alone", "cargo alone"),
     ("README.md", "two semicolons", "mend: base_prefix=none; mend: radix=10", "printed by a program"),
-    ("README.md", "what or who first", "Of 2.6 billion", "a number and its share"),
     ("bench/README.md", "the Rust crate", "the Rust crate `lexical-util` 1.0.7", "names the crate"),
     ("crates/lexical_util/proofs/BlameLemmas.antt", "a comment from its middle", "-- and whether the prefix is case-sensitive",
      "a line within a sentence"),

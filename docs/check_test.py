@@ -114,7 +114,7 @@ PLANTS = [
     ("docs/PROVED.md", None, "", "docs/PROVED.md: not named, the clause `larger` of: "),
     ("docs/check_clauses.py", "PARTIAL = {", "PARTIAL = {'planted': '',",
      "docs/PROVED.md: check_clauses.py has no row: planted"),
-    ("rust/tools/erase.py", "EVERYWHERE = [", "EVERYWHERE = [('', ''),", " pieces of code, not "),
+    ("rust/tools/erase.py", "EVERYWHERE = [", "EVERYWHERE = [('', ''),", " code replacements, not "),
     ("rust/tools/erase.py", "\n# Names that stay public", "\nITEMS = [*ITEMS, ('', '')]\n#", " items that define, not "),
     ("docs/DIFFERENCES.md", "| `numeral` | `read_numeral` |", "| `numeral` | `planted` |",
      "docs/DIFFERENCES.md: not public in numeral: planted"),

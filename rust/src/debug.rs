@@ -1,5 +1,5 @@
-//! `Debug` for builders, views and formats. It prints the format word, each field that differs from a new builder's,
-//! and any reserved bits and broken rules.
+//! `Debug` for builders, views and formats. It prints the format word, each field that differs from a new builder's, any
+//! reserved bits, and any broken rules.
 
 use core::fmt;
 

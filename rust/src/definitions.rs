@@ -518,7 +518,7 @@
 //!
 //! ## `last_flag`
 //!
-//! `last_flag writes f` is the last value written to the flag `f` by `writes`, or `None` if there is none.
+//! `last_flag writes f` is the last value written to the flag `f` by `writes`, or `None` if `f` is not written.
 //!
 //! ```text
 //! last_flag : List Write → Flag → Option Bool
@@ -527,7 +527,7 @@
 //!
 //! ## `last_byte`
 //!
-//! `last_byte writes b` is the last value written to the byte `b` by `writes`, or `None` if there is none.
+//! `last_byte writes b` is the last value written to the byte `b` by `writes`, or `None` if `b` is not written.
 //!
 //! ```text
 //! last_byte : List Write → Byte → Option ℕ

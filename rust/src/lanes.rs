@@ -1,5 +1,5 @@
-//! Lanes of bytes, which stand in for the part of `std::simd` that `ascii` uses. Stable Rust lacks `std::simd`. The
-//! compiler turns the fixed-length loops here into vector instructions.
+//! Lanes of bytes, which replace the part of `std::simd` that `ascii` uses. Stable Rust lacks `std::simd`. The compiler
+//! turns the fixed-length loops here into vector instructions.
 
 use core::array;
 use core::ops::{BitAnd, Sub};

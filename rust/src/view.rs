@@ -94,8 +94,8 @@ impl FormatView {
         self.error_radix().is_success()
     }
 
-    /// Checks the mantissa radix, the exponent base and the exponent radix, in this order. Returns the error of the
-    /// first one that is not between 2 and 36, or `Success` if there is none.
+    /// Checks whether the mantissa radix, the exponent base and the exponent radix are between 2 and 36, in this order.
+    /// Returns the error of the first one that is not, or `Success`.
     #[must_use]
     #[inline(always)]
     pub const fn error_radix(&self) -> Error {

@@ -31,11 +31,11 @@ abbrev pub byte_written : Write → Byte → Option ℕ
 byte_written (write_flag f value) b = None
 byte_written (write_byte c value) b = if shift c == shift b then Some value else None
 
--- `last_flag writes f` is the last value written to the flag `f` by `writes`, or `None` if there is none.
+-- `last_flag writes f` is the last value written to the flag `f` by `writes`, or `None` if `f` is not written.
 abbrev pub last_flag : List Write → Flag → Option Bool
 last_flag writes f = last_or None (filter_map (λ x. flag_written x f) writes)
 
--- `last_byte writes b` is the last value written to the byte `b` by `writes`, or `None` if there is none.
+-- `last_byte writes b` is the last value written to the byte `b` by `writes`, or `None` if `b` is not written.
 abbrev pub last_byte : List Write → Byte → Option ℕ
 last_byte writes b = last_or None (filter_map (λ x. byte_written x b) writes)
 

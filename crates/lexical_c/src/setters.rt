@@ -32,8 +32,8 @@ pub extern "C" fn peltzivar_setter_of_name(name: &[u8]) -> u8
     setter_number_of_name(name).unwrap_or(255)
 }
 
-/// Parses a string. If the string is a setting `NAME=VALUE`, writes its edit and returns 0. Otherwise, writes nothing
-/// and returns the error number, which is between 1 and 4.
+/// Parses a string. If the string is a setting `NAME=VALUE`, writes its edit and returns 0. Otherwise, returns the
+/// error number, which is between 1 and 4, and writes nothing.
 #[unsafe(no_mangle)]
 pub extern "C" fn peltzivar_edit_of_text(text: &[u8], out: &mut NumberedEdit) -> u32
     ensures edit { IsUtf8 text.now → IfOk (edit_from_text text.now)

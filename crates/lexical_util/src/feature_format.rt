@@ -117,8 +117,8 @@ impl NumberFormat {
         self.error_radix().is_success()
     }
 
-    /// Checks the mantissa radix, the exponent base and the exponent radix, in this order. Returns the error of the
-    /// first one that is not between 2 and 36, or `Success` if there is none.
+    /// Checks whether the mantissa radix, the exponent base and the exponent radix are between 2 and 36, in this order.
+    /// Returns the error of the first one that is not, or `Success`.
     #[inline(always)]
     pub const fn error_radix(&self) -> Error
         ensures first { IsFirstError radix_rules self.now result }

@@ -15,8 +15,8 @@ use std::io;
 /// builder, a setter call for each field in which the word differs from that builder, and the call that packs the
 /// fields.
 ///
-/// `word` may be any word. If the code builds a different word, comments before it state what is lost: reserved bits
-/// that are set, and a digit separator that no flag allows. After an error, what was written is unspecified.
+/// `word` may be any word. If the code builds a different word, comments before it state what is lost: set reserved
+/// bits, and a digit separator that no flag allows. After an error, what was written is unspecified.
 pub fn write_source<W: Output>(word: u128, out: &mut W) -> io::Result<()>
     ensures text { OnOk result (Appends (W.contents out.old) (W.contents out.new) (source_lines word)) }
     ensures failed { IsErr result → W.has_failed out.new }

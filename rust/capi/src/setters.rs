@@ -31,8 +31,8 @@ pub unsafe extern "C" fn peltzivar_setter_of_name(name: *const u8, name_len: usi
     setter_number_of_name(name).unwrap_or(255)
 }
 
-/// Parses a string. If the string is a setting `NAME=VALUE`, writes its edit and returns 0. Otherwise, writes nothing
-/// and returns the error number, which is between 1 and 4.
+/// Parses a string. If the string is a setting `NAME=VALUE`, writes its edit and returns 0. Otherwise, returns the
+/// error number, which is between 1 and 4, and writes nothing.
 // SAFETY: no other library has names that begin with `peltzivar_`.
 #[unsafe(no_mangle)]
 pub unsafe extern "C" fn peltzivar_edit_of_text(

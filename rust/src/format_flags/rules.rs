@@ -432,7 +432,7 @@ const fn first_broken(format: u128) -> Error {
     first_broken_reserved(format)
 }
 
-/// Returns the error of the first radix of `format` that is not between 2 and 36, or `Success` if there is none.
+/// Returns the error of the first radix of `format` that is not between 2 and 36, or `Success`.
 ///
 /// The radixes are tested in this order: the mantissa radix, the exponent base, the exponent radix. If the exponent
 /// base or the exponent radix is 0, the mantissa radix is tested instead.

@@ -1,5 +1,5 @@
-//! For each predicate that public clauses use only as a premise or only as a conclusion, an example that holds and one
-//! that does not.
+//! Two examples of each predicate that public clauses use only as a premise or only as a conclusion: one that holds, and
+//! one that does not.
 #![tactic(auto, unfolding(crate::specs::Literals::on_literals))]
 
 ghost use Rattle.std.specs.Prelude.{[], ◌∷◌, Some, None};

@@ -1,5 +1,5 @@
-//! Examples of predicates. For each predicate that public clauses use only as a premise or only as a conclusion, an
-//! example that holds and one that does not.
+//! Two examples of each predicate that public clauses use only as a premise or only as a conclusion: one that holds, and
+//! one that does not.
 
 ghost use Rattle.std.specs.Prelude.{◌≡◌, [], ◌∷◌, true, false, Some, None, Ok};
 ghost use Rattle.lexical_flags.specs.Layout as layout;
@@ -38,8 +38,8 @@ pub fn edit_examples()
     ensures large { HasByte (edits.MantissaRadix 256) → ⊥ }
 {}
 
-/// Gives examples for `notes`: a word that only clears a case-sensitivity flag, one that also sets another flag, words
-/// that satisfy the same rules, and words that do not.
+/// Gives examples for `notes`: a word that only clears a case-sensitivity flag, a word that also sets another flag,
+/// words that satisfy the same rules, and words that satisfy different rules.
 #[tactic(auto, unfolding(crate::specs::Unfoldable::on_literals))]
 pub fn note_examples()
     ensures cleared { ReplacesFields

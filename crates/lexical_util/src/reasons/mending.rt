@@ -23,7 +23,7 @@ pub const MAX_MENDING_EDITS: usize = 3;
 /// byte, or change a mantissa radix other than 10 to 10. If they set the mantissa radix, an absent exponent base or
 /// exponent radix stays absent. Apply the edits with [`edit_word`]. The new word satisfies every rule that the old word
 /// satisfied or broke only because of `reason`. [`edit_word`] also drops a digit separator if no flag allows one, but
-/// that does not count as mending the separator.
+/// dropping it does not count as mending it.
 pub fn mend(format: u128, reason: &Reason, field: &Edit) -> ([Edit; MAX_MENDING_EDITS], usize)
     ensures edits { take result.1 result.0 ≡ mend_of format reason.now field.now }
     ensures mends { result.1 ≢ 0 → Mends format reason.now (take result.1 result.0) }
