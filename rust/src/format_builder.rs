@@ -191,8 +191,8 @@ impl NumberFormatBuilder {
 
     /// Packs the fields into a format word, and returns the word if it is [lawful][flags::Rule].
     ///
-    /// In `lexical-util`, this method panics instead of returning an error. [`build_or_panic`][Self::build_or_panic]
-    /// does this. Call it in constants, where a `Result` cannot be unwrapped.
+    /// In `lexical-util`, this method panics instead of returning an error. Call
+    /// [`build_or_panic`][Self::build_or_panic] in constants, where a `Result` cannot be unwrapped.
     ///
     /// # Errors
     ///

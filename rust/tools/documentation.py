@@ -143,7 +143,7 @@ PHRASES = [
     ("`lexical-util` has no such function, since its word is part of the type.", ""),
     ("This crate only defines the errors. The crates that depend on it return them.", ""),
     ("This module re-exports the rule checks from `format_flags/rules.rt`.", ""),
-    ("In plain Rust, `build_or_panic` does this.", "[`build_or_panic`][Self::build_or_panic] does this."),
+    ("In plain Rust, call `build_or_panic` in", "Call [`build_or_panic`][Self::build_or_panic] in"),
     ("The contract requires `digit` to be below 36. In plain Rust, the result for any other `digit` is unspecified,"
      " and the call may panic if overflow checks are enabled.",
      "If `digit` is 36 or more, the result is unspecified, and the call may panic if overflow checks are enabled."),

@@ -31,7 +31,7 @@ CUES = {"if and only if|the same error": "↔|OkIff", "[Nn]ever": "≢", "No oth
 
 # The words that each row of PHRASES adds, and texts that FOREIGN finds.
 ADDED = [
-    "", "", "", "", "", "", "[`build_or_panic`][Self::build_or_panic]",
+    "", "", "", "", "", "", "Call [`build_or_panic`][Self::build_or_panic]",
     "If is 36 or more,", "Panics if is 36 or more.", "If is not range, otherwise result.",
     "Each links to", "which values the setter takes, or why the string is not a setting.",
     "the edit as `NAME=VALUE`, such as `mantissa_radix=16`, `no_special=true` or `digit_separator=none`.",

@@ -16,7 +16,7 @@ pub fn returned_examples()
 {}
 
 /// States that a function that must write a lawful word breaks its contract if it leaves its output unchanged. Each
-/// call to such a function proves an example in which the contract holds.
+/// call to such a function is an example in which its contract holds.
 #[tactic(auto, unfolding(lexical_util::specs::Unfoldable::on_literals))]
 pub fn written_examples()
     ensures unchanged { IsWrittenIfLawful 0x00000A00_00000000_00000000_0000000C 0 7 7 → ⊥ }

@@ -1,8 +1,8 @@
 //! Number formats as `u128` values: their fields, and the functions that build, edit and check them.
 //!
 //! This crate re-exports the modules of `lexical_base`, `lexical_flags` and `lexical_builder` under the module names of
-//! `lexical-util`, so that a program needs only this crate. It also re-exports, in `specs`, the definitions of these
-//! crates, and in [`laws`], their laws.
+//! `lexical-util`, so that a program needs only this crate. It also re-exports their definitions in `specs`, and their
+//! laws in [`laws`].
 #![tactic(auto)]
 
 pub mod edits;
