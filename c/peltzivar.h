@@ -76,7 +76,7 @@ typedef struct {
 } peltzivar_word;
 
 /* A peltzivar_fields holds the fields of a format in unpacked form. Bit n of `flags` is the flag whose setter has
- * number n. Bit 31 of `flags` is ignored on input and is 0 on output. */
+ * number n. The other bits of `flags` are ignored on input and are 0 on output. */
 typedef struct {
     uint32_t flags;
     uint8_t digit_separator;
@@ -437,9 +437,9 @@ PELTZIVAR_API bool peltzivar_word_reason_breaks(peltzivar_word format, uint8_t i
  * 0 and leaves the array unchanged. Otherwise, the array elements that follow these edits are unspecified.
  *
  * The fields are numbered from 0 to PELTZIVAR_FIELD_COUNT - 1: first the flags in the order of their setters, then the
- * six bytes in the order of their bits. The edits set the mantissa radix to 10 and keep absent exponent bytes absent,
- * or set a flag to false, or make another byte absent. If the word breaks a rule for several reasons, the edits do not
- * always remove the reason in the slot. Ignore edits that write none of the bits on which this reason depends (see
+ * six bytes in the order of their bits. The edits set a flag to false, make a byte absent, or set the mantissa radix to
+ * 10. In the last case, absent exponent bytes stay absent. If the word breaks a rule for several reasons, the edits do
+ * not always remove the reason in the slot. Ignore edits that write none of the bits on which this reason depends (see
  * peltzivar_word_reason_mask), since they never remove it. */
 PELTZIVAR_API size_t peltzivar_word_reason_mend(
     peltzivar_word format, uint8_t index, uint8_t field, peltzivar_edit edits[PELTZIVAR_MAX_MENDING_EDITS]);

@@ -106,7 +106,7 @@ impl From<u128> for FormatView {
     }
 }
 
-/// Defines each field as a constant and as a method. Each row gives a field's documentation, both names and type.
+/// Defines each field as a constant and as a method. Each row gives a field's documentation, type and two names.
 macro_rules! fields {
     ($($(#[$doc:meta])* $CONST:ident $get:ident $Type:ty;)*) => {
         impl<const FORMAT: u128> NumberFormat<FORMAT> {
@@ -127,7 +127,7 @@ macro_rules! fields {
     };
 }
 
-/// Defines methods that have no constant. Each row gives a method's documentation, name and type.
+/// Defines methods that have no constant. Each row gives a method's documentation, type and name.
 macro_rules! methods {
     ($($(#[$doc:meta])* $get:ident $Type:ty;)*) => {
         impl<const FORMAT: u128> NumberFormat<FORMAT> {

@@ -94,8 +94,8 @@ impl FormatView {
         self.error_radix().is_success()
     }
 
-    /// Checks whether the mantissa radix, the exponent base and the exponent radix are between 2 and 36, in this order.
-    /// Returns the error of the first one that is not, or `Success`.
+    /// Checks, in this order, whether the mantissa radix, the exponent base and the exponent radix are between 2 and
+    /// 36. Returns the error of the first one that is not, or `Success`.
     #[must_use]
     #[inline(always)]
     pub const fn error_radix(&self) -> Error {

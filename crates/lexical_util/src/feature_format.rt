@@ -117,8 +117,8 @@ impl NumberFormat {
         self.error_radix().is_success()
     }
 
-    /// Checks whether the mantissa radix, the exponent base and the exponent radix are between 2 and 36, in this order.
-    /// Returns the error of the first one that is not, or `Success`.
+    /// Checks, in this order, whether the mantissa radix, the exponent base and the exponent radix are between 2 and
+    /// 36. Returns the error of the first one that is not, or `Success`.
     #[inline(always)]
     pub const fn error_radix(&self) -> Error
         ensures first { IsFirstError radix_rules self.now result }

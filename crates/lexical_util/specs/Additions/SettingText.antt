@@ -1,5 +1,5 @@
--- The texts `NAME=VALUE`, for `from_setting`, `from_text` and `text`. These definitions repeat the code. Only the
--- clause `read_back` has a meaning of its own: parsing the text of an edit gives the same edit.
+-- The text `NAME=VALUE` of an edit, for `from_setting`, `from_text` and `text`. These definitions repeat the code. Only
+-- the clause `read_back` has a meaning of its own: parsing the text of an edit gives the same edit.
 use Rattle.std.specs.Prelude.{ℕ, if◌then◌else◌, ◌+◌, ◌==◌, ◌&&◌, Bool, true, false, Option, None, Some, Result, Err}
 use Rattle.std.specs.Prelude.{List, [], ◌∷◌, ◌++◌, length, take, drop, get_or, codes, decimal, bytes_eq, nat_le, nat_lt}
 use Rattle.std.specs.Bool.{then_some}

@@ -77,9 +77,8 @@ impl Reason {
     /// format word that has the same values in these bits.
     ///
     /// The mask has the bits of every byte and every flag in the variant. For [`Reason::NeedsPosition`], it has the
-    /// bits of all flags that allow digit separators in the same part of the number. If the word was built from a list
-    /// of settings, a setting is to blame if its [`Edit::mask`] shares with this mask a bit that no later setting
-    /// overrides.
+    /// bits of all flags that allow digit separators in the same part of the number. In a word that was built from
+    /// settings, a setting is to blame if its [`Edit::mask`] and this mask share a bit that no later setting overrides.
     pub const fn mask(&self) -> u128
         ensures { result ≡ mask_of_reason self.now }
     {
