@@ -283,8 +283,8 @@ methods! {
     /// Returns whether the mantissa radix, the exponent base and the exponent radix are all between 2 and 36. An
     /// exponent base or exponent radix of 0 means the mantissa radix.
     is_valid_radix bool;
-    /// Checks the mantissa radix, the exponent base and the exponent radix, in this order. Returns the error of the
-    /// first one that is not between 2 and 36, or `Success` if all three are.
+    /// Checks, in this order, whether the mantissa radix, the exponent base and the exponent radix are between 2 and
+    /// 36. Returns the error of the first one that is not, or `Success`.
     error_radix Error;
     /// Returns whether the digit separator byte is not 0.
     has_digit_separator bool;
