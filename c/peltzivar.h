@@ -432,9 +432,10 @@ PELTZIVAR_API uint8_t peltzivar_word_reason_rule(peltzivar_word format, uint8_t 
 PELTZIVAR_API bool peltzivar_word_reason_breaks(peltzivar_word format, uint8_t index, uint8_t rule);
 
 /* Writes edits that mend a word by changing one field, and returns the number of these edits. If peltzivar_edit_word
- * applies them to the word, the new word satisfies each rule that the old word satisfied or broke only because of the
- * reason in the slot. If no such edits exist, if the slot is empty, or if `field` is not the number of a field, returns
- * 0 and leaves the array unchanged. Otherwise, the array elements that follow these edits are unspecified.
+ * applies them to the word, the new word satisfies each rule that the old word satisfied, and each rule that the old
+ * word broke only because of the reason in the slot. If no such edits exist, if the slot is empty, or if `field` is not
+ * the number of a field, returns 0 and leaves the array unchanged. Otherwise, the elements of the array that follow
+ * these edits are unspecified.
  *
  * The fields are numbered from 0 to PELTZIVAR_FIELD_COUNT - 1: first the flags in the order of their setters, then the
  * six bytes in the order of their bits. The edits set a flag to false, make a byte absent, or set the mantissa radix to

@@ -121,7 +121,7 @@ fn arguments(args: &[&str]) -> Vec<String> {
     args.iter().map(|text| text.to_string()).collect()
 }
 
-/// Checks that `run` with these arguments writes the text and a newline, and returns the status.
+/// Checks that `run` with these arguments returns the status, and writes the text and a newline.
 fn check_run(args: &[&str], text: &str, status: u8) {
     let mut out = Vec::new();
     assert_eq!(run(&arguments(args), &mut out), status, "for {args:?}");
