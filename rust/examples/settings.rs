@@ -66,8 +66,8 @@ fn read(file: &[u8]) -> (Vec<Setting>, Vec<String>) {
     (settings, problems)
 }
 
-/// Returns the format of a file if the file has no problems, and all problems and notes. The sentence of a reason ends
-/// with settings. Each of them removes the reason. A field that no line sets keeps its default.
+/// Returns the format of a file if the file has no problems, and all problems and notes. A field that no line sets keeps
+/// its default.
 pub fn format_of(file: &[u8]) -> (Option<Format>, Vec<String>) {
     let (settings, mut found) = read(file);
     let located = |mask: u128, text: String| {
@@ -79,12 +79,7 @@ pub fn format_of(file: &[u8]) -> (Option<Format>, Vec<String>) {
     let builder: NumberFormatBuilder = settings.iter().map(|(_, edit, _)| *edit).collect();
     let format = builder.build_format().ok().filter(|_| found.is_empty());
     let view = builder.view();
-    for reason in view.reasons() {
-        // The other edits of a mend only keep the exponent base and the exponent radix absent.
-        let mends = view.mends(reason).map(|mend| mend.edits()[0]);
-        let text = mends.fold(reason.to_string(), |all, it| format!("{all}; mend: {it}"));
-        found.push(located(reason.mask(), text));
-    }
+    found.extend(view.reasons().map(|it| located(it.mask(), it.to_string())));
     found.extend(builder.notes().map(|it| located(it.mask(), it.to_string())));
     (format, found)
 }

@@ -14,8 +14,6 @@ pub use crate::format_flags::*;
 #[doc(no_inline)]
 pub use crate::lawful::Format;
 #[doc(no_inline)]
-pub use crate::mend::Mend;
-#[doc(no_inline)]
 pub use crate::view::FormatView;
 #[doc(inline)]
 pub use crate::word::STANDARD;

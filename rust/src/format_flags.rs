@@ -10,7 +10,7 @@
 mod all_rules;
 mod rules;
 
-pub use crate::format_flags::all_rules::{broken_rules, Rule, RULES};
+pub use crate::format_flags::all_rules::{Rule, RULES};
 pub use crate::format_flags::rules::{
     check, clashes, format_error_impl, is_clean, is_digit, is_separator_allowed,
     is_valid_base_prefix, is_valid_base_suffix, is_valid_digit_separator, is_valid_exponent_flags,
@@ -309,6 +309,22 @@ pub const fn exponent_radix(format: u128) -> u32 {
     } else {
         radix
     }
+}
+
+/// Returns the exponent base that `format` stores, or 0 if it is absent.
+#[must_use]
+#[inline(always)]
+#[doc(hidden)]
+pub const fn raw_exponent_base(format: u128) -> u8 {
+    ((format & EXPONENT_BASE) >> EXPONENT_BASE_SHIFT) as u8
+}
+
+/// Returns the exponent radix that `format` stores, or 0 if it is absent.
+#[must_use]
+#[inline(always)]
+#[doc(hidden)]
+pub const fn raw_exponent_radix(format: u128) -> u8 {
+    ((format & EXPONENT_RADIX) >> EXPONENT_RADIX_SHIFT) as u8
 }
 
 /// Returns the low 32 bits of `(format & mask) >> shift`, or the mantissa radix if they are 0.

@@ -37,7 +37,7 @@
 //! | take a checked format as an argument | [`Format`], or `impl Into<Format>` |
 //! | read the fields of any word, lawful or not | [`FormatView`]; [`NumberFormat`] for a word that is known at compile time |
 //! | parse settings | `str::parse` for each [`Edit`], [`collect`][Iterator::collect] to turn edits into a builder, and [`build_format`][NumberFormatBuilder::build_format] to check it |
-//! | report the problems with a word, and the edits that mend them | [`FormatView::reasons`], [`Reason::mask`], [`FormatView::mends`], [`FormatView::notes`] |
+//! | report the problems with a word | [`FormatView::reasons`], [`Reason::mask`], [`FormatView::notes`] |
 //! | derive a format from another | [`NumberFormatBuilder::from`], or [`edits::edit_word`] |
 //! | compare two formats | [`Format::normal_form`], [`edits::same_format`] |
 //! | store words as text | `Display` and `FromStr` of [`Format`] and [`FormatView`] |
@@ -63,7 +63,7 @@
 //! contract. From this code, a program in the repository generated the files that begin with `Made by`. In the
 //! documentation, the sections named `Proved` state contracts, and [`definitions`] defines their terms.
 //!
-//! The following parts are written by hand: [`Format`], [`Mend`], [`NumberFormat`], the iterators and conversions,
+//! The following parts are written by hand: [`Format`], [`NumberFormat`], the iterators and conversions,
 //! `Display`, `FromStr` and `Debug` of words, `build_or_panic`, and the private modules `decimal`, `lanes` and
 //! `chunks`. A build of this crate proves nothing. You trust the program that generated the files, the handwritten
 //! parts, and `rustc`.
@@ -92,7 +92,6 @@ pub mod format_flags;
 mod lanes;
 mod lawful;
 mod lists;
-mod mend;
 mod numeral;
 pub mod reasons;
 mod refusal;
@@ -105,7 +104,7 @@ pub mod word;
 pub mod word_text;
 
 #[doc(no_inline)]
-pub use edits::{Edit, FlagSetter, SettingError};
+pub use edits::{Edit, FlagSetter, Setter, SettingError};
 #[doc(no_inline)]
 pub use error::Error;
 #[doc(no_inline)]
@@ -116,8 +115,6 @@ pub use format_builder::NumberFormatBuilder;
 pub use format_flags::Rule;
 #[doc(inline)]
 pub use lawful::Format;
-#[doc(inline)]
-pub use mend::Mend;
 #[doc(no_inline)]
 pub use reasons::{Note, Reason};
 #[doc(inline)]

@@ -1,15 +1,16 @@
 //! Iterators over rules, reasons, notes and edits, and conversions of edits into a builder.
 
-use crate::edits::{apply, edits_of, Edit, FlagSetter, SETTERS, SETTER_NAMES};
+use crate::edits::{apply, edits_of, Edit, FlagSetter, Setter, ALL_SETTERS, SETTERS};
 use crate::format_builder::NumberFormatBuilder;
-use crate::format_flags::{broken_rules, Rule, RULES};
+use crate::format_flags::{Rule, RULES};
 use crate::reasons::{notes, notes_of_fields, reasons, Note, Reason};
 use crate::view::FormatView;
 
 impl FormatView {
     /// Returns the rules that the word breaks, in the order in which rules are checked.
     pub fn broken_rules(&self) -> impl Iterator<Item = Rule> + Clone {
-        broken_rules(self.word()).into_iter().flatten()
+        let word = self.word();
+        RULES.into_iter().filter(move |rule| !rule.is_kept(word))
     }
 
     /// Returns the reasons why the word is not lawful, sorted by the rule that [`Reason::rule`] returns for each
@@ -102,7 +103,20 @@ impl FlagSetter {
     pub const ALL: &'static [FlagSetter] = &SETTERS;
 }
 
+impl Setter {
+    /// All setters: first those in [`FlagSetter::ALL`], in the same order, then the seven setters that take a byte.
+    pub const ALL: &'static [Setter] = &ALL_SETTERS;
+}
+
 impl Edit {
-    /// The names of all setters. In a setting `NAME=VALUE`, the name is one of these.
-    pub const NAMES: &'static [&'static str] = &SETTER_NAMES;
+    /// The names of all setters, in the order of [`Setter::ALL`]. In a setting `NAME=VALUE`, the name is one of these.
+    pub const NAMES: &'static [&'static str] = &{
+        let mut names = [""; ALL_SETTERS.len()];
+        let mut index = 0;
+        while index < names.len() {
+            names[index] = ALL_SETTERS[index].name();
+            index += 1;
+        }
+        names
+    };
 }

@@ -4,18 +4,16 @@
 
 use crate::ascii::is_valid_ascii;
 use crate::digit::char_is_digit;
-use crate::edits::{raw_exponent_base, raw_exponent_radix, Edit, FlagSetter};
+use crate::edits::{Edit, FlagSetter};
 use crate::format_builder::NonZeroU8;
 use crate::format_flags as flags;
-use crate::format_flags::Rule;
+use crate::format_flags::{raw_exponent_base, raw_exponent_radix, Rule};
 use crate::view::FormatView;
 
-pub(crate) mod mask;
-mod mending;
+mod mask;
 mod note;
 mod text;
 
-pub use mending::{mend, MAX_MENDING_EDITS};
 pub use note::{notes, notes_of_fields, Note, MAX_NOTES};
 
 /// The maximum number of reasons why a format word can break a single rule.

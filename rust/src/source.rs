@@ -2,8 +2,7 @@
 
 //! Prints format words as Rust code.
 
-use crate::edits::{edits_of, Argument, Edit};
-use crate::error::{Piece, ShortText, Sink, EMPTY_PIECE};
+use crate::edits::{edits_of, ArgumentKind};
 use core::fmt;
 
 /// A format word that is printed as Rust code. The code is an expression that builds the word.
@@ -21,51 +20,23 @@ use core::fmt;
 #[derive(Clone, Copy, Debug)]
 pub struct BuilderExpression(pub u128);
 
-impl BuilderExpression {
-    /// Puts the expression into a sink. The expression has fewer than 2048 bytes. The call fails only if the sink
-    /// fails.
-    #[doc(hidden)]
-    pub fn put_into<S: Sink>(&self, out: &mut S) -> Result<(), fmt::Error> {
-        let (edits, count) = edits_of(self.0);
-        out.put("NumberFormatBuilder::new()")?;
-        for edit in &edits[..count] {
-            put_call(edit, out)?;
-        }
-        out.put(".build_unchecked()")
-    }
-}
-
-/// Writes the expression. The options of the formatter, such as a width, are ignored.
+/// Prints the expression. The options of the formatter, such as a width, are ignored.
 impl fmt::Display for BuilderExpression {
     fn fmt(&self, f: &mut fmt::Formatter<'_>) -> fmt::Result {
-        self.put_into(f)
-    }
-}
-
-// Puts the setter call of an edit into a sink.
-fn put_call<S: Sink>(edit: &Edit, out: &mut S) -> fmt::Result {
-    out.put(".")?;
-    out.put(edit.name())?;
-    out.put("(")?;
-    code_of_argument(edit.argument()).put_into(out)?;
-    out.put(")")
-}
-
-// Returns an argument as Rust code.
-const fn code_of_argument(argument: Argument) -> ShortText {
-    let piece = match argument {
-        Argument::OptionalByte(Some(byte)) => {
-            return ShortText(
-                EMPTY_PIECE,
-                Piece::Words("NonZeroU8::new("),
-                Piece::Number(byte.get() as usize),
-                Piece::Words(")"),
-            );
+        let (edits, count) = edits_of(self.0);
+        f.write_str("NumberFormatBuilder::new()")?;
+        for edit in edits.iter().take(count) {
+            write!(f, ".{}(", edit.name())?;
+            match (edit.setter().kind(), edit.argument_byte()) {
+                (ArgumentKind::Flag, byte) => {
+                    f.write_str(if byte != 0 { "true" } else { "false" })?
+                }
+                (ArgumentKind::OptionalByte, 0) => f.write_str("None")?,
+                (ArgumentKind::OptionalByte, byte) => write!(f, "NonZeroU8::new({byte})")?,
+                (ArgumentKind::Byte, byte) => write!(f, "{byte}")?,
+            }
+            f.write_str(")")?;
         }
-        Argument::OptionalByte(None) => Piece::Words("None"),
-        Argument::Byte(byte) => Piece::Number(byte as usize),
-        Argument::Flag(true) => Piece::Words("true"),
-        Argument::Flag(false) => Piece::Words("false"),
-    };
-    ShortText(EMPTY_PIECE, EMPTY_PIECE, EMPTY_PIECE, piece)
+        f.write_str(".build_unchecked()")
+    }
 }

@@ -3,7 +3,7 @@
 use core::fmt;
 use core::str::FromStr;
 
-use crate::edits::{setter_number_of_name, Edit, FlagSetter, SettingError, SETTERS};
+use crate::edits::{Edit, FlagSetter, Setter, SettingError};
 use crate::error::Error;
 use crate::lawful::Format;
 use crate::reasons::Reason;
@@ -88,9 +88,10 @@ impl FromStr for FlagSetter {
     type Err = SettingError;
 
     fn from_str(name: &str) -> Result<Self, SettingError> {
-        setter_number_of_name(name.as_bytes())
-            .and_then(|number| SETTERS.get(usize::from(number)).copied())
-            .ok_or(SettingError::UnknownName)
+        match Setter::from_name(name) {
+            Some(Setter::Flag(setter)) => Ok(setter),
+            _ => Err(SettingError::UnknownName),
+        }
     }
 }
 

@@ -18,7 +18,7 @@ fn found(file: &[u8]) -> Vec<String> {
 }
 
 #[test]
-fn eight_mistakes_are_found_and_mended_in_one_round() {
+fn eight_mistakes_are_found_in_one_round() {
     let file = include_str!("../examples/mistakes.txt");
     let unknown = refusal("a=1");
     let flag = refusal("no_special=yes");
@@ -27,10 +27,9 @@ fn eight_mistakes_are_found_and_mended_in_one_round() {
         &format!("line 5: no_special = yes: {flag}"),
         r"line 8: no_float_leading_zeros =\xc2\xa0true: the line is not ASCII",
         "lines 2, 11: mantissa_radix is set twice",
-        "line 6: the exponent base 1 is not between 2 and 36; mend: exponent_base=none",
-        "lines 3, 11: the base prefix 'b' is a digit in radix 12; mend: base_prefix=none; mend: radix=10",
-        "lines 7, 9: no_positive_mantissa_sign and required_mantissa_sign cannot both be set; \
-         mend: no_positive_mantissa_sign=false; mend: required_mantissa_sign=false",
+        "line 6: the exponent base 1 is not between 2 and 36",
+        "lines 3, 11: the base prefix 'b' is a digit in radix 12",
+        "lines 7, 9: no_positive_mantissa_sign and required_mantissa_sign cannot both be set",
         "line 10: no number can have the digit separator '_': no flag allows one",
     ];
     assert_eq!(
@@ -38,8 +37,8 @@ fn eight_mistakes_are_found_and_mended_in_one_round() {
         (None, wanted.map(String::from).to_vec())
     );
 
-    // The old and the new text of each mend in the output, and no others.
-    let mended = [
+    // Each problem, corrected once.
+    let corrected = [
         ("mantissa_radix = 16\n", ""),
         ("base_sufix", "base_suffix"),
         ("yes", "true"),
@@ -52,10 +51,10 @@ fn eight_mistakes_are_found_and_mended_in_one_round() {
         ),
         ("radix = 12", "radix = 12\ninternal_digit_separator = true"),
     ];
-    let mended = mended
+    let corrected = corrected
         .iter()
         .fold(file.to_string(), |text, (old, new)| text.replace(old, new));
-    let (format, found) = format_of(mended.as_bytes());
+    let (format, found) = format_of(corrected.as_bytes());
     assert_eq!(found, [""; 0]);
     assert_eq!(
         format.map(u128::from),
@@ -66,19 +65,19 @@ fn eight_mistakes_are_found_and_mended_in_one_round() {
 #[test]
 fn problems_have_exactly_their_lines() {
     #[rustfmt::skip]
-    let rows: [(&[u8], &[&str]); 15] = [
+    let rows: [(&[u8], &[&str]); 14] = [
         // Absent exponent bytes follow the mantissa radix.
-        (b"mantissa_radix=37", &["line 1: the mantissa radix 37 is not between 2 and 36; mend: radix=10"]),
-        (b"radix=16\nexponent_radix=10\nbase_prefix='b'", &["lines 1, 3: the base prefix 'b' is a digit in radix 16; mend: base_prefix=none; mend: radix=10"]),
-        (b"radix=10\nexponent_radix=16\nbase_prefix='b'", &["lines 2, 3: the base prefix 'b' is a digit in radix 16; mend: base_prefix=none; mend: exponent_radix=none"]),
+        (b"mantissa_radix=37", &["line 1: the mantissa radix 37 is not between 2 and 36"]),
+        (b"radix=16\nexponent_radix=10\nbase_prefix='b'", &["lines 1, 3: the base prefix 'b' is a digit in radix 16"]),
+        (b"radix=10\nexponent_radix=16\nbase_prefix='b'", &["lines 2, 3: the base prefix 'b' is a digit in radix 16"]),
         (b"base_prefix='b'\r\n\r\nbase_suffix='B'\r\ncase_sensitive_base_suffix=true\r\n",
-            &["lines 1, 3: the base prefix 'b' and the base suffix 'B' differ only in case, and they are not both case-sensitive; mend: base_prefix=none; mend: base_suffix=none"]),
+            &["lines 1, 3: the base prefix 'b' and the base suffix 'B' differ only in case, and they are not both case-sensitive"]),
         (b"base_prefix='$'\ncase_sensitive_base_prefix=true\nno_special=true",
             &["lines 1, 2: case_sensitive_base_prefix changes nothing: the base prefix '$' is not a letter"]),
         (b"special_digit_separator=true", &["line 1: the digit separator flags allow nothing: there is no digit separator"]),
         // Later lines overwrite all bits of the second line under the mask of the reason.
         (b"digit_separator='_'\ndigit_separator_flags=true\ninteger_digit_separator_flags=false\ninteger_consecutive_digit_separator=true",
-            &["lines 3, 4: integer_consecutive_digit_separator requires an internal, leading or trailing flag for the same part of the number; mend: integer_consecutive_digit_separator=false"]),
+            &["lines 3, 4: integer_consecutive_digit_separator requires an internal, leading or trailing flag for the same part of the number"]),
         // The same field twice.
         (b"no_special=true\nno_special=true", &["lines 1, 2: no_special is set twice"]),
         (b"radix=16\nmantissa_radix=16\nradix=16", &["lines 1, 2: radix is set twice", "lines 2, 3: mantissa_radix is set twice"]),
@@ -87,8 +86,6 @@ fn problems_have_exactly_their_lines() {
         // Later lines leave nothing of a group together.
         (b"digit_separator='_'\ntrailing_digit_separator=true\ninteger_digit_separator_flags=true\nfraction_digit_separator_flags=true\nexponent_digit_separator_flags=true",
             &["lines 2, 5: trailing_digit_separator is set twice"]),
-        // Radix 10 would make the prefix a digit, so nothing mends the radix.
-        (b"radix=1\nbase_prefix='5'", &["line 1: the mantissa radix 1 is not between 2 and 36"]),
         (b"\tradix\t16", &[r"line 1: radix\x0916: expected NAME=VALUE"]),
         // Bytes that are not ASCII, also not UTF-8, and control characters.
         (b"\xEF\xBB\xBFradix=16", &[r"line 1: \xef\xbb\xbfradix=16: the line is not ASCII"]),

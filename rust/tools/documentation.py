@@ -138,7 +138,6 @@ PROVED = {
 # Texts in documentation comments, which may contain line ends, and their replacements.
 PHRASES = [
     ("In plain Rust:", ""),
-    ("In plain Rust, `broken_rules(format)", "`broken_rules(format)"),
     ("`lexical-util` has no such function.", ""),
     ("`lexical-util` has no such function, since its word is part of the type.", ""),
     ("This crate only defines the errors. The crates that depend on it return them.", ""),
@@ -154,10 +153,6 @@ PHRASES = [
      "If `shift` is not in this range, panics if overflow checks are enabled, and otherwise returns an unspecified"
      " result."),
     ("The comment of a variant is the name of its setter.", "Each variant links to its setter."),
-    ("Prints what [`SettingError::text`] returns.",
-     "Prints which values the setter takes, or why the string is not a setting."),
-    ("Prints what [`Edit::text`] returns.",
-     "Prints the edit as `NAME=VALUE`, such as `mantissa_radix=16`, `no_special=true` or `digit_separator=none`."),
     ("[`format_error_impl`], or `Success` if the word is lawful.",
      "the variants of [`Rule`][crate::format_flags::Rule], or `Success` if the word is lawful."),
     ("The word is a value, which may be known only at run time. In `lexical-util`, the word is a const generic argument"

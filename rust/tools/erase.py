@@ -8,8 +8,7 @@ Items that only the prover reads are left out as a whole: ghost items, clauses, 
 calls. All other words stay in their order, except for
 
 - the table SUBSTITUTIONS, each row of which has to apply exactly once, EVERYWHERE, and ITEMS, which plain Rust derives;
-- the paths of the crates, and of the two modules in MODULES with the type of the view;
-- exports to C, where a slice becomes a pointer and a length.
+- the paths of the crates, and of the two modules in MODULES with the type of the view.
 
 `#[must_use]` is added, and in the library the attributes in HIDDEN, GROWING and DERIVED; `#[doc(inline)]` is left out
 there, and documentation.py changes the documentation. rustfmt does the layout. These are refused with their file and
@@ -38,7 +37,6 @@ PLACES = {
     "lexical_flags": LIBRARY,
     "lexical_builder": LIBRARY,
     "lexical_util": LIBRARY,
-    "lexical_c": ("capi/src", "peltzivar", "core"),
     "numfmt": ("numfmt/src", "peltzivar", "std"),
 }
 
@@ -68,7 +66,6 @@ SUBSTITUTIONS = [
     ("digit.rt", "VALUES[c as usize] as u32", "VALUES[c as usize]"),
     ("error.rt", "use std::cmp::Ordering;", ""),
     ("error.rt", "#[derive(Clone, Copy, Debug)]", "#[derive(Clone, Copy, Debug, PartialEq, Eq, PartialOrd, Ord, Hash)]"),
-    ("short_text.rt", "#[derive(Drop)]", "#[derive(Clone, Copy)]"),
     # One call writes all digits of a number.
     ("short_text.rt", PUT_DECIMAL, "out.put(crate::decimal::Decimal::new(n).text())" + "\n" * PUT_DECIMAL.count("\n")),
     ("sink.rt", "impl<W: fmt::Write> Sink for fmt::Formatter<W> {", "impl Sink for fmt::Formatter<'_> {"),
@@ -79,25 +76,12 @@ SUBSTITUTIONS = [
     ("output.rt", "use std::fmt::Display;", "use std::fmt::Arguments;"),
     ("output.rt", "write_fmt<D: Display + Drop>(&mut self, text: D) -> io::Result<()> {", "write_fmt(&mut self, text: Arguments<'_>) -> io::Result<()> {"),
     ("output.rt", "write_fmt<D: Display + Drop>(&mut self, text: D)", "write_fmt(&mut self, text: Arguments<'_>)"),
-    # C may leave the output of a call unset, so no reference points to it: rust/capi/src/outputs.rs.
-    ("texts.rt", "out[..count].copy_from_slice(&text[..count]);", "crate::outputs::write_bytes(&mut out[..count], &text[..count]);"),
-    ("texts.rt", "out[count] = 0;", "out[count].write(0);"),
 ]
 
 # Texts that plain Rust replaces in every file, wherever they occur.
 EVERYWHERE = [
     (".as_chunks::<", ".split_chunks::<"),
     ("fn fmt<W: fmt::Write>(&self, f: &mut fmt::Formatter<W>)", "fn fmt(&self, f: &mut fmt::Formatter<'_>)"),
-    ("out: &mut Word", "out: crate::outputs::Out<Word>"),
-    ("*out = Word::new(word);", "out.write(Word::new(word));"),
-    ("*out = Word::new(builder.build_unchecked());", "out.write(Word::new(builder.build_unchecked()));"),
-    ("out: &mut NumberedEdit", "out: crate::outputs::Out<NumberedEdit>"),
-    ("*out = NumberedEdit::new(&edit);", "out.write(NumberedEdit::new(&edit));"),
-    ("edits: &mut [NumberedEdit; FIELD_COUNT]", "mut edits: crate::outputs::Out<[NumberedEdit; FIELD_COUNT]>"),
-    ("edits[index] = NumberedEdit::new(&list[index]);", "edits.write_at(index, NumberedEdit::new(&list[index]));"),
-    ("edits: &mut [NumberedEdit; MAX_MENDING_EDITS]", "edits: crate::outputs::Out<[NumberedEdit; MAX_MENDING_EDITS]>"),
-    ("*edits = numbered;", "edits.write(numbered);"),
-    ("out: &mut [u8]", "out: &mut crate::outputs::Buffer"),
 ]
 
 # Items that plain Rust replaces by a derive.
@@ -106,23 +90,18 @@ ITEMS = [("error.rt", f"impl {trait} for Error") for trait in ("PartialEq", "Eq"
 # Names that stay public for C, numfmt and constants, and that the documentation does not show, for each file. `Enum::*`
 # means all variants of an enum that is shown without them.
 HIDDEN = {
+    "format_flags.rt": "raw_exponent_base raw_exponent_radix",
     "error.rt": "rank from_rank put_into",
     "error/short_text.rt": "Piece EMPTY_PIECE ShortText put_into",
     "error/sink.rt": "Sink",
-    "format_flags/all_rules.rt": "RULES if_broken broken_rules",
+    "format_flags/all_rules.rt": "RULES",
     "format_flags/rules.rt": "clashes options_error radix_error_impl format_error_impl check",
     "format_builder.rt": "from_parts to_parts with_flags",
-    "edits.rt": "FIELD_COUNT SETTERS",
-    "edits/listing.rt": "field_edits_of",
-    "edits/numbers.rt": "SETTER_NAMES Argument ArgumentKind of argument_of_byte new setter_number argument"
-    " argument_byte from_number from_name setter_name_of_number setter_number_of_name byte",
-    "edits/text.rt": "SettingError::* from_text text byte_from_decimal",
+    "edits/setters.rt": "FIELD_COUNT SETTERS ALL_SETTERS with_byte argument_byte field_edits_of",
+    "edits/text.rt": "SettingError::* from_text byte_from_decimal",
     "reasons.rt": "MAX_REASONS CANDIDATE_COUNT reasons reasons_of",
-    "reasons/mask.rt": "rules",
-    "reasons/mending.rt": "MAX_MENDING_EDITS mend",
     "reasons/note.rt": "MAX_NOTES notes notes_of_fields",
     "reasons/text.rt": "text",
-    "source.rt": "put_into",
 }
 
 # Enums that may grow.
@@ -137,6 +116,7 @@ DERIVED = {
     "SettingError": "Hash",
     "FlagSetter": "PartialOrd, Ord",
     "Edit": "PartialOrd, Ord",
+    "Setter": "PartialOrd, Ord",
     "FormatView": "PartialOrd, Ord",
 }
 
@@ -149,14 +129,8 @@ GHOST = {
     "decreases", "assume",
 }  # fmt: skip
 
-# The reason for each `unsafe` in an export to C, whose caller does what c/peltzivar.h asks.
-NO_MANGLE = "// SAFETY: no other library has names that begin with `peltzivar_`."
-ARRAY = "// SAFETY: the length is 0, or the caller passes a pointer to as many values."
-BUFFER = "// SAFETY: the length is 0, or the caller passes a pointer to as many bytes, and nothing else uses them."
-
 TOKEN = re.compile(r"""//[^\n]*|b?"(?:\\.|[^"\\])*"|b?'(?:\\[^']+|[^\\'\n])'|'?\w+|\S""")
 CLOSING = {"(": ")", "[": "]", "{": "}"}
-SLICE = re.compile(r"(\w+): &(mut )?\[(\w+)\]")
 
 
 class Refused(Exception):
@@ -268,9 +242,9 @@ class Source:
         return body
 
     def public(self, index, body, clauses):
-        """Adds documentation, `#[must_use]`, and pointers for slices to a public function."""
+        """Adds documentation and `#[must_use]` to a public function."""
         start = index
-        while self.words[start - 1] in ("const", "extern", '"C"', "pub"):
+        while self.words[start - 1] in ("const", "pub"):
             start -= 1
         if self.words[start] != "pub":
             return
@@ -283,9 +257,7 @@ class Source:
         self.premises(above, clauses)
         if name in documentation.PROVED.get(self.name, ()):
             self.document(above, name, clauses)
-        if '"C"' in self.words[start:index]:
-            self.export(above, start, body)
-        elif re.search(r"\) -> (?!(io::)?Result<)", self.text[self.tokens[start].start() : self.tokens[body].start()]):
+        if re.search(r"\) -> (?!(io::)?Result<)", self.text[self.tokens[start].start() : self.tokens[body].start()]):
             self.changes.append((self.tokens[above].start(),) * 2 + ("#[must_use]\n",))
 
     def comment(self, above):
@@ -313,19 +285,6 @@ class Source:
         lines = documentation.proved(self.name, name, clauses).split("\n")
         at = self.tokens[above - 1].end()
         self.changes.append((at, at, "".join(f"\n/// {line}".rstrip(" ") for line in lines)))
-
-    def export(self, above, start, body):
-        """Replaces each slice of an export to C by a pointer and a length, and adds a statement that builds the slice."""
-        at, end = self.tokens[start].start(), self.tokens[body].start()
-        self.changes.append((self.tokens[above].start(),) * 2 + (f"{NO_MANGLE}\n",))
-        head = self.text[at : next((s for s, e, _ in self.changes if s >= at and e == end), end)]
-        slices = SLICE.findall(head)
-        if slices:
-            plain = SLICE.sub(lambda m: f"{m[1]}: *{'mut' if m[2] else 'const'} {m[3]}, {m[1]}_len: usize", head)
-            self.changes.append((at, at + len(head), plain.replace("extern", "unsafe extern")))
-            text = "{2}\nlet {0} = unsafe {{ crate::slices::of{1}({0}, {0}_len) }};"
-            made = (text.format(name, *(("_mut", BUFFER) if mutable else ("", ARRAY))) for name, mutable, _ in slices)
-            self.changes.append((end + 1, end + 1, "\n" + "\n".join(made)))
 
     def check_left_out(self, modules):
         """Refuses an item in a file without counterpart if plain Rust would lose it. `modules` has the names of the
@@ -486,7 +445,8 @@ def main():
     except (Refused, documentation.Unfit) as refused:
         sys.exit(f"rust/tools/erase.py: {refused}")
     stale = [path for path, text in files.items() if not path.exists() or path.read_text() != text]
-    gone = [it for it in RUST.glob("**/src/**/*.rs") if it not in files and it.read_text().startswith(MADE)]
+    sources = [it for folder in {folder for folder, _, _ in PLACES.values()} for it in (RUST / folder).rglob("*.rs")]
+    gone = [it for it in sources if it not in files and it.read_text().startswith(MADE)]
     names = " ".join(str(path.relative_to(RUST)) for path in stale + gone)
     if "--check" in sys.argv[1:]:
         sys.exit(f"run rust/tools/erase.py: not up to date: {names}" if names else 0)

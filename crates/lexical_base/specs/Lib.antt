@@ -3,4 +3,3 @@ pub mod Digits
 pub mod Outcomes
 pub mod OutcomeOrder
 pub mod Private
-pub mod Additions

@@ -1,8 +1,6 @@
 -- Definitions for private functions and for the proofs of this crate. No public contract cites them.
-use Rattle.std.specs.Prelude.{ℕ, ◌+◌, ◌<◌, ◌≤◌, ◌||◌, bit_and, length}
+use Rattle.std.specs.Prelude.{ℕ, ◌+◌, ◌<◌, ◌≤◌, ◌||◌, bit_and}
 use Rattle.lexical_base.specs.Ascii.{ByteSet, between}
-use Rattle.lexical_base.specs.declared.error.short_text.Piece.{Piece}
-use Rattle.lexical_base.specs.declared.error.short_text.Piece.TheVariants as pieces
 
 -- `in_two_ranges mask first second` is the set of the bytes that, masked with `mask`, are in the range `first` or in
 -- the range `second`. Each range is given by its lowest and its highest byte.
@@ -18,11 +16,3 @@ pub record AreTwoRanges (first second : ℕ × ℕ) : Type 0 where
   pub narrow : second.1 < second.0 + 255
   pub first_bytes : first.1 < 256
   pub second_bytes : second.1 < 256
-
--- `max_length piece` is an upper bound of the length of the text of `piece`. It allows 64 digits for a decimal number.
-abbrev pub max_length : Piece → ℕ
-max_length (pieces.Words words) = length words.now
-max_length (pieces.Number number) = 64
-max_length (pieces.Hexadecimal number) = 34
-max_length (pieces.NumberedByte name byte) = 4 + length name.now + 65
-max_length (pieces.QuotedByte name byte) = 4 + length name.now + 65

@@ -9,7 +9,7 @@ use Rattle.lexical_flags.specs.Layout.{Flag, Byte, part, bit, shift, IsClean}
 use Rattle.lexical_flags.specs.Record.{raw, effective}
 use Rattle.lexical_flags.specs.Roles.{AreDisjoint, cased, signs}
 use Rattle.lexical_flags.specs.Rules.{IsRadix, IsPunctuation, Demands, Holds, lacks_position}
-use Rattle.lexical_flags.specs.Additions.BrokenRules.{mask_read}
+use Rattle.lexical_flags.specs.Additions.RuleFields.{mask_read}
 use Rattle.lexical_flags.specs.declared.format_flags.all_rules.Rule.{Rule}
 use Rattle.lexical_flags.specs.declared.format_flags.all_rules.Rule.TheVariants as rules
 use Rattle.lexical_flags.proofs.ByteParts.{masked_part}

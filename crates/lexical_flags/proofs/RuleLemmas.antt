@@ -1,7 +1,7 @@
 -- Lemmas that a word is lawful if and only if it satisfies every rule, and that it has one error.
-use Rattle.std.proofs.Common.{◌≡◌, ℕ, ◌≢◌, ◌↔◌, inl, inr, Bool, true, IsTrue, List, [], ◌∷◌, ◌++◌, Option, sym, ap, ◌∙◌}
-use Rattle.std.proofs.Common.{subst, refl, arith}
-use Rattle.std.specs.List.{AllByRecursion, AllZip}
+use Rattle.std.proofs.Common.{◌≡◌, ℕ, ◌≢◌, ◌↔◌, inl, inr, Bool, true, IsTrue, List, [], ◌∷◌, ◌++◌, sym, ◌∙◌}
+use Rattle.std.proofs.Common.{subst, arith}
+use Rattle.std.specs.List.{AllByRecursion}
 use Rattle.std.proofs.lemmas.Bool.{cases_eq}
 use Rattle.std.proofs.lemmas.Bool.Decides.{nat_tests}
 use Rattle.std.proofs.lemmas.List.Elements.{recursion_from_All}
@@ -16,7 +16,6 @@ use Rattle.lexical_flags.specs.declared.format_flags.all_rules.Rule.TheVariants 
 use Rattle.lexical_flags.specs.Rules.{IsRadix, IsAbsentOrPunctuation, IsTextOrNone, IsPunctuation, Holds, IsFirstError}
 use Rattle.lexical_flags.specs.Rules.{IsErrorOf, Lawful, error_of, flag_rules, rules_in_order}
 use Rattle.lexical_flags.specs.Rules.{ErrorUnless}
-use Rattle.lexical_flags.specs.Additions.BrokenRules.{ReportsRule, first_error}
 use Rattle.lexical_flags.proofs.RoleLemmas.{Disjoint-digits-cased, Disjoint-signs-cased, Disjoint-digits-signs, not_in}
 
 -- If a byte is absent or punctuation, and not 0, then it is not a digit.
@@ -229,18 +228,3 @@ Success-lawful word error h = (
   λ e. Lawful-from_success word (subst (IsErrorOf word) e h),
   λ lawful. success_from_all word error (λ rule. Holds-from_lawful rule word lawful) rules_in_order h,
 )
-
--- If a list reports which of some rules are broken, then its first error is the error of the first broken rule.
-first_of_list : (word : ℕ) (rules : List Rule) (broken : List (Option Rule)) → AllZip (ReportsRule word) rules broken
-    → IsFirstError rules word (first_error broken)
-first_of_list word [] [] h = refl
-first_of_list word [] (one ∷ more) h = absurd h
-first_of_list word (rule ∷ rules) [] h = elim h [ ]
-first_of_list word (rule ∷ rules) (one ∷ more) (inl breaks, others) = inl (breaks.0, ap (λ b. first_error (b ∷ more)) breaks.1)
-first_of_list word (rule ∷ rules) (one ∷ more) (inr keeps, others) =
-    inr (keeps.0, subst (λ b. IsFirstError rules word (first_error (b ∷ more))) (sym keeps.1) (first_of_list word rules more others))
-
-pub first_of_broken : (word : ℕ) (broken : List (Option Rule)) → AllZip (ReportsRule word) rules_in_order broken
-    → IsErrorOf word (first_error broken)
-unfolding IsErrorOf
-first_of_broken word broken = first_of_list word rules_in_order broken

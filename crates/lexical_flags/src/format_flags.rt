@@ -16,7 +16,7 @@ ghost use Rattle.lexical_flags.specs.Rules.{IsRadix, Lawful};
 mod all_rules;
 mod rules;
 
-pub use crate::format_flags::all_rules::{RULES, Rule, broken_rules};
+pub use crate::format_flags::all_rules::{RULES, Rule};
 pub use crate::format_flags::rules::{
     check, clashes, format_error_impl, is_clean, is_digit, is_separator_allowed,
     is_valid_base_prefix, is_valid_base_suffix, is_valid_digit_separator, is_valid_exponent_flags,
@@ -273,6 +273,22 @@ pub const fn exponent_radix(format: u128) -> u32
     let radix = ((format & EXPONENT_RADIX) >> EXPONENT_RADIX_SHIFT) as u32;
     let mantissa_radix = mantissa_radix(format);
     if radix == 0 { mantissa_radix } else { radix }
+}
+
+/// Returns the exponent base that `format` stores, or 0 if it is absent.
+#[inline(always)]
+pub const fn raw_exponent_base(format: u128) -> u8
+    ensures { result ≡ (raw format).byte layout.exponent_base }
+{
+    ((format & EXPONENT_BASE) >> EXPONENT_BASE_SHIFT) as u8
+}
+
+/// Returns the exponent radix that `format` stores, or 0 if it is absent.
+#[inline(always)]
+pub const fn raw_exponent_radix(format: u128) -> u8
+    ensures { result ≡ (raw format).byte layout.exponent_radix }
+{
+    ((format & EXPONENT_RADIX) >> EXPONENT_RADIX_SHIFT) as u8
 }
 
 /// Returns the low 32 bits of `(format & mask) >> shift`, or the mantissa radix if they are 0.

@@ -10,7 +10,7 @@ ghost use Rattle.lexical_flags.specs.Record.{SeparatorAllowedOrAbsent};
 ghost use Rattle.lexical_flags.specs.Pairs.{ArePairwise};
 ghost use Rattle.lexical_flags.specs.Roles.{Disjoint};
 ghost use Rattle.lexical_flags.specs.Rules.{Holds, Lawful, IsErrorOf};
-ghost use Rattle.lexical_flags.specs.Additions.BrokenRules.{mask_read};
+ghost use Rattle.lexical_flags.specs.Additions.RuleFields.{mask_read};
 ghost use Rattle.lexical_flags.specs.declared.format_flags.all_rules.Rule.{Rule};
 ghost use Rattle.lexical_flags.specs.Options.{OptionsFit, OptionsHaveOneRole};
 ghost use Rattle.lexical_flags.specs.Constants.{flag_constant, byte_constant, byte_shift, doublings, ShareNoBit};

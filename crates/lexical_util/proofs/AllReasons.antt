@@ -1,5 +1,4 @@
--- Lemmas on all reasons of a word: each broken rule has a reason, all reasons are distinct, and a word is lawful if and
--- only if it has no reason.
+-- Lemmas on all reasons of a word: each broken rule has a reason, and a word is lawful if and only if it has none.
 use Rattle.std.proofs.Common.{ℕ, ◌≡◌, ◌≢◌, ◌<◌, ◌↔◌, ◌&&◌, ◌∙◌, Bool, true, false, IsTrue, List, [], ◌∷◌}
 use Rattle.std.proofs.Common.{suc, ◌++◌, drop, flat_map, refl, ap, sym, subst, slice_index_or, arith, nat_lt}
 use Rattle.std.specs.List.{AllByRecursion, IsAmong, filter_map, list_all}
@@ -13,8 +12,8 @@ use Rattle.lexical_flags.specs.contracts.format_flags.all_rules.Rule.{the_type}
 use denote.Enum.Declared.{tag_of}
 use Rattle.lexical_flags.specs.declared.format_flags.all_rules.Rule.{Rule}
 use Rattle.lexical_flags.specs.declared.format_flags.all_rules.Rule.TheVariants as rules
-use Rattle.lexical_util.specs.declared.edits.Edit.{Edit}
-use Rattle.lexical_util.specs.declared.edits.Edit.TheVariants as edits
+use Rattle.lexical_util.specs.declared.edits.setters.Edit.{Edit}
+use Rattle.lexical_util.specs.declared.edits.setters.Edit.TheVariants as edits
 use Rattle.lexical_util.specs.declared.reasons.Reason.{Reason}
 use Rattle.lexical_util.specs.declared.reasons.Reason.TheVariants as reasons
 use Rattle.lexical_util.specs.Additions.Reasons.{Candidate, if_applicable, candidates, candidates_of, reasons_of}
@@ -95,60 +94,11 @@ by_rule word rule =
           (λ h. (first (and_parts _ _ h).1, (and_parts _ _ h).0), (both (assumption found) (λ h. refl), tt))
       each rules.ExponentRadixInRange =
           (λ h. (first (and_parts _ _ h).1, (and_parts _ _ h).0), (both (assumption found) (λ h. refl), tt))
-      each rules.DigitSeparatorIsPunctuation = (
-        both (assumption found) (λ h. refl),
-        (
-          both (assumption found) (λ h. refl),
-          (
-            both (assumption found)
-                (λ h. refl),
-            tt,
-          ),
-        ),
-      )
-      each rules.BasePrefixIsPunctuation = (
-        both (assumption found) (λ h. refl),
-        (
-          both (assumption found) (λ h. refl),
-          (
-            both (assumption found)
-                (λ h. refl),
-            tt,
-          ),
-        ),
-      )
-      each rules.BaseSuffixIsPunctuation = (
-        both (assumption found) (λ h. refl),
-        (
-          both (assumption found) (λ h. refl),
-          (
-            both (assumption found)
-                (λ h. refl),
-            tt,
-          ),
-        ),
-      )
-      each rules.PunctuationDiffers = (
-        both (assumption found) (λ h. refl),
-        (
-          both (assumption found) (λ h. refl),
-          (
-            both (assumption found)
-                (λ h. refl),
-            tt,
-          ),
-        ),
-      )
-      each rules.MantissaRadixInRange = (both (assumption found) (λ h. refl), tt)
-      each rules.ExponentFlagsAgree = (both (assumption found) (λ h. refl), tt)
-      each rules.MantissaSignFlagsAgree = (both (assumption found) (λ h. refl), tt)
-      each rules.ExponentSignFlagsAgree = (both (assumption found) (λ h. refl), tt)
-      each rules.SpecialCaseFlagsAgree = (both (assumption found) (λ h. refl), tt)
-      each rules.SpecialSeparatorFlagsAgree = (both (assumption found) (λ h. refl), tt)
-      each rules.IntegerConsecutiveIsAllowed = (both (assumption found) (λ h. refl), tt)
-      each rules.FractionConsecutiveIsAllowed = (both (assumption found) (λ h. refl), tt)
-      each rules.ExponentConsecutiveIsAllowed = (both (assumption found) (λ h. refl), tt)
-      each rules.ReservedBitsAreZero = (both (assumption found) (λ h. refl), tt)
+      each rules.DigitSeparatorIsPunctuation = (both (assumption found) (λ h. refl), (both (assumption found) (λ h. refl), (both (assumption found) (λ h. refl), tt)))
+      each rules.BasePrefixIsPunctuation = (both (assumption found) (λ h. refl), (both (assumption found) (λ h. refl), (both (assumption found) (λ h. refl), tt)))
+      each rules.BaseSuffixIsPunctuation = (both (assumption found) (λ h. refl), (both (assumption found) (λ h. refl), (both (assumption found) (λ h. refl), tt)))
+      each rules.PunctuationDiffers = (both (assumption found) (λ h. refl), (both (assumption found) (λ h. refl), (both (assumption found) (λ h. refl), tt)))
+      each _ = (both (assumption found) (λ h. refl), tt)
 
 -- A candidate does not apply if the word satisfies its rule.
 push : {X : Type 0} {H : Type 0} (P : X → Type 0) (list : List X) → (H → AllByRecursion P list)
@@ -169,20 +119,7 @@ own_rules word = all_candidates (λ c. Holds (rule_of_reason c.1) word → IsFal
   each : (rule : Rule) → AllByRecursion (λ c. Holds (rule_of_reason c.1) word → IsFalse c.0) (candidates_of rule word)
   each rules.ExponentBaseInRange = (follower _, (kept rules.ExponentBaseInRange).1)
   each rules.ExponentRadixInRange = (follower _, (kept rules.ExponentRadixInRange).1)
-  each rules.MantissaRadixInRange = kept rules.MantissaRadixInRange
-  each rules.DigitSeparatorIsPunctuation = kept rules.DigitSeparatorIsPunctuation
-  each rules.BasePrefixIsPunctuation = kept rules.BasePrefixIsPunctuation
-  each rules.BaseSuffixIsPunctuation = kept rules.BaseSuffixIsPunctuation
-  each rules.PunctuationDiffers = kept rules.PunctuationDiffers
-  each rules.ExponentFlagsAgree = kept rules.ExponentFlagsAgree
-  each rules.MantissaSignFlagsAgree = kept rules.MantissaSignFlagsAgree
-  each rules.ExponentSignFlagsAgree = kept rules.ExponentSignFlagsAgree
-  each rules.SpecialCaseFlagsAgree = kept rules.SpecialCaseFlagsAgree
-  each rules.SpecialSeparatorFlagsAgree = kept rules.SpecialSeparatorFlagsAgree
-  each rules.IntegerConsecutiveIsAllowed = kept rules.IntegerConsecutiveIsAllowed
-  each rules.FractionConsecutiveIsAllowed = kept rules.FractionConsecutiveIsAllowed
-  each rules.ExponentConsecutiveIsAllowed = kept rules.ExponentConsecutiveIsAllowed
-  each rules.ReservedBitsAreZero = kept rules.ReservedBitsAreZero
+  each rule = kept rule
 
 -- A word is lawful if and only if it has no reason.
 no_member : {X : Type 0} (Q : X → Type 0) (list : List X) → AllByRecursion (λ x. IsAmong [] x × Q x) list → list ≡ []
@@ -201,122 +138,6 @@ lawful_without_reason word every = (
       (subst (λ list. AllByRecursion (λ reason. IsAmong list reason × Breaks reason rule) (reasons_of rule word)) none
       (by_rule word rule)))),
 )
-
--- If a reason of a word breaks a rule, then the word does not satisfy the rule.
-own_broken : (word : ℕ) (own rule : Rule) (applies : Bool) → (Holds own word → IsFalse applies) → rule ≡ own
-    → IsTrue applies
-    → Holds rule word → ⊥
-own_broken word own rule applies kept same true_of holds =
-    true≢false (sym true_of ∙ kept (subst (λ r. Holds r word) same holds))
-
-pub broken : (word : ℕ) (rule : Rule) → AllByRecursion (λ reason. Breaks reason rule → Holds rule word
-    → ⊥) (all_reasons word)
-broken word rule =
-    each_reason (λ reason. Breaks reason rule → Holds rule word → ⊥) (candidates word)
-    (all_candidates (λ c. IsTrue c.0 → Breaks c.1 rule → Holds rule word → ⊥) word each) where
-      own : AllByRecursion (λ c. Holds (rule_of_reason c.1) word → IsFalse c.0) (candidates word)
-      own = own_rules word
-
-      fails : (own_rule : Rule) → Holds own_rule word → AllByRecursion (λ c. IsFalse c.0) (candidates_of own_rule word)
-      fails own_rule holds = (no_candidate own_rule word).0 holds
-
-      mantissa : (rule : Rule) → IsTrue (mantissa_candidate (raw word)).0
-          → Breaks (mantissa_candidate (raw word)).1 rule
-          → Holds rule word → ⊥
-      mantissa rules.ExponentBaseInRange applies base holds =
-          true≢false (sym (and_from _ _ base applies) ∙ (fails rules.ExponentBaseInRange holds).0)
-      mantissa rules.ExponentRadixInRange applies exponent holds =
-          true≢false (sym (and_from _ _ exponent applies) ∙ (fails rules.ExponentRadixInRange holds).0)
-      mantissa rules.MantissaRadixInRange applies same holds = true≢false (sym applies ∙ own.0 holds)
-      mantissa _ applies same holds = own_broken word _ _ _ own.0 same applies holds
-
-      step : {applies : Bool} {own_rule : Rule} → (Holds own_rule word → IsFalse applies) → IsTrue applies
-          → rule ≡ own_rule
-          → Holds rule word → ⊥
-      step {applies} {own_rule} kept h same holds = own_broken word own_rule rule applies kept same h holds
-
-      each : (own_rule : Rule) → AllByRecursion (λ c. IsTrue c.0 → Breaks c.1 rule → Holds rule word
-          → ⊥) (candidates_of own_rule word)
-      each rules.MantissaRadixInRange = (mantissa rule, tt)
-      each rules.ExponentBaseInRange = (λ h. mantissa rule (and_parts _ _ h).1, (step (assumption own), tt))
-      each rules.ExponentRadixInRange = (λ h. mantissa rule (and_parts _ _ h).1, (step (assumption own), tt))
-      each rules.DigitSeparatorIsPunctuation =
-          (step (assumption own), (step (assumption own), (step (assumption own), tt)))
-      each rules.BasePrefixIsPunctuation = (step (assumption own), (step (assumption own), (step (assumption own), tt)))
-      each rules.BaseSuffixIsPunctuation = (step (assumption own), (step (assumption own), (step (assumption own), tt)))
-      each rules.PunctuationDiffers = (step (assumption own), (step (assumption own), (step (assumption own), tt)))
-      each rules.ExponentFlagsAgree = (step (assumption own), tt)
-      each rules.MantissaSignFlagsAgree = (step (assumption own), tt)
-      each rules.ExponentSignFlagsAgree = (step (assumption own), tt)
-      each rules.SpecialCaseFlagsAgree = (step (assumption own), tt)
-      each rules.SpecialSeparatorFlagsAgree = (step (assumption own), tt)
-      each rules.IntegerConsecutiveIsAllowed = (step (assumption own), tt)
-      each rules.FractionConsecutiveIsAllowed = (step (assumption own), tt)
-      each rules.ExponentConsecutiveIsAllowed = (step (assumption own), tt)
-      each rules.ReservedBitsAreZero = (step (assumption own), tt)
-
--- All reasons of a word are distinct: the candidates are in the order of their ranks.
-abbrev byte_rank : Edit → ℕ
-byte_rank (edits.DigitSeparator byte) = 3
-byte_rank (edits.BasePrefix byte) = 6
-byte_rank _ = 9
-
-abbrev exponent_rank : Edit → ℕ
-exponent_rank (edits.ExponentBase byte) = 1
-exponent_rank _ = 2
-
-abbrev clash_rank : Edit → Edit → ℕ
-clash_rank (edits.DigitSeparator byte) (edits.BasePrefix other) = 12
-clash_rank (edits.DigitSeparator byte) b = 13
-clash_rank a b = 14
-
-abbrev rule_rank : Rule → ℕ
-rule_rank rules.ExponentFlagsAgree = 15
-rule_rank rules.MantissaSignFlagsAgree = 16
-rule_rank rules.ExponentSignFlagsAgree = 17
-rule_rank rules.SpecialCaseFlagsAgree = 18
-rule_rank rules.SpecialSeparatorFlagsAgree = 19
-rule_rank rules.IntegerConsecutiveIsAllowed = 20
-rule_rank rules.FractionConsecutiveIsAllowed = 21
-rule_rank rules.ExponentConsecutiveIsAllowed = 22
-rule_rank _ = 23
-
-abbrev rank : Reason → ℕ
-rank (reasons.MantissaRadixOutOfRange radix base exponent) = 0
-rank (reasons.OutOfRange edit) = exponent_rank edit
-rank (reasons.NotText edit) = byte_rank edit
-rank (reasons.IsSign edit) = suc (byte_rank edit)
-rank (reasons.IsDigit edit radix) = suc (suc (byte_rank edit))
-rank (reasons.Clash a b flag) = clash_rank a b
-rank (reasons.Contradict a b) = rule_rank (rule_of_reason (reasons.Contradict a b))
-rank (reasons.NeedsPosition flag) = rule_rank (rule_of_reason (reasons.NeedsPosition flag))
-rank (reasons.ReservedBits bits) = 23
-
-abbrev is_ascending : List (Candidate Reason) → Bool
-is_ascending [] = true
-is_ascending (c ∷ list) = list_all (λ d. nat_lt (rank c.1) (rank d.1)) list && is_ascending list
-
-differ : (a b : Reason) → nat_lt (rank a) (rank b) ≡ true → a ≢ b
-differ a b less same =
-    let below : rank a < rank a = subst (λ r. rank a < rank r) (sym same) (grind (arith, nat_tests, less)) in
-    omega (arith, below)
-
-each_differs : (a : Reason) (list : List (Candidate Reason)) → list_all (λ d. nat_lt (rank a) (rank d.1)) list ≡ true
-    → AllByRecursion (λ c. IsTrue c.0 → a ≢ c.1) list
-each_differs a [] less = tt
-each_differs a (c ∷ list) less =
-    let parts = and_parts _ _ less in (λ _. differ a c.1 parts.0, each_differs a list parts.1)
-
-distinct_by_rank : (list : List (Candidate Reason)) → is_ascending list ≡ true
-    → ArePairwise (λ a b. a ≢ b) (filter_map if_applicable list)
-distinct_by_rank [] ascending = tt
-distinct_by_rank ((true, reason) ∷ list) ascending =
-    let parts = and_parts _ _ ascending in
-    (each_reason (λ b. reason ≢ b) list (each_differs reason list parts.0), distinct_by_rank list parts.1)
-distinct_by_rank ((false, reason) ∷ list) ascending = distinct_by_rank list (and_parts _ _ ascending).1
-
-pub distinct : (word : ℕ) → ArePairwise (λ a b. a ≢ b) (all_reasons word)
-distinct word = distinct_by_rank (candidates word) refl
 
 -- The number of a variant of `Rule` is its index in the order of the rules, so rules with equal numbers are equal.
 rule_at : ℕ → Rule

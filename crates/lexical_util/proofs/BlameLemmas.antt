@@ -1,5 +1,5 @@
 -- Lemmas that a reason of a word is true of each word with the same bits under its mask, which also breaks its rule.
-use Rattle.std.proofs.Common.{ℕ, ◌≡◌, ◌≢◌, ◌==◌, ◌&&◌, ◌||◌, ◌⊎◌, inl, inr, ◌<◌, ◌*◌, ◌-◌, ◌^◌, bit_and, mod-lt, Some}
+use Rattle.std.proofs.Common.{ℕ, ◌≡◌, ◌≢◌, ◌==◌, ◌&&◌, ◌||◌, ◌⊎◌, inl, inr, ◌<◌, ◌*◌, ◌-◌, ◌^◌, bit_and, bit_or, mod-lt, Some}
 use Rattle.std.proofs.Common.{None, Bool, true, false}
 use Rattle.std.proofs.Common.{IsTrue, not, if◌then◌else◌, refl, ap, sym, subst, ◌∙◌, arith}
 use Rattle.std.specs.Bool.{⊤, IsFalse}
@@ -18,7 +18,7 @@ use Rattle.lexical_flags.specs.Roles.{cased, digits, signs, are_disjoint, Disjoi
 use Rattle.lexical_flags.specs.Roles.{separator, prefix, suffix}
 use Rattle.lexical_flags.specs.Rules.{IsRadix, IsTextOrNone, IsAbsentOrPunctuation, IsPunctuation, Holds}
 use Rattle.lexical_flags.specs.Rules.{lacks_position}
-use Rattle.lexical_flags.specs.Additions.Masks.{reserved_mask}
+use Rattle.lexical_flags.specs.Additions.Masks.{byte_mask, reserved_mask}
 use Rattle.lexical_flags.specs.declared.format_flags.all_rules.Rule.{Rule}
 use Rattle.lexical_flags.specs.declared.format_flags.all_rules.Rule.TheVariants as rules
 use Rattle.lexical_flags.proofs.RuleFieldLemmas.{byte, flag}
@@ -27,14 +27,14 @@ use Rattle.lexical_flags.proofs.CaseLemmas.{cases_apart, differ_apart, same_clas
 use Rattle.lexical_flags.proofs.ReservedBits.{reserved_bits}
 use Rattle.lexical_builder.specs.OptionByte.{byte_of_option, option_of_byte}
 use Rattle.lexical_builder.proofs.OptionByteLemmas.{byte_of_option_back}
-use Rattle.lexical_util.specs.declared.edits.Edit.{Edit}
-use Rattle.lexical_util.specs.declared.edits.Edit.TheVariants as edits
-use Rattle.lexical_util.specs.declared.edits.FlagSetter.TheVariants as setters
+use Rattle.lexical_util.specs.declared.edits.setters.Edit.{Edit}
+use Rattle.lexical_util.specs.declared.edits.setters.Edit.TheVariants as edits
+use Rattle.lexical_util.specs.declared.edits.setters.FlagSetter.TheVariants as setters
 use Rattle.lexical_util.specs.declared.reasons.Reason.TheVariants as reasons
 use Rattle.lexical_util.specs.Additions.Reasons.{Blames, all_reasons, candidates, candidates_of, mantissa_candidate}
-use Rattle.lexical_util.specs.Additions.Reasons.{separator_edit, prefix_edit, suffix_edit}
+use Rattle.lexical_util.specs.Additions.Reasons.{Has, separator_edit, prefix_edit, suffix_edit}
 use Rattle.lexical_util.proofs.AllReasons.{all_candidates, each_reason}
-use Rattle.lexical_util.specs.Additions.SettingNumbers.{argument_byte}
+use Rattle.lexical_util.specs.Additions.EditMasks.{argument_byte, mask_of_edit}
 use Rattle.lexical_util.proofs.ReasonLemmas.{not_true}
 
 -- If two words have the same bits under a mask that contains a byte, then they have the same byte, which an edit holds.
@@ -102,22 +102,6 @@ second_digit m e b first either = elim (cases_eq e 0) [
   | inr some ↦ grind (arith, nat_tests)
 ]
 
--- If a byte is a digit of the mantissa radix, then the other word has both values, and the byte is not punctuation
--- there.
-digit_in_mantissa : (s : Record) (b : Byte) (n m : ℕ) → s.byte b ≡ n → s.byte layout.mantissa_radix ≡ m
-    → IsTrue (digits_of m n)
-    → (((s.byte b ≡ n) × ⊤) × ((s.byte layout.mantissa_radix ≡ m) × ⊤) × IsTrue (digits_of m n))
-    × (IsAbsentOrPunctuation s (s.byte b) → ⊥)
-digit_in_mantissa s b n m same radix h =
-    (((same, tt), (radix, tt), h), digit s (s.byte b) (mantissa_digit s (s.byte b) m n same radix h))
-
-digit_in_exponent : (s : Record) (b : Byte) (n e : ℕ) → s.byte b ≡ n → s.byte layout.exponent_radix ≡ e
-    → IsTrue (digits_of e n)
-    → (((s.byte b ≡ n) × ⊤) × ((s.byte layout.exponent_radix ≡ e) × ⊤) × IsTrue (digits_of e n))
-    × (IsAbsentOrPunctuation s (s.byte b) → ⊥)
-digit_in_exponent s b n e same radix h =
-    (((same, tt), (radix, tt), h), digit s (s.byte b) (exponent_digit s (s.byte b) e n same radix h))
-
 -- If a byte is a digit in a radix, then this is also true of the byte and the radix that two edits hold.
 two_options : (e b : ℕ) → IsTrue (digits_of e b)
     → IsTrue (digits_of (byte_of_option (option_of_byte e)) (byte_of_option (option_of_byte b)))
@@ -125,48 +109,55 @@ two_options e b h =
     of_option (λ r. IsTrue (digits_of r (byte_of_option (option_of_byte b)))) e (of_option (λ n. IsTrue
     (digits_of e n)) b h)
 
+-- `kept_byte word b` is the byte `b` of `word` in the edit that writes it.
+abbrev kept_byte : ℕ → Byte → ℕ
+kept_byte word b = byte_of_option (option_of_byte ((raw word).byte b))
+
 module _ (word other : ℕ) where
-  abbrev pub m : ℕ
-  m = (raw word).byte layout.mantissa_radix
-
-  abbrev pub e : ℕ
-  e = (raw word).byte layout.exponent_radix
-
+  -- `radix_edit t` is the edit of the mantissa radix if `t` is true, and otherwise of the exponent radix.
   abbrev pub radix_edit : Bool → Edit
-  radix_edit t = if t then edits.MantissaRadix m else edits.ExponentRadix (option_of_byte e)
+  radix_edit t = if t then edits.MantissaRadix ((raw word).byte layout.mantissa_radix)
+      else edits.ExponentRadix (option_of_byte ((raw word).byte layout.exponent_radix))
 
-  pub separator_digit : (t : Bool) → digits_of m ((raw word).byte layout.digit_separator) ≡ t
-      → IsTrue (digits (raw word) ((raw word).byte layout.digit_separator))
-      → Blames word other (reasons.IsDigit (separator_edit (raw word)) (radix_edit t))
-  unfolding Holds
-  separator_digit true first h same =
-      digit_in_mantissa (raw other) layout.digit_separator _ m (held word other _ same layout.digit_separator refl)
-      (sym (byte word other _ same layout.mantissa_radix refl)) (of_option (λ n. IsTrue (digits_of m n)) _ first)
-  separator_digit false first h same =
-      digit_in_exponent (raw other) layout.digit_separator _ _ (held word other _ same layout.digit_separator refl)
-      (held word other _ same layout.exponent_radix refl) (two_options e _ (second_digit m e _ first h))
+  -- `digit_mask b t` is the mask of the byte `b` and the radix.
+  abbrev pub digit_mask : Byte → Bool → ℕ
+  digit_mask b t = bit_or (byte_mask b) (mask_of_edit (radix_edit t))
 
-  pub prefix_digit : (t : Bool) → digits_of m ((raw word).byte layout.base_prefix) ≡ t
-      → IsTrue (digits (raw word) ((raw word).byte layout.base_prefix))
-      → Blames word other (reasons.IsDigit (prefix_edit (raw word)) (radix_edit t))
-  unfolding Holds
-  prefix_digit true first h same =
-      digit_in_mantissa (raw other) layout.base_prefix _ m (held word other _ same layout.base_prefix refl)
-      (sym (byte word other _ same layout.mantissa_radix refl)) (of_option (λ n. IsTrue (digits_of m n)) _ first)
-  prefix_digit false first h same =
-      digit_in_exponent (raw other) layout.base_prefix _ _ (held word other _ same layout.base_prefix refl)
-      (held word other _ same layout.exponent_radix refl) (two_options e _ (second_digit m e _ first h))
+  own_inside : (b : Byte) (t : Bool)
+      → bit_and (digit_mask b t) ((2 ^ 8 - 1) * 2 ^ shift b) ≡ (2 ^ 8 - 1) * 2 ^ shift b
+  own_inside layout.digit_separator true = refl
+  own_inside layout.digit_separator false = refl
+  own_inside _ true = refl
+  own_inside _ false = refl
 
-  pub suffix_digit : (t : Bool) → digits_of m ((raw word).byte layout.base_suffix) ≡ t
-      → IsTrue (digits (raw word) ((raw word).byte layout.base_suffix))
-      → Blames word other (reasons.IsDigit (suffix_edit (raw word)) (radix_edit t))
-  unfolding Holds
-  suffix_digit true first h same =
-      digit_in_mantissa (raw other) layout.base_suffix _ m (held word other _ same layout.base_suffix refl)
-      (sym (byte word other _ same layout.mantissa_radix refl)) (of_option (λ n. IsTrue (digits_of m n)) _ first)
-  suffix_digit false first h same =
-      digit_in_exponent (raw other) layout.base_suffix _ _ (held word other _ same layout.base_suffix refl)
-      (held word other _ same layout.exponent_radix refl) (two_options e _ (second_digit m e _ first h))
+  mantissa_inside : (b : Byte) → bit_and (digit_mask b true) ((2 ^ 8 - 1) * 2 ^ shift layout.mantissa_radix)
+      ≡ (2 ^ 8 - 1) * 2 ^ shift layout.mantissa_radix
+  mantissa_inside layout.digit_separator = refl
+  mantissa_inside _ = refl
+
+  exponent_inside : (b : Byte) → bit_and (digit_mask b false) ((2 ^ 8 - 1) * 2 ^ shift layout.exponent_radix)
+      ≡ (2 ^ 8 - 1) * 2 ^ shift layout.exponent_radix
+  exponent_inside layout.digit_separator = refl
+  exponent_inside _ = refl
+
+  -- If a byte is a digit in the radix of an edit, then the other word has both values, and the byte is not punctuation.
+  digit_blame : (b : Byte) (t : Bool) → digits_of ((raw word).byte layout.mantissa_radix) ((raw word).byte b) ≡ t
+      → IsTrue (digits (raw word) ((raw word).byte b))
+      → bit_and word (digit_mask b t) ≡ bit_and other (digit_mask b t)
+      → ((((raw other).byte b ≡ kept_byte word b) × ⊤) × Has other (radix_edit t)
+      × IsTrue (digits_of (argument_byte (radix_edit t)) (kept_byte word b)))
+      × (IsAbsentOrPunctuation (raw other) ((raw other).byte b) → ⊥)
+  digit_blame b true first h same =
+      let own = held word other _ same b (own_inside b true) in
+      let radix = sym (byte word other _ same layout.mantissa_radix (mantissa_inside b)) in
+      let is_digit = of_option (λ n. IsTrue (digits_of ((raw word).byte layout.mantissa_radix) n)) _ first in
+      (((own, tt), (radix, tt), is_digit), digit (raw other) _ (mantissa_digit (raw other) _ _ _ own radix is_digit))
+  digit_blame b false first h same =
+      let own = held word other _ same b (own_inside b false) in
+      let radix = held word other _ same layout.exponent_radix (exponent_inside b) in
+      let is_digit = two_options ((raw word).byte layout.exponent_radix) ((raw word).byte b)
+      (second_digit ((raw word).byte layout.mantissa_radix) _ _ first h) in
+      (((own, tt), (radix, tt), is_digit), digit (raw other) _ (exponent_digit (raw other) _ _ _ own radix is_digit))
 
 -- If two roles share a byte, then their bytes are equal, or they are the two cases of a letter and not both are
 -- case-sensitive.
@@ -435,10 +426,6 @@ reserved_blame word other set same =
           ∙ sym (and_assoc bits other reserved_mask) ∙ ap (λ n. bit_and n bits) none ∙ and_zero_l bits),
     )
 
--- `kept_byte word b` is the byte `b` of `word` in the edit that writes it.
-abbrev kept_byte : ℕ → Byte → ℕ
-kept_byte word b = byte_of_option (option_of_byte ((raw word).byte b))
-
 -- Each reason of a word is true of each word that has the same bits under its mask, and breaks its rule there.
 pub blame : (word other : ℕ) → AllByRecursion (Blames word other) (all_reasons word)
 unfolding Holds
@@ -491,15 +478,15 @@ blame word other =
           (λ h. mantissa (and_parts _ _ h).1, (λ h same. out layout.exponent_radix _ same refl h, tt))
       each rules.DigitSeparatorIsPunctuation = (
         λ h same. text layout.digit_separator _ same refl h,
-        (λ h same. signed layout.digit_separator _ same refl h, (λ h. separator_digit word other _ refl h, tt)),
+        (λ h same. signed layout.digit_separator _ same refl h, (λ h same. digit_blame word other layout.digit_separator _ refl h same, tt)),
       )
       each rules.BasePrefixIsPunctuation = (
         λ h same. text layout.base_prefix _ same refl h,
-        (λ h same. signed layout.base_prefix _ same refl h, (λ h. prefix_digit word other _ refl h, tt)),
+        (λ h same. signed layout.base_prefix _ same refl h, (λ h same. digit_blame word other layout.base_prefix _ refl h same, tt)),
       )
       each rules.BaseSuffixIsPunctuation = (
         λ h same. text layout.base_suffix _ same refl h,
-        (λ h same. signed layout.base_suffix _ same refl h, (λ h. suffix_digit word other _ refl h, tt)),
+        (λ h same. signed layout.base_suffix _ same refl h, (λ h same. digit_blame word other layout.base_suffix _ refl h same, tt)),
       )
       each rules.PunctuationDiffers = (
         λ h. separator_prefix word other _ refl (not_disjoint _ _ h),

@@ -1,9 +1,9 @@
 -- Lemmas on the edits of flags and groups that change a new builder.
 use Rattle.std.proofs.Common.{◌≡◌, Bool, true, false, refl}
 use Rattle.lexical_util.specs.Private.{differs_from_new}
-use Rattle.lexical_util.specs.declared.edits.FlagSetter.{FlagSetter}
-use Rattle.lexical_util.specs.declared.edits.FlagSetter.TheVariants as setters
-use Rattle.lexical_util.specs.declared.edits.Edit.TheVariants as edits
+use Rattle.lexical_util.specs.declared.edits.setters.FlagSetter.{FlagSetter}
+use Rattle.lexical_util.specs.declared.edits.setters.FlagSetter.TheVariants as setters
+use Rattle.lexical_util.specs.declared.edits.setters.Edit.TheVariants as edits
 
 -- Except for three setters, a flag edit changes a new builder if and only if its value is true.
 pub flag_change : (s : FlagSetter) (v : Bool) → (s ≡ setters.RequiredDigits → ⊥)

@@ -10,7 +10,7 @@ use Rattle.lexical_flags.proofs.Packing.{raw-pack, pack-clean, pack-lt, raw-inje
 use Rattle.lexical_builder.specs.Writes.{Write, IsLegal, after, SameWrites}
 use Rattle.lexical_builder.proofs.WriteLemmas.{after_none, after-append, after-same, HasBytes-after}
 use Rattle.lexical_util.specs.Edits.{all_writes, writes_of, edited}
-use Rattle.lexical_util.specs.declared.edits.Edit.{Edit}
+use Rattle.lexical_util.specs.declared.edits.setters.Edit.{Edit}
 
 -- The writes of the first `i + 1` edits are the writes of the first `i` edits, and then the writes of the next.
 pub all_writes-more : (edits : List Edit) (i : ℕ) (e : Edit) → i < length edits

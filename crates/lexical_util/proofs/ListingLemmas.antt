@@ -18,11 +18,11 @@ use Rattle.lexical_util.proofs.FieldWrites.{after-changes}
 use Rattle.lexical_util.specs.Edits.{flags_of, writes_of, all_writes}
 use Rattle.lexical_util.specs.Listing.{IsEditOf, field_writes, needed_writes, other_writes}
 use Rattle.lexical_util.specs.Additions.FieldEdits.{setter_of, edit_of_write, field_edits, needed_edits, other_edits}
-use Rattle.lexical_util.specs.declared.edits.FlagSetter.{FlagSetter}
-use Rattle.lexical_util.specs.declared.edits.FlagSetter.TheVariants as setters
-use Rattle.lexical_util.specs.declared.edits.Edit.TheVariants as edits
+use Rattle.lexical_util.specs.declared.edits.setters.FlagSetter.{FlagSetter}
+use Rattle.lexical_util.specs.declared.edits.setters.FlagSetter.TheVariants as setters
+use Rattle.lexical_util.specs.declared.edits.setters.Edit.TheVariants as edits
 use Rattle.lexical_util.specs.Private.{differs_from_new}
-use Rattle.lexical_util.specs.declared.edits.Edit.{Edit}
+use Rattle.lexical_util.specs.declared.edits.setters.Edit.{Edit}
 
 -- The edit of a write has only this write.
 writes_of-edit : (x : Write) → writes_of (edit_of_write x) ≡ x ∷ []

@@ -16,8 +16,8 @@ use Rattle.lexical_flags.specs.Options.{OptionsFit}
 use Rattle.lexical_builder.specs.Writes.{after}
 use Rattle.lexical_util.specs.NormalForm.{normal_form_of}
 use Rattle.lexical_util.specs.Additions.Reasons.{if_applicable}
-use Rattle.lexical_util.specs.declared.edits.Edit.{Edit}
-use Rattle.lexical_util.specs.declared.edits.FlagSetter.{FlagSetter}
+use Rattle.lexical_util.specs.declared.edits.setters.Edit.{Edit}
+use Rattle.lexical_util.specs.declared.edits.setters.FlagSetter.{FlagSetter}
 use Rattle.lexical_util.specs.declared.reasons.note.Note.TheVariants as notes
 use Rattle.lexical_util.proofs.ReasonLemmas.{not_true}
 use Rattle.lexical_util.specs.Additions.Notes.{case_candidate, unblamed, without_separator, set_flags, ReplacesFields}

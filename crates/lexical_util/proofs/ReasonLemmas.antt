@@ -16,7 +16,7 @@ use Rattle.lexical_flags.specs.declared.format_flags.all_rules.Rule.TheVariants 
 use Rattle.lexical_flags.specs.Additions.Masks.{reserved_mask}
 use Rattle.lexical_flags.proofs.ReservedBits.{reserved_bits}
 use Rattle.lexical_flags.proofs.RoleLemmas.{no_digit}
-use Rattle.lexical_util.specs.declared.edits.Edit.{Edit}
+use Rattle.lexical_util.specs.declared.edits.setters.Edit.{Edit}
 use Rattle.lexical_util.specs.declared.reasons.Reason.{Reason}
 use Rattle.lexical_util.specs.Additions.Reasons.{Candidate, if_applicable, in_three_slots, candidates_of, reasons_of}
 use Rattle.lexical_util.specs.Additions.Reasons.{punctuation_candidates, flag_reason, separator_edit, prefix_edit}

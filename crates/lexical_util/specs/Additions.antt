@@ -1,11 +1,7 @@
--- For settings as text, `reasons` and `numfmt`: the definitions that only additions to `lexical-util` cite.
-pub mod SettingNumbers
-pub mod SettingText
+-- For `reasons`, words as text and `field_edits_of`: the definitions that only additions to `lexical-util` cite.
+pub mod EditMasks
 pub mod Numeral
 pub mod FieldEdits
 pub mod Reasons
-pub mod ReasonText
 pub mod Notes
-pub mod Mends
 pub mod WordText
-pub mod Source

@@ -9,7 +9,6 @@ pub use Rattle.lexical_base.specs.Ascii
 pub use Rattle.lexical_base.specs.Digits
 pub use Rattle.lexical_base.specs.Outcomes
 pub use Rattle.lexical_base.specs.OutcomeOrder
-pub use Rattle.lexical_base.specs.Additions.ShortTexts
 pub use Rattle.lexical_flags.specs.Layout
 pub use Rattle.lexical_flags.specs.Record
 pub use Rattle.lexical_flags.specs.Constants
@@ -18,7 +17,7 @@ pub use Rattle.lexical_flags.specs.Pairs
 pub use Rattle.lexical_flags.specs.Roles
 pub use Rattle.lexical_flags.specs.Rules
 pub use Rattle.lexical_flags.specs.Additions.Masks
-pub use Rattle.lexical_flags.specs.Additions.BrokenRules
+pub use Rattle.lexical_flags.specs.Additions.RuleFields
 pub use Rattle.lexical_flags.specs.Options
 pub use Rattle.lexical_builder.specs.BuilderBits
 pub use Rattle.lexical_builder.specs.OptionByte

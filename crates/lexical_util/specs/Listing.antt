@@ -6,8 +6,8 @@ use Rattle.lexical_flags.specs.Record.{Record, pack}
 use Rattle.lexical_builder.specs.OptionByte.{option_of_byte}
 use Rattle.lexical_builder.specs.Writes.{Write, write_flag, write_byte, IsLegal, new_record, after, changes}
 use Rattle.lexical_util.specs.Edits.{flags_of}
-use Rattle.lexical_util.specs.declared.edits.Edit.{Edit}
-use Rattle.lexical_util.specs.declared.edits.Edit.TheVariants as edits
+use Rattle.lexical_util.specs.declared.edits.setters.Edit.{Edit}
+use Rattle.lexical_util.specs.declared.edits.setters.Edit.TheVariants as edits
 
 -- `IsEditOf write edit` holds if `edit` calls the setter of a single field, and its only write is `write`.
 abbrev pub IsEditOf : Write → Edit → Type 0

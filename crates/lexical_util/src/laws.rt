@@ -5,7 +5,7 @@ ghost use Rattle.lexical_flags.specs.Record.{Record, raw};
 ghost use Rattle.lexical_flags.specs.Rules.{Lawful};
 ghost use Rattle.lexical_builder.specs.Writes.{Write, after};
 ghost use Rattle.lexical_util.specs.NormalForm.{normal_form_of, SameFormat};
-ghost use Rattle.lexical_util.specs.declared.edits.Edit.{Edit};
+ghost use Rattle.lexical_util.specs.declared.edits.setters.Edit.{Edit};
 
 pub mod examples;
 

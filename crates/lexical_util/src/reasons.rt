@@ -1,9 +1,8 @@
 //! The reasons why a format word breaks rules, and notes on fields that have no effect on any number.
 
-ghost use Rattle.std.specs.Prelude.{◌≡◌, ◌≢◌, ◌↔◌, ◌==◌, ℕ, [], if◌then◌else◌, None, Some, map};
+ghost use Rattle.std.specs.Prelude.{◌≡◌, ◌↔◌, ◌==◌, ℕ, [], if◌then◌else◌, None, Some, map};
 ghost use Rattle.std.specs.Bool.{then_some};
 ghost use Rattle.std.specs.List.{AllByRecursion, IsAmong};
-ghost use Rattle.lexical_flags.specs.Pairs.{ArePairwise};
 ghost use Rattle.lexical_flags.specs.Record.{raw};
 ghost use Rattle.lexical_flags.specs.Rules.{Holds, Lawful};
 ghost use Rattle.lexical_flags.specs.declared.format_flags.all_rules.Rule.{Rule};
@@ -14,25 +13,23 @@ ghost use Rattle.lexical_util.specs.Additions.Reasons.{all_reasons, Breaks, Blam
 ghost use Rattle.lexical_util.specs.Additions.Reasons.{mantissa_candidate, exponent_candidates, punctuation_candidates};
 ghost use Rattle.lexical_util.specs.Additions.Reasons.{radix_of_digit, case_flag, flag_reason};
 ghost use Rattle.lexical_util.specs.Additions.Reasons.{separator_edit, prefix_edit, suffix_edit};
-ghost use Rattle.lexical_util.specs.Additions.SettingNumbers.{argument_byte};
+ghost use Rattle.lexical_util.specs.Additions.EditMasks.{argument_byte};
 ghost use Rattle.lexical_util.specs.declared.reasons.Reason.TheVariants as reasons;
 
-use crate::edits::{Edit, FlagSetter, raw_exponent_base, raw_exponent_radix};
+use crate::edits::{Edit, FlagSetter};
 use crate::feature_format::NumberFormat;
 use lexical_base::ascii::is_valid_ascii;
 use lexical_base::digit::char_is_digit;
 use lexical_base::laws::digit_facts;
 use lexical_builder::format_builder::NonZeroU8;
 use lexical_flags::format_flags as flags;
-use lexical_flags::format_flags::Rule;
+use lexical_flags::format_flags::{Rule, raw_exponent_base, raw_exponent_radix};
 use lexical_flags::laws::rule_facts;
 
-pub(crate) mod mask;
-mod mending;
+mod mask;
 mod note;
 mod text;
 
-pub use mending::{MAX_MENDING_EDITS, mend};
 pub use note::{MAX_NOTES, Note, notes, notes_of_fields};
 
 /// The maximum number of reasons why a format word can break a single rule.
@@ -79,7 +76,6 @@ pub enum Reason {
 /// An absent exponent base or exponent radix is never a reason itself, since the mantissa radix is used in its place.
 /// [`Reason::breaks`] returns whether a word breaks a rule because of a reason, and [`Reason::mask`] returns the
 /// bits that a reason blames.
-#[tactic(auto, using(crate::proofs::AllReasons::distinct))]
 pub const fn reasons(format: u128) -> [Option<Reason>; CANDIDATE_COUNT]
     ensures each { result ≡ map if_applicable (candidates format) }
     ensures lawful { Lawful format ↔ (all_reasons format ≡ []) }
@@ -87,11 +83,6 @@ pub const fn reasons(format: u128) -> [Option<Reason>; CANDIDATE_COUNT]
     // Each reason why the word breaks a rule is in a slot, and the rule is broken for this reason.
     ensures by_rule { (rule : Rule)
         → AllByRecursion (λ reason. IsAmong (all_reasons format) reason × Breaks reason rule) (reasons_of rule format) }
-
-    // If a rule is broken for a reason, the word does not satisfy the rule.
-    ensures broken { (rule : Rule)
-        → AllByRecursion (λ reason. Breaks reason rule → Holds rule format → ⊥) (all_reasons format) }
-    ensures distinct { ArePairwise (λ a b. a ≢ b) (all_reasons format) }
 
     // Every word that has the same bits as this word under the mask of a reason also has the reason, and breaks the
     // first rule of the reason.

@@ -2,10 +2,8 @@
 
 //! The edits that build a word, and a test of whether a builder can build it.
 
-use crate::edits::{Edit, FlagSetter, FIELD_COUNT};
-use crate::format_builder::NonZeroU8;
+use crate::edits::{field_edits_of, Edit, FlagSetter, FIELD_COUNT};
 use crate::format_flags as flags;
-use crate::view::FormatView;
 
 /// Returns whether a builder can build `format`. This is possible if and only if all reserved bits are 0, and the digit
 /// separator is absent or allowed by a flag.
@@ -96,43 +94,6 @@ pub fn edits_of(format: u128) -> ([Edit; FIELD_COUNT], usize) {
     let (all, others) = (&mut edits[..], &others[..]);
     all[count..].copy_from_slice(&others[..rest]);
     (edits, count)
-}
-
-/// Returns one edit for each field. The edit sets the field to its value in `format`. The edits are in the order of the
-/// bits that they write.
-#[must_use]
-#[doc(hidden)]
-pub const fn field_edits_of(format: u128) -> [Edit; FIELD_COUNT] {
-    macro_rules! edits_of_fields {
-        (($view:ident, $base:ident, $radix:ident)
-            { $($Flag:ident $flag:ident $FLAG:ident;)* } $groups:tt) => {
-            [
-                $(Edit::Flag(FlagSetter::$Flag, $view.$flag()),)*
-                Edit::DigitSeparator(NonZeroU8::new($view.digit_separator())),
-                Edit::BasePrefix(NonZeroU8::new($view.base_prefix())),
-                Edit::BaseSuffix(NonZeroU8::new($view.base_suffix())),
-                Edit::MantissaRadix($view.mantissa_radix() as u8),
-                Edit::ExponentBase(NonZeroU8::new($base)),
-                Edit::ExponentRadix(NonZeroU8::new($radix)),
-            ]
-        };
-    }
-    let view = FormatView::new(format);
-    let base = raw_exponent_base(format);
-    let radix = raw_exponent_radix(format);
-    with_setters!(edits_of_fields(view, base, radix))
-}
-
-// Returns the exponent base that the word stores, or 0 if it is absent.
-#[inline(always)]
-pub(crate) const fn raw_exponent_base(format: u128) -> u8 {
-    ((format & flags::EXPONENT_BASE) >> flags::EXPONENT_BASE_SHIFT) as u8
-}
-
-// Returns the exponent radix that the word stores, or 0 if it is absent.
-#[inline(always)]
-pub(crate) const fn raw_exponent_radix(format: u128) -> u8 {
-    ((format & flags::EXPONENT_RADIX) >> flags::EXPONENT_RADIX_SHIFT) as u8
 }
 
 // Returns whether an edit changes a new builder.

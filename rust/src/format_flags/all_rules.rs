@@ -1,7 +1,6 @@
 // Made by rust/tools/erase.py from crates/lexical_flags/src/format_flags/all_rules.rt: change that file.
 
-//! The type [`Rule`], whose values are the rules for format words, and a function that returns the rules that a word
-//! breaks.
+//! The type [`Rule`], whose values are the rules for format words.
 
 use crate::error::Error;
 use crate::format_flags::rules::*;
@@ -124,17 +123,6 @@ impl Rule {
         }
     }
 
-    /// Returns this rule if `format` breaks it, and `None` otherwise.
-    #[must_use]
-    #[doc(hidden)]
-    pub const fn if_broken(self, format: u128) -> Option<Rule> {
-        if self.is_kept(format) {
-            None
-        } else {
-            Some(self)
-        }
-    }
-
     /// Returns the mask of the bits that this rule reads. For [`Rule::ReservedBitsAreZero`], these are the reserved
     /// bits. For every other rule, they are the bits of the fields on which the rule depends. Two words that have the
     /// same values in these bits either both satisfy the rule or both break it.
@@ -165,32 +153,4 @@ impl Rule {
             Rule::ReservedBitsAreZero => RESERVED_MASK,
         }
     }
-}
-
-/// Returns the rules that `format` breaks. The entry at each index is the rule at this index in [`RULES`] if the word
-/// breaks the rule, and `None` otherwise.
-///
-/// `broken_rules(format).into_iter().flatten()` iterates over the broken rules. The error of the first one is the
-/// result of [`format_error_impl`].
-#[must_use]
-#[doc(hidden)]
-pub const fn broken_rules(format: u128) -> [Option<Rule>; RULES.len()] {
-    [
-        Rule::MantissaRadixInRange.if_broken(format),
-        Rule::ExponentBaseInRange.if_broken(format),
-        Rule::ExponentRadixInRange.if_broken(format),
-        Rule::DigitSeparatorIsPunctuation.if_broken(format),
-        Rule::BasePrefixIsPunctuation.if_broken(format),
-        Rule::BaseSuffixIsPunctuation.if_broken(format),
-        Rule::PunctuationDiffers.if_broken(format),
-        Rule::ExponentFlagsAgree.if_broken(format),
-        Rule::MantissaSignFlagsAgree.if_broken(format),
-        Rule::ExponentSignFlagsAgree.if_broken(format),
-        Rule::SpecialCaseFlagsAgree.if_broken(format),
-        Rule::SpecialSeparatorFlagsAgree.if_broken(format),
-        Rule::IntegerConsecutiveIsAllowed.if_broken(format),
-        Rule::FractionConsecutiveIsAllowed.if_broken(format),
-        Rule::ExponentConsecutiveIsAllowed.if_broken(format),
-        Rule::ReservedBitsAreZero.if_broken(format),
-    ]
 }

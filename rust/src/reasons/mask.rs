@@ -2,10 +2,10 @@
 
 //! The rules that a word breaks because of a reason, and the bits that the reason blames.
 
-use crate::edits::{Edit, FlagSetter};
+use crate::edits::{mask_of, Edit, FlagSetter};
 use crate::format_flags as flags;
 use crate::format_flags::Rule;
-use crate::reasons::{some_if, Reason};
+use crate::reasons::Reason;
 
 impl Reason {
     /// Returns the first rule that a word breaks because of this reason.
@@ -21,28 +21,6 @@ impl Reason {
             Reason::Contradict(a, b) => rule_of_flags(*a, *b),
             Reason::NeedsPosition(flag) => position_rule(*flag),
             Reason::ReservedBits(_) => Rule::ReservedBitsAreZero,
-        }
-    }
-
-    /// Returns the rules that a word breaks because of this reason, in the order in which rules are checked. A slot
-    /// without a rule is `None`.
-    #[must_use]
-    #[doc(hidden)]
-    pub const fn rules(&self) -> [Option<Rule>; 3] {
-        match self {
-            Reason::MantissaRadixOutOfRange(_, base_follows, exponent_follows) => [
-                Some(Rule::MantissaRadixInRange),
-                some_if(*base_follows, Rule::ExponentBaseInRange),
-                some_if(*exponent_follows, Rule::ExponentRadixInRange),
-            ],
-            Reason::OutOfRange(_)
-            | Reason::NotText(_)
-            | Reason::IsSign(_)
-            | Reason::IsDigit(_, _)
-            | Reason::Clash(_, _, _)
-            | Reason::Contradict(_, _)
-            | Reason::NeedsPosition(_)
-            | Reason::ReservedBits(_) => [Some(self.rule()), None, None],
         }
     }
 
@@ -81,8 +59,8 @@ impl Reason {
             Reason::OutOfRange(edit) | Reason::NotText(edit) | Reason::IsSign(edit) => edit.mask(),
             Reason::IsDigit(edit, radix) => edit.mask() | radix.mask(),
             Reason::Clash(a, b, None) => a.mask() | b.mask(),
-            Reason::Clash(a, b, Some(flag)) => a.mask() | b.mask() | mask_of_setter(*flag),
-            Reason::Contradict(a, b) => mask_of_setter(*a) | mask_of_setter(*b),
+            Reason::Clash(a, b, Some(flag)) => a.mask() | b.mask() | mask_of(*flag) as u128,
+            Reason::Contradict(a, b) => (mask_of(*a) | mask_of(*b)) as u128,
             Reason::NeedsPosition(flag) => position_rule(*flag).mask(),
             Reason::ReservedBits(bits) => *bits,
         }
@@ -129,9 +107,4 @@ const fn position_rule(flag: FlagSetter) -> Rule {
         FlagSetter::FractionConsecutiveDigitSeparator => Rule::FractionConsecutiveIsAllowed,
         _ => Rule::ExponentConsecutiveIsAllowed,
     }
-}
-
-// Returns the bits that a flag setter writes.
-pub(super) const fn mask_of_setter(setter: FlagSetter) -> u128 {
-    Edit::Flag(setter, true).mask()
 }

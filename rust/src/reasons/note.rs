@@ -2,10 +2,9 @@
 
 //! Notes on fields that are set but have no effect on any number.
 
-use crate::edits::{Edit, FlagSetter};
+use crate::edits::{mask_of, Edit, FlagSetter};
 use crate::format_builder::{NonZeroU8, NumberFormatBuilder};
 use crate::format_flags as flags;
-use crate::reasons::mask::mask_of_setter;
 use crate::reasons::{prefix_edit, reasons, suffix_edit, Reason};
 use crate::view::FormatView;
 
@@ -41,7 +40,7 @@ impl Note {
                 flags::DIGIT_SEPARATOR_FLAG_MASK | flags::DIGIT_SEPARATOR
             }
             Note::CaseFlagWithoutByte(flag, edit) | Note::CaseFlagOfNonLetter(flag, edit) => {
-                mask_of_setter(*flag) | edit.mask()
+                mask_of(*flag) as u128 | edit.mask()
             }
         }
     }

@@ -1,11 +1,11 @@
-//! The reasons of words that break rules, the bits that they blame, the edits that mend them, and notes.
+//! The reasons of words that break rules, the bits that they blame, and notes.
 
-use peltzivar::edits::{apply_all, edit_word, field_edits_of, Edit, FlagSetter};
+use peltzivar::edits::{apply_all, field_edits_of, Edit, FlagSetter};
 use peltzivar::error::Error;
 use peltzivar::format::{
-    broken_rules, check, options_error, NumberFormatBuilder, Rule, FLAG_MASK, RULES, STANDARD,
+    check, options_error, NumberFormatBuilder, Rule, FLAG_MASK, RULES, STANDARD,
 };
-use peltzivar::reasons::{mend, notes, notes_of_fields, reasons, reasons_of, Note, Reason};
+use peltzivar::reasons::{notes, notes_of_fields, reasons, reasons_of, Note, Reason};
 use std::collections::HashSet;
 use std::mem::discriminant;
 use std::num::NonZeroU8;
@@ -115,8 +115,8 @@ fn texts<T: ToString>(values: impl IntoIterator<Item = Option<T>>) -> Vec<String
 #[test]
 fn each_reason_and_note_has_its_sentence() {
     for (word, rules, sentences, remarks) in SMALLEST.iter().chain(OTHERS) {
-        let broken: Vec<Rule> = broken_rules(*word).into_iter().flatten().collect();
-        assert_eq!(broken, *rules, "{word:#034X}");
+        let broken = RULES.into_iter().filter(|rule| !rule.is_kept(*word));
+        assert!(broken.eq(rules.iter().copied()), "{word:#034X}");
         assert_eq!(texts(reasons(*word)), *sentences, "{word:#034X}");
         assert_eq!(texts(notes(*word)), *remarks, "{word:#034X}");
         let error = rules.first().map_or(Ok(*word), |rule| Err(rule.error()));
@@ -127,11 +127,6 @@ fn each_reason_and_note_has_its_sentence() {
 /// The mantissa radix breaks the rules of the exponent bytes that are absent.
 #[test]
 fn a_mantissa_radix_is_one_reason() {
-    let rules = [
-        Some(Rule::MantissaRadixInRange),
-        Some(Rule::ExponentBaseInRange),
-        Some(Rule::ExponentRadixInRange),
-    ];
     for (exponent, base_follows, radix_follows) in [
         (0x0000, true, true),
         (0x0A00, true, false),
@@ -141,13 +136,9 @@ fn a_mantissa_radix_is_one_reason() {
         let word = exponent << 112 | 37 << 104 | 0xC;
         let reason = Reason::MantissaRadixOutOfRange(37, base_follows, radix_follows);
         assert_eq!(all_reasons(word), [reason], "{word:#034X}");
-        let broken = [true, base_follows, radix_follows];
-        let broken = core::array::from_fn(|index| rules[index].filter(|_| broken[index]));
-        assert_eq!(
-            (reason.rule(), reason.rules()),
-            (RULES[0], broken),
-            "{word:#034X}"
-        );
+        let broken = RULES.map(|rule| reason.breaks(rule));
+        assert_eq!(broken[..3], [true, base_follows, radix_follows]);
+        assert_eq!((reason.rule(), &broken[3..]), (RULES[0], &[false; 13][..]));
         assert_eq!(reason.mask(), 0xFF << 104);
     }
 }
@@ -243,16 +234,8 @@ fn reasons_are_the_causes_of_broken_rules() {
         );
         for (index, reason) in found.iter().enumerate() {
             assert!(!found[..index].contains(reason), "{word:#034X} {reason:?}");
-            let breaks = RULES.map(|rule| Some(rule).filter(|rule| reason.breaks(*rule)));
-            assert!(breaks
-                .into_iter()
-                .flatten()
-                .eq(reason.rules().into_iter().flatten()));
-            assert_eq!(
-                breaks.into_iter().flatten().next(),
-                Some(reason.rule()),
-                "{reason:?}"
-            );
+            let first = RULES.into_iter().find(|rule| reason.breaks(*rule));
+            assert_eq!(first, Some(reason.rule()), "{reason:?}");
         }
         for rule in RULES {
             let breaking = found.iter().filter(|reason| reason.breaks(rule));
@@ -326,109 +309,6 @@ fn a_mask_is_small_enough() {
     }
     let kinds: HashSet<_> = known.iter().map(discriminant).collect();
     assert_eq!(kinds.len(), 8, "{kinds:?}");
-}
-
-/// After the edits of a mend, the word satisfies each rule that it satisfied, and each rule that no other reason broke.
-#[test]
-fn a_mend_mends() {
-    for word in words() {
-        let found = all_reasons(word);
-        for reason in &found {
-            let blamed = field_edits_of(word);
-            for field in blamed
-                .iter()
-                .filter(|field| field.mask() & reason.mask() != 0)
-            {
-                let (edits, count) = mend(word, reason, field);
-                let edits = &edits[..count];
-                assert!(
-                    edits.first().is_none_or(|edit| edit.mask() == field.mask()),
-                    "{word:#034X} {edits:?}"
-                );
-                let mended = edit_word(word, edits);
-                let due = |rule: &Rule| {
-                    count > 0 && !found.iter().any(|it| it != reason && it.breaks(*rule))
-                };
-                for rule in RULES.iter().filter(|rule| due(rule)) {
-                    assert!(
-                        rule.is_kept(mended),
-                        "{word:#034X} {reason:?} {edits:?} {rule:?}"
-                    );
-                }
-                // The reason is also gone where packing keeps the digit separator.
-                let builder = apply_all(NumberFormatBuilder::rebuild(word), edits);
-                let kept = builder.integer_internal_digit_separator(true);
-                let left = all_reasons(kept.build_unchecked());
-                assert!(
-                    count == 0 || left.iter().all(|it| it.mask() != reason.mask()),
-                    "{word:#034X} {reason:?} {edits:?}"
-                );
-            }
-        }
-    }
-}
-
-/// Each reason of a smallest word has a mend, except in the word with a reserved bit.
-#[test]
-fn a_smallest_word_has_a_mend() {
-    for (word, rules, ..) in SMALLEST {
-        for reason in all_reasons(word) {
-            let mends = field_edits_of(word).map(|field| match field.mask() & reason.mask() {
-                0 => 0,
-                _ => mend(word, &reason, &field).1,
-            });
-            let has_mend = mends.iter().any(|count| *count > 0);
-            assert_eq!(
-                has_mend,
-                rules != [Rule::ReservedBitsAreZero],
-                "{word:#034X} {reason:?}"
-            );
-        }
-    }
-}
-
-/// The edits that mend the fields under the mask of the first reason, as text.
-#[test]
-fn mends_are_edits() {
-    #[rustfmt::skip]
-    let rows: [(u128, &[&str]); 14] = [
-        (0x0000250000000000000000000000000C, &["radix=10 exponent_base=none exponent_radix=none"]),
-        (0x000A250000000000000000000000000C, &["radix=10 exponent_radix=none"]),
-        (0x0A00250000000000000000000000000C, &["radix=10 exponent_base=none"]),
-        (0x0A0A250000000000000000000000000C, &["mantissa_radix=10"]),
-        (0x00280A0000000000000000000000000C, &["exponent_base=none"]),
-        (0x0A0A100062000000000000000000000C, &["base_prefix=none", "mantissa_radix=10"]),
-        // In radix 10 the prefix is still a digit.
-        (0x0A0A100035000000000000000000000C, &["base_prefix=none"]),
-        // The radix is 10 already.
-        (0x00000A0000000035000000000000404C, &["digit_separator=none"]),
-        // In radix 10 the separator is still a digit, though no flag allows it, so that `edit_word` drops it.
-        (0x0A0A100000000035000000000000000C, &["digit_separator=none"]),
-        (0x0A0A100000000062000000000000000C, &["digit_separator=none", "mantissa_radix=10"]),
-        (0x0A0A0A4868000000000000000000000C, &["base_prefix=none", "base_suffix=none"]),
-        (0x00000A0000000000000000000000003C, &["no_positive_mantissa_sign=false", "required_mantissa_sign=false"]),
-        (0x00000A0000000000000002000000000C, &["integer_consecutive_digit_separator=false"]),
-        (0x00000A0000000000000000008000000C, &[]),
-    ];
-    for (word, mends) in rows {
-        let reason = all_reasons(word)[0];
-        let edits = field_edits_of(word).map(|field| match field.mask() & reason.mask() {
-            0 => String::new(),
-            _ => {
-                let (edits, count) = mend(word, &reason, &field);
-                edits[..count]
-                    .iter()
-                    .map(Edit::to_string)
-                    .collect::<Vec<_>>()
-                    .join(" ")
-            }
-        });
-        let edits: Vec<String> = edits
-            .into_iter()
-            .filter(|edits| !edits.is_empty())
-            .collect();
-        assert_eq!(edits, mends, "{word:#034X}");
-    }
 }
 
 /// No note describes a field that a reason blames.

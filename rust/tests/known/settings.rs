@@ -1,9 +1,6 @@
-//! Settings by number, name and text.
+//! Settings by setter, name and text.
 
-use peltzivar::edits::{
-    byte_from_decimal, setter_name_of_number, setter_number_of_name, Argument, ArgumentKind, Edit,
-    FlagSetter, SettingError, SETTERS, SETTER_NAMES,
-};
+use peltzivar::edits::{byte_from_decimal, ArgumentKind, Edit, FlagSetter, Setter, SettingError};
 use std::num::NonZeroU8;
 
 /// Flag setters and group setters come first, then byte setters.
@@ -18,65 +15,48 @@ fn setters_have_their_names() {
         "exponent_base",
         "exponent_radix",
     ];
-    let names: Vec<&str> = SETTERS
-        .iter()
-        .map(|setter| setter.name())
-        .chain(bytes)
-        .collect();
-    assert_eq!(SETTER_NAMES.to_vec(), names);
-    for (number, name) in (0..).zip(names) {
-        assert_eq!(setter_name_of_number(number), Some(name));
-        assert_eq!(setter_number_of_name(name.as_bytes()), Some(number));
+    let flags = FlagSetter::ALL.iter().map(|setter| setter.name());
+    let names: Vec<&str> = flags.chain(bytes).collect();
+    assert_eq!(Edit::NAMES, names);
+    for (setter, name) in Setter::ALL.iter().zip(names) {
+        assert_eq!(
+            (setter.name(), Setter::from_name(name)),
+            (name, Some(*setter))
+        );
     }
     for name in ["", "digit", "radix ", "RADIX"] {
-        assert_eq!(setter_number_of_name(name.as_bytes()), None, "{name}");
-        assert_eq!(Edit::from_name(name, 0), None, "{name}");
-    }
-    for number in [47, 255] {
-        assert_eq!(setter_name_of_number(number), None);
-        assert_eq!(Edit::from_number(number, 0), None);
+        assert_eq!(Setter::from_name(name), None, "{name}");
     }
 }
 
-/// Each edit can be read from its number and byte, from its name and byte, and from its text.
+/// All 1,872 edits: each has the text `NAME=VALUE`, and is parsed from it.
 #[test]
 fn edits_are_read_back() {
-    for number in 0..47u8 {
-        let name = SETTER_NAMES[usize::from(number)];
-        for byte in 0..=255 {
-            let edit = Edit::from_number(number, byte).unwrap();
-            assert_eq!((edit.setter_number(), edit.name()), (number, name));
-            let flag_or_byte = if number < 40 { byte.min(1) } else { byte };
-            assert_eq!(edit.argument_byte(), flag_or_byte);
-            assert_eq!(Edit::new(number, edit.argument()), Some(edit));
-            assert_eq!(Edit::from_name(name, byte), Some(edit));
+    let mut count = 0;
+    for setter in Setter::ALL {
+        let last = if setter.kind() == ArgumentKind::Flag {
+            1
+        } else {
+            255
+        };
+        for byte in 0..=last {
+            let edit = setter.with_byte(byte);
+            let value = match (setter.kind(), byte) {
+                (ArgumentKind::Flag, _) => (byte == 1).to_string(),
+                (ArgumentKind::OptionalByte, 0) => "none".to_string(),
+                _ => byte.to_string(),
+            };
+            assert_eq!((edit.setter(), edit.argument_byte()), (*setter, byte));
+            assert_eq!(edit.to_string(), format!("{}={value}", setter.name()));
             assert_eq!(edit.to_string().parse(), Ok(edit));
-        }
-    }
-}
-
-/// A setter takes one kind of argument.
-#[test]
-fn another_kind_of_argument_makes_no_edit() {
-    let arguments = [
-        (ArgumentKind::Flag, Argument::Flag(true)),
-        (ArgumentKind::Byte, Argument::Byte(1)),
-        (
-            ArgumentKind::OptionalByte,
-            Argument::OptionalByte(NonZeroU8::new(1)),
-        ),
-    ];
-    for number in 0..=255 {
-        for (kind, argument) in arguments {
-            let fits = number < 47 && ArgumentKind::of(number) == kind;
             assert_eq!(
-                Edit::new(number, argument).is_some(),
-                fits,
-                "{number} {argument:?}"
+                (setter.parse(&value), edit.mask()),
+                (Ok(edit), setter.mask())
             );
-            assert_eq!((argument.byte(), kind.argument_of_byte(1)), (1, argument));
+            count += 1;
         }
     }
+    assert_eq!(count, 80 + 7 * 256);
 }
 
 #[test]
@@ -100,6 +80,7 @@ fn an_edit_has_the_bits_that_it_writes() {
 
 #[test]
 fn settings_are_read() {
+    const BAD_FLAG: SettingError = SettingError::BadValue(Setter::Flag(FlagSetter::NoSpecial));
     #[rustfmt::skip]
     let rows = [
         ("no_special=true", Ok(Edit::Flag(FlagSetter::NoSpecial, true))),
@@ -116,10 +97,10 @@ fn settings_are_read() {
         ("colour", Err(SettingError::NoEquals)),
         ("=", Err(SettingError::UnknownName)),
         ("no_special =true", Err(SettingError::UnknownName)),
-        ("no_special=1", Err(SettingError::BadValue(10))),
-        ("no_special=256", Err(SettingError::BadValue(10))),
-        ("no_special='1'", Err(SettingError::BadValue(10))),
-        ("no_special=true=true", Err(SettingError::BadValue(10))),
+        ("no_special=1", Err(BAD_FLAG)),
+        ("no_special=256", Err(BAD_FLAG)),
+        ("no_special='1'", Err(BAD_FLAG)),
+        ("no_special=true=true", Err(BAD_FLAG)),
     ];
     for (text, edit) in rows {
         assert_eq!(Edit::from_text(text), edit, "{text}");
@@ -150,35 +131,24 @@ fn each_byte_setter_reads_the_same_values() {
         "99999999999999999999",
         "0xFFFFFFFFFFFFFFFFFFFFFFFFFFFFFFFFF",
     ];
-    for number in 40..47 {
-        let name = SETTER_NAMES[usize::from(number)];
-        let read = |value| Edit::from_setting(name, value);
+    for setter in &Setter::ALL[40..] {
+        let read = |value| Edit::from_setting(setter.name(), value);
         for (value, byte) in bytes {
             assert_eq!(
-                read(value).ok(),
-                Edit::from_number(number, byte),
-                "{name}={value}"
-            );
-        }
-        for value in bad {
-            assert_eq!(
                 read(value),
-                Err(SettingError::BadValue(number)),
-                "{name}={value}"
+                Ok(setter.with_byte(byte)),
+                "{setter:?} {value}"
             );
         }
-        for value in large {
-            assert_eq!(
-                read(value),
-                Err(SettingError::OutOfRange(number)),
-                "{name}={value}"
-            );
+        let refused = Err(SettingError::BadValue(*setter));
+        for value in bad.iter().chain(&large) {
+            assert_eq!(read(value), refused, "{setter:?} {value}");
         }
-        let absent = match number {
-            43 | 44 => Err(SettingError::BadValue(number)),
-            _ => Ok(Edit::from_number(number, 0).unwrap()),
+        let absent = match setter.kind() {
+            ArgumentKind::OptionalByte => Ok(setter.with_byte(0)),
+            _ => refused,
         };
-        assert_eq!(read("none"), absent, "{name}");
+        assert_eq!(read("none"), absent, "{setter:?}");
     }
 }
 
@@ -219,7 +189,7 @@ fn a_refused_setting_has_a_sentence() {
         assert_eq!(error.name(), Some(name), "{text}");
         assert_eq!(error.to_string(), format!("{name} takes {takes}"));
     }
-    for setter in SETTERS {
+    for setter in FlagSetter::ALL {
         let error = Edit::from_setting(setter.name(), "yes").unwrap_err();
         assert_eq!(error.to_string(), format!("{} takes {FLAG}", setter.name()));
     }

@@ -1,6 +1,8 @@
 //! Words as text and as Rust code.
 
+use peltzivar::edits::{Edit, Setter};
 use peltzivar::error::Error;
+use peltzivar::format::NumberFormatBuilder;
 use peltzivar::source::BuilderExpression;
 use peltzivar::word_text::{parse_word, word_text};
 
@@ -40,4 +42,33 @@ fn an_expression_is_printed_whatever_the_width() {
     let code = "NumberFormatBuilder::new().no_special(true).mantissa_radix(16).build_unchecked()";
     let expression = BuilderExpression(0x00001000_00000000_00000000_0000040C);
     assert_eq!(format!("{expression:->200.3}"), code);
+}
+
+/// Returns the builder that makes the calls of an expression, or `None` if it is not one.
+fn builder_of(code: &str) -> Option<NumberFormatBuilder> {
+    let calls = code.strip_prefix("NumberFormatBuilder::new()")?;
+    let calls = calls.strip_suffix(".build_unchecked()")?;
+    let edit = |call: &str| {
+        let (name, value) = call.strip_suffix(')')?.split_once('(')?;
+        let value = match value.strip_prefix("NonZeroU8::new(") {
+            Some(number) => number.strip_suffix(')')?,
+            None => value,
+        };
+        Edit::from_setting(name, &value.to_lowercase()).ok()
+    };
+    calls.split('.').skip(1).map(edit).collect()
+}
+
+#[test]
+fn an_expression_is_read_back() {
+    let set = |setter: &Setter| [1, 16, 255].map(|byte| setter.mask() & u128::MAX / 255 * byte);
+    let words = Setter::ALL.iter().flat_map(set);
+    for word in words.flat_map(|word| [word, word ^ 0xC, !word]) {
+        let code = BuilderExpression(word).to_string();
+        assert_eq!(
+            builder_of(&code),
+            Some(NumberFormatBuilder::from_word(word)),
+            "{code}"
+        );
+    }
 }

@@ -1,12 +1,10 @@
 //! The type [`ShortText`]: short text that consists of four pieces.
 
-ghost use Rattle.std.specs.Prelude.{◌≡◌, ◌<◌, ◌∷◌, [], length, IsErr, OnOk, Some, true};
-ghost use Rattle.std.specs.Fmt.{WritesInCalls, decimal, digit_glyph, digits_onto};
-ghost use Rattle.lexical_base.specs.Additions.ShortTexts.{piece_text, numbered_byte, can_be_quoted};
+ghost use Rattle.std.specs.Prelude.{◌≡◌, ◌<◌, ◌∷◌, [], IsErr, OnOk, true};
+ghost use Rattle.std.specs.Fmt.{WritesInCalls, decimal, digit_glyph};
 
 use crate::error::Sink;
 use std::fmt;
-use std::marker::Model;
 
 /// A piece of a [`ShortText`].
 #[derive(Clone, Copy)]
@@ -29,20 +27,8 @@ pub const EMPTY_PIECE: Piece = Piece::Words("");
 
 /// Short text that consists of four pieces, each of which may be empty. The text of each `ShortText` that the library
 /// returns has fewer than 256 bytes.
-#[derive(Drop)]
+#[derive(Clone, Copy)]
 pub struct ShortText(pub Piece, pub Piece, pub Piece, pub Piece);
-
-impl Model for ShortText {
-    ghost use Rattle.std.specs.Prelude.{ℕ, ◌<◌, ◌+◌, ◌++◌, List};
-    ghost use Rattle.lexical_base.specs.Additions.ShortTexts.{piece_text};
-    ghost use Rattle.lexical_base.specs.Private.{max_length};
-
-    ghost Value = { List ℕ };
-
-    ghost view = { λ pieces. piece_text pieces.0 ++ piece_text pieces.1 ++ piece_text pieces.2 ++ piece_text pieces.3 };
-
-    ghost invariant = { λ pieces. max_length pieces.0 + max_length pieces.1 + max_length pieces.2 + max_length pieces.3 < 256 };
-}
 
 impl ShortText {
     /// Puts the text into the sink `out`, piece by piece.
@@ -50,11 +36,7 @@ impl ShortText {
     /// # Errors
     ///
     /// Returns an error if [`Sink::put`] returns one.
-    pub fn put_into<S: Sink>(&self, out: &mut S) -> Result<(), fmt::Error>
-        ensures text { OnOk result (WritesInCalls S.takes out.old self.now out.new) }
-        ensures failed { IsErr result → S.has_failed out.new }
-        ensures short { length self.now < 256 }
-    {
+    pub fn put_into<S: Sink>(&self, out: &mut S) -> Result<(), fmt::Error> {
         self.0.put_into(out)?;
         self.1.put_into(out)?;
         self.2.put_into(out)?;
@@ -64,10 +46,6 @@ impl ShortText {
 
 /// Writes the text and ignores all options of the formatter. Returns an error if the formatter returns one.
 impl fmt::Display for ShortText {
-    ghost output = { λ sentence. Some sentence };
-
-    ghost styled_output = { λ sentence spec. Some sentence };
-
     fn fmt<W: fmt::Write>(&self, f: &mut fmt::Formatter<W>) -> fmt::Result {
         self.put_into(f)
     }
@@ -75,10 +53,7 @@ impl fmt::Display for ShortText {
 
 impl Piece {
     // Puts the piece into the sink `out`.
-    fn put_into<S: Sink>(self, out: &mut S) -> fmt::Result
-        ensures text { OnOk result (WritesInCalls S.takes out.old (piece_text self) out.new) }
-        ensures failed { IsErr result → S.has_failed out.new }
-    {
+    fn put_into<S: Sink>(self, out: &mut S) -> fmt::Result {
         match self {
             Piece::Words(words) => out.put(words),
             Piece::Number(number) => put_decimal(out, number),
@@ -102,17 +77,12 @@ impl Piece {
 }
 
 // Returns whether `byte` is a visible ASCII character other than the single quote.
-const fn can_be_quoted(byte: u8) -> bool
-    ensures { result ≡ can_be_quoted byte }
-{
+const fn can_be_quoted(byte: u8) -> bool {
     byte.is_ascii_graphic() && byte != b'\''
 }
 
 // Puts `the`, `name` and `byte` into the sink `out`, with spaces between them. The byte is in decimal.
-fn put_numbered<S: Sink>(out: &mut S, name: &str, byte: u8) -> fmt::Result
-    ensures text { OnOk result (WritesInCalls S.takes out.old (numbered_byte name.now byte) out.new) }
-    ensures failed { IsErr result → S.has_failed out.new }
-{
+fn put_numbered<S: Sink>(out: &mut S, name: &str, byte: u8) -> fmt::Result {
     out.put("the ")?;
     out.put(name)?;
     out.put(" ")?;
@@ -132,10 +102,7 @@ pub(crate) fn put_decimal<S: Sink>(out: &mut S, n: usize) -> fmt::Result
 }
 
 // Puts `n` in hexadecimal, with uppercase letters, into the sink `out`.
-fn put_hexadecimal<S: Sink>(out: &mut S, n: u128) -> fmt::Result
-    ensures text { OnOk result (WritesInCalls S.takes out.old (digits_onto 32 16 true n []) out.new) }
-    ensures failed { IsErr result → S.has_failed out.new }
-{
+fn put_hexadecimal<S: Sink>(out: &mut S, n: u128) -> fmt::Result {
     let has_front = n >= 16;
     if has_front {
         put_hexadecimal(out, n / 16)?;

@@ -11,7 +11,7 @@ ghost use Rattle.lexical_flags.specs.Layout as layout;
 ghost use Rattle.lexical_flags.specs.Layout.{IsClean};
 ghost use Rattle.lexical_flags.specs.Record.{raw, separator_allowed};
 ghost use Rattle.lexical_flags.specs.Roles.{Disjoint, cased, other_case, digits, format_roles};
-ghost use Rattle.lexical_flags.specs.Additions.BrokenRules.{clashes};
+ghost use Rattle.lexical_flags.specs.Additions.RuleFields.{clashes};
 ghost use Rattle.lexical_flags.specs.Options.{OptionsFit, IsOptionsError, OptionsHaveOneRole, SomeOptionsFit};
 ghost use Rattle.lexical_flags.specs.Rules.{IsRadix, IsAbsentOrPunctuation, IsPunctuation, Holds, IsFirstError};
 ghost use Rattle.lexical_flags.specs.Rules.{IsErrorOf, Lawful};

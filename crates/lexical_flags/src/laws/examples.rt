@@ -2,12 +2,9 @@
 //! one that does not.
 #![tactic(auto, unfolding(crate::specs::Literals::on_literals))]
 
-ghost use Rattle.std.specs.Prelude.{[], ◌∷◌, Some, None};
+ghost use Rattle.std.specs.Prelude.{[], ◌∷◌};
 ghost use Rattle.lexical_flags.specs.Constants.{ShareNoBit};
 ghost use Rattle.lexical_flags.specs.Options.{SomeOptionsFit};
-ghost use Rattle.std.specs.List.{AllZip};
-ghost use Rattle.lexical_flags.specs.Additions.BrokenRules.{ReportsRule};
-ghost use Rattle.lexical_flags.specs.declared.format_flags.all_rules.Rule.TheVariants as rules;
 ghost use Rattle.lexical_flags.specs.Pairs.{ArePairwise};
 ghost use Rattle.lexical_flags.specs.Record.{raw, SeparatorAllowedOrAbsent};
 
@@ -32,12 +29,4 @@ pub fn built_examples()
 pub fn room_examples()
     ensures room { SomeOptionsFit 0x0A0A0A00_00000000_00000000_0000000C }
     ensures no_room { SomeOptionsFit 0x00000A68_68000000_00000000_0000000C → ⊥ }
-{}
-
-/// States that a word whose flags 4 and 5 are set breaks `MantissaSignFlagsAgree` and satisfies `ExponentFlagsAgree`.
-pub fn broken_examples()
-    ensures broken { AllZip (ReportsRule 0x0A0A0A00_00000000_00000000_0000003C)
-        (rules.ExponentFlagsAgree ∷ rules.MantissaSignFlagsAgree ∷ []) (None ∷ Some rules.MantissaSignFlagsAgree ∷ []) }
-    ensures left_out { AllZip (ReportsRule 0x0A0A0A00_00000000_00000000_0000003C)
-        (rules.ExponentFlagsAgree ∷ rules.MantissaSignFlagsAgree ∷ []) (None ∷ None ∷ []) → ⊥ }
 {}

@@ -1,4 +1,4 @@
--- The single-field edits of a record, for `field_edits_of`, `numfmt` and `peltzivar_edits_of`.
+-- The single-field edits of a record, for `field_edits_of`.
 use Rattle.std.specs.Prelude.{List, [], ◌∷◌, map, find, unwrap_or}
 use Rattle.std.specs.Str.{bytes_eq}
 use Rattle.lexical_flags.specs.Layout.{Flag, bit}
@@ -8,11 +8,11 @@ use Rattle.lexical_builder.specs.OptionByte.{option_of_byte}
 use Rattle.lexical_builder.specs.Writes.{Write, write_flag, write_byte}
 use Rattle.lexical_util.specs.Edits.{flags_of}
 use Rattle.lexical_util.specs.Listing.{field_writes, needed_writes, other_writes}
-use Rattle.lexical_util.specs.declared.edits.FlagSetter.{FlagSetter}
-use Rattle.lexical_util.specs.declared.edits.FlagSetter.TheVariants as setters
-use Rattle.lexical_util.specs.declared.edits.TheConstants.{SETTERS}
-use Rattle.lexical_util.specs.declared.edits.Edit.{Edit}
-use Rattle.lexical_util.specs.declared.edits.Edit.TheVariants as edits
+use Rattle.lexical_util.specs.declared.edits.setters.FlagSetter.{FlagSetter}
+use Rattle.lexical_util.specs.declared.edits.setters.FlagSetter.TheVariants as setters
+use Rattle.lexical_util.specs.declared.edits.setters.TheConstants.{SETTERS}
+use Rattle.lexical_util.specs.declared.edits.setters.Edit.{Edit}
+use Rattle.lexical_util.specs.declared.edits.setters.Edit.TheVariants as edits
 
 -- `setter_of f` is the setter that writes only the flag `f`.
 abbrev pub setter_of : Flag → FlagSetter

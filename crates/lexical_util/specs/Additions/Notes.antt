@@ -11,12 +11,12 @@ use Rattle.lexical_flags.specs.Options.{OptionsFit}
 use Rattle.lexical_flags.specs.Additions.Masks.{byte_mask, mask_of}
 use Rattle.lexical_flags.specs.declared.format_flags.all_rules.Rule.{Rule}
 use Rattle.lexical_flags.specs.declared.format_flags.all_rules.Rule.TheVariants as rules
-use Rattle.lexical_util.specs.Additions.Reasons.{Candidate, all_reasons, mask_of_reason, mask_of_setter}
+use Rattle.lexical_util.specs.Additions.Reasons.{Candidate, all_reasons, mask_of_reason}
 use Rattle.lexical_util.specs.Additions.Reasons.{separator_edit, prefix_edit, suffix_edit}
-use Rattle.lexical_util.specs.Additions.SettingNumbers.{argument_byte, mask_of_edit}
-use Rattle.lexical_util.specs.declared.edits.Edit.{Edit}
-use Rattle.lexical_util.specs.declared.edits.FlagSetter.{FlagSetter}
-use Rattle.lexical_util.specs.declared.edits.FlagSetter.TheVariants as setters
+use Rattle.lexical_util.specs.Additions.EditMasks.{argument_byte, mask_of_setter, mask_of_edit}
+use Rattle.lexical_util.specs.declared.edits.setters.Edit.{Edit}
+use Rattle.lexical_util.specs.declared.edits.setters.FlagSetter.{FlagSetter}
+use Rattle.lexical_util.specs.declared.edits.setters.FlagSetter.TheVariants as setters
 use Rattle.lexical_util.specs.declared.reasons.note.Note.{Note}
 use Rattle.lexical_util.specs.declared.reasons.note.Note.TheVariants as notes
 

@@ -10,18 +10,18 @@ use Rattle.lexical_flags.specs.Layout as layout
 use Rattle.lexical_flags.specs.Record.{Record, raw}
 use Rattle.lexical_flags.specs.Roles.{are_disjoint, digits, signs, separator, prefix, suffix, other_case}
 use Rattle.lexical_flags.specs.Rules.{Holds, IsRadix, IsTextOrNone, contradict, punctuation_rules, flag_rules}
-use Rattle.lexical_flags.specs.Additions.BrokenRules.{mask_read}
-use Rattle.lexical_flags.specs.Additions.Masks.{byte_mask, mask_of, reserved_mask}
+use Rattle.lexical_flags.specs.Additions.RuleFields.{mask_read}
+use Rattle.lexical_flags.specs.Additions.Masks.{byte_mask, reserved_mask}
 use Rattle.lexical_flags.specs.declared.format_flags.all_rules.Rule.{Rule}
 use Rattle.lexical_flags.specs.declared.format_flags.all_rules.Rule.TheVariants as rules
 use Rattle.lexical_builder.specs.OptionByte.{option_of_byte}
 use Rattle.lexical_builder.specs.Writes.{Write, write_flag, write_byte}
-use Rattle.lexical_util.specs.Edits.{flags_of, writes_of}
-use Rattle.lexical_util.specs.Additions.SettingNumbers.{argument_byte, mask_of_edit}
-use Rattle.lexical_util.specs.declared.edits.Edit.{Edit}
-use Rattle.lexical_util.specs.declared.edits.Edit.TheVariants as edits
-use Rattle.lexical_util.specs.declared.edits.FlagSetter.{FlagSetter}
-use Rattle.lexical_util.specs.declared.edits.FlagSetter.TheVariants as setters
+use Rattle.lexical_util.specs.Edits.{writes_of}
+use Rattle.lexical_util.specs.Additions.EditMasks.{argument_byte, mask_of_setter, mask_of_edit}
+use Rattle.lexical_util.specs.declared.edits.setters.Edit.{Edit}
+use Rattle.lexical_util.specs.declared.edits.setters.Edit.TheVariants as edits
+use Rattle.lexical_util.specs.declared.edits.setters.FlagSetter.{FlagSetter}
+use Rattle.lexical_util.specs.declared.edits.setters.FlagSetter.TheVariants as setters
 use Rattle.lexical_util.specs.declared.reasons.Reason.{Reason}
 use Rattle.lexical_util.specs.declared.reasons.Reason.TheVariants as reasons
 
@@ -110,17 +110,6 @@ abbrev pub Breaks : Reason → Rule → Type 0
 Breaks (reasons.MantissaRadixOutOfRange radix base exponent) rules.ExponentBaseInRange = IsTrue base
 Breaks (reasons.MantissaRadixOutOfRange radix base exponent) rules.ExponentRadixInRange = IsTrue exponent
 Breaks reason rule = rule ≡ rule_of_reason reason
-
--- `rules_of_reason reason` lists the rules that are broken for `reason`, in three slots.
-abbrev pub rules_of_reason : Reason → List (Option Rule)
-rules_of_reason (reasons.MantissaRadixOutOfRange radix base exponent) =
-    Some rules.MantissaRadixInRange ∷ then_some base rules.ExponentBaseInRange
-    ∷ then_some exponent rules.ExponentRadixInRange ∷ []
-rules_of_reason reason = Some (rule_of_reason reason) ∷ None ∷ None ∷ []
-
--- `mask_of_setter setter` is the number with 1 in the bits that the flag setter `setter` writes.
-abbrev pub mask_of_setter : FlagSetter → ℕ
-mask_of_setter setter = mask_of (flags_of setter)
 
 -- `mask_of_reason reason` is the number with 1 in the bits that `reason` blames. If `reason` is true of a word, it is
 -- true of each word that has the same values in these bits.

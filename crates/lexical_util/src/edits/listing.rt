@@ -2,17 +2,13 @@
 
 ghost use Rattle.std.specs.Prelude.{◌≡◌, ◌≤◌, ◌↔◌, ◌++◌, IsTrue, List, All, length, filter, take, not, if◌then◌else◌};
 ghost use Rattle.std.specs.List.{AllZip};
-ghost use Rattle.lexical_flags.specs.Layout as layout;
 ghost use Rattle.lexical_flags.specs.Record.{raw, pack, SeparatorAllowedOrAbsent, IsBuilt};
 ghost use Rattle.lexical_builder.specs.Writes.{Write, IsLegal, new_record, after};
 ghost use Rattle.lexical_util.specs.Edits.{all_writes};
 ghost use Rattle.lexical_util.specs.Listing.{IsEditOf, needed_writes, other_writes, IsBuiltByWrites};
-ghost use Rattle.lexical_util.specs.Additions.FieldEdits.{field_edits};
 ghost use Rattle.lexical_util.specs.Private.{differs_from_new};
 
-use crate::edits::{Edit, FIELD_COUNT, FlagSetter};
-use crate::feature_format::NumberFormat;
-use lexical_builder::format_builder::NonZeroU8;
+use crate::edits::{Edit, FIELD_COUNT, FlagSetter, field_edits_of};
 use lexical_flags::format_flags as flags;
 
 /// Returns whether a builder can build `format`. This is possible if and only if all reserved bits are 0, and the digit
@@ -73,47 +69,6 @@ pub fn edits_of(format: u128) -> ([Edit; FIELD_COUNT], usize)
     let (all, others) = (&mut edits[..], &others[..]);
     all[count..].copy_from_slice(&others[..rest]);
     (edits, count)
-}
-
-/// Returns one edit for each field. The edit sets the field to its value in `format`. The edits are in the order of the
-/// bits that they write.
-pub const fn field_edits_of(format: u128) -> [Edit; FIELD_COUNT]
-    ensures { result ≡ field_edits (raw format) }
-{
-    macro_rules! edits_of_fields {
-        (($view:ident, $base:ident, $radix:ident)
-            { $($Flag:ident $flag:ident $FLAG:ident;)* } $groups:tt) => {
-            [
-                $(Edit::Flag(FlagSetter::$Flag, $view.$flag()),)*
-                Edit::DigitSeparator(NonZeroU8::new($view.digit_separator())),
-                Edit::BasePrefix(NonZeroU8::new($view.base_prefix())),
-                Edit::BaseSuffix(NonZeroU8::new($view.base_suffix())),
-                Edit::MantissaRadix($view.mantissa_radix() as u8),
-                Edit::ExponentBase(NonZeroU8::new($base)),
-                Edit::ExponentRadix(NonZeroU8::new($radix)),
-            ]
-        };
-    }
-    let view = NumberFormat::new(format);
-    let base = raw_exponent_base(format);
-    let radix = raw_exponent_radix(format);
-    with_setters!(edits_of_fields(view, base, radix))
-}
-
-// Returns the exponent base that the word stores, or 0 if it is absent.
-#[inline(always)]
-pub(crate) const fn raw_exponent_base(format: u128) -> u8
-    ensures { result ≡ (raw format).byte layout.exponent_base }
-{
-    ((format & flags::EXPONENT_BASE) >> flags::EXPONENT_BASE_SHIFT) as u8
-}
-
-// Returns the exponent radix that the word stores, or 0 if it is absent.
-#[inline(always)]
-pub(crate) const fn raw_exponent_radix(format: u128) -> u8
-    ensures { result ≡ (raw format).byte layout.exponent_radix }
-{
-    ((format & flags::EXPONENT_RADIX) >> flags::EXPONENT_RADIX_SHIFT) as u8
 }
 
 // Returns whether an edit changes a new builder.

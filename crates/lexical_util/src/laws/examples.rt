@@ -7,11 +7,9 @@ ghost use Rattle.lexical_flags.specs.Record.{raw};
 ghost use Rattle.lexical_builder.specs.Writes.{write_flag, write_byte, SameWrites};
 ghost use Rattle.lexical_util.specs.Additions.Notes.{set_flags, ReplacesFields, SameRules, SameOtherRules};
 ghost use Rattle.lexical_util.specs.Additions.Reasons.{Blames};
-ghost use Rattle.lexical_util.specs.Additions.Mends.{Mends};
-ghost use Rattle.lexical_util.specs.Additions.SettingNumbers.{HasByte};
 ghost use Rattle.lexical_util.specs.Listing.{IsEditOf};
-ghost use Rattle.lexical_util.specs.declared.edits.Edit.TheVariants as edits;
-ghost use Rattle.lexical_util.specs.declared.edits.FlagSetter.TheVariants as setters;
+ghost use Rattle.lexical_util.specs.declared.edits.setters.Edit.TheVariants as edits;
+ghost use Rattle.lexical_util.specs.declared.edits.setters.FlagSetter.TheVariants as setters;
 ghost use Rattle.lexical_util.specs.declared.reasons.Reason.TheVariants as reasons;
 
 /// States that two lists of writes give each field the same last value, and that two other lists do not.
@@ -27,15 +25,12 @@ pub fn write_examples()
         (write_byte layout.mantissa_radix 16 ∷ write_byte layout.mantissa_radix 8 ∷ []) → ⊥ }
 {}
 
-/// States that an edit of a flag makes a single write, and that an edit of a group does not. States that a mantissa
-/// radix of 16 is a byte, and that 256 is not.
+/// States that an edit of a flag makes a single write, and that an edit of a group does not.
 pub fn edit_examples()
     ensures flag { IsEditOf (write_flag layout.required_integer_digits true)
         (edits.Flag setters.RequiredIntegerDigits true) }
     ensures group { IsEditOf (write_flag layout.required_integer_digits true)
         (edits.Flag setters.RequiredDigits true) → ⊥ }
-    ensures byte { HasByte (edits.MantissaRadix 16) }
-    ensures large { HasByte (edits.MantissaRadix 256) → ⊥ }
 {}
 
 /// Gives examples for `notes`: a word that only clears a case-sensitivity flag, a word that also sets another flag,
@@ -54,15 +49,9 @@ pub fn note_examples()
     ensures other_radix { SameOtherRules 0x00000A00_00000000_00000000_0000000C 12 → ⊥ }
 {}
 
-/// Gives examples for `reasons`: a reason that a word has and one that it does not have, edits that mend a word, and
-/// edits that do not.
+/// Gives examples for `reasons`: a reason that a word has and one that it does not have.
 #[tactic(auto, unfolding(crate::specs::Unfoldable::on_literals))]
 pub fn reason_examples()
     ensures blames { Blames 0 0 (reasons.MantissaRadixOutOfRange 0 true true) }
     ensures another_radix { Blames 0 0 (reasons.MantissaRadixOutOfRange 37 true true) → ⊥ }
-    ensures mends { Mends 0x0A0A0A00_00000000_00000000_0000003C
-        (reasons.Contradict setters.NoPositiveMantissaSign setters.RequiredMantissaSign)
-        (edits.Flag setters.RequiredMantissaSign false ∷ []) }
-    ensures no_edits { Mends 0x0A0A0A00_00000000_00000000_0000003C
-        (reasons.Contradict setters.NoPositiveMantissaSign setters.RequiredMantissaSign) [] → ⊥ }
 {}

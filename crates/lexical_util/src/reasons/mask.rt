@@ -1,12 +1,12 @@
 //! The rules that a word breaks because of a reason, and the bits that the reason blames.
 
 ghost use Rattle.std.specs.Prelude.{◌≡◌, ◌↔◌, IsTrue};
-ghost use Rattle.lexical_util.specs.Additions.Reasons.{rule_of_reason, rules_of_reason, Breaks};
-ghost use Rattle.lexical_util.specs.Additions.Reasons.{mask_of_reason, mask_of_setter};
+ghost use Rattle.lexical_util.specs.Additions.Reasons.{rule_of_reason, Breaks};
+ghost use Rattle.lexical_util.specs.Additions.Reasons.{mask_of_reason};
 ghost use Rattle.lexical_util.specs.Additions.Reasons.{radix_rule, punctuation_rule, rule_of_flags, position_rule};
 
-use crate::edits::{Edit, FlagSetter};
-use crate::reasons::{Reason, some_if};
+use crate::edits::{Edit, FlagSetter, mask_of};
+use crate::reasons::Reason;
 use lexical_flags::format_flags as flags;
 use lexical_flags::format_flags::Rule;
 
@@ -25,28 +25,6 @@ impl Reason {
             Reason::Contradict(a, b) => rule_of_flags(*a, *b),
             Reason::NeedsPosition(flag) => position_rule(*flag),
             Reason::ReservedBits(_) => Rule::ReservedBitsAreZero,
-        }
-    }
-
-    /// Returns the rules that a word breaks because of this reason, in the order in which rules are checked. A slot
-    /// without a rule is `None`.
-    pub const fn rules(&self) -> [Option<Rule>; 3]
-        ensures { result ≡ rules_of_reason self.now }
-    {
-        match self {
-            Reason::MantissaRadixOutOfRange(_, base_follows, exponent_follows) => [
-                Some(Rule::MantissaRadixInRange),
-                some_if(*base_follows, Rule::ExponentBaseInRange),
-                some_if(*exponent_follows, Rule::ExponentRadixInRange),
-            ],
-            Reason::OutOfRange(_)
-            | Reason::NotText(_)
-            | Reason::IsSign(_)
-            | Reason::IsDigit(_, _)
-            | Reason::Clash(_, _, _)
-            | Reason::Contradict(_, _)
-            | Reason::NeedsPosition(_)
-            | Reason::ReservedBits(_) => [Some(self.rule()), None, None],
         }
     }
 
@@ -87,8 +65,8 @@ impl Reason {
             Reason::OutOfRange(edit) | Reason::NotText(edit) | Reason::IsSign(edit) => edit.mask(),
             Reason::IsDigit(edit, radix) => edit.mask() | radix.mask(),
             Reason::Clash(a, b, None) => a.mask() | b.mask(),
-            Reason::Clash(a, b, Some(flag)) => a.mask() | b.mask() | mask_of_setter(*flag),
-            Reason::Contradict(a, b) => mask_of_setter(*a) | mask_of_setter(*b),
+            Reason::Clash(a, b, Some(flag)) => a.mask() | b.mask() | mask_of(*flag) as u128,
+            Reason::Contradict(a, b) => (mask_of(*a) | mask_of(*b)) as u128,
             Reason::NeedsPosition(flag) => position_rule(*flag).mask(),
             Reason::ReservedBits(bits) => *bits,
         }
@@ -146,11 +124,4 @@ const fn position_rule(flag: FlagSetter) -> Rule
         FlagSetter::FractionConsecutiveDigitSeparator => Rule::FractionConsecutiveIsAllowed,
         _ => Rule::ExponentConsecutiveIsAllowed,
     }
-}
-
-// Returns the bits that a flag setter writes.
-pub(super) const fn mask_of_setter(setter: FlagSetter) -> u128
-    ensures { result ≡ mask_of_setter setter }
-{
-    Edit::Flag(setter, true).mask()
 }

@@ -11,12 +11,11 @@ ghost use Rattle.lexical_util.specs.Additions.Notes.{mask_of_note, notes_beside,
 ghost use Rattle.lexical_util.specs.Additions.Notes.{unblamed, is_blamed};
 ghost use Rattle.lexical_util.specs.Additions.Notes.{without_separator, set_flags, ReplacesFields, SameRules};
 ghost use Rattle.lexical_util.specs.Additions.Notes.{SameOtherRules};
-ghost use Rattle.lexical_util.specs.Additions.SettingNumbers.{argument_byte};
+ghost use Rattle.lexical_util.specs.Additions.EditMasks.{argument_byte};
 ghost use Rattle.lexical_util.specs.NormalForm.{normal_form_of};
 
-use crate::edits::{Edit, FlagSetter};
+use crate::edits::{Edit, FlagSetter, mask_of};
 use crate::feature_format::NumberFormat;
-use crate::reasons::mask::mask_of_setter;
 use crate::reasons::{Reason, prefix_edit, reasons, suffix_edit};
 use lexical_builder::format_builder::{NonZeroU8, NumberFormatBuilder};
 use lexical_flags::format_flags as flags;
@@ -52,7 +51,7 @@ impl Note {
                 flags::DIGIT_SEPARATOR_FLAG_MASK | flags::DIGIT_SEPARATOR
             }
             Note::CaseFlagWithoutByte(flag, edit) | Note::CaseFlagOfNonLetter(flag, edit) => {
-                mask_of_setter(*flag) | edit.mask()
+                mask_of(*flag) as u128 | edit.mask()
             }
         }
     }

@@ -1,11 +1,5 @@
 //! Prints reasons and notes as sentences.
 
-ghost use Rattle.std.specs.Prelude.{◌≡◌, ◌<◌, ◌≤◌, ◌+◌, ◌++◌, codes, length, Some};
-ghost use Rattle.lexical_base.specs.Additions.ShortTexts.{piece_text};
-ghost use Rattle.lexical_base.specs.Private.{max_length};
-ghost use Rattle.lexical_util.specs.Additions.SettingNumbers.{name_of_flags};
-ghost use Rattle.lexical_util.specs.Additions.ReasonText.{label_of, described, clash_text, reason_text, note_text};
-
 use crate::edits::{Edit, FlagSetter};
 use crate::reasons::{Note, Reason};
 use lexical_base::error::{EMPTY_PIECE, Piece, ShortText};
@@ -13,9 +7,7 @@ use std::fmt;
 
 impl Reason {
     /// Returns the reason as a sentence without a full stop, such as `the base prefix 'b' is a digit in radix 16`.
-    pub const fn text(&self) -> ShortText
-        ensures { result ≡ reason_text self.now }
-    {
+    pub const fn text(&self) -> ShortText {
         match self {
             Reason::MantissaRadixOutOfRange(radix, _, _) => {
                 not_in_range(Piece::NumberedByte("mantissa radix", *radix))
@@ -62,9 +54,7 @@ impl Reason {
 impl Note {
     /// Returns the note as a sentence without a full stop, such as `no number can have the digit separator '_': no flag
     /// allows one`.
-    pub const fn text(&self) -> ShortText
-        ensures { result ≡ note_text self.now }
-    {
+    pub const fn text(&self) -> ShortText {
         match self {
             Note::SeparatorWithoutFlag(edit) => ShortText(
                 EMPTY_PIECE,
@@ -93,59 +83,39 @@ impl Note {
 }
 
 impl fmt::Display for Reason {
-    ghost output = { λ reason. Some (reason_text reason) };
-
     fn fmt<W: fmt::Write>(&self, f: &mut fmt::Formatter<W>) -> fmt::Result {
         fmt::Display::fmt(&self.text(), f)
     }
 }
 
 impl fmt::Display for Note {
-    ghost output = { λ note. Some (note_text note) };
-
     fn fmt<W: fmt::Write>(&self, f: &mut fmt::Formatter<W>) -> fmt::Result {
         fmt::Display::fmt(&self.text(), f)
     }
 }
 
 // Returns the sentence for a radix or a base that is out of range.
-const fn not_in_range(piece: Piece) -> ShortText
-    requires { max_length piece < 200 }
-    ensures { result ≡ piece_text piece ++ codes " is not between 2 and 36" }
-{
+const fn not_in_range(piece: Piece) -> ShortText {
     followed(piece, " is not between 2 and 36")
 }
 
 // Returns a text that has a piece and the words that follow it.
-const fn followed(piece: Piece, end: &'static str) -> ShortText
-    requires { max_length piece + length end.now < 256 }
-    ensures { result ≡ piece_text piece ++ end.now }
-{
+const fn followed(piece: Piece, end: &'static str) -> ShortText {
     ShortText(EMPTY_PIECE, EMPTY_PIECE, piece, Piece::Words(end))
 }
 
 // Returns the label of the field of an edit, and its byte.
-const fn described(edit: &Edit) -> Piece
-    ensures text { piece_text result ≡ described edit.now }
-    ensures short { max_length result ≤ 84 }
-{
+const fn described(edit: &Edit) -> Piece {
     Piece::QuotedByte(label(*edit), edit.argument_byte())
 }
 
 // Returns the name of a flag.
-#[tactic(auto, using(crate::proofs::ReasonTextLemmas::short_setter))]
-const fn named(flag: FlagSetter) -> Piece
-    ensures text { piece_text result ≡ name_of_flags flag }
-    ensures short { max_length result < 49 }
-{
+const fn named(flag: FlagSetter) -> Piece {
     Piece::Words(flag.name())
 }
 
 // Returns the end of the sentence for two bytes that clash.
-const fn clash_text(a: Edit, b: Edit, flag: Option<FlagSetter>) -> &'static str
-    ensures text { result.now ≡ clash_text a b flag }
-    ensures short { length result.now ≤ 67 }
-{
+const fn clash_text(a: Edit, b: Edit, flag: Option<FlagSetter>) -> &'static str {
     match (a, b, flag) {
         (_, _, None) => " are the same",
         (Edit::DigitSeparator(_), Edit::BasePrefix(_), Some(_)) => {
@@ -159,10 +129,7 @@ const fn clash_text(a: Edit, b: Edit, flag: Option<FlagSetter>) -> &'static str
 }
 
 // Returns the name of the field of an edit, as it appears in sentences.
-const fn label(edit: Edit) -> &'static str
-    ensures text { result.now ≡ label_of edit }
-    ensures short { length result.now ≤ 15 }
-{
+const fn label(edit: Edit) -> &'static str {
     match edit {
         Edit::Flag(_, _) => "flag",
         Edit::DigitSeparator(_) => "digit separator",

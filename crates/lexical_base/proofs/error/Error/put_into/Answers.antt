@@ -8,7 +8,7 @@ use Rattle.lexical_base.specs.declared.error.Class.{Class}
 use Rattle.lexical_base.specs.declared.error.Class.TheVariants as classes
 use Rattle.lexical_base.specs.Outcomes.{printed_text, start_of_class, class_of, description_of, index_of, end_of_text}
 use Rattle.lexical_base.proofs.PieceLemmas.{first}
-use Rattle.lexical_base.proofs.ShortTextLemmas.{few}
+use Rattle.lexical_base.proofs.DecimalLemmas.{few}
 use Rattle.lexical_base.proofs.error.Error.put_into.Goals as goal
 
 -- The text of an outcome consists of the results of the calls.

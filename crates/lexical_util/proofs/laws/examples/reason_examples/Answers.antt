@@ -2,8 +2,8 @@ use Rattle.std.proofs.Common.{[], ◌∷◌, inr, false, refl, arith}
 use Rattle.std.proofs.lemmas.Bool.{true≢false}
 use Rattle.lexical_flags.specs.Rules.{Holds}
 use Rattle.lexical_flags.specs.declared.format_flags.all_rules.Rule.TheVariants as rules
-use Rattle.lexical_util.specs.declared.edits.Edit.TheVariants as edits
-use Rattle.lexical_util.specs.declared.edits.FlagSetter.TheVariants as setters
+use Rattle.lexical_util.specs.declared.edits.setters.Edit.TheVariants as edits
+use Rattle.lexical_util.specs.declared.edits.setters.FlagSetter.TheVariants as setters
 use Rattle.lexical_util.specs.declared.reasons.Reason.TheVariants as reasons
 use Rattle.lexical_util.specs.Unfoldable.{on_literals}
 use Rattle.lexical_util.proofs.MendLemmas.{mending}

@@ -1,0 +1,440 @@
+//! Setters and their calls as values.
+
+ghost use Rattle.std.specs.Prelude.{◌≡◌};
+ghost use Rattle.lexical_flags.specs.Record.{raw};
+ghost use Rattle.lexical_builder.specs.BuilderBits.{flags_with};
+ghost use Rattle.lexical_util.specs.Edits.{flags_of};
+ghost use Rattle.lexical_util.specs.Groups.{any_flag};
+ghost use Rattle.lexical_util.specs.Additions.EditMasks.{argument_byte, mask_of_setter, mask_of_edit};
+ghost use Rattle.lexical_util.specs.Additions.FieldEdits.{field_edits};
+
+use crate::feature_format::NumberFormat;
+use lexical_builder::format_builder::{NonZeroU8, OptionU8};
+use lexical_flags::format_flags as flags;
+use lexical_flags::format_flags::FLAG_MASK;
+
+// Calls `$rows!` with `$args`, a row for each flag, and a row for each flag group. A row has the variant of
+// `FlagSetter`, the name of the setter, and the mask that the setter writes. The getter and the setter that belong to a
+// flag have the same name.
+macro_rules! with_setters {
+    ($rows:ident $args:tt) => {
+        $rows! {
+            $args
+            {
+                RequiredIntegerDigits required_integer_digits REQUIRED_INTEGER_DIGITS;
+                RequiredFractionDigits required_fraction_digits REQUIRED_FRACTION_DIGITS;
+                RequiredExponentDigits required_exponent_digits REQUIRED_EXPONENT_DIGITS;
+                RequiredMantissaDigits required_mantissa_digits REQUIRED_MANTISSA_DIGITS;
+                NoPositiveMantissaSign no_positive_mantissa_sign NO_POSITIVE_MANTISSA_SIGN;
+                RequiredMantissaSign required_mantissa_sign REQUIRED_MANTISSA_SIGN;
+                NoExponentNotation no_exponent_notation NO_EXPONENT_NOTATION;
+                NoPositiveExponentSign no_positive_exponent_sign NO_POSITIVE_EXPONENT_SIGN;
+                RequiredExponentSign required_exponent_sign REQUIRED_EXPONENT_SIGN;
+                NoExponentWithoutFraction no_exponent_without_fraction NO_EXPONENT_WITHOUT_FRACTION;
+                NoSpecial no_special NO_SPECIAL;
+                CaseSensitiveSpecial case_sensitive_special CASE_SENSITIVE_SPECIAL;
+                NoIntegerLeadingZeros no_integer_leading_zeros NO_INTEGER_LEADING_ZEROS;
+                NoFloatLeadingZeros no_float_leading_zeros NO_FLOAT_LEADING_ZEROS;
+                RequiredExponentNotation required_exponent_notation REQUIRED_EXPONENT_NOTATION;
+                CaseSensitiveExponent case_sensitive_exponent CASE_SENSITIVE_EXPONENT;
+                CaseSensitiveBasePrefix case_sensitive_base_prefix CASE_SENSITIVE_BASE_PREFIX;
+                CaseSensitiveBaseSuffix case_sensitive_base_suffix CASE_SENSITIVE_BASE_SUFFIX;
+                IntegerInternalDigitSeparator integer_internal_digit_separator INTEGER_INTERNAL_DIGIT_SEPARATOR;
+                FractionInternalDigitSeparator fraction_internal_digit_separator FRACTION_INTERNAL_DIGIT_SEPARATOR;
+                ExponentInternalDigitSeparator exponent_internal_digit_separator EXPONENT_INTERNAL_DIGIT_SEPARATOR;
+                IntegerLeadingDigitSeparator integer_leading_digit_separator INTEGER_LEADING_DIGIT_SEPARATOR;
+                FractionLeadingDigitSeparator fraction_leading_digit_separator FRACTION_LEADING_DIGIT_SEPARATOR;
+                ExponentLeadingDigitSeparator exponent_leading_digit_separator EXPONENT_LEADING_DIGIT_SEPARATOR;
+                IntegerTrailingDigitSeparator integer_trailing_digit_separator INTEGER_TRAILING_DIGIT_SEPARATOR;
+                FractionTrailingDigitSeparator fraction_trailing_digit_separator FRACTION_TRAILING_DIGIT_SEPARATOR;
+                ExponentTrailingDigitSeparator exponent_trailing_digit_separator EXPONENT_TRAILING_DIGIT_SEPARATOR;
+                IntegerConsecutiveDigitSeparator integer_consecutive_digit_separator INTEGER_CONSECUTIVE_DIGIT_SEPARATOR;
+                FractionConsecutiveDigitSeparator fraction_consecutive_digit_separator FRACTION_CONSECUTIVE_DIGIT_SEPARATOR;
+                ExponentConsecutiveDigitSeparator exponent_consecutive_digit_separator EXPONENT_CONSECUTIVE_DIGIT_SEPARATOR;
+                SpecialDigitSeparator special_digit_separator SPECIAL_DIGIT_SEPARATOR;
+            }
+            {
+                RequiredDigits required_digits REQUIRED_DIGITS;
+                InternalDigitSeparator internal_digit_separator INTERNAL_DIGIT_SEPARATOR;
+                LeadingDigitSeparator leading_digit_separator LEADING_DIGIT_SEPARATOR;
+                TrailingDigitSeparator trailing_digit_separator TRAILING_DIGIT_SEPARATOR;
+                ConsecutiveDigitSeparator consecutive_digit_separator CONSECUTIVE_DIGIT_SEPARATOR;
+                DigitSeparatorFlags digit_separator_flags DIGIT_SEPARATOR_FLAG_MASK;
+                IntegerDigitSeparatorFlags integer_digit_separator_flags INTEGER_DIGIT_SEPARATOR_FLAG_MASK;
+                FractionDigitSeparatorFlags fraction_digit_separator_flags FRACTION_DIGIT_SEPARATOR_FLAG_MASK;
+                ExponentDigitSeparatorFlags exponent_digit_separator_flags EXPONENT_DIGIT_SEPARATOR_FLAG_MASK;
+            }
+        }
+    };
+}
+
+/// A setter of [`NumberFormatBuilder`] that takes a `bool`. It sets one flag, or all flags of one of the nine flag
+/// groups. The comment of a variant is the name of its setter.
+#[derive(Debug, Clone, Copy, PartialEq, Eq, Hash)]
+pub enum FlagSetter {
+    /// `required_integer_digits`
+    RequiredIntegerDigits,
+    /// `required_fraction_digits`
+    RequiredFractionDigits,
+    /// `required_exponent_digits`
+    RequiredExponentDigits,
+    /// `required_mantissa_digits`
+    RequiredMantissaDigits,
+    /// `no_positive_mantissa_sign`
+    NoPositiveMantissaSign,
+    /// `required_mantissa_sign`
+    RequiredMantissaSign,
+    /// `no_exponent_notation`
+    NoExponentNotation,
+    /// `no_positive_exponent_sign`
+    NoPositiveExponentSign,
+    /// `required_exponent_sign`
+    RequiredExponentSign,
+    /// `no_exponent_without_fraction`
+    NoExponentWithoutFraction,
+    /// `no_special`
+    NoSpecial,
+    /// `case_sensitive_special`
+    CaseSensitiveSpecial,
+    /// `no_integer_leading_zeros`
+    NoIntegerLeadingZeros,
+    /// `no_float_leading_zeros`
+    NoFloatLeadingZeros,
+    /// `required_exponent_notation`
+    RequiredExponentNotation,
+    /// `case_sensitive_exponent`
+    CaseSensitiveExponent,
+    /// `case_sensitive_base_prefix`
+    CaseSensitiveBasePrefix,
+    /// `case_sensitive_base_suffix`
+    CaseSensitiveBaseSuffix,
+    /// `integer_internal_digit_separator`
+    IntegerInternalDigitSeparator,
+    /// `fraction_internal_digit_separator`
+    FractionInternalDigitSeparator,
+    /// `exponent_internal_digit_separator`
+    ExponentInternalDigitSeparator,
+    /// `integer_leading_digit_separator`
+    IntegerLeadingDigitSeparator,
+    /// `fraction_leading_digit_separator`
+    FractionLeadingDigitSeparator,
+    /// `exponent_leading_digit_separator`
+    ExponentLeadingDigitSeparator,
+    /// `integer_trailing_digit_separator`
+    IntegerTrailingDigitSeparator,
+    /// `fraction_trailing_digit_separator`
+    FractionTrailingDigitSeparator,
+    /// `exponent_trailing_digit_separator`
+    ExponentTrailingDigitSeparator,
+    /// `integer_consecutive_digit_separator`
+    IntegerConsecutiveDigitSeparator,
+    /// `fraction_consecutive_digit_separator`
+    FractionConsecutiveDigitSeparator,
+    /// `exponent_consecutive_digit_separator`
+    ExponentConsecutiveDigitSeparator,
+    /// `special_digit_separator`
+    SpecialDigitSeparator,
+    /// `required_digits`
+    RequiredDigits,
+    /// `internal_digit_separator`
+    InternalDigitSeparator,
+    /// `leading_digit_separator`
+    LeadingDigitSeparator,
+    /// `trailing_digit_separator`
+    TrailingDigitSeparator,
+    /// `consecutive_digit_separator`
+    ConsecutiveDigitSeparator,
+    /// `digit_separator_flags`
+    DigitSeparatorFlags,
+    /// `integer_digit_separator_flags`
+    IntegerDigitSeparatorFlags,
+    /// `fraction_digit_separator_flags`
+    FractionDigitSeparatorFlags,
+    /// `exponent_digit_separator_flags`
+    ExponentDigitSeparatorFlags,
+}
+
+/// A setter of [`NumberFormatBuilder`]. An [`Edit`] is a setter with its argument.
+#[derive(Debug, Clone, Copy, PartialEq, Eq, Hash)]
+pub enum Setter {
+    /// A setter that takes a `bool`.
+    Flag(FlagSetter),
+    /// Sets the digit separator.
+    DigitSeparator,
+    /// Sets the base prefix.
+    BasePrefix,
+    /// Sets the base suffix.
+    BaseSuffix,
+    /// Sets the mantissa radix.
+    MantissaRadix,
+    /// Sets the mantissa radix. The setter `radix` is another name for the setter `mantissa_radix`.
+    Radix,
+    /// Sets the exponent base.
+    ExponentBase,
+    /// Sets the exponent radix.
+    ExponentRadix,
+}
+
+/// The kind of argument that a setter takes.
+#[derive(Debug, Clone, Copy, PartialEq, Eq, Hash)]
+pub enum ArgumentKind {
+    /// The setter takes a `bool`.
+    Flag,
+    /// The setter takes a byte that cannot be absent.
+    Byte,
+    /// The setter takes a byte that may be absent.
+    OptionalByte,
+}
+
+/// A call to a [`NumberFormatBuilder`] setter, stored as a value. An edit holds the setter and its argument.
+#[derive(Debug, Clone, Copy, PartialEq, Eq, Hash)]
+pub enum Edit {
+    /// Sets a flag, or every flag of a group, to the given value.
+    Flag(FlagSetter, bool),
+    /// Sets the digit separator. `None` means that the format has no digit separator.
+    DigitSeparator(OptionU8),
+    /// Sets the base prefix. `None` means that the format has no base prefix.
+    BasePrefix(OptionU8),
+    /// Sets the base suffix. `None` means that the format has no base suffix.
+    BaseSuffix(OptionU8),
+    /// Sets the mantissa radix. Any number from 0 to 255 is accepted, but in a lawful word, the mantissa radix is
+    /// between 2 and 36.
+    MantissaRadix(u8),
+    /// Sets the mantissa radix, as [`MantissaRadix`][Self::MantissaRadix] does. The setter `radix` is another name for
+    /// the setter `mantissa_radix`.
+    Radix(u8),
+    /// Sets the exponent base. `None` means that the mantissa radix is used in its place.
+    ExponentBase(OptionU8),
+    /// Sets the exponent radix. `None` means that the mantissa radix is used in its place.
+    ExponentRadix(OptionU8),
+}
+
+// Makes an array of all flag and group setters: first the flags, then the groups.
+macro_rules! variants {
+    (() { $($Flag:ident $flag:ident $FLAG:ident;)* } { $($Group:ident $group:ident $GROUP:ident;)* }) => {
+        [$(FlagSetter::$Flag,)* $(FlagSetter::$Group,)*]
+    };
+}
+
+const FLAGS: usize = u128::count_ones(FLAG_MASK) as usize;
+
+/// The number of fields in a format word: 31 flags and six bytes.
+pub const FIELD_COUNT: usize = FLAGS + 6;
+
+/// All setters that take a `bool`, in the order of the variants of [`FlagSetter`]: first the flag setters, then the
+/// nine group setters.
+pub const SETTERS: [FlagSetter; FLAGS + 9] = with_setters!(variants());
+
+// Makes an array of all setters: the flag setters, the group setters, then the byte setters.
+macro_rules! all_setters {
+    (() { $($Flag:ident $flag:ident $FLAG:ident;)* } { $($Group:ident $group:ident $GROUP:ident;)* }) => {
+        [
+            $(Setter::Flag(FlagSetter::$Flag),)*
+            $(Setter::Flag(FlagSetter::$Group),)*
+            Setter::DigitSeparator,
+            Setter::BasePrefix,
+            Setter::BaseSuffix,
+            Setter::MantissaRadix,
+            Setter::Radix,
+            Setter::ExponentBase,
+            Setter::ExponentRadix,
+        ]
+    };
+}
+
+/// All setters: first those in [`SETTERS`], in the same order, then the seven byte setters.
+pub const ALL_SETTERS: [Setter; SETTERS.len() + 7] = with_setters!(all_setters());
+
+// Returns the mask of the flags that a setter writes. The mask is a `u64`, since all flags are in the lower 64 bits of
+// a word, and the compiler makes lookup tables only for numbers of at most 64 bits.
+#[inline(always)]
+pub(crate) const fn mask_of(setter: FlagSetter) -> u64
+    ensures flags { flags_with result ≡ flags_of setter }
+    ensures mask { result ≡ mask_of_setter setter }
+{
+    macro_rules! masks {
+        (($setter:ident)
+            { $($Flag:ident $flag:ident $FLAG:ident;)* } { $($Group:ident $group:ident $GROUP:ident;)* }) => {
+            match $setter {
+                $(FlagSetter::$Flag => flags::$FLAG as u64,)*
+                $(FlagSetter::$Group => flags::$GROUP as u64,)*
+            }
+        };
+    }
+    with_setters!(masks(setter))
+}
+
+impl FlagSetter {
+    /// Returns the name of the setter, which is the name of the variant in snake case.
+    pub const fn name(self) -> &'static str {
+        macro_rules! names {
+            (($setter:ident)
+                { $($Flag:ident $flag:ident $FLAG:ident;)* } { $($Group:ident $group:ident $GROUP:ident;)* }) => {
+                match $setter {
+                    $(FlagSetter::$Flag => stringify!($flag),)*
+                    $(FlagSetter::$Group => stringify!($group),)*
+                }
+            };
+        }
+        with_setters!(names(self))
+    }
+
+    /// Returns whether the flag of this setter is set in `format`. For a group setter, returns whether any flag of the
+    /// group is set.
+    pub const fn is_set(self, format: u128) -> bool
+        ensures { result ≡ any_flag format (flags_of self) }
+    {
+        format & mask_of(self) as u128 != 0
+    }
+}
+
+impl Setter {
+    /// Returns the setter with the given name, or `None` if there is no such setter.
+    pub fn from_name(name: &str) -> Option<Setter> {
+        macro_rules! setters {
+            (($name:ident)
+                { $($Flag:ident $flag:ident $FLAG:ident;)* } { $($Group:ident $group:ident $GROUP:ident;)* }) => {
+                match $name {
+                    $(stringify!($flag) => Some(Setter::Flag(FlagSetter::$Flag)),)*
+                    $(stringify!($group) => Some(Setter::Flag(FlagSetter::$Group)),)*
+                    "digit_separator" => Some(Setter::DigitSeparator),
+                    "base_prefix" => Some(Setter::BasePrefix),
+                    "base_suffix" => Some(Setter::BaseSuffix),
+                    "mantissa_radix" => Some(Setter::MantissaRadix),
+                    "radix" => Some(Setter::Radix),
+                    "exponent_base" => Some(Setter::ExponentBase),
+                    "exponent_radix" => Some(Setter::ExponentRadix),
+                    _ => None,
+                }
+            };
+        }
+        with_setters!(setters(name))
+    }
+
+    /// Returns the name of the setter.
+    pub const fn name(self) -> &'static str {
+        match self {
+            Setter::Flag(setter) => setter.name(),
+            Setter::DigitSeparator => "digit_separator",
+            Setter::BasePrefix => "base_prefix",
+            Setter::BaseSuffix => "base_suffix",
+            Setter::MantissaRadix => "mantissa_radix",
+            Setter::Radix => "radix",
+            Setter::ExponentBase => "exponent_base",
+            Setter::ExponentRadix => "exponent_radix",
+        }
+    }
+
+    /// Returns the kind of argument that the setter takes.
+    pub const fn kind(self) -> ArgumentKind {
+        match self {
+            Setter::Flag(_) => ArgumentKind::Flag,
+            Setter::MantissaRadix | Setter::Radix => ArgumentKind::Byte,
+            Setter::DigitSeparator
+            | Setter::BasePrefix
+            | Setter::BaseSuffix
+            | Setter::ExponentBase
+            | Setter::ExponentRadix => ArgumentKind::OptionalByte,
+        }
+    }
+
+    /// Returns the mask of the bits that the setter writes in a format word.
+    pub const fn mask(self) -> u128 {
+        self.with_byte(0).mask()
+    }
+
+    /// Returns the edit that calls the setter with the argument that `byte` represents. For a flag, any byte except 0
+    /// means `true`. For a byte that may be absent, 0 means absent.
+    pub const fn with_byte(self, byte: u8) -> Edit {
+        match self {
+            Setter::Flag(setter) => Edit::Flag(setter, byte != 0),
+            Setter::DigitSeparator => Edit::DigitSeparator(NonZeroU8::new(byte)),
+            Setter::BasePrefix => Edit::BasePrefix(NonZeroU8::new(byte)),
+            Setter::BaseSuffix => Edit::BaseSuffix(NonZeroU8::new(byte)),
+            Setter::MantissaRadix => Edit::MantissaRadix(byte),
+            Setter::Radix => Edit::Radix(byte),
+            Setter::ExponentBase => Edit::ExponentBase(NonZeroU8::new(byte)),
+            Setter::ExponentRadix => Edit::ExponentRadix(NonZeroU8::new(byte)),
+        }
+    }
+}
+
+impl Edit {
+    /// Returns the setter that the edit calls.
+    pub const fn setter(self) -> Setter {
+        match self {
+            Edit::Flag(setter, _) => Setter::Flag(setter),
+            Edit::DigitSeparator(_) => Setter::DigitSeparator,
+            Edit::BasePrefix(_) => Setter::BasePrefix,
+            Edit::BaseSuffix(_) => Setter::BaseSuffix,
+            Edit::MantissaRadix(_) => Setter::MantissaRadix,
+            Edit::Radix(_) => Setter::Radix,
+            Edit::ExponentBase(_) => Setter::ExponentBase,
+            Edit::ExponentRadix(_) => Setter::ExponentRadix,
+        }
+    }
+
+    /// Returns the name of the setter that the edit calls.
+    pub const fn name(self) -> &'static str {
+        self.setter().name()
+    }
+
+    /// Returns the argument of the edit as a byte. This is 1 for `true`, 0 for `false` or an absent byte, and otherwise
+    /// the byte itself.
+    pub const fn argument_byte(self) -> u8
+        ensures { result ≡ argument_byte self }
+    {
+        match self {
+            Edit::Flag(_, flag) => flag as u8,
+            Edit::MantissaRadix(byte) | Edit::Radix(byte) => byte,
+            Edit::DigitSeparator(byte)
+            | Edit::BasePrefix(byte)
+            | Edit::BaseSuffix(byte)
+            | Edit::ExponentBase(byte)
+            | Edit::ExponentRadix(byte) => match byte {
+                Some(byte) => byte.get(),
+                None => 0,
+            },
+        }
+    }
+
+    /// Returns the mask of the bits that the edit writes in a format word.
+    pub const fn mask(self) -> u128
+        ensures { result ≡ mask_of_edit self }
+    {
+        match self {
+            Edit::Flag(setter, _) => mask_of(setter) as u128,
+            Edit::DigitSeparator(_) => flags::DIGIT_SEPARATOR,
+            Edit::BasePrefix(_) => flags::BASE_PREFIX,
+            Edit::BaseSuffix(_) => flags::BASE_SUFFIX,
+            Edit::MantissaRadix(_) | Edit::Radix(_) => flags::MANTISSA_RADIX,
+            Edit::ExponentBase(_) => flags::EXPONENT_BASE,
+            Edit::ExponentRadix(_) => flags::EXPONENT_RADIX,
+        }
+    }
+}
+
+/// Returns one edit for each field. The edit sets the field to its value in `format`. The edits are in the order of the
+/// bits that they write.
+pub const fn field_edits_of(format: u128) -> [Edit; FIELD_COUNT]
+    ensures { result ≡ field_edits (raw format) }
+{
+    macro_rules! edits_of_fields {
+        (($view:ident, $base:ident, $radix:ident)
+            { $($Flag:ident $flag:ident $FLAG:ident;)* } $groups:tt) => {
+            [
+                $(Edit::Flag(FlagSetter::$Flag, $view.$flag()),)*
+                Edit::DigitSeparator(NonZeroU8::new($view.digit_separator())),
+                Edit::BasePrefix(NonZeroU8::new($view.base_prefix())),
+                Edit::BaseSuffix(NonZeroU8::new($view.base_suffix())),
+                Edit::MantissaRadix($view.mantissa_radix() as u8),
+                Edit::ExponentBase(NonZeroU8::new($base)),
+                Edit::ExponentRadix(NonZeroU8::new($radix)),
+            ]
+        };
+    }
+    let view = NumberFormat::new(format);
+    let base = flags::raw_exponent_base(format);
+    let radix = flags::raw_exponent_radix(format);
+    with_setters!(edits_of_fields(view, base, radix))
+}

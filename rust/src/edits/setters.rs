@@ -1,0 +1,495 @@
+// Made by rust/tools/erase.py from crates/lexical_util/src/edits/setters.rt: change that file.
+
+//! Setters and their calls as values.
+
+use crate::format_builder::{NonZeroU8, OptionU8};
+use crate::format_flags as flags;
+use crate::format_flags::FLAG_MASK;
+use crate::view::FormatView;
+
+// Calls `$rows!` with `$args`, a row for each flag, and a row for each flag group. A row has the variant of
+// `FlagSetter`, the name of the setter, and the mask that the setter writes. The getter and the setter that belong to a
+// flag have the same name.
+macro_rules! with_setters {
+    ($rows:ident $args:tt) => {
+        $rows! {
+            $args
+            {
+                RequiredIntegerDigits required_integer_digits REQUIRED_INTEGER_DIGITS;
+                RequiredFractionDigits required_fraction_digits REQUIRED_FRACTION_DIGITS;
+                RequiredExponentDigits required_exponent_digits REQUIRED_EXPONENT_DIGITS;
+                RequiredMantissaDigits required_mantissa_digits REQUIRED_MANTISSA_DIGITS;
+                NoPositiveMantissaSign no_positive_mantissa_sign NO_POSITIVE_MANTISSA_SIGN;
+                RequiredMantissaSign required_mantissa_sign REQUIRED_MANTISSA_SIGN;
+                NoExponentNotation no_exponent_notation NO_EXPONENT_NOTATION;
+                NoPositiveExponentSign no_positive_exponent_sign NO_POSITIVE_EXPONENT_SIGN;
+                RequiredExponentSign required_exponent_sign REQUIRED_EXPONENT_SIGN;
+                NoExponentWithoutFraction no_exponent_without_fraction NO_EXPONENT_WITHOUT_FRACTION;
+                NoSpecial no_special NO_SPECIAL;
+                CaseSensitiveSpecial case_sensitive_special CASE_SENSITIVE_SPECIAL;
+                NoIntegerLeadingZeros no_integer_leading_zeros NO_INTEGER_LEADING_ZEROS;
+                NoFloatLeadingZeros no_float_leading_zeros NO_FLOAT_LEADING_ZEROS;
+                RequiredExponentNotation required_exponent_notation REQUIRED_EXPONENT_NOTATION;
+                CaseSensitiveExponent case_sensitive_exponent CASE_SENSITIVE_EXPONENT;
+                CaseSensitiveBasePrefix case_sensitive_base_prefix CASE_SENSITIVE_BASE_PREFIX;
+                CaseSensitiveBaseSuffix case_sensitive_base_suffix CASE_SENSITIVE_BASE_SUFFIX;
+                IntegerInternalDigitSeparator integer_internal_digit_separator INTEGER_INTERNAL_DIGIT_SEPARATOR;
+                FractionInternalDigitSeparator fraction_internal_digit_separator FRACTION_INTERNAL_DIGIT_SEPARATOR;
+                ExponentInternalDigitSeparator exponent_internal_digit_separator EXPONENT_INTERNAL_DIGIT_SEPARATOR;
+                IntegerLeadingDigitSeparator integer_leading_digit_separator INTEGER_LEADING_DIGIT_SEPARATOR;
+                FractionLeadingDigitSeparator fraction_leading_digit_separator FRACTION_LEADING_DIGIT_SEPARATOR;
+                ExponentLeadingDigitSeparator exponent_leading_digit_separator EXPONENT_LEADING_DIGIT_SEPARATOR;
+                IntegerTrailingDigitSeparator integer_trailing_digit_separator INTEGER_TRAILING_DIGIT_SEPARATOR;
+                FractionTrailingDigitSeparator fraction_trailing_digit_separator FRACTION_TRAILING_DIGIT_SEPARATOR;
+                ExponentTrailingDigitSeparator exponent_trailing_digit_separator EXPONENT_TRAILING_DIGIT_SEPARATOR;
+                IntegerConsecutiveDigitSeparator integer_consecutive_digit_separator INTEGER_CONSECUTIVE_DIGIT_SEPARATOR;
+                FractionConsecutiveDigitSeparator fraction_consecutive_digit_separator FRACTION_CONSECUTIVE_DIGIT_SEPARATOR;
+                ExponentConsecutiveDigitSeparator exponent_consecutive_digit_separator EXPONENT_CONSECUTIVE_DIGIT_SEPARATOR;
+                SpecialDigitSeparator special_digit_separator SPECIAL_DIGIT_SEPARATOR;
+            }
+            {
+                RequiredDigits required_digits REQUIRED_DIGITS;
+                InternalDigitSeparator internal_digit_separator INTERNAL_DIGIT_SEPARATOR;
+                LeadingDigitSeparator leading_digit_separator LEADING_DIGIT_SEPARATOR;
+                TrailingDigitSeparator trailing_digit_separator TRAILING_DIGIT_SEPARATOR;
+                ConsecutiveDigitSeparator consecutive_digit_separator CONSECUTIVE_DIGIT_SEPARATOR;
+                DigitSeparatorFlags digit_separator_flags DIGIT_SEPARATOR_FLAG_MASK;
+                IntegerDigitSeparatorFlags integer_digit_separator_flags INTEGER_DIGIT_SEPARATOR_FLAG_MASK;
+                FractionDigitSeparatorFlags fraction_digit_separator_flags FRACTION_DIGIT_SEPARATOR_FLAG_MASK;
+                ExponentDigitSeparatorFlags exponent_digit_separator_flags EXPONENT_DIGIT_SEPARATOR_FLAG_MASK;
+            }
+        }
+    };
+}
+
+/// A setter of [`NumberFormatBuilder`] that takes a `bool`. It sets one flag, or all flags of one of the nine flag
+/// groups. Each variant links to its setter.
+#[derive(Debug, Clone, Copy, PartialEq, Eq, Hash, PartialOrd, Ord)]
+#[non_exhaustive]
+pub enum FlagSetter {
+    /// Sets whether the format requires digits before the decimal point. If so, a parser rejects `.5`. See
+    /// [`required_integer_digits`][crate::format_builder::NumberFormatBuilder::required_integer_digits].
+    RequiredIntegerDigits,
+    /// Sets whether the format requires digits after a decimal point. If so, a parser rejects `1.` but accepts `1`.
+    /// See [`required_fraction_digits`][crate::format_builder::NumberFormatBuilder::required_fraction_digits].
+    RequiredFractionDigits,
+    /// Sets whether the format requires digits after an exponent character. If so, a parser rejects `1e`. See
+    /// [`required_exponent_digits`][crate::format_builder::NumberFormatBuilder::required_exponent_digits].
+    RequiredExponentDigits,
+    /// Sets whether the format requires a digit in the mantissa of a float. If so, a parser rejects `.`. See
+    /// [`required_mantissa_digits`][crate::format_builder::NumberFormatBuilder::required_mantissa_digits].
+    RequiredMantissaDigits,
+    /// Sets whether the format forbids a `+` before an integer or a float. If so, a parser rejects `+1` but accepts
+    /// `-1`. See [`no_positive_mantissa_sign`][crate::format_builder::NumberFormatBuilder::no_positive_mantissa_sign].
+    NoPositiveMantissaSign,
+    /// Sets whether the format requires a sign before an integer or a float. If so, a parser rejects `1`, and a writer
+    /// writes `+1`. See
+    /// [`required_mantissa_sign`][crate::format_builder::NumberFormatBuilder::required_mantissa_sign].
+    RequiredMantissaSign,
+    /// Sets whether the format forbids an exponent in a float. If so, a parser rejects `1e5`, and a writer writes out
+    /// all digits. See [`no_exponent_notation`][crate::format_builder::NumberFormatBuilder::no_exponent_notation].
+    NoExponentNotation,
+    /// Sets whether the format forbids a `+` in the exponent. If so, a parser rejects `1e+5` but accepts `1e5` and
+    /// `1e-5`. See
+    /// [`no_positive_exponent_sign`][crate::format_builder::NumberFormatBuilder::no_positive_exponent_sign].
+    NoPositiveExponentSign,
+    /// Sets whether the format requires a sign in the exponent. If so, a parser rejects `1e5`, and a writer writes
+    /// `1e+5`. See [`required_exponent_sign`][crate::format_builder::NumberFormatBuilder::required_exponent_sign].
+    RequiredExponentSign,
+    /// Sets whether the format requires a decimal point before an exponent. If so, a parser rejects `1e5` but accepts
+    /// `1.0e5`. See
+    /// [`no_exponent_without_fraction`][crate::format_builder::NumberFormatBuilder::no_exponent_without_fraction].
+    NoExponentWithoutFraction,
+    /// Sets whether the format forbids all special values. If so, a parser rejects `NaN` and `inf`. See
+    /// [`no_special`][crate::format_builder::NumberFormatBuilder::no_special].
+    NoSpecial,
+    /// Sets whether special values are case-sensitive. If so, a parser rejects `nan` when the spelling of NaN is
+    /// `NaN`. See [`case_sensitive_special`][crate::format_builder::NumberFormatBuilder::case_sensitive_special].
+    CaseSensitiveSpecial,
+    /// Sets whether the format forbids leading zeros in an integer. If so, a parser rejects the integer `01` but
+    /// accepts `0`. See
+    /// [`no_integer_leading_zeros`][crate::format_builder::NumberFormatBuilder::no_integer_leading_zeros].
+    NoIntegerLeadingZeros,
+    /// Sets whether the format forbids leading zeros in a float. If so, a parser rejects `01.0` but accepts `0.1`. See
+    /// [`no_float_leading_zeros`][crate::format_builder::NumberFormatBuilder::no_float_leading_zeros].
+    NoFloatLeadingZeros,
+    /// Sets whether the format requires an exponent in a float. If so, a parser rejects `1.0`, and a writer writes
+    /// every float with an exponent. See
+    /// [`required_exponent_notation`][crate::format_builder::NumberFormatBuilder::required_exponent_notation].
+    RequiredExponentNotation,
+    /// Sets whether the exponent character is case-sensitive. If so, a parser rejects `1E5` when the exponent
+    /// character is `e`. See
+    /// [`case_sensitive_exponent`][crate::format_builder::NumberFormatBuilder::case_sensitive_exponent].
+    CaseSensitiveExponent,
+    /// Sets whether the base prefix is case-sensitive. If so, a parser rejects `0X1F` when the base prefix is `x`. See
+    /// [`case_sensitive_base_prefix`][crate::format_builder::NumberFormatBuilder::case_sensitive_base_prefix].
+    CaseSensitiveBasePrefix,
+    /// Sets whether the base suffix is case-sensitive. If so, a parser rejects `1FH` when the base suffix is `h`. See
+    /// [`case_sensitive_base_suffix`][crate::format_builder::NumberFormatBuilder::case_sensitive_base_suffix].
+    CaseSensitiveBaseSuffix,
+    /// Sets whether the format allows a digit separator between integer digits. If so, a parser accepts `1_2`. See
+    /// [`integer_internal_digit_separator`][crate::format_builder::NumberFormatBuilder::integer_internal_digit_separator].
+    IntegerInternalDigitSeparator,
+    /// Sets whether the format allows a digit separator between fraction digits. If so, a parser accepts `0.1_2`. See
+    /// [`fraction_internal_digit_separator`][crate::format_builder::NumberFormatBuilder::fraction_internal_digit_separator].
+    FractionInternalDigitSeparator,
+    /// Sets whether the format allows a digit separator between exponent digits. If so, a parser accepts `1e1_2`. See
+    /// [`exponent_internal_digit_separator`][crate::format_builder::NumberFormatBuilder::exponent_internal_digit_separator].
+    ExponentInternalDigitSeparator,
+    /// Sets whether the format allows a digit separator before the integer digits. If so, a parser accepts `_12`. See
+    /// [`integer_leading_digit_separator`][crate::format_builder::NumberFormatBuilder::integer_leading_digit_separator].
+    IntegerLeadingDigitSeparator,
+    /// Sets whether the format allows a digit separator before the fraction digits. If so, a parser accepts `0._12`.
+    /// See
+    /// [`fraction_leading_digit_separator`][crate::format_builder::NumberFormatBuilder::fraction_leading_digit_separator].
+    FractionLeadingDigitSeparator,
+    /// Sets whether the format allows a digit separator before the exponent digits. If so, a parser accepts `1e_12`.
+    /// See
+    /// [`exponent_leading_digit_separator`][crate::format_builder::NumberFormatBuilder::exponent_leading_digit_separator].
+    ExponentLeadingDigitSeparator,
+    /// Sets whether the format allows a digit separator after the integer digits. If so, a parser accepts `12_`. See
+    /// [`integer_trailing_digit_separator`][crate::format_builder::NumberFormatBuilder::integer_trailing_digit_separator].
+    IntegerTrailingDigitSeparator,
+    /// Sets whether the format allows a digit separator after the fraction digits. If so, a parser accepts `0.12_`.
+    /// See
+    /// [`fraction_trailing_digit_separator`][crate::format_builder::NumberFormatBuilder::fraction_trailing_digit_separator].
+    FractionTrailingDigitSeparator,
+    /// Sets whether the format allows a digit separator after the exponent digits. If so, a parser accepts `1e12_`.
+    /// See
+    /// [`exponent_trailing_digit_separator`][crate::format_builder::NumberFormatBuilder::exponent_trailing_digit_separator].
+    ExponentTrailingDigitSeparator,
+    /// Sets whether the format allows consecutive digit separators in the integer part. If so, a parser accepts
+    /// several separators in a row wherever it accepts a single one: `1__2`, `__12`, `12__`. See
+    /// [`integer_consecutive_digit_separator`][crate::format_builder::NumberFormatBuilder::integer_consecutive_digit_separator].
+    IntegerConsecutiveDigitSeparator,
+    /// Sets whether the format allows consecutive digit separators in the fraction. If so, a parser accepts several
+    /// separators in a row wherever it accepts a single one: `0.1__2`, `0.__12`, `0.12__`. See
+    /// [`fraction_consecutive_digit_separator`][crate::format_builder::NumberFormatBuilder::fraction_consecutive_digit_separator].
+    FractionConsecutiveDigitSeparator,
+    /// Sets whether the format allows consecutive digit separators in the exponent. If so, a parser accepts several
+    /// separators in a row wherever it accepts a single one: `1e1__2`, `1e__12`, `1e12__`. See
+    /// [`exponent_consecutive_digit_separator`][crate::format_builder::NumberFormatBuilder::exponent_consecutive_digit_separator].
+    ExponentConsecutiveDigitSeparator,
+    /// Sets whether the format allows digit separators in special values. If so, a parser accepts `N__a_N_` as `NaN`.
+    /// See [`special_digit_separator`][crate::format_builder::NumberFormatBuilder::special_digit_separator].
+    SpecialDigitSeparator,
+    /// Sets or clears all flags that require digits. See
+    /// [`required_digits`][crate::format_builder::NumberFormatBuilder::required_digits].
+    RequiredDigits,
+    /// Sets or clears all flags that allow a digit separator between digits. See
+    /// [`internal_digit_separator`][crate::format_builder::NumberFormatBuilder::internal_digit_separator].
+    InternalDigitSeparator,
+    /// Sets or clears all flags that allow a digit separator before digits. See
+    /// [`leading_digit_separator`][crate::format_builder::NumberFormatBuilder::leading_digit_separator].
+    LeadingDigitSeparator,
+    /// Sets or clears all flags that allow a digit separator after digits. See
+    /// [`trailing_digit_separator`][crate::format_builder::NumberFormatBuilder::trailing_digit_separator].
+    TrailingDigitSeparator,
+    /// Sets or clears all flags that allow consecutive digit separators. See
+    /// [`consecutive_digit_separator`][crate::format_builder::NumberFormatBuilder::consecutive_digit_separator].
+    ConsecutiveDigitSeparator,
+    /// Sets or clears all flags that allow digit separators, including the flag that allows them in special values.
+    /// See [`digit_separator_flags`][crate::format_builder::NumberFormatBuilder::digit_separator_flags].
+    DigitSeparatorFlags,
+    /// Sets or clears all flags that allow digit separators in the integer part. See
+    /// [`integer_digit_separator_flags`][crate::format_builder::NumberFormatBuilder::integer_digit_separator_flags].
+    IntegerDigitSeparatorFlags,
+    /// Sets or clears all flags that allow digit separators in the fraction. See
+    /// [`fraction_digit_separator_flags`][crate::format_builder::NumberFormatBuilder::fraction_digit_separator_flags].
+    FractionDigitSeparatorFlags,
+    /// Sets or clears all flags that allow digit separators in the exponent. See
+    /// [`exponent_digit_separator_flags`][crate::format_builder::NumberFormatBuilder::exponent_digit_separator_flags].
+    ExponentDigitSeparatorFlags,
+}
+
+/// A setter of [`NumberFormatBuilder`]. An [`Edit`] is a setter with its argument.
+#[derive(Debug, Clone, Copy, PartialEq, Eq, Hash, PartialOrd, Ord)]
+pub enum Setter {
+    /// A setter that takes a `bool`.
+    Flag(FlagSetter),
+    /// Sets the digit separator.
+    DigitSeparator,
+    /// Sets the base prefix.
+    BasePrefix,
+    /// Sets the base suffix.
+    BaseSuffix,
+    /// Sets the mantissa radix.
+    MantissaRadix,
+    /// Sets the mantissa radix. The setter `radix` is another name for the setter `mantissa_radix`.
+    Radix,
+    /// Sets the exponent base.
+    ExponentBase,
+    /// Sets the exponent radix.
+    ExponentRadix,
+}
+
+/// The kind of argument that a setter takes.
+#[derive(Debug, Clone, Copy, PartialEq, Eq, Hash)]
+pub enum ArgumentKind {
+    /// The setter takes a `bool`.
+    Flag,
+    /// The setter takes a byte that cannot be absent.
+    Byte,
+    /// The setter takes a byte that may be absent.
+    OptionalByte,
+}
+
+/// A call to a [`NumberFormatBuilder`] setter, stored as a value. An edit holds the setter and its argument.
+#[derive(Debug, Clone, Copy, PartialEq, Eq, Hash, PartialOrd, Ord)]
+pub enum Edit {
+    /// Sets a flag, or every flag of a group, to the given value.
+    Flag(FlagSetter, bool),
+    /// Sets the digit separator. `None` means that the format has no digit separator.
+    DigitSeparator(OptionU8),
+    /// Sets the base prefix. `None` means that the format has no base prefix.
+    BasePrefix(OptionU8),
+    /// Sets the base suffix. `None` means that the format has no base suffix.
+    BaseSuffix(OptionU8),
+    /// Sets the mantissa radix. Any number from 0 to 255 is accepted, but in a lawful word, the mantissa radix is
+    /// between 2 and 36.
+    MantissaRadix(u8),
+    /// Sets the mantissa radix, as [`MantissaRadix`][Self::MantissaRadix] does. The setter `radix` is another name for
+    /// the setter `mantissa_radix`.
+    Radix(u8),
+    /// Sets the exponent base. `None` means that the mantissa radix is used in its place.
+    ExponentBase(OptionU8),
+    /// Sets the exponent radix. `None` means that the mantissa radix is used in its place.
+    ExponentRadix(OptionU8),
+}
+
+// Makes an array of all flag and group setters: first the flags, then the groups.
+macro_rules! variants {
+    (() { $($Flag:ident $flag:ident $FLAG:ident;)* } { $($Group:ident $group:ident $GROUP:ident;)* }) => {
+        [$(FlagSetter::$Flag,)* $(FlagSetter::$Group,)*]
+    };
+}
+
+const FLAGS: usize = u128::count_ones(FLAG_MASK) as usize;
+
+/// The number of fields in a format word: 31 flags and six bytes.
+#[doc(hidden)]
+pub const FIELD_COUNT: usize = FLAGS + 6;
+
+/// All setters that take a `bool`, in the order of the variants of [`FlagSetter`]: first the flag setters, then the
+/// nine group setters.
+#[doc(hidden)]
+pub const SETTERS: [FlagSetter; FLAGS + 9] = with_setters!(variants());
+
+// Makes an array of all setters: the flag setters, the group setters, then the byte setters.
+macro_rules! all_setters {
+    (() { $($Flag:ident $flag:ident $FLAG:ident;)* } { $($Group:ident $group:ident $GROUP:ident;)* }) => {
+        [
+            $(Setter::Flag(FlagSetter::$Flag),)*
+            $(Setter::Flag(FlagSetter::$Group),)*
+            Setter::DigitSeparator,
+            Setter::BasePrefix,
+            Setter::BaseSuffix,
+            Setter::MantissaRadix,
+            Setter::Radix,
+            Setter::ExponentBase,
+            Setter::ExponentRadix,
+        ]
+    };
+}
+
+/// All setters: first those in [`SETTERS`], in the same order, then the seven byte setters.
+#[doc(hidden)]
+pub const ALL_SETTERS: [Setter; SETTERS.len() + 7] = with_setters!(all_setters());
+
+// Returns the mask of the flags that a setter writes. The mask is a `u64`, since all flags are in the lower 64 bits of
+// a word, and the compiler makes lookup tables only for numbers of at most 64 bits.
+#[inline(always)]
+pub(crate) const fn mask_of(setter: FlagSetter) -> u64 {
+    macro_rules! masks {
+        (($setter:ident)
+            { $($Flag:ident $flag:ident $FLAG:ident;)* } { $($Group:ident $group:ident $GROUP:ident;)* }) => {
+            match $setter {
+                $(FlagSetter::$Flag => flags::$FLAG as u64,)*
+                $(FlagSetter::$Group => flags::$GROUP as u64,)*
+            }
+        };
+    }
+    with_setters!(masks(setter))
+}
+
+impl FlagSetter {
+    /// Returns the name of the setter, which is the name of the variant in snake case.
+    #[must_use]
+    pub const fn name(self) -> &'static str {
+        macro_rules! names {
+            (($setter:ident)
+                { $($Flag:ident $flag:ident $FLAG:ident;)* } { $($Group:ident $group:ident $GROUP:ident;)* }) => {
+                match $setter {
+                    $(FlagSetter::$Flag => stringify!($flag),)*
+                    $(FlagSetter::$Group => stringify!($group),)*
+                }
+            };
+        }
+        with_setters!(names(self))
+    }
+
+    /// Returns whether the flag of this setter is set in `format`. For a group setter, returns whether any flag of the
+    /// group is set.
+    #[must_use]
+    pub const fn is_set(self, format: u128) -> bool {
+        format & mask_of(self) as u128 != 0
+    }
+}
+
+impl Setter {
+    /// Returns the setter with the given name, or `None` if there is no such setter.
+    #[must_use]
+    pub fn from_name(name: &str) -> Option<Setter> {
+        macro_rules! setters {
+            (($name:ident)
+                { $($Flag:ident $flag:ident $FLAG:ident;)* } { $($Group:ident $group:ident $GROUP:ident;)* }) => {
+                match $name {
+                    $(stringify!($flag) => Some(Setter::Flag(FlagSetter::$Flag)),)*
+                    $(stringify!($group) => Some(Setter::Flag(FlagSetter::$Group)),)*
+                    "digit_separator" => Some(Setter::DigitSeparator),
+                    "base_prefix" => Some(Setter::BasePrefix),
+                    "base_suffix" => Some(Setter::BaseSuffix),
+                    "mantissa_radix" => Some(Setter::MantissaRadix),
+                    "radix" => Some(Setter::Radix),
+                    "exponent_base" => Some(Setter::ExponentBase),
+                    "exponent_radix" => Some(Setter::ExponentRadix),
+                    _ => None,
+                }
+            };
+        }
+        with_setters!(setters(name))
+    }
+
+    /// Returns the name of the setter.
+    #[must_use]
+    pub const fn name(self) -> &'static str {
+        match self {
+            Setter::Flag(setter) => setter.name(),
+            Setter::DigitSeparator => "digit_separator",
+            Setter::BasePrefix => "base_prefix",
+            Setter::BaseSuffix => "base_suffix",
+            Setter::MantissaRadix => "mantissa_radix",
+            Setter::Radix => "radix",
+            Setter::ExponentBase => "exponent_base",
+            Setter::ExponentRadix => "exponent_radix",
+        }
+    }
+
+    /// Returns the kind of argument that the setter takes.
+    #[must_use]
+    pub const fn kind(self) -> ArgumentKind {
+        match self {
+            Setter::Flag(_) => ArgumentKind::Flag,
+            Setter::MantissaRadix | Setter::Radix => ArgumentKind::Byte,
+            Setter::DigitSeparator
+            | Setter::BasePrefix
+            | Setter::BaseSuffix
+            | Setter::ExponentBase
+            | Setter::ExponentRadix => ArgumentKind::OptionalByte,
+        }
+    }
+
+    /// Returns the mask of the bits that the setter writes in a format word.
+    #[must_use]
+    pub const fn mask(self) -> u128 {
+        self.with_byte(0).mask()
+    }
+
+    /// Returns the edit that calls the setter with the argument that `byte` represents. For a flag, any byte except 0
+    /// means `true`. For a byte that may be absent, 0 means absent.
+    #[must_use]
+    #[doc(hidden)]
+    pub const fn with_byte(self, byte: u8) -> Edit {
+        match self {
+            Setter::Flag(setter) => Edit::Flag(setter, byte != 0),
+            Setter::DigitSeparator => Edit::DigitSeparator(NonZeroU8::new(byte)),
+            Setter::BasePrefix => Edit::BasePrefix(NonZeroU8::new(byte)),
+            Setter::BaseSuffix => Edit::BaseSuffix(NonZeroU8::new(byte)),
+            Setter::MantissaRadix => Edit::MantissaRadix(byte),
+            Setter::Radix => Edit::Radix(byte),
+            Setter::ExponentBase => Edit::ExponentBase(NonZeroU8::new(byte)),
+            Setter::ExponentRadix => Edit::ExponentRadix(NonZeroU8::new(byte)),
+        }
+    }
+}
+
+impl Edit {
+    /// Returns the setter that the edit calls.
+    #[must_use]
+    pub const fn setter(self) -> Setter {
+        match self {
+            Edit::Flag(setter, _) => Setter::Flag(setter),
+            Edit::DigitSeparator(_) => Setter::DigitSeparator,
+            Edit::BasePrefix(_) => Setter::BasePrefix,
+            Edit::BaseSuffix(_) => Setter::BaseSuffix,
+            Edit::MantissaRadix(_) => Setter::MantissaRadix,
+            Edit::Radix(_) => Setter::Radix,
+            Edit::ExponentBase(_) => Setter::ExponentBase,
+            Edit::ExponentRadix(_) => Setter::ExponentRadix,
+        }
+    }
+
+    /// Returns the name of the setter that the edit calls.
+    #[must_use]
+    pub const fn name(self) -> &'static str {
+        self.setter().name()
+    }
+
+    /// Returns the argument of the edit as a byte. This is 1 for `true`, 0 for `false` or an absent byte, and otherwise
+    /// the byte itself.
+    #[must_use]
+    #[doc(hidden)]
+    pub const fn argument_byte(self) -> u8 {
+        match self {
+            Edit::Flag(_, flag) => flag as u8,
+            Edit::MantissaRadix(byte) | Edit::Radix(byte) => byte,
+            Edit::DigitSeparator(byte)
+            | Edit::BasePrefix(byte)
+            | Edit::BaseSuffix(byte)
+            | Edit::ExponentBase(byte)
+            | Edit::ExponentRadix(byte) => match byte {
+                Some(byte) => byte.get(),
+                None => 0,
+            },
+        }
+    }
+
+    /// Returns the mask of the bits that the edit writes in a format word.
+    #[must_use]
+    pub const fn mask(self) -> u128 {
+        match self {
+            Edit::Flag(setter, _) => mask_of(setter) as u128,
+            Edit::DigitSeparator(_) => flags::DIGIT_SEPARATOR,
+            Edit::BasePrefix(_) => flags::BASE_PREFIX,
+            Edit::BaseSuffix(_) => flags::BASE_SUFFIX,
+            Edit::MantissaRadix(_) | Edit::Radix(_) => flags::MANTISSA_RADIX,
+            Edit::ExponentBase(_) => flags::EXPONENT_BASE,
+            Edit::ExponentRadix(_) => flags::EXPONENT_RADIX,
+        }
+    }
+}
+
+/// Returns one edit for each field. The edit sets the field to its value in `format`. The edits are in the order of the
+/// bits that they write.
+#[must_use]
+#[doc(hidden)]
+pub const fn field_edits_of(format: u128) -> [Edit; FIELD_COUNT] {
+    macro_rules! edits_of_fields {
+        (($view:ident, $base:ident, $radix:ident)
+            { $($Flag:ident $flag:ident $FLAG:ident;)* } $groups:tt) => {
+            [
+                $(Edit::Flag(FlagSetter::$Flag, $view.$flag()),)*
+                Edit::DigitSeparator(NonZeroU8::new($view.digit_separator())),
+                Edit::BasePrefix(NonZeroU8::new($view.base_prefix())),
+                Edit::BaseSuffix(NonZeroU8::new($view.base_suffix())),
+                Edit::MantissaRadix($view.mantissa_radix() as u8),
+                Edit::ExponentBase(NonZeroU8::new($base)),
+                Edit::ExponentRadix(NonZeroU8::new($radix)),
+            ]
+        };
+    }
+    let view = FormatView::new(format);
+    let base = flags::raw_exponent_base(format);
+    let radix = flags::raw_exponent_radix(format);
+    with_setters!(edits_of_fields(view, base, radix))
+}
