@@ -1,4 +1,4 @@
--- The text of a format word (`0x` and hexadecimal digits), for `parse_word`, `word_text`, `numfmt` and C.
+-- The text of a format word (`0x` and hexadecimal digits), for `parse_word` and `word_text`.
 use Rattle.std.specs.Prelude.{◌≡◌, ℕ, zero, suc, ◌/◌, ◌%◌, ◌^◌, ◌==◌, Bool, ◌&&◌, not, IsTrue, if◌then◌else◌}
 use Rattle.std.specs.Prelude.{Option, None, Some, Result, Ok, Err, List, [], ◌∷◌, ◌++◌, length, take, drop, replicate}
 use Rattle.std.specs.Prelude.{slice_get, slice_index, codes, bytes_eq}
