@@ -60,7 +60,7 @@ impl Reason {
             Reason::IsDigit(edit, radix) => edit.mask() | radix.mask(),
             Reason::Clash(a, b, None) => a.mask() | b.mask(),
             Reason::Clash(a, b, Some(flag)) => a.mask() | b.mask() | mask_of(*flag) as u128,
-            Reason::Contradict(a, b) => (mask_of(*a) | mask_of(*b)) as u128,
+            Reason::Contradict(a, b) => mask_of(*a) as u128 | mask_of(*b) as u128,
             Reason::NeedsPosition(flag) => position_rule(*flag).mask(),
             Reason::ReservedBits(bits) => *bits,
         }

@@ -1,9 +1,10 @@
 -- The argument of an edit as a byte, and the bits that an edit writes, for `argument_byte` and `mask` of `Edit`.
-use Rattle.std.specs.Prelude.{ℕ, if◌then◌else◌}
-use Rattle.lexical_flags.specs.Layout as layout
+use Rattle.std.specs.Prelude.{ℕ, ◌^◌, if◌then◌else◌, sum_by}
+use Rattle.lexical_flags.specs.Layout.{bit}
 use Rattle.lexical_flags.specs.Additions.Masks.{byte_mask, mask_of}
 use Rattle.lexical_builder.specs.OptionByte.{byte_of_option}
-use Rattle.lexical_util.specs.Edits.{flags_of}
+use Rattle.lexical_builder.specs.Writes.{Write, write_flag, write_byte}
+use Rattle.lexical_util.specs.Edits.{flags_of, writes_of}
 use Rattle.lexical_util.specs.declared.edits.setters.FlagSetter.{FlagSetter}
 use Rattle.lexical_util.specs.declared.edits.setters.Edit.{Edit}
 use Rattle.lexical_util.specs.declared.edits.setters.Edit.TheVariants as edits
@@ -23,13 +24,11 @@ argument_byte (edits.ExponentRadix radix) = byte_of_option radix
 abbrev pub mask_of_setter : FlagSetter → ℕ
 mask_of_setter setter = mask_of (flags_of setter)
 
+-- `mask_of_write write` is the number with 1 in the bits of a word that `write` writes.
+abbrev pub mask_of_write : Write → ℕ
+mask_of_write (write_flag f value) = 2 ^ bit f
+mask_of_write (write_byte b value) = byte_mask b
+
 -- `mask_of_edit edit` is the number with 1 in the bits of a word that `edit` writes.
 abbrev pub mask_of_edit : Edit → ℕ
-mask_of_edit (edits.Flag setter flag) = mask_of_setter setter
-mask_of_edit (edits.DigitSeparator byte) = byte_mask layout.digit_separator
-mask_of_edit (edits.BasePrefix byte) = byte_mask layout.base_prefix
-mask_of_edit (edits.BaseSuffix byte) = byte_mask layout.base_suffix
-mask_of_edit (edits.MantissaRadix radix) = byte_mask layout.mantissa_radix
-mask_of_edit (edits.Radix radix) = byte_mask layout.mantissa_radix
-mask_of_edit (edits.ExponentBase base) = byte_mask layout.exponent_base
-mask_of_edit (edits.ExponentRadix radix) = byte_mask layout.exponent_radix
+mask_of_edit edit = sum_by mask_of_write (writes_of edit)

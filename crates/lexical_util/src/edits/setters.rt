@@ -1,12 +1,13 @@
 //! Setters and their calls as values.
 
-ghost use Rattle.std.specs.Prelude.{◌≡◌};
+ghost use Rattle.std.specs.Prelude.{◌≡◌, Bool};
 ghost use Rattle.lexical_flags.specs.Record.{raw};
 ghost use Rattle.lexical_builder.specs.BuilderBits.{flags_with};
 ghost use Rattle.lexical_util.specs.Edits.{flags_of};
 ghost use Rattle.lexical_util.specs.Groups.{any_flag};
 ghost use Rattle.lexical_util.specs.Additions.EditMasks.{argument_byte, mask_of_setter, mask_of_edit};
 ghost use Rattle.lexical_util.specs.Additions.FieldEdits.{field_edits};
+ghost use Rattle.lexical_util.specs.declared.edits.setters.Edit.TheVariants as edits;
 
 use crate::feature_format::NumberFormat;
 use lexical_builder::format_builder::{NonZeroU8, OptionU8};
@@ -251,6 +252,7 @@ pub const ALL_SETTERS: [Setter; SETTERS.len() + 7] = with_setters!(all_setters()
 pub(crate) const fn mask_of(setter: FlagSetter) -> u64
     ensures flags { flags_with result ≡ flags_of setter }
     ensures mask { result ≡ mask_of_setter setter }
+    ensures edit { (flag : Bool) → mask_of_edit (edits.Flag setter flag) ≡ result }
 {
     macro_rules! masks {
         (($setter:ident)
