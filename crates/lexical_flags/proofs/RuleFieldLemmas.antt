@@ -1,15 +1,17 @@
 -- Lemmas that a rule depends only on the bits that it reads.
-use Rattle.std.proofs.Common.{ℕ, ◌≡◌, ◌-◌, ◌*◌, ◌/◌, ◌^◌, ◌==◌, ◌⊎◌, ◌&&◌, ◌||◌, not, true, IsTrue, IsFalse, [], ◌∷◌}
+use Rattle.std.proofs.Common.{ℕ, ◌≡◌, ◌-◌, ◌*◌, ◌/◌, ◌^◌, ◌==◌, ◌⊎◌, ◌&&◌, ◌||◌, not, true, false, IsTrue, IsFalse, Bool, List, [], ◌∷◌}
 use Rattle.std.proofs.Common.{bit_and, refl, ap, sym, subst, ◌∙◌}
 use Rattle.std.proofs.lemmas.Nat.{and_assoc}
 use Rattle.lexical_base.specs.Ascii.{allowed_ascii}
 use Rattle.lexical_base.specs.Digits.{digits_of}
 use Rattle.lexical_flags.specs.Layout as layout
-use Rattle.lexical_flags.specs.Layout.{Flag, Byte, part, bit, shift, IsClean}
-use Rattle.lexical_flags.specs.Record.{raw, effective}
+use Rattle.lexical_flags.specs.Layout.{Flag, Byte, part, bit, shift}
+use Rattle.lexical_flags.specs.Record.{Record, raw, effective}
 use Rattle.lexical_flags.specs.Roles.{AreDisjoint, cased, signs}
 use Rattle.lexical_flags.specs.Rules.{IsRadix, IsPunctuation, Demands, Holds, lacks_position}
-use Rattle.lexical_flags.specs.Additions.RuleFields.{mask_read}
+use Rattle.std.specs.List.{list_all}
+use Rattle.std.proofs.lemmas.Bool.{and_parts, eqb-true}
+use Rattle.lexical_flags.specs.Additions.RuleFields.{FlagShape, both_set, only_set, no_flags, flag_shape, flags_of_shape, mask_read}
 use Rattle.lexical_flags.specs.declared.format_flags.all_rules.Rule.{Rule}
 use Rattle.lexical_flags.specs.declared.format_flags.all_rules.Rule.TheVariants as rules
 use Rattle.lexical_flags.proofs.ByteParts.{masked_part}
@@ -44,6 +46,37 @@ IsAbsentOrPunctuation-same v w b c is m e i =
     (is i ≡ 0) ⊎ (IsTrue (allowed_ascii (is i))
     × (IsTrue (digits_of (m i) (is i) || digits_of (effective (e i) (m i)) (is i)) → ⊥) × (IsTrue (signs (is i)) → ⊥))
 
+-- `has_shape shape r` is true if the flags of `r` satisfy the condition `shape`.
+abbrev pub has_shape : FlagShape → Record → Bool
+has_shape (both_set a b) r = r.flag a && r.flag b
+has_shape (only_set c i l t) r = lacks_position (r.flag c) (r.flag i) (r.flag l) (r.flag t)
+has_shape no_flags r = false
+
+-- `are_in mask fs` is true if `mask` has the bits of the flags `fs`.
+abbrev pub are_in : ℕ → List Flag → Bool
+are_in mask fs = list_all (λ f. bit_and mask (2 ^ bit f) == 2 ^ bit f) fs
+
+-- If two words agree in the flags of a shape, then both have the shape or neither has it.
+listed : (mask : ℕ) (f : Flag) (fs : List Flag) → are_in mask (f ∷ fs) ≡ true
+    → (bit_and mask (2 ^ bit f) ≡ 2 ^ bit f) × (are_in mask fs ≡ true)
+listed mask f fs inside = let parts = and_parts _ _ inside in (eqb-true _ _ parts.0, parts.1)
+
+pub shape_same : (v w mask : ℕ) → bit_and v mask ≡ bit_and w mask → (shape : FlagShape)
+    → are_in mask (flags_of_shape shape) ≡ true
+    → has_shape shape (raw v) ≡ has_shape shape (raw w)
+shape_same v w mask same (both_set a b) inside =
+    let first = listed mask a (b ∷ []) inside in
+    let second = listed mask b [] first.1 in
+    λ k. flag v w mask same a first.0 k && flag v w mask same b second.0 k
+shape_same v w mask same (only_set c i l t) inside =
+    let first = listed mask c (i ∷ l ∷ t ∷ []) inside in
+    let second = listed mask i (l ∷ t ∷ []) first.1 in
+    let third = listed mask l (t ∷ []) second.1 in
+    let fourth = listed mask t [] third.1 in
+    λ k. lacks_position (flag v w mask same c first.0 k) (flag v w mask same i second.0 k)
+    (flag v w mask same l third.0 k) (flag v w mask same t fourth.0 k)
+shape_same v w mask same no_flags inside = refl
+
 -- If two words agree in the bits that a rule reads, then the demands of the rule on both are equal.
 Demands-same : (rule : Rule) (v w : ℕ) → bit_and v (mask_read rule) ≡ bit_and w (mask_read rule)
     → Demands rule (raw v) ≡ Demands rule (raw w)
@@ -69,32 +102,7 @@ Demands-same rules.PunctuationDiffers v w same = λ i.
     ∷ cased (flag v w _ same layout.case_sensitive_base_prefix refl i) (byte v w _ same layout.base_prefix refl i)
     ∷ cased (flag v w _ same layout.case_sensitive_base_suffix refl i) (byte v w _ same layout.base_suffix refl i)
     ∷ [])
-Demands-same rules.ExponentFlagsAgree v w same = λ i.
-    IsFalse (flag v w _ same layout.no_exponent_notation refl i && flag v w _ same layout.required_exponent_notation refl i)
-Demands-same rules.MantissaSignFlagsAgree v w same = λ i.
-    IsFalse (flag v w _ same layout.no_positive_mantissa_sign refl i && flag v w _ same layout.required_mantissa_sign refl i)
-Demands-same rules.ExponentSignFlagsAgree v w same = λ i.
-    IsFalse (flag v w _ same layout.no_positive_exponent_sign refl i && flag v w _ same layout.required_exponent_sign refl i)
-Demands-same rules.SpecialCaseFlagsAgree v w same = λ i.
-    IsFalse (flag v w _ same layout.no_special refl i && flag v w _ same layout.case_sensitive_special refl i)
-Demands-same rules.SpecialSeparatorFlagsAgree v w same = λ i.
-    IsFalse (flag v w _ same layout.no_special refl i && flag v w _ same layout.special_digit_separator refl i)
-Demands-same rules.IntegerConsecutiveIsAllowed v w same = λ i.
-    IsFalse (lacks_position (flag v w _ same layout.integer_consecutive_digit_separator refl i)
-    (flag v w _ same layout.integer_internal_digit_separator refl i)
-    (flag v w _ same layout.integer_leading_digit_separator refl i)
-    (flag v w _ same layout.integer_trailing_digit_separator refl i))
-Demands-same rules.FractionConsecutiveIsAllowed v w same = λ i.
-    IsFalse (lacks_position (flag v w _ same layout.fraction_consecutive_digit_separator refl i)
-    (flag v w _ same layout.fraction_internal_digit_separator refl i)
-    (flag v w _ same layout.fraction_leading_digit_separator refl i)
-    (flag v w _ same layout.fraction_trailing_digit_separator refl i))
-Demands-same rules.ExponentConsecutiveIsAllowed v w same = λ i.
-    IsFalse (lacks_position (flag v w _ same layout.exponent_consecutive_digit_separator refl i)
-    (flag v w _ same layout.exponent_internal_digit_separator refl i)
-    (flag v w _ same layout.exponent_leading_digit_separator refl i)
-    (flag v w _ same layout.exponent_trailing_digit_separator refl i))
-Demands-same rules.ReservedBitsAreZero v w same = refl
+Demands-same rule v w same = ap IsFalse (shape_same v w _ same (flag_shape rule) refl)
 
 -- If two words agree in the bits that a rule reads, and the first satisfies the rule, then so does the second.
 pub kept_alike : (rule : Rule) (v w : ℕ) → bit_and v (mask_read rule) ≡ bit_and w (mask_read rule)

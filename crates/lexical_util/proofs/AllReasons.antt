@@ -1,18 +1,15 @@
 -- Lemmas on all reasons of a word: each broken rule has a reason, and a word is lawful if and only if it has none.
-use Rattle.std.proofs.Common.{ℕ, ◌≡◌, ◌≢◌, ◌<◌, ◌↔◌, ◌&&◌, ◌∙◌, Bool, true, false, IsTrue, List, [], ◌∷◌}
-use Rattle.std.proofs.Common.{suc, ◌++◌, drop, flat_map, refl, ap, sym, subst, slice_index_or, arith, nat_lt}
-use Rattle.std.specs.List.{AllByRecursion, IsAmong, filter_map, list_all}
+use Rattle.std.proofs.Common.{ℕ, ◌≡◌, ◌≢◌, ◌↔◌, ◌&&◌, ◌∙◌, Bool, true, false, IsTrue, List, [], ◌∷◌}
+use Rattle.std.proofs.Common.{suc, ◌++◌, drop, flat_map, refl, ap, sym, subst, slice_index_or, arith}
+use Rattle.std.specs.List.{AllByRecursion, IsAmong, filter_map}
 use Rattle.std.specs.Bool.{IsFalse}
-use Rattle.std.proofs.lemmas.Bool.{true≢false, and_from, and_parts, and_right}
-use Rattle.std.proofs.lemmas.Bool.Decides.{nat_tests}
-use Rattle.lexical_flags.specs.Pairs.{ArePairwise}
+use Rattle.std.proofs.lemmas.Bool.{true≢false, and_parts, and_right}
 use Rattle.lexical_flags.specs.Record.{raw}
 use Rattle.lexical_flags.specs.Rules.{Holds, Lawful, flag_rules, punctuation_rules, rules_in_order}
 use Rattle.lexical_flags.specs.contracts.format_flags.all_rules.Rule.{the_type}
 use denote.Enum.Declared.{tag_of}
 use Rattle.lexical_flags.specs.declared.format_flags.all_rules.Rule.{Rule}
 use Rattle.lexical_flags.specs.declared.format_flags.all_rules.Rule.TheVariants as rules
-use Rattle.lexical_util.specs.declared.edits.setters.Edit.{Edit}
 use Rattle.lexical_util.specs.declared.edits.setters.Edit.TheVariants as edits
 use Rattle.lexical_util.specs.declared.reasons.Reason.{Reason}
 use Rattle.lexical_util.specs.declared.reasons.Reason.TheVariants as reasons

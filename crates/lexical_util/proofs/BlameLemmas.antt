@@ -12,16 +12,17 @@ use lib.Bits.{and_self, and_zero_l}
 use Rattle.lexical_base.specs.Ascii.{ByteSet, between, allowed_ascii, letters}
 use Rattle.lexical_base.specs.Digits.{digits_of}
 use Rattle.lexical_flags.specs.Layout as layout
-use Rattle.lexical_flags.specs.Layout.{Byte, Flag, bit, shift}
+use Rattle.lexical_flags.specs.Layout.{Byte, shift}
 use Rattle.lexical_flags.specs.Record.{Record, raw, effective, effective_exponent_radix}
 use Rattle.lexical_flags.specs.Roles.{cased, digits, signs, are_disjoint, Disjoint, other_case}
 use Rattle.lexical_flags.specs.Roles.{separator, prefix, suffix}
 use Rattle.lexical_flags.specs.Rules.{IsRadix, IsTextOrNone, IsAbsentOrPunctuation, IsPunctuation, Holds}
 use Rattle.lexical_flags.specs.Rules.{lacks_position}
+use Rattle.lexical_flags.specs.Additions.RuleFields.{FlagShape, both_set, only_set, no_flags, flag_shape, flags_of_shape}
 use Rattle.lexical_flags.specs.Additions.Masks.{byte_mask, reserved_mask}
 use Rattle.lexical_flags.specs.declared.format_flags.all_rules.Rule.{Rule}
 use Rattle.lexical_flags.specs.declared.format_flags.all_rules.Rule.TheVariants as rules
-use Rattle.lexical_flags.proofs.RuleFieldLemmas.{byte, flag}
+use Rattle.lexical_flags.proofs.RuleFieldLemmas.{are_in, byte, flag, has_shape, shape_same}
 use Rattle.lexical_flags.proofs.RoleLemmas.{no_digit}
 use Rattle.lexical_flags.proofs.CaseLemmas.{cases_apart, differ_apart, same_clash}
 use Rattle.lexical_flags.proofs.ReservedBits.{reserved_bits}
@@ -206,10 +207,6 @@ lacks_parts true false true trailing h = cc
 lacks_parts true false false true h = cc
 lacks_parts false internal leading trailing h = cc
 
-lacks_from : (consecutive internal leading trailing : Bool) → consecutive ≡ true → internal ≡ false → leading ≡ false
-    → trailing ≡ false → lacks_position consecutive internal leading trailing ≡ true
-lacks_from consecutive internal leading trailing c i l t = λ k. lacks_position (c k) (i k) (l k) (t k)
-
 -- If two bytes of a word clash, then so do the bytes in the edits that write them.
 at_options : (ac : Bool) (a : ℕ) (bc : Bool) (b : ℕ) → (Disjoint (cased ac a) (cased bc b) → ⊥)
     → Disjoint (cased ac (byte_of_option (option_of_byte a))) (cased bc (byte_of_option (option_of_byte b))) → ⊥
@@ -307,45 +304,37 @@ module _ (word other : ℕ) where
       → Blames word other (reasons.Clash (separator_edit (raw word)) (prefix_edit (raw word))
       (if t then None else Some setters.CaseSensitiveBasePrefix))
   unfolding Holds
-  separator_prefix t test apart =
-      by_test t test (at_options true ((raw word).byte layout.digit_separator) p
-      ((raw word).byte layout.base_prefix) apart) where
-        by_test : (t : Bool) → (b == a) ≡ t → (Disjoint (cased true a) (cased p b) → ⊥)
-            → Blames word other (reasons.Clash (separator_edit (raw word)) (prefix_edit (raw word))
-            (if t then None else Some setters.CaseSensitiveBasePrefix))
-        by_test true test clash same =
-            let facts = same_blame true p true p' a b a' b' (byte_below other layout.digit_separator)
-            (held word other _ same layout.digit_separator refl)
-            (held word other _ same layout.base_prefix refl) test clash in
-            (facts.0, λ apart. facts.1 (assumption apart))
-        by_test false test clash same =
-            let off : p' ≡ false = sym (flag word other _ same layout.case_sensitive_base_prefix refl)
-            ∙ second_unset true a p b test clash refl in
-            let facts = cases_blame true p true p' p' a b a' b' (held word other _ same layout.digit_separator refl)
-            (held word other _ same layout.base_prefix refl) test clash off (second_off true p' off) in
-            (facts.0, λ apart. facts.1 (assumption apart))
+  separator_prefix true test apart same =
+      let clash = at_options true ((raw word).byte layout.digit_separator) p ((raw word).byte layout.base_prefix) apart in
+      let facts = same_blame true p true p' a b a' b' (byte_below other layout.digit_separator)
+      (held word other _ same layout.digit_separator refl)
+      (held word other _ same layout.base_prefix refl) test clash in
+      (facts.0, λ apart. facts.1 (assumption apart))
+  separator_prefix false test apart same =
+      let clash = at_options true ((raw word).byte layout.digit_separator) p ((raw word).byte layout.base_prefix) apart in
+      let off : p' ≡ false = sym (flag word other _ same layout.case_sensitive_base_prefix refl)
+      ∙ second_unset true a p b test clash refl in
+      let facts = cases_blame true p true p' p' a b a' b' (held word other _ same layout.digit_separator refl)
+      (held word other _ same layout.base_prefix refl) test clash off (second_off true p' off) in
+      (facts.0, λ apart. facts.1 (assumption apart))
 
   pub separator_suffix : (t : Bool) → (c == a) ≡ t → (Disjoint (separator (raw word)) (suffix (raw word)) → ⊥)
       → Blames word other (reasons.Clash (separator_edit (raw word)) (suffix_edit (raw word))
       (if t then None else Some setters.CaseSensitiveBaseSuffix))
   unfolding Holds
-  separator_suffix t test apart =
-      by_test t test (at_options true ((raw word).byte layout.digit_separator) q
-      ((raw word).byte layout.base_suffix) apart) where
-        by_test : (t : Bool) → (c == a) ≡ t → (Disjoint (cased true a) (cased q c) → ⊥)
-            → Blames word other (reasons.Clash (separator_edit (raw word)) (suffix_edit (raw word))
-            (if t then None else Some setters.CaseSensitiveBaseSuffix))
-        by_test true test clash same =
-            let facts = same_blame true q true q' a c a' c' (byte_below other layout.digit_separator)
-            (held word other _ same layout.digit_separator refl)
-            (held word other _ same layout.base_suffix refl) test clash in
-            (facts.0, λ apart. facts.1 (assumption apart))
-        by_test false test clash same =
-            let off : q' ≡ false = sym (flag word other _ same layout.case_sensitive_base_suffix refl)
-            ∙ second_unset true a q c test clash refl in
-            let facts = cases_blame true q true q' q' a c a' c' (held word other _ same layout.digit_separator refl)
-            (held word other _ same layout.base_suffix refl) test clash off (second_off true q' off) in
-            (facts.0, λ apart. facts.1 (assumption apart))
+  separator_suffix true test apart same =
+      let clash = at_options true ((raw word).byte layout.digit_separator) q ((raw word).byte layout.base_suffix) apart in
+      let facts = same_blame true q true q' a c a' c' (byte_below other layout.digit_separator)
+      (held word other _ same layout.digit_separator refl)
+      (held word other _ same layout.base_suffix refl) test clash in
+      (facts.0, λ apart. facts.1 (assumption apart))
+  separator_suffix false test apart same =
+      let clash = at_options true ((raw word).byte layout.digit_separator) q ((raw word).byte layout.base_suffix) apart in
+      let off : q' ≡ false = sym (flag word other _ same layout.case_sensitive_base_suffix refl)
+      ∙ second_unset true a q c test clash refl in
+      let facts = cases_blame true q true q' q' a c a' c' (held word other _ same layout.digit_separator refl)
+      (held word other _ same layout.base_suffix refl) test clash off (second_off true q' off) in
+      (facts.0, λ apart. facts.1 (assumption apart))
 
   -- If prefix and suffix clash, then the reason is true of the other word. The cases are whether the bytes are equal,
   -- and whether the prefix is case-sensitive.
@@ -353,60 +342,47 @@ module _ (word other : ℕ) where
       → Blames word other (reasons.Clash (prefix_edit (raw word)) (suffix_edit (raw word))
       (if t then None else Some (if u then setters.CaseSensitiveBaseSuffix else setters.CaseSensitiveBasePrefix)))
   unfolding Holds
-  prefix_suffix t u test case apart =
-      by_test t u test case (at_options p ((raw word).byte layout.base_prefix) q
-      ((raw word).byte layout.base_suffix) apart) where
-        by_test : (t u : Bool) → (c == b) ≡ t → p ≡ u → (Disjoint (cased p b) (cased q c) → ⊥)
-            → Blames word other (reasons.Clash (prefix_edit (raw word)) (suffix_edit (raw word))
-            (if t then None else Some (if u then setters.CaseSensitiveBaseSuffix else setters.CaseSensitiveBasePrefix)))
-        by_test true u test case clash same =
-            let facts = same_blame p q p' q' b c b' c' (byte_below other layout.base_prefix)
-            (held word other _ same layout.base_prefix refl)
-            (held word other _ same layout.base_suffix refl) test clash in
-            (facts.0, λ apart. facts.1 (assumption apart))
-        by_test false true test case clash same =
-            let off : q' ≡ false = sym (flag word other _ same layout.case_sensitive_base_suffix refl)
-            ∙ second_unset p b q c test clash case in
-            let facts = cases_blame p q p' q' q' b c b' c' (held word other _ same layout.base_prefix refl)
-            (held word other _ same layout.base_suffix refl) test clash off (second_off p' q' off) in
-            (facts.0, λ apart. facts.1 (assumption apart))
-        by_test false false test case clash same =
-            let off : p' ≡ false = sym (flag word other _ same layout.case_sensitive_base_prefix refl) ∙ case in
-            let facts = cases_blame p q p' q' p' b c b' c' (held word other _ same layout.base_prefix refl)
-            (held word other _ same layout.base_suffix refl) test clash off (first_off p' q' off) in
-            (facts.0, λ apart. facts.1 (assumption apart))
+  prefix_suffix true u test case apart same =
+      let clash = at_options p ((raw word).byte layout.base_prefix) q ((raw word).byte layout.base_suffix) apart in
+      let facts = same_blame p q p' q' b c b' c' (byte_below other layout.base_prefix)
+      (held word other _ same layout.base_prefix refl)
+      (held word other _ same layout.base_suffix refl) test clash in
+      (facts.0, λ apart. facts.1 (assumption apart))
+  prefix_suffix false true test case apart same =
+      let clash = at_options p ((raw word).byte layout.base_prefix) q ((raw word).byte layout.base_suffix) apart in
+      let off : q' ≡ false = sym (flag word other _ same layout.case_sensitive_base_suffix refl)
+      ∙ second_unset p b q c test clash case in
+      let facts = cases_blame p q p' q' q' b c b' c' (held word other _ same layout.base_prefix refl)
+      (held word other _ same layout.base_suffix refl) test clash off (second_off p' q' off) in
+      (facts.0, λ apart. facts.1 (assumption apart))
+  prefix_suffix false false test case apart same =
+      let clash = at_options p ((raw word).byte layout.base_prefix) q ((raw word).byte layout.base_suffix) apart in
+      let off : p' ≡ false = sym (flag word other _ same layout.case_sensitive_base_prefix refl) ∙ case in
+      let facts = cases_blame p q p' q' p' b c b' c' (held word other _ same layout.base_prefix refl)
+      (held word other _ same layout.base_suffix refl) test clash off (first_off p' q' off) in
+      (facts.0, λ apart. facts.1 (assumption apart))
 
--- Lemmas on the flags of another word with the same bits under a mask.
-module _ (word other mask : ℕ) (same : bit_and word mask ≡ bit_and other mask) where
-  -- If two flags under the mask are both set in the word, then they are both set in the other word.
-  pub both_flags : (a b : Flag) → bit_and mask (2 ^ bit a) ≡ 2 ^ bit a → bit_and mask (2 ^ bit b) ≡ 2 ^ bit b
-      → IsTrue ((raw word).flag a && (raw word).flag b)
-      → ((((raw other).flag a ≡ true) × ⊤) × (((raw other).flag b ≡ true) × ⊤))
-      × (IsFalse ((raw other).flag a && (raw other).flag b) → ⊥)
-  both_flags a b has_a has_b set =
-      let parts = and_parts _ _ set in
-      let on_a : (raw other).flag a ≡ true = sym (flag word other mask same a has_a) ∙ parts.0 in
-      let on_b : (raw other).flag b ≡ true = sym (flag word other mask same b has_b) ∙ parts.1 in
-      (((on_a, tt), (on_b, tt)), λ none. true≢false (sym (and_from _ _ on_a on_b) ∙ none))
+-- `HasShape shape s` holds if each flag in `shape` has its value there, as a reason with these flags states.
+abbrev HasShape : FlagShape → Record → Type 0
+HasShape (both_set a b) s = ((s.flag a ≡ true) × ⊤) × ((s.flag b ≡ true) × ⊤)
+HasShape (only_set c i l t) s =
+    ((s.flag c ≡ true) × ⊤)
+    × (((s.flag i ≡ false) × ⊤) × (((s.flag l ≡ false) × ⊤) × (((s.flag t ≡ false) × ⊤) × ⊤)))
+HasShape no_flags s = ⊥
 
-  -- If a part of the number lacks a position in the word, then it also lacks one in the other word.
-  pub four_flags : (c i l t : Flag) → bit_and mask (2 ^ bit c) ≡ 2 ^ bit c → bit_and mask (2 ^ bit i) ≡ 2 ^ bit i
-      → bit_and mask (2 ^ bit l) ≡ 2 ^ bit l → bit_and mask (2 ^ bit t) ≡ 2 ^ bit t
-      → IsTrue (lacks_position ((raw word).flag c) ((raw word).flag i) ((raw word).flag l) ((raw word).flag t))
-      → ((((raw other).flag c ≡ true) × ⊤)
-      × (((((raw other).flag i ≡ false) × ⊤) × ((((raw other).flag l ≡ false) × ⊤) × ((((raw other).flag t ≡ false)
-      × ⊤) × ⊤)))))
-      × (IsFalse (lacks_position ((raw other).flag c) ((raw other).flag i) ((raw other).flag l)
-      ((raw other).flag t)) → ⊥)
-  four_flags c i l t has_c has_i has_l has_t lacks =
-      let parts = lacks_parts _ _ _ _ lacks in
-      let on_c : (raw other).flag c ≡ true = sym (flag word other mask same c has_c) ∙ parts.0 in
-      let off_i : (raw other).flag i ≡ false = sym (flag word other mask same i has_i) ∙ parts.1 in
-      let off_l : (raw other).flag l ≡ false = sym (flag word other mask same l has_l) ∙ parts.2 in
-      let off_t : (raw other).flag t ≡ false = sym (flag word other mask same t has_t) ∙ parts.3 in (
-        ((on_c, tt), ((off_i, tt), ((off_l, tt), ((off_t, tt), tt)))),
-        λ none. true≢false (sym (lacks_from _ _ _ _ on_c off_i off_l off_t) ∙ none),
-      )
+shape_facts : (shape : FlagShape) (s : Record) → IsTrue (has_shape shape s) → HasShape shape s
+shape_facts (both_set a b) s h = let parts = and_parts _ _ h in ((parts.0, tt), (parts.1, tt))
+shape_facts (only_set c i l t) s h =
+    let parts = lacks_parts _ _ _ _ h in ((parts.0, tt), ((parts.1, tt), ((parts.2, tt), ((parts.3, tt), tt))))
+shape_facts no_flags s h = true≢false (sym h)
+
+-- If the flags of a word break a rule, then the same flags of the other word break it.
+shape_blame : (word other mask : ℕ) → bit_and word mask ≡ bit_and other mask → (shape : FlagShape)
+    → are_in mask (flags_of_shape shape) ≡ true → IsTrue (has_shape shape (raw word))
+    → HasShape shape (raw other) × (IsFalse (has_shape shape (raw other)) → ⊥)
+shape_blame word other mask same shape inside h =
+    let on = sym (shape_same word other mask same shape inside) ∙ h in
+    (shape_facts shape (raw other) on, λ off. true≢false (sym on ∙ off))
 
 -- If reserved bits are set in a word, then the reason with these bits is true of the other word.
 reserved_blame : (word other : ℕ) → IsTrue (not (bit_and word reserved_mask == 0))
@@ -495,38 +471,5 @@ blame word other =
           (λ h. prefix_suffix word other _ _ refl refl (not_disjoint _ _ h), tt),
         ),
       )
-      each rules.ExponentFlagsAgree =
-          let a = layout.no_exponent_notation in
-          let b = layout.required_exponent_notation in
-          (λ h same. both_flags word other _ same a b refl refl h, tt)
-      each rules.MantissaSignFlagsAgree =
-          let a = layout.no_positive_mantissa_sign in
-          let b = layout.required_mantissa_sign in
-          (λ h same. both_flags word other _ same a b refl refl h, tt)
-      each rules.ExponentSignFlagsAgree =
-          let a = layout.no_positive_exponent_sign in
-          let b = layout.required_exponent_sign in
-          (λ h same. both_flags word other _ same a b refl refl h, tt)
-      each rules.SpecialCaseFlagsAgree =
-          (λ h same. both_flags word other _ same layout.no_special layout.case_sensitive_special refl refl h, tt)
-      each rules.SpecialSeparatorFlagsAgree =
-          (λ h same. both_flags word other _ same layout.no_special layout.special_digit_separator refl refl h, tt)
-      each rules.IntegerConsecutiveIsAllowed =
-          let c = layout.integer_consecutive_digit_separator in
-          let i = layout.integer_internal_digit_separator in
-          let l = layout.integer_leading_digit_separator in
-          let t = layout.integer_trailing_digit_separator in
-          (λ h same. four_flags word other _ same c i l t refl refl refl refl h, tt)
-      each rules.FractionConsecutiveIsAllowed =
-          let c = layout.fraction_consecutive_digit_separator in
-          let i = layout.fraction_internal_digit_separator in
-          let l = layout.fraction_leading_digit_separator in
-          let t = layout.fraction_trailing_digit_separator in
-          (λ h same. four_flags word other _ same c i l t refl refl refl refl h, tt)
-      each rules.ExponentConsecutiveIsAllowed =
-          let c = layout.exponent_consecutive_digit_separator in
-          let i = layout.exponent_internal_digit_separator in
-          let l = layout.exponent_leading_digit_separator in
-          let t = layout.exponent_trailing_digit_separator in
-          (λ h same. four_flags word other _ same c i l t refl refl refl refl h, tt)
       each rules.ReservedBitsAreZero = (λ h same. reserved_blame word other h same, tt)
+      each rule = (λ h same. shape_blame word other _ same (flag_shape rule) refl h, tt)

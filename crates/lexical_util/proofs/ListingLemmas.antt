@@ -1,6 +1,6 @@
 -- Lemmas that the edits of all fields of a record give it from a new builder, and that only the needed edits suffice.
 use Rattle.std.proofs.Common.{◌≡◌, Bool, true, false, not, cond, List, [], ◌∷◌, ◌++◌, map, length, filter, refl, sym}
-use Rattle.std.proofs.Common.{ap, ◌∙◌, subst, All, arith}
+use Rattle.std.proofs.Common.{ap, ◌∙◌, subst, All}
 use Rattle.std.specs.List.{list_any, AllZip}
 use Rattle.std.proofs.Math.Bool.{or-false}
 use Rattle.std.proofs.lemmas.List.{length-map, map-append}
@@ -13,12 +13,11 @@ use Rattle.lexical_builder.specs.Writes.{Write, write_flag, write_byte, IsLegal,
 use Rattle.lexical_builder.proofs.OptionByteLemmas.{byte_of_option_back}
 use Rattle.lexical_builder.proofs.WriteLemmas.{after-append}
 use Rattle.lexical_util.proofs.Distance.{distance, distance-is}
-use Rattle.lexical_util.proofs.FieldWrites.{legal-field_writes, Leaves, Leaves-field_writes, after-leaves}
+use Rattle.lexical_util.proofs.FieldWrites.{legal-field_writes, after-own}
 use Rattle.lexical_util.proofs.FieldWrites.{after-changes}
 use Rattle.lexical_util.specs.Edits.{flags_of, writes_of, all_writes}
 use Rattle.lexical_util.specs.Listing.{IsEditOf, field_writes, needed_writes, other_writes}
 use Rattle.lexical_util.specs.Additions.FieldEdits.{setter_of, edit_of_write, field_edits, needed_edits, other_edits}
-use Rattle.lexical_util.specs.declared.edits.setters.FlagSetter.{FlagSetter}
 use Rattle.lexical_util.specs.declared.edits.setters.FlagSetter.TheVariants as setters
 use Rattle.lexical_util.specs.declared.edits.setters.Edit.TheVariants as edits
 use Rattle.lexical_util.specs.Private.{differs_from_new}
@@ -70,8 +69,7 @@ after-needed R = ap (after new_record) (all_writes-edits (needed_writes R)) ∙ 
 -- The needed edits and the other edits together give the record from a new builder.
 pub after-both : (R : Record) → after new_record (all_writes (needed_edits R ++ other_edits R)) ≡ R
 after-both R = ap (after new_record) (all_writes-both R) ∙ sym (after-append new_record (needed_writes R) (other_writes R))
-    ∙ ap (λ S. after S (other_writes R)) (after-changes new_record R) ∙ after-leaves R (other_writes R)
-    (All-filter (λ x. not (changes new_record x)) (Leaves R) (field_writes R) (Leaves-field_writes R))
+    ∙ ap (λ S. after S (other_writes R)) (after-changes new_record R) ∙ after-own (λ x. not (changes new_record x)) R
 
 -- If the bytes of a record fit, then the writes of its needed edits and other edits are legal.
 pub legal-both : (R : Record) → HasBytes R → All IsLegal (all_writes (needed_edits R ++ other_edits R))
@@ -99,48 +97,7 @@ edits_of_writes : (writes : List Write) → AllZip IsEditOf writes (map edit_of_
 edits_of_writes [] = tt
 edits_of_writes (x ∷ writes) = (edit_of_write-is x, edits_of_writes writes)
 
--- Only one setter writes only a given flag.
-abbrev first_flag : List Flag → Flag
-first_flag [] = layout.no_special
-first_flag (f ∷ fs) = f
-
-setter_back : (setter : FlagSetter) → length (flags_of setter) ≡ 1 → setter ≡ setter_of (first_flag (flags_of setter))
-setter_back setters.RequiredDigits one = absurd (omega (arith, one))
-setter_back setters.InternalDigitSeparator one = absurd (omega (arith, one))
-setter_back setters.LeadingDigitSeparator one = absurd (omega (arith, one))
-setter_back setters.TrailingDigitSeparator one = absurd (omega (arith, one))
-setter_back setters.ConsecutiveDigitSeparator one = absurd (omega (arith, one))
-setter_back setters.DigitSeparatorFlags one = absurd (omega (arith, one))
-setter_back setters.IntegerDigitSeparatorFlags one = absurd (omega (arith, one))
-setter_back setters.FractionDigitSeparatorFlags one = absurd (omega (arith, one))
-setter_back setters.ExponentDigitSeparatorFlags one = absurd (omega (arith, one))
-setter_back _ one = refl
-
--- A write has only one edit, and a list of writes has only one list of edits.
-only_edit : (edit : Edit) (x : Write) → IsEditOf x edit → edit ≡ edit_of_write x
-only_edit (edits.Flag setter flag) (write_flag f value) is =
-    (λ i. edits.Flag (setter_back setter (ap length is.0) i) (is.1 i))
-    ∙ ap (λ fs. edits.Flag (setter_of (first_flag fs)) value) is.0
-only_edit _ (write_flag f value) is = absurd is
-only_edit edit (write_byte layout.digit_separator value) is = is
-only_edit edit (write_byte layout.base_prefix value) is = is
-only_edit edit (write_byte layout.base_suffix value) is = is
-only_edit edit (write_byte layout.mantissa_radix value) is = is
-only_edit edit (write_byte layout.exponent_base value) is = is
-only_edit edit (write_byte layout.exponent_radix value) is = is
-
-only_edits : (es : List Edit) (writes : List Write) → AllZip IsEditOf writes es → es ≡ map edit_of_write writes
-only_edits [] [] are = refl
-only_edits [] (x ∷ writes) are = absurd are
-only_edits (edit ∷ es) [] are = absurd are
-only_edits (edit ∷ es) (x ∷ writes) are = λ i. only_edit edit x are.0 i ∷ only_edits es writes are.1 i
-
 -- The needed edits, followed by the other edits, are the edits of the needed writes and the other writes.
 pub IsEditOf-both : (R : Record) → AllZip IsEditOf (needed_writes R ++ other_writes R) (needed_edits R ++ other_edits R)
 IsEditOf-both R = subst (AllZip IsEditOf (needed_writes R ++ other_writes R))
     (map-append edit_of_write (needed_writes R) (other_writes R)) (edits_of_writes (needed_writes R ++ other_writes R))
-
-pub only_both : (R : Record) (es : List Edit) → AllZip IsEditOf (needed_writes R ++ other_writes R) es
-    → es ≡ needed_edits R ++ other_edits R
-only_both R es are = only_edits es (needed_writes R ++ other_writes R) are
-    ∙ map-append edit_of_write (needed_writes R) (other_writes R)

@@ -1,7 +1,7 @@
 -- Lemmas on reading a numeral digit by digit.
 use Rattle.std.proofs.Common.{◌≡◌, ℕ, ◌+◌, ◌*◌, ◌^◌, ◌<◌, ◌≤◌, true, IsTrue, List, length, map, take, get_or, nat_lt}
 use Rattle.std.proofs.Common.{nat_le}
-use Rattle.std.proofs.Common.{sym, ap, refl, ◌∙◌, arith, Bool, false, Some, None, is_some, cond}
+use Rattle.std.proofs.Common.{sym, ap, ◌∙◌, arith, Some}
 use Rattle.std.specs.Int.Digits.{number_from_digits}
 use Rattle.std.specs.List.{AllPass, list_all}
 use Rattle.std.proofs.Math.Nat.{pow-le-pow_left, pow-le-pow_right}
@@ -79,11 +79,3 @@ HasRead-whole radix most digits count number read done some few =
       numeral_from radix most digits (record { some = some; few = few; all_digits = rw all at read.all_digits }),
       read.sum ∙ ap (numeral radix) all,
     )
-
--- If a byte has a digit value in a radix, then it is a digit of the radix.
-pub digit_passes : (radix byte : ℕ) → is_some (digit_of byte radix) ≡ true → is_digit_of_radix radix byte ≡ true
-digit_passes radix byte some = of_test (nat_lt (byte_value byte) radix) some
-  where
-    of_test : (test : Bool) → is_some (cond test (Some (byte_value byte)) None) ≡ true → test ≡ true
-    of_test true some = refl
-    of_test false some = some

@@ -13,7 +13,7 @@ use Rattle.lexical_util.specs.Additions.FieldEdits.{edit_of_write, needed_edits,
 use Rattle.lexical_util.specs.Listing.{IsEditOf, needed_writes, other_writes}
 use Rattle.lexical_util.specs.Private.{differs_from_new}
 use Rattle.lexical_util.proofs.ImageLemmas.{fewest_writes}
-use Rattle.lexical_util.proofs.ListingLemmas.{needed_edits-is, other_edits-is, IsEditOf-both, only_both}
+use Rattle.lexical_util.proofs.ListingLemmas.{needed_edits-is, other_edits-is, IsEditOf-both}
 use Rattle.lexical_util.proofs.ListingLemmas.{after-needed, after-both, legal-both, length-needed}
 use Rattle.lexical_util.proofs.edits.listing.edits_of.Goals as goal
 
@@ -34,56 +34,33 @@ copy_from_slice-requires c =
       length-filter_both differs_from_new (λ e. not (differs_from_new e)) (λ e. refl) c.field_edits_of-edits.result,
     )
 
-pub returns-clause-number : goal.returns-clause-number
-returns-clause-number c = c.move_to_front-count.ensures.count
-    ∙ ap (λ es. length (filter differs_from_new es)) c.field_edits_of-edits.ensures
-    ∙ ap length (needed_edits-is (raw c.args.format))
-    ∙ length-map (needed_writes (raw c.args.format)) edit_of_write
-
 -- If the end of a list is written over, then the list is its front followed by the written list.
 overwritten : {X : Type 0} (a k : ℕ) (xs ys : List X) → length xs ≤ a + k → put_mid a k xs ys ≡ take a xs ++ ys
 overwritten a k xs ys long =
     ap (λ zs. take a xs ++ (ys ++ zs)) (drop_all k (drop a xs) (omega (arith, length-drop a xs)))
     ∙ ap (λ zs. take a xs ++ zs) (append-nil ys)
 
-pub returns-clause-list : goal.returns-clause-list
-returns-clause-list c =
-    let first = c.move_to_front-count.ensures.front ∙ ap (filter differs_from_new) c.field_edits_of-edits.ensures
-    ∙ needed_edits-is (raw c.args.format) in
-    let second = c.copy_from_slice.ensures.after ∙ c.move_to_front-rest.ensures.front
-    ∙ ap (filter (λ e. not (differs_from_new e))) c.field_edits_of-others.ensures
-    ∙ other_edits-is (raw c.args.format) in
-    let listed = overwritten c.move_to_front-count.result
-    (length c.move_to_front-count.new.edits - c.move_to_front-count.result)
-    c.move_to_front-count.new.edits c.copy_from_slice.new.self (omega arith) ∙ (λ i. first i ++ second i) in
+pub returns : goal.returns
+returns c =
     let R = raw c.args.format in
-    subst (AllZip IsEditOf (needed_writes R ++ other_writes R)) (sym listed) (IsEditOf-both R)
-
-pub returns-clause-legal : goal.returns-clause-legal
-returns-clause-legal c =
-    let R = raw c.args.format in
-    subst (λ es. All IsLegal (all_writes es)) (sym (only_both R _ (returns-clause-list c)))
-    (legal-both R (HasBytes-raw c.args.format))
-
-pub returns-clause-first : goal.returns-clause-first
-returns-clause-first c =
-    let R = raw c.args.format in
-    let count = returns-clause-number c ∙ sym (length-map (needed_writes R) edit_of_write) in
-    ap (λ es. after new_record (all_writes es))
-    (ap (take c.move_to_front-count.result) (only_both R _ (returns-clause-list c))
-    ∙ ap (λ n. take n (needed_edits R ++ other_edits R)) count
-    ∙ take-append_seam (needed_edits R) (other_edits R)) ∙ after-needed R
-
-pub returns-clause-whole : goal.returns-clause-whole
-returns-clause-whole c =
-    let R = raw c.args.format in
-    ap (λ es. after new_record (all_writes es)) (only_both R _ (returns-clause-list c)) ∙ after-both R
-
-pub returns-clause-builds : goal.returns-clause-builds
-returns-clause-builds c = pack-raw c.args.format (omega arith)
-
-pub returns-clause-fewest : goal.returns-clause-fewest
-returns-clause-fewest c L legal makes =
-    let R = raw c.args.format in
-    let count = returns-clause-number c ∙ sym (length-map (needed_writes R) edit_of_write) ∙ length-needed R in
-    subst (λ n. n ≤ length L) (sym count) (fewest_writes c.args.format L legal makes)
+    let count = c.move_to_front-count.result in
+    let front = c.move_to_front-count.ensures.front ∙ ap (filter differs_from_new) c.field_edits_of-edits.ensures
+    ∙ needed_edits-is R in
+    let rest = c.copy_from_slice.ensures.after ∙ c.move_to_front-rest.ensures.front
+    ∙ ap (filter (λ e. not (differs_from_new e))) c.field_edits_of-others.ensures ∙ other_edits-is R in
+    let listed = overwritten count (length c.move_to_front-count.new.edits - count) c.move_to_front-count.new.edits
+    c.copy_from_slice.new.self (omega arith) ∙ (λ i. front i ++ rest i) in
+    let number : count ≡ length (needed_edits R) = c.move_to_front-count.ensures.count
+    ∙ ap (λ es. length (filter differs_from_new es)) c.field_edits_of-edits.ensures ∙ ap length (needed_edits-is R) in
+    record {
+      list = subst (AllZip IsEditOf (needed_writes R ++ other_writes R)) (sym listed) (IsEditOf-both R);
+      number = number ∙ length-map (needed_writes R) edit_of_write;
+      legal = subst (λ es. All IsLegal (all_writes es)) (sym listed) (legal-both R (HasBytes-raw c.args.format));
+      first = ap (λ es. after new_record (all_writes es)) (ap (take count) listed
+          ∙ ap (λ n. take n (needed_edits R ++ other_edits R)) number
+          ∙ take-append_seam (needed_edits R) (other_edits R)) ∙ after-needed R;
+      whole = ap (λ es. after new_record (all_writes es)) listed ∙ after-both R;
+      builds = pack-raw c.args.format (omega arith);
+      fewest = λ L legal makes. subst (λ n. n ≤ length L) (sym (number ∙ length-needed R))
+          (fewest_writes c.args.format L legal makes);
+    }
