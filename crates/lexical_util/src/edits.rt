@@ -22,7 +22,9 @@ mod text;
 
 pub use listing::{edits_of, is_built};
 pub(crate) use setters::mask_of;
-pub use setters::{ALL_SETTERS, ArgumentKind, Edit, FIELD_COUNT, FlagSetter, SETTERS, Setter, field_edits_of};
+pub use setters::{
+    ALL_SETTERS, ArgumentKind, Edit, FIELD_COUNT, FlagSetter, SETTERS, Setter, field_edits_of,
+};
 pub use text::{SettingError, byte_from_decimal};
 
 /// Calls the setter of `edit` on `builder`, and returns the new builder.

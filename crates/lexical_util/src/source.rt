@@ -28,7 +28,11 @@ impl fmt::Display for BuilderExpression {
         for edit in edits.iter().take(count) {
             write!(f, ".{}(", edit.name())?;
             match (edit.setter().kind(), edit.argument_byte()) {
-                (ArgumentKind::Flag, byte) => f.write_str(if byte != 0 { "true" } else { "false" })?,
+                (ArgumentKind::Flag, byte) => f.write_str(if byte != 0 {
+                    "true"
+                } else {
+                    "false"
+                })?,
                 (ArgumentKind::OptionalByte, 0) => f.write_str("None")?,
                 (ArgumentKind::OptionalByte, byte) => write!(f, "NonZeroU8::new({byte})")?,
                 (ArgumentKind::Byte, byte) => write!(f, "{byte}")?,

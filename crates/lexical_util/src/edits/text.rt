@@ -37,7 +37,12 @@ impl fmt::Display for SettingError {
         match self {
             SettingError::NoEquals => f.write_str("expected NAME=VALUE"),
             SettingError::UnknownName => f.write_str("unknown setting name"),
-            SettingError::BadValue(setter) => write!(f, "{} takes {}", setter.name(), taken(*setter)),
+            SettingError::BadValue(setter) => write!(
+                f,
+                "{} takes {}",
+                setter.name(),
+                taken(*setter)
+            ),
         }
     }
 }
