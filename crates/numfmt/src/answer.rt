@@ -151,11 +151,11 @@ fn print_explanation<W: Write>(word: u128, out: &mut W) -> io::Result<()> {
     Ok(())
 }
 
-// Writes a reason, the errors of its rules, and the fields of `word` that it blames.
+// Writes a reason, the errors of the rules that `word` breaks because of it, and the fields that it blames.
 fn print_reason<W: Write>(word: u128, reason: &Reason, out: &mut W) -> io::Result<()> {
     writeln!(out, "{reason}")?;
-    for rule in &reason.rules() {
-        if let Some(rule) = rule {
+    for rule in &flags::RULES {
+        if reason.breaks(*rule) {
             writeln!(out, "    error: {}", rule.error())?;
         }
     }

@@ -21,8 +21,6 @@
 mod answer;
 mod program;
 #[cfg(test)]
-mod rows;
-#[cfg(test)]
 mod tests;
 mod word;
 

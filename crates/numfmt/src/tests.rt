@@ -1,7 +1,9 @@
-//! Tests [`run`] on the runs of [`rows`][crate::rows], and with a writer that fails.
+//! Tests [`run`] on the runs of [`rows`], and with a writer that fails.
+
+mod rows;
 
 use crate::program::run;
-use crate::rows::{EDITS, RUNS, STANDARD};
+use crate::tests::rows::{EDITS, RUNS, STANDARD};
 use std::alloc::Global;
 use std::io;
 use std::io::Write;

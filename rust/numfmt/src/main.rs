@@ -10,8 +10,6 @@ mod answer;
 #[allow(clippy::ptr_arg, reason = "as it is proved")]
 mod program;
 #[cfg(test)]
-mod rows;
-#[cfg(test)]
 mod tests;
 mod word;
 

@@ -1,7 +1,9 @@
-//! Tests [`run`] on the runs of [`rows`][crate::rows], and with a writer that fails.
+//! Tests [`run`] on the runs of [`rows`], and with a writer that fails.
+
+mod rows;
 
 use crate::program::run;
-use crate::rows::{EDITS, RUNS, STANDARD};
+use rows::{EDITS, RUNS, STANDARD};
 use std::io::{self, Error, ErrorKind, Write};
 
 /// A writer that takes at most seven bytes at a time. Its call number `failing_call` fails.

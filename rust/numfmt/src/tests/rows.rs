@@ -1,4 +1,4 @@
-// Made by rust/tools/erase.py from crates/numfmt/src/rows.rt: change that file.
+// Made by rust/tools/erase.py from crates/numfmt/src/tests/rows.rt: change that file.
 
 //! Runs of the program, as tables: arguments, the text that is printed, and the exit status. `rust/tools/erase.py` copies
 //! them to plain Rust.
