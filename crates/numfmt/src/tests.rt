@@ -3,7 +3,7 @@
 mod rows;
 
 use crate::program::run;
-use crate::tests::rows::{EDITS, RUNS, STANDARD};
+use crate::tests::rows::{ANSWERS, EDITS, REFUSALS, STANDARD_FIELDS};
 use std::alloc::Global;
 use std::io;
 use std::io::Write;
@@ -74,12 +74,46 @@ fn check_run<R: Abort + AllocGlobal>(
     Ok(())
 }
 
-#[test]
-fn each_run_prints_its_text_and_ends_with_its_status(rt: HostRuntime) -> Result<(), Fail> {
-    for (args, text, status) in &RUNS {
-        check_run(&rt, args, text, *status)?;
+// Checks runs without failing call. Then checks that a call that fails is the last one, and that the status is 3.
+fn check_runs<R: Abort + AllocGlobal>(rt: &R, runs: &[(&str, &str, u8)]) -> Result<(), Fail> {
+    for (line, text, status) in runs {
+        let mut args = Vec::new(rt.alloc());
+        for word in line.split(' ') {
+            args.push(word)?;
+        }
+        check_run(rt, args.as_slice(), text, *status)?;
+        check_failing_calls(rt, args.as_slice())?;
     }
     Ok(())
+}
+
+// The last call of a run is the flush.
+fn check_failing_calls<R: Abort + AllocGlobal>(rt: &R, args: &[&str]) -> Result<(), Fail> {
+    let (_, out) = run_with(rt.alloc(), args, 0)?;
+    for failing_call in 1..=out.calls {
+        let (status, out) = run_with(rt.alloc(), args, failing_call)?;
+        assert!(rt;
+            status == 3 && out.calls == failing_call,
+            "{args:?} at call {failing_call}"
+        );
+    }
+    Ok(())
+}
+
+#[test]
+fn each_answer_is_printed_with_its_status(rt: HostRuntime) -> Result<(), Fail> {
+    check_runs(&rt, &ANSWERS)
+}
+
+#[test]
+fn each_refusal_is_printed_with_status_2(rt: HostRuntime) -> Result<(), Fail> {
+    check_runs(&rt, &REFUSALS)
+}
+
+#[test]
+fn no_arguments_show_the_standard_format(rt: HostRuntime) -> Result<(), Fail> {
+    check_run(&rt, &[], STANDARD_FIELDS, 0)?;
+    check_failing_calls(&rt, &[])
 }
 
 #[test]
@@ -94,25 +128,9 @@ fn an_edit_sets_the_bits_of_its_name(rt: HostRuntime) -> Result<(), Fail> {
 fn at_most_64_edits_are_taken(rt: HostRuntime) -> Result<(), Fail> {
     let mut args = ["radix=16"; 67];
     args[0] = "edit";
-    args[1] = STANDARD;
+    args[1] = "0x00000A0000000000000000000000000C";
     check_run(&rt, &args[..66], "0x0A0A100000000000000000000000000C\n", 0)?;
     // A 65th edit is refused before the word is read.
     args[1] = "0x";
     check_run(&rt, &args, "numfmt: too many edits\n", 2)
-}
-
-#[test]
-fn a_failing_call_is_the_last_and_the_status_is_3(rt: HostRuntime) -> Result<(), Fail> {
-    for (args, _, _) in &RUNS {
-        // The last call is the flush.
-        let (_, out) = run_with(rt.alloc(), args, 0)?;
-        for failing_call in 1..=out.calls {
-            let (status, out) = run_with(rt.alloc(), args, failing_call)?;
-            assert!(rt;
-                status == 3 && out.calls == failing_call,
-                "{args:?} at call {failing_call}"
-            );
-        }
-    }
-    Ok(())
 }

@@ -3,7 +3,7 @@
 mod rows;
 
 use crate::program::run;
-use rows::{EDITS, RUNS, STANDARD};
+use rows::{ANSWERS, EDITS, REFUSALS, STANDARD_FIELDS};
 use std::io::{self, Error, ErrorKind, Write};
 
 /// A writer that takes at most seven bytes at a time. Its call number `failing_call` fails.
@@ -60,11 +60,38 @@ fn check_run(args: &[&str], text: &str, status: u8) {
     assert!(got == status && out.is_flushed, "{args:?}: status {got}");
 }
 
-#[test]
-fn each_run_prints_its_text_and_ends_with_its_status() {
-    for (args, text, status) in RUNS {
-        check_run(args, text, status);
+/// Checks runs without failing call. Then checks that a call that fails is the last one, and that the status is 3.
+fn check_runs(runs: &[(&str, &str, u8)]) {
+    for (line, text, status) in runs {
+        let args: Vec<&str> = line.split(' ').collect();
+        check_run(&args, text, *status);
+        check_failing_calls(&args);
     }
+}
+
+/// The last call of a run is the flush.
+fn check_failing_calls(args: &[&str]) {
+    for failing_call in 1..=run_with(args, 0).1.calls {
+        let (status, out) = run_with(args, failing_call);
+        let is_last = out.calls == failing_call;
+        assert!(status == 3 && is_last, "{args:?} at call {failing_call}");
+    }
+}
+
+#[test]
+fn each_answer_is_printed_with_its_status() {
+    check_runs(&ANSWERS);
+}
+
+#[test]
+fn each_refusal_is_printed_with_status_2() {
+    check_runs(&REFUSALS);
+}
+
+#[test]
+fn no_arguments_show_the_standard_format() {
+    check_run(&[], STANDARD_FIELDS, 0);
+    check_failing_calls(&[]);
 }
 
 #[test]
@@ -78,23 +105,9 @@ fn an_edit_sets_the_bits_of_its_name() {
 fn at_most_64_edits_are_taken() {
     let mut args = ["radix=16"; 67];
     args[0] = "edit";
-    args[1] = STANDARD;
+    args[1] = "0x00000A0000000000000000000000000C";
     check_run(&args[..66], "0x0A0A100000000000000000000000000C\n", 0);
     // A 65th edit is refused before the word is read.
     args[1] = "0x";
     check_run(&args, "numfmt: too many edits\n", 2);
-}
-
-#[test]
-fn a_failing_call_is_the_last_and_the_status_is_3() {
-    for (args, _, _) in RUNS {
-        // The last call is the flush.
-        for failing_call in 1..=run_with(args, 0).1.calls {
-            let (status, out) = run_with(args, failing_call);
-            assert!(
-                status == 3 && out.calls == failing_call,
-                "{args:?} at call {failing_call}"
-            );
-        }
-    }
 }

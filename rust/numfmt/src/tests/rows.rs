@@ -3,21 +3,7 @@
 //! Runs of the program, as tables: arguments, the text that is printed, and the exit status. `rust/tools/erase.py` copies
 //! them to plain Rust.
 
-pub const STANDARD: &str = "0x00000A0000000000000000000000000C";
-
-const DECIMAL: &str = "0x0A0A0A0000000000000000000000000C";
-
-const HEXADECIMAL: &str = "0x1010100000000000000000000000000C";
-
-const RESERVED_BIT: &str = "0x00000A0000000000000000008000000C";
-
-const PREFIX_E: &str = "0x00000A0045000000000000000001000C";
-
-const ONES: &str = "0xFFFFFFFFFFFFFFFFFFFFFFFFFFFFFFFF";
-
-const SEPARATOR_WITHOUT_FLAG: &str = "0x00000A000000005F000000000000000C";
-
-const STANDARD_FIELDS: &str = "flags 0x0000000000000000000000000000000C
+pub const STANDARD_FIELDS: &str = "flags 0x0000000000000000000000000000000C
 digit_separator 0
 base_prefix 0
 base_suffix 0
@@ -107,88 +93,92 @@ const TWO_NOTES: &str = "note: case_sensitive_base_prefix changes nothing: there
 note: case_sensitive_base_suffix changes nothing: there is no base suffix
 ";
 
-/// Arguments, the text that they print, and the exit status.
+/// Arguments with a space between them, the text that they print, and the exit status.
 #[rustfmt::skip]
-pub const RUNS: [(&[&str], &str, u8); 79] = [
-    (&[], STANDARD_FIELDS, 0),
-    (&["show", STANDARD], STANDARD_FIELDS, 0),
-    (&["show", "0xa0000000000000000000000000c"], STANDARD_FIELDS, 0),
-    (&["show", ONES], LARGEST_FIELDS, 0),
-    (&["show", "0xffffffffffffffffffffffffffffffff"], LARGEST_FIELDS, 0),
-    (&["show", "0x0"], SMALLEST_FIELDS, 0),
-    (&["show", "0x0605040302000001000000000000000C"], ONE_TO_SIX, 0),
-    (&["edit", "0xc", "radix=16", "digit_separator=95", "integer_digit_separator_flags=true"], "0x000010000000005F000002490000000C\n", 0),
-    (&["edit", STANDARD], "0x0A0A0A0000000000000000000000000C\n", 0),
-    (&["edit", STANDARD, "radix=007"], "0x0A0A070000000000000000000000000C\n", 0),
-    (&["edit", STANDARD, "digit_separator=0", "exponent_base=none"], "0x0A000A0000000000000000000000000C\n", 0),
-    (&["check", STANDARD], "'not actually an error'\n", 0),
-    (&["check", "0xC"], "lexical number format error: 'invalid radix for mantissa digits'\n", 1),
-    (&["check", RESERVED_BIT], "lexical number format error: 'invalid flags enabled without the format feature'\n", 1),
-    (&["same", STANDARD, DECIMAL], "same\n", 0),
-    (&["same", "0x0", "0xC"], "different\n", 1),
-    (&["options", HEXADECIMAL, "101", "46"], "refused\n", 1),
-    (&["options", HEXADECIMAL, "94", "46"], "accepted\n", 0),
-    (&["options", HEXADECIMAL, "094", "046"], "accepted\n", 0),
-    (&["options", DECIMAL, "101", "101"], "refused\n", 1),
-    (&["options", DECIMAL, "0", "46"], "refused\n", 1),
-    (&["options", PREFIX_E, "101", "46"], "refused\n", 1),
-    (&["options", PREFIX_E, "46", "101"], "accepted\n", 0),
-    (&["migrate", RESERVED_BIT], "0x0A0A0A0000000000000000000000000C\n", 0),
-    (&["migrate", "0x0"], "lexical number format error: 'invalid radix for mantissa digits'\n", 1),
-    (&["migrate", "0x00000A0000000035000000000000404C"], "lexical number format error: 'exponent flags set while disabling exponent notation'\n", 1),
-    (&["source", STANDARD], "NumberFormatBuilder::new().build_unchecked()\n", 0),
-    (&["source", "0x0605040302000001000010000000000D"], EACH_BYTE_SET, 0),
-    (&["source", RESERVED_BIT], RESERVED_BIT_LOST, 1),
-    (&["source", SEPARATOR_WITHOUT_FLAG], SEPARATOR_LOST, 1),
-    (&["source", "0x00000A0000FFFF0A000000000000000C"], BOTH_LOST, 1),
-    (&["explain", STANDARD], "", 0),
-    (&["explain", "0x0A0A10006200005F000000000000000C"], PREFIX_IS_DIGIT, 1),
-    (&["explain", "0x00000A0000000035000000000000404C"], TWO_REASONS, 1),
-    (&["explain", "0xC"], THREE_RULES, 1),
-    (&["explain", RESERVED_BIT], RESERVED_BIT_EXPLAINED, 1),
-    (&["explain", "0x00000A0000000000000000000003000C"], TWO_NOTES, 0),
-    (&[""], "numfmt: unknown command\n", 2),
-    (&["shows", "0x"], "numfmt: unknown command\n", 2),
-    (&["show"], "numfmt: wrong number of arguments\n", 2),
-    (&["show", "0x", "0x"], "numfmt: wrong number of arguments\n", 2),
-    (&["edit"], "numfmt: wrong number of arguments\n", 2),
-    (&["check", STANDARD, STANDARD], "numfmt: wrong number of arguments\n", 2),
-    (&["same", STANDARD], "numfmt: wrong number of arguments\n", 2),
-    (&["same", "0x", "0x", "0x"], "numfmt: wrong number of arguments\n", 2),
-    (&["options", STANDARD, "101"], "numfmt: wrong number of arguments\n", 2),
-    (&["options", "0x", "101", "46", "46"], "numfmt: wrong number of arguments\n", 2),
-    (&["migrate"], "numfmt: wrong number of arguments\n", 2),
-    (&["source"], "numfmt: wrong number of arguments\n", 2),
-    (&["explain", STANDARD, STANDARD], "numfmt: wrong number of arguments\n", 2),
-    (&["show", "0x"], "numfmt: bad word\n", 2),
-    (&["show", "0x000000000000000000000000000000000"], "numfmt: bad word\n", 2),
-    (&["show", "0X1"], "numfmt: bad word\n", 2),
-    (&["show", "12"], "numfmt: bad word\n", 2),
-    (&["edit", "0x", "radix"], "numfmt: bad word\n", 2),
-    (&["check", "0xg"], "numfmt: bad word\n", 2),
-    (&["same", "0x1", "0x"], "numfmt: bad word\n", 2),
-    (&["same", "0x", "0x1"], "numfmt: bad word\n", 2),
-    (&["options", "0x", "1", "2"], "numfmt: bad word\n", 2),
-    (&["options", "0x", "256", "2"], "numfmt: bad word\n", 2),
-    (&["migrate", "1"], "numfmt: bad word\n", 2),
-    (&["source", "0x"], "numfmt: bad word\n", 2),
-    (&["explain", "0x"], "numfmt: bad word\n", 2),
-    (&["edit", "0xC", "radix=256"], "numfmt: bad edit\n", 2),
-    (&["edit", "0xC", "radix"], "numfmt: bad edit\n", 2),
-    (&["edit", "0xC", "radix=16", "radix"], "numfmt: bad edit\n", 2),
-    (&["edit", STANDARD, "radix="], "numfmt: bad edit\n", 2),
-    (&["edit", STANDARD, "radix=0010"], "numfmt: bad edit\n", 2),
-    (&["edit", STANDARD, "radix=none"], "numfmt: bad edit\n", 2),
-    (&["edit", STANDARD, "base_prefix='x'"], "numfmt: bad edit\n", 2),
-    (&["edit", STANDARD, "base_prefix=0x78"], "numfmt: bad edit\n", 2),
-    (&["edit", STANDARD, "=true"], "numfmt: bad edit\n", 2),
-    (&["edit", STANDARD, "no_special=True"], "numfmt: bad edit\n", 2),
-    (&["edit", STANDARD, "no_special=true="], "numfmt: bad edit\n", 2),
-    (&["edit", STANDARD, "STANDARD=true"], "numfmt: bad edit\n", 2),
-    (&["options", STANDARD, "256", "46"], "numfmt: bad byte\n", 2),
-    (&["options", STANDARD, "e", "46"], "numfmt: bad byte\n", 2),
-    (&["options", STANDARD, "101", "none"], "numfmt: bad byte\n", 2),
-    (&["options", STANDARD, "101", ""], "numfmt: bad byte\n", 2),
+pub const ANSWERS: [(&str, &str, u8); 36] = [
+    ("show 0x00000A0000000000000000000000000C", STANDARD_FIELDS, 0),
+    ("show 0xa0000000000000000000000000c", STANDARD_FIELDS, 0),
+    ("show 0xFFFFFFFFFFFFFFFFFFFFFFFFFFFFFFFF", LARGEST_FIELDS, 0),
+    ("show 0xffffffffffffffffffffffffffffffff", LARGEST_FIELDS, 0),
+    ("show 0x0", SMALLEST_FIELDS, 0),
+    ("show 0x0605040302000001000000000000000C", ONE_TO_SIX, 0),
+    ("edit 0xc radix=16 digit_separator=95 integer_digit_separator_flags=true", "0x000010000000005F000002490000000C\n", 0),
+    ("edit 0x00000A0000000000000000000000000C", "0x0A0A0A0000000000000000000000000C\n", 0),
+    ("edit 0x00000A0000000000000000000000000C radix=007", "0x0A0A070000000000000000000000000C\n", 0),
+    ("edit 0x00000A0000000000000000000000000C digit_separator=0 exponent_base=none", "0x0A000A0000000000000000000000000C\n", 0),
+    ("check 0x00000A0000000000000000000000000C", "'not actually an error'\n", 0),
+    ("check 0xC", "lexical number format error: 'invalid radix for mantissa digits'\n", 1),
+    ("check 0x00000A0000000000000000008000000C", "lexical number format error: 'invalid flags enabled without the format feature'\n", 1),
+    ("same 0x00000A0000000000000000000000000C 0x0A0A0A0000000000000000000000000C", "same\n", 0),
+    ("same 0x0 0xC", "different\n", 1),
+    ("options 0x1010100000000000000000000000000C 101 46", "refused\n", 1),
+    ("options 0x1010100000000000000000000000000C 94 46", "accepted\n", 0),
+    ("options 0x1010100000000000000000000000000C 094 046", "accepted\n", 0),
+    ("options 0x0A0A0A0000000000000000000000000C 101 101", "refused\n", 1),
+    ("options 0x0A0A0A0000000000000000000000000C 0 46", "refused\n", 1),
+    ("options 0x00000A0045000000000000000001000C 101 46", "refused\n", 1),
+    ("options 0x00000A0045000000000000000001000C 46 101", "accepted\n", 0),
+    ("migrate 0x00000A0000000000000000008000000C", "0x0A0A0A0000000000000000000000000C\n", 0),
+    ("migrate 0x0", "lexical number format error: 'invalid radix for mantissa digits'\n", 1),
+    ("migrate 0x00000A0000000035000000000000404C", "lexical number format error: 'exponent flags set while disabling exponent notation'\n", 1),
+    ("source 0x00000A0000000000000000000000000C", "NumberFormatBuilder::new().build_unchecked()\n", 0),
+    ("source 0x0605040302000001000010000000000D", EACH_BYTE_SET, 0),
+    ("source 0x00000A0000000000000000008000000C", RESERVED_BIT_LOST, 1),
+    ("source 0x00000A000000005F000000000000000C", SEPARATOR_LOST, 1),
+    ("source 0x00000A0000FFFF0A000000000000000C", BOTH_LOST, 1),
+    ("explain 0x00000A0000000000000000000000000C", "", 0),
+    ("explain 0x0A0A10006200005F000000000000000C", PREFIX_IS_DIGIT, 1),
+    ("explain 0x00000A0000000035000000000000404C", TWO_REASONS, 1),
+    ("explain 0xC", THREE_RULES, 1),
+    ("explain 0x00000A0000000000000000008000000C", RESERVED_BIT_EXPLAINED, 1),
+    ("explain 0x00000A0000000000000000000003000C", TWO_NOTES, 0),
+];
+
+/// Arguments that are refused, with a space between them, and the text and exit status.
+#[rustfmt::skip]
+pub const REFUSALS: [(&str, &str, u8); 42] = [
+    ("", "numfmt: unknown command\n", 2),
+    ("shows 0x", "numfmt: unknown command\n", 2),
+    ("show", "numfmt: wrong number of arguments\n", 2),
+    ("show 0x 0x", "numfmt: wrong number of arguments\n", 2),
+    ("edit", "numfmt: wrong number of arguments\n", 2),
+    ("check 0x00000A0000000000000000000000000C 0x00000A0000000000000000000000000C", "numfmt: wrong number of arguments\n", 2),
+    ("same 0x00000A0000000000000000000000000C", "numfmt: wrong number of arguments\n", 2),
+    ("same 0x 0x 0x", "numfmt: wrong number of arguments\n", 2),
+    ("options 0x00000A0000000000000000000000000C 101", "numfmt: wrong number of arguments\n", 2),
+    ("options 0x 101 46 46", "numfmt: wrong number of arguments\n", 2),
+    ("migrate", "numfmt: wrong number of arguments\n", 2),
+    ("source", "numfmt: wrong number of arguments\n", 2),
+    ("explain 0x00000A0000000000000000000000000C 0x00000A0000000000000000000000000C", "numfmt: wrong number of arguments\n", 2),
+    ("show 0x", "numfmt: bad word\n", 2),
+    ("show 0x000000000000000000000000000000000", "numfmt: bad word\n", 2),
+    ("show 0X1", "numfmt: bad word\n", 2),
+    ("show 12", "numfmt: bad word\n", 2),
+    ("edit 0x radix", "numfmt: bad word\n", 2),
+    ("check 0xg", "numfmt: bad word\n", 2),
+    ("same 0x1 0x", "numfmt: bad word\n", 2),
+    ("same 0x 0x1", "numfmt: bad word\n", 2),
+    ("options 0x 1 2", "numfmt: bad word\n", 2),
+    ("options 0x 256 2", "numfmt: bad word\n", 2),
+    ("migrate 1", "numfmt: bad word\n", 2),
+    ("source 0x", "numfmt: bad word\n", 2),
+    ("explain 0x", "numfmt: bad word\n", 2),
+    ("edit 0xC radix=256", "numfmt: bad edit\n", 2),
+    ("edit 0xC radix", "numfmt: bad edit\n", 2),
+    ("edit 0xC radix=16 radix", "numfmt: bad edit\n", 2),
+    ("edit 0x00000A0000000000000000000000000C radix=", "numfmt: bad edit\n", 2),
+    ("edit 0x00000A0000000000000000000000000C radix=0010", "numfmt: bad edit\n", 2),
+    ("edit 0x00000A0000000000000000000000000C radix=none", "numfmt: bad edit\n", 2),
+    ("edit 0x00000A0000000000000000000000000C base_prefix='x'", "numfmt: bad edit\n", 2),
+    ("edit 0x00000A0000000000000000000000000C base_prefix=0x78", "numfmt: bad edit\n", 2),
+    ("edit 0x00000A0000000000000000000000000C =true", "numfmt: bad edit\n", 2),
+    ("edit 0x00000A0000000000000000000000000C no_special=True", "numfmt: bad edit\n", 2),
+    ("edit 0x00000A0000000000000000000000000C no_special=true=", "numfmt: bad edit\n", 2),
+    ("edit 0x00000A0000000000000000000000000C STANDARD=true", "numfmt: bad edit\n", 2),
+    ("options 0x00000A0000000000000000000000000C 256 46", "numfmt: bad byte\n", 2),
+    ("options 0x00000A0000000000000000000000000C e 46", "numfmt: bad byte\n", 2),
+    ("options 0x00000A0000000000000000000000000C 101 none", "numfmt: bad byte\n", 2),
+    ("options 0x00000A0000000000000000000000000C 101 ", "numfmt: bad byte\n", 2),
 ];
 
 /// An edit, and the text that `edit` prints for it and the word that has only the flag with bit 44.
