@@ -40,9 +40,10 @@ PLACES = {
     "numfmt": ("numfmt/src", "peltzivar", "std"),
 }
 
-# Files without a counterpart in plain Rust: roots, which are written by hand, laws, examples, and a type that core has.
-IN_CORE = "format_builder/non_zero.rt"
-LEFT_OUT = re.compile(rf"(lib|main|laws|examples)\.rt|{IN_CORE}|laws/.*")
+# Files without a counterpart in plain Rust: roots and tests, which are written by hand, laws, examples, and a type that
+# core has.
+WRITTEN_ANEW = ("format_builder/non_zero.rt", "tests.rt")
+LEFT_OUT = re.compile(rf"(lib|main|laws|examples)\.rt|{'|'.join(WRITTEN_ANEW)}|laws/.*")
 
 # In plain Rust `format` and `feature_format` are written by hand and take the word as a const argument, as in
 # `lexical-util`. The modules and the view that take it as a value have other names.
@@ -73,13 +74,11 @@ SUBSTITUTIONS = [
     ("format_builder.rt", "mod non_zero;", ""),
     ("format_builder.rt", "pub use non_zero::NonZeroU8;", "pub use core::num::NonZeroU8;"),
     ("feature_format.rt", "#[derive(Clone, Copy)]", COMPARED),
-    ("output.rt", "use std::fmt::Display;", "use std::fmt::Arguments;"),
-    ("output.rt", "write_fmt<D: Display + Drop>(&mut self, text: D) -> io::Result<()> {", "write_fmt(&mut self, text: Arguments<'_>) -> io::Result<()> {"),
-    ("output.rt", "write_fmt<D: Display + Drop>(&mut self, text: D)", "write_fmt(&mut self, text: Arguments<'_>)"),
 ]
 
 # Texts that plain Rust replaces in every file, wherever they occur.
 EVERYWHERE = [
+    ("#[rattlefmt::skip]", "#[rustfmt::skip]"),
     (".as_chunks::<", ".split_chunks::<"),
     ("fn fmt<W: fmt::Write>(&self, f: &mut fmt::Formatter<W>)", "fn fmt(&self, f: &mut fmt::Formatter<'_>)"),
 ]
@@ -412,7 +411,7 @@ def made_files():
         for path in sorted(top.rglob("*.rt")):
             name = path.relative_to(top)
             if LEFT_OUT.fullmatch(str(name)):
-                if str(name) != IN_CORE:
+                if str(name) not in WRITTEN_ANEW:
                     Source(path, path.read_text()).check_left_out(modules_of(folder))
                 continue
             first, *rest = name.with_suffix(".rs").parts

@@ -12,27 +12,19 @@
 //! | `options WORD E P` | whether E can be the exponent character and P the decimal point: `accepted` or `refused` |
 //! | `migrate WORD` | the normal form of an old word, or the error of the normal form |
 //! | `source WORD` | a builder expression that sets the word's fields in the fewest single-field setter calls |
-//! | `explain WORD` | each reason why the word breaks rules, with errors, fields and mending edits; then the notes |
+//! | `explain WORD` | each reason why the word breaks rules, with its errors and fields; then the notes |
 //!
 //! The exit status is 0 on success, 1 if the answer is no, and 2 if the arguments are refused (one line states the
 //! reason). It is 3 if a write fails or the arguments cannot be read (nothing more is printed).
 #![tactic(auto)]
 
-ghost use Rattle.std.specs.Prelude.{◌≡◌, ◌≤◌, IsErr, IsOk};
-
-mod command;
-mod edit;
-mod examples;
-mod explanation;
-mod output;
+mod answer;
 mod program;
-mod response;
-mod source;
+#[cfg(test)]
+mod tests;
 mod word;
 
-use output::Output;
 use program::run;
-use std::alloc::AllocError;
 use std::env;
 use std::process::ExitCode;
 
@@ -41,19 +33,9 @@ fn main(rt: HostRuntime) -> ExitCode {
     let Ok(args) = env::args(&rt) else {
         return ExitCode::from(3);
     };
-    let args = args.skip(1).collect::<Vec<String>>(rt.alloc());
-    ExitCode::from(run_collected(args, &mut rt.stdout()))
-}
-
-// Runs the program and returns its exit status. If memory did not suffice for the arguments, the status is 3 and
-// nothing is printed.
-fn run_collected<W: Output>(args: Result<Vec<String>, AllocError>, out: &mut W) -> u8
-    ensures no_memory { IsErr args → (result ≡ 3) × (W.contents out.new ≡ W.contents out.old) }
-    ensures status { result ≤ 3 }
-    ensures failed { IsOk args → result ≡ 3 → W.has_failed out.new }
-{
-    match args {
-        Ok(args) => run(args.as_slice(), out),
-        Err(_) => 3,
-    }
+    // So is want of memory for the arguments.
+    let Ok(args) = args.skip(1).collect::<Vec<String>>(rt.alloc()) else {
+        return ExitCode::from(3);
+    };
+    ExitCode::from(run(args.as_slice(), &mut rt.stdout()))
 }

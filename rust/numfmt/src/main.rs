@@ -5,15 +5,10 @@
 //! In two cases, std makes the exit status differ from the proved program's. If memory runs out, this program aborts.
 //! Standard output that is closed or read-only is treated as `/dev/null`.
 
-#[allow(clippy::ptr_arg, reason = "as it is proved")]
-mod command;
-mod edit;
 #[allow(clippy::manual_flatten, reason = "as it is proved")]
-mod explanation;
-mod output;
+mod answer;
+#[allow(clippy::ptr_arg, reason = "as it is proved")]
 mod program;
-mod response;
-mod source;
 #[cfg(test)]
 mod tests;
 mod word;

@@ -1,5 +1,0 @@
-mod CommandLemmas
-mod ItemLemmas
-mod EditsLemmas
-mod WritingLemmas
-mod ExplanationLemmas

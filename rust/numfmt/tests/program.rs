@@ -1,0 +1,101 @@
+//! Runs the built program. The environment variable NUMFMT can name another program than cargo's, such as the proved
+//! one: `NUMFMT=$PWD/crates/numfmt/out/numfmt cargo test --test program`.
+#![cfg(unix)]
+
+use std::ffi::{OsStr, OsString};
+use std::fs::{self, File};
+use std::os::unix::ffi::OsStrExt;
+use std::process::Command;
+
+const TOP: &str = concat!(env!("CARGO_MANIFEST_DIR"), "/../..");
+
+fn numfmt() -> Command {
+    let built = OsString::from(env!("CARGO_BIN_EXE_numfmt"));
+    Command::new(std::env::var_os("NUMFMT").unwrap_or(built))
+}
+
+/// Returns the exit status of the program, and all that it prints.
+fn run<A: AsRef<OsStr>>(args: &[A]) -> (Option<i32>, String) {
+    let output = numfmt().args(args).output().unwrap();
+    let printed = [output.stdout, output.stderr].concat();
+    (output.status.code(), String::from_utf8(printed).unwrap())
+}
+
+#[test]
+fn prints_the_answer_and_ends_with_its_status() {
+    let seven_lines = fs::read_to_string(format!("{TOP}/crates/numfmt/stdout")).unwrap();
+    assert_eq!(run::<&str>(&[]), (Some(0), seven_lines));
+    for (args, status, text) in [
+        (&["same", "0x0", "0x0"][..], 0, "same\n"),
+        (&["same", "0x0", "0xC"], 1, "different\n"),
+        (&["show", "0xG"], 2, "numfmt: bad word\n"),
+        (&[""], 2, "numfmt: unknown command\n"),
+    ] {
+        assert_eq!(run(args), (Some(status), text.to_string()), "{args:?}");
+    }
+}
+
+/// The edits are counted before the word is read.
+#[test]
+fn takes_at_most_64_edits() {
+    let mut args = ["radix=1"; 67];
+    args[0] = "edit";
+    args[1] = "0x";
+    let refused = |reason| (Some(2), format!("numfmt: {reason}\n"));
+    assert_eq!(run(&args), refused("too many edits"));
+    assert_eq!(run(&args[..66]), refused("bad word"));
+}
+
+#[test]
+fn ends_with_status_3_if_an_argument_is_not_utf_8() {
+    for bytes in [&b"\xff"[..], b"0x1\xc3"] {
+        let arg = OsStr::from_bytes(bytes);
+        assert_eq!(run(&[arg]), (Some(3), String::new()), "{arg:?}");
+        let args = [OsStr::new("show"), arg];
+        assert_eq!(run(&args), (Some(3), String::new()), "{args:?}");
+    }
+}
+
+#[test]
+fn ends_with_status_3_if_a_write_fails() {
+    for args in [&[][..], &["same", "0x0", "0xC"], &["show", "0xG"]] {
+        let full = File::options().write(true).open("/dev/full").unwrap();
+        let output = numfmt().args(args).stdout(full).output().unwrap();
+        assert_eq!(output.status.code(), Some(3), "{args:?}");
+        assert!(output.stderr.is_empty(), "{args:?}");
+    }
+}
+
+/// Returns the arguments of a line that shows a run, such as `    $ numfmt check 0xC`.
+fn shown_arguments(line: &str) -> Option<Vec<&str>> {
+    let command = line.strip_prefix("    $ ")?;
+    if command == "cargo run" {
+        return Some(Vec::new());
+    }
+    let (program, args) = command.split_once(' ')?;
+    matches!(program, "numfmt" | "crates/numfmt/out/numfmt").then(|| args.split(' ').collect())
+}
+
+/// The indented lines below a run are what it prints.
+#[test]
+fn prints_what_the_pages_show() {
+    let mut runs = 0;
+    for page in ["README", "docs/CALLING", "docs/FORMAT", "docs/MIGRATING"] {
+        let text = fs::read_to_string(format!("{TOP}/{page}.md")).unwrap();
+        let mut lines = text.lines().peekable();
+        while let Some(line) = lines.next() {
+            let Some(args) = shown_arguments(line) else {
+                continue;
+            };
+            let mut shown = String::new();
+            while let Some(line) =
+                lines.next_if(|line| line.starts_with("    ") && !line.starts_with("    $"))
+            {
+                shown = shown + &line[4..] + "\n";
+            }
+            assert_eq!(run(&args).1, shown, "{line} in {page}");
+            runs += 1;
+        }
+    }
+    assert!(runs > 0);
+}
