@@ -1,20 +1,24 @@
-use crate::rows::builders::{BUILT, RADIX_WORDS, UNDERSCORED};
+use crate::rows::builders::{RADIX_WORDS, built, underscored};
 use lexical_util::error::Error;
 use lexical_util::format::{NonZeroU8, NumberFormatBuilder, format_error};
 
 #[test]
 fn only_lawful_words_pass_the_strict_build(rt: HostRuntime) {
-    for (builder, word, error) in &BUILT {
+    for (builder, word, error) in &built() {
         let packed = [builder.build_unchecked(), builder.build()];
         assert!(rt; packed == [*word; 2], "{word:#034X}");
-        let strict = if *error == Error::Success { Ok(*word) } else { Err(*error) };
+        let strict = if *error == Error::Success {
+            Ok(*word)
+        } else {
+            Err(*error)
+        };
         assert!(rt; builder.build_strict() == strict, "{word:#034X}");
     }
 }
 
 #[test]
 fn a_builder_keeps_a_separator_that_it_does_not_pack(rt: HostRuntime) {
-    assert!(rt; UNDERSCORED.get_digit_separator() == NonZeroU8::new(95));
+    assert!(rt; underscored().get_digit_separator() == NonZeroU8::new(95));
 }
 
 #[test]

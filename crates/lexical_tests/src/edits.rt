@@ -1,4 +1,7 @@
-use crate::rows::edits::{EDITED, LISTED, MIGRATED, NORMAL_FORMS, RESERVED_BITS, SAME_FORMATS};
+use crate::rows::edits::{
+    EDITED, EXPONENT_DIGITS, LISTED, MIGRATED, NORMAL_FORMS, RESERVED_BITS, SAME_FORMATS,
+    unused_separator,
+};
 use lexical_util::edits::{
     Edit, FlagSetter, apply_all, edit_word, edits_of, is_built, migrate, normal_form, same_format,
 };
@@ -7,9 +10,16 @@ use lexical_util::format::{NumberFormatBuilder, STANDARD, format_error};
 
 #[test]
 fn a_word_is_filled_then_edited_and_then_loses_an_unused_separator(rt: HostRuntime) {
-    for (word, edits, edited) in &EDITED {
-        assert!(rt; edit_word(*word, edits) == *edited, "{word:#034X} to {edited:#034X}");
+    for (word, edit, edited) in &EDITED {
+        assert!(rt;
+            edit_word(*word, &[*edit]) == *edited,
+            "{word:#034X} to {edited:#034X}"
+        );
     }
+    let decimal = NumberFormatBuilder::decimal();
+    assert!(rt; edit_word(decimal, &unused_separator()) == decimal);
+    let (edits, edited) = EXPONENT_DIGITS;
+    assert!(rt; edit_word(decimal, &edits) == edited);
 }
 
 #[test]
@@ -44,7 +54,10 @@ fn each_reserved_bit_is_refused_and_is_lost_in_the_normal_form(rt: HostRuntime) 
         assert!(rt; *bit < 128);
         let word = NumberFormatBuilder::decimal() | 1 << *bit;
         assert!(rt; format_error(word) == Error::InvalidFlags, "{bit}");
-        assert!(rt; normal_form(word) == NumberFormatBuilder::decimal(), "{bit}");
+        assert!(rt;
+            normal_form(word) == NumberFormatBuilder::decimal(),
+            "{bit}"
+        );
     }
 }
 

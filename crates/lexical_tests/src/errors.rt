@@ -44,10 +44,16 @@ fn width_and_fill_do_not_change_a_text(rt: HostRuntime) -> Result<(), Fail> {
 #[test]
 fn outcomes_are_ordered_by_rank_and_then_by_index(rt: HostRuntime) {
     for (less, greater) in &ORDERED {
-        assert!(rt; less < greater && !(greater < less) && less != greater, "{greater}");
+        assert!(rt;
+            less < greater && !(greater < less) && less != greater,
+            "{greater}"
+        );
     }
     for (error, description) in &OUTCOMES {
-        assert!(rt; *error < Error::Success || *error == Error::Success, "{description}");
+        assert!(rt;
+            *error < Error::Success || *error == Error::Success,
+            "{description}"
+        );
     }
     assert!(rt; Error::Overflow(4).index() == Some(&4));
 }

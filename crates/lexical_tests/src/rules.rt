@@ -13,7 +13,10 @@ fn the_first_broken_rule_decides_the_error(rt: HostRuntime) {
         let errors = [format_error_impl(*word), format_error(*word), view.error()];
         assert!(rt; errors == [*error; 3], "{word:#034X}");
         let is_lawful = *error == Error::Success;
-        assert!(rt; [format_is_valid(*word), view.is_valid()] == [is_lawful; 2], "{word:#034X}");
+        assert!(rt;
+            [format_is_valid(*word), view.is_valid()] == [is_lawful; 2],
+            "{word:#034X}"
+        );
     }
 }
 
@@ -27,8 +30,14 @@ fn the_rules_of_radixes_come_first(rt: HostRuntime) {
             _ => Error::Success,
         };
         let view = NumberFormat::new(*word);
-        assert!(rt; [radix_error_impl(*word), view.error_radix()] == [first; 2], "{word:#034X}");
-        assert!(rt; view.is_valid_radix() == (first == Error::Success), "{word:#034X}");
+        assert!(rt;
+            [radix_error_impl(*word), view.error_radix()] == [first; 2],
+            "{word:#034X}"
+        );
+        assert!(rt;
+            view.is_valid_radix() == (first == Error::Success),
+            "{word:#034X}"
+        );
     }
     for (radix, is_valid) in &RADIXES {
         assert!(rt; is_valid_radix(*radix) == *is_valid, "{radix}");
@@ -38,7 +47,10 @@ fn the_rules_of_radixes_come_first(rt: HostRuntime) {
 #[test]
 fn a_separator_is_tested_in_the_larger_radix(rt: HostRuntime) {
     for (word, is_valid) in &SEPARATORS {
-        assert!(rt; is_valid_digit_separator(*word) == *is_valid, "{word:#034X}");
+        assert!(rt;
+            is_valid_digit_separator(*word) == *is_valid,
+            "{word:#034X}"
+        );
     }
 }
 

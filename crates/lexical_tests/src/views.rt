@@ -25,8 +25,15 @@ fn each_byte_is_read_from_the_word_and_from_its_view(rt: HostRuntime) {
             view.exponent_radix(),
         ];
         assert!(rt; [read, viewed] == [*bytes; 2], "{word:#034X}");
-        let present = [view.has_digit_separator(), view.has_base_prefix(), view.has_base_suffix()];
-        assert!(rt; present == [bytes[0] != 0, bytes[1] != 0, bytes[2] != 0], "{word:#034X}");
+        let present = [
+            view.has_digit_separator(),
+            view.has_base_prefix(),
+            view.has_base_suffix(),
+        ];
+        assert!(rt;
+            present == [bytes[0] != 0, bytes[1] != 0, bytes[2] != 0],
+            "{word:#034X}"
+        );
         assert!(rt; view.radix() == bytes[3], "{word:#034X}");
     }
 }
@@ -67,7 +74,10 @@ fn a_view_returns_the_bits_of_each_mask(rt: HostRuntime) {
 fn the_eighth_power_of_a_radix_is_reduced_to_32_bits(rt: HostRuntime) {
     for (radix, powers) in &POWERS {
         let view = NumberFormat::new((*radix as u128) << 104);
-        assert!(rt; [view.radix2(), view.radix4(), view.radix8()] == *powers, "{radix}");
+        assert!(rt;
+            [view.radix2(), view.radix4(), view.radix8()] == *powers,
+            "{radix}"
+        );
     }
 }
 

@@ -1,6 +1,9 @@
 //! Lists of edits, and calls on whole words.
 
-use crate::rows::edits::{EDITED, LISTED, MIGRATED, NORMAL_FORMS, RESERVED_BITS, SAME_FORMATS};
+use crate::rows::edits::{
+    unused_separator, EDITED, EXPONENT_DIGITS, LISTED, MIGRATED, NORMAL_FORMS, RESERVED_BITS,
+    SAME_FORMATS,
+};
 use peltzivar::edits::{
     apply_all, edit_word, edits_of, is_built, migrate, normal_form, same_format, Edit, FlagSetter,
 };
@@ -12,9 +15,12 @@ const NORMAL: u128 = NumberFormatBuilder::decimal();
 
 #[test]
 fn a_word_is_filled_then_edited_and_then_loses_an_unused_separator() {
-    for (word, edits, edited) in EDITED {
-        assert_eq!(edit_word(word, edits), edited, "{word:#034X} {edits:?}");
+    for (word, edit, edited) in EDITED {
+        assert_eq!(edit_word(word, &[edit]), edited, "{word:#034X} {edit:?}");
     }
+    assert_eq!(edit_word(NORMAL, &unused_separator()), NORMAL);
+    let (edits, edited) = EXPONENT_DIGITS;
+    assert_eq!(edit_word(NORMAL, &edits), edited);
 }
 
 #[test]

@@ -1,6 +1,6 @@
 //! The builder: its setters and getters, and the words that it packs.
 
-use crate::rows::builders::{BUILT, RADIX_WORDS, UNDERSCORED};
+use crate::rows::builders::{built, underscored, RADIX_WORDS};
 use peltzivar::edits::{apply, Edit, FlagSetter, SETTERS};
 use peltzivar::error::Error;
 use peltzivar::format::{NonZeroU8, NumberFormatBuilder};
@@ -235,7 +235,7 @@ fn parts_are_the_flags_without_gap_and_the_bytes() {
 
 #[test]
 fn only_lawful_words_pass_the_strict_build() {
-    for (builder, word, error) in BUILT {
+    for (builder, word, error) in built() {
         let packed = [builder.build_unchecked(), builder.build()];
         assert_eq!(packed, [word; 2], "{word:#034X}");
         if error == Error::Success {
@@ -245,7 +245,7 @@ fn only_lawful_words_pass_the_strict_build() {
             assert_eq!(builder.build_strict(), Err(error), "{word:#034X}");
         }
     }
-    assert_eq!(UNDERSCORED.get_digit_separator(), NonZeroU8::new(95));
+    assert_eq!(underscored().get_digit_separator(), NonZeroU8::new(95));
 }
 
 #[test]

@@ -6,39 +6,37 @@ use peltzivar::edits::{Edit, FlagSetter};
 use peltzivar::error::Error;
 use peltzivar::word::NonZeroU8;
 
-/// A word, a list of edits, and the edited word.
+/// A word, an edit, and the edited word.
 #[rustfmt::skip]
-pub const EDITED: [(u128, &[Edit], u128); 7] = [
-    (0x00000A00_00000000_00000000_0000000C, &[Edit::Radix(16)], 0x0A0A1000_00000000_00000000_0000000C),
-    (0x0A0A0A00_00000000_00000000_0000000C, &[Edit::ExponentBase(None)], 0x0A000A00_00000000_00000000_0000000C),
+pub const EDITED: [(u128, Edit, u128); 5] = [
+    (0x00000A00_00000000_00000000_0000000C, Edit::Radix(16), 0x0A0A1000_00000000_00000000_0000000C),
+    (0x0A0A0A00_00000000_00000000_0000000C, Edit::ExponentBase(None), 0x0A000A00_00000000_00000000_0000000C),
     // A mantissa radix of 0 fills nothing.
-    (0x00000000_00000000_00000000_0000000C, &[Edit::MantissaRadix(8)], 0x00000800_00000000_00000000_0000000C),
-    // A separator that no flag allows is lost with the first call.
-    (
-        0x0A0A0A00_0000005F_00000000_0000000C,
-        &[Edit::Flag(FlagSetter::IntegerInternalDigitSeparator, true)],
-        0x0A0A0A00_0000005F_00000001_0000000C,
-    ),
-    (
-        0x0A0A0A00_00000000_00000000_0000000C,
-        &[Edit::Flag(FlagSetter::IntegerInternalDigitSeparator, true)],
-        0x0A0A0A00_00000000_00000001_0000000C,
-    ),
-    (
-        0x0A0A0A00_00000000_00000000_0000000C,
-        &[
-            Edit::DigitSeparator(NonZeroU8::new(95)),
-            Edit::Flag(FlagSetter::DigitSeparatorFlags, true),
-            Edit::Flag(FlagSetter::DigitSeparatorFlags, false),
-        ],
-        0x0A0A0A00_00000000_00000000_0000000C,
-    ),
-    (
-        0x0A0A0A00_00000000_00000000_0000000C,
-        &[Edit::Flag(FlagSetter::RequiredDigits, false), Edit::Flag(FlagSetter::RequiredExponentDigits, true)],
-        0x0A0A0A00_00000000_00000000_00000004,
-    ),
+    (0x00000000_00000000_00000000_0000000C, Edit::MantissaRadix(8), 0x00000800_00000000_00000000_0000000C),
+    // A separator that no flag allows, in the word and in its normal form.
+    (0x0A0A0A00_0000005F_00000000_0000000C, INTERNAL, 0x0A0A0A00_0000005F_00000001_0000000C),
+    (0x0A0A0A00_00000000_00000000_0000000C, INTERNAL, 0x0A0A0A00_00000000_00000001_0000000C),
 ];
+
+const INTERNAL: Edit = Edit::Flag(FlagSetter::IntegerInternalDigitSeparator, true);
+
+/// Edits of the word of decimal numbers, and the edited word.
+pub const EXPONENT_DIGITS: ([Edit; 2], u128) = (
+    [
+        Edit::Flag(FlagSetter::RequiredDigits, false),
+        Edit::Flag(FlagSetter::RequiredExponentDigits, true),
+    ],
+    0x0A0A0A00_00000000_00000000_00000004,
+);
+
+/// Returns edits that leave the word of decimal numbers as it is: no flag allows the separator in the end.
+pub fn unused_separator() -> [Edit; 3] {
+    [
+        Edit::DigitSeparator(NonZeroU8::new(95)),
+        Edit::Flag(FlagSetter::DigitSeparatorFlags, true),
+        Edit::Flag(FlagSetter::DigitSeparatorFlags, false),
+    ]
+}
 
 /// A word, its error, its normal form, and the error of the normal form.
 #[rustfmt::skip]

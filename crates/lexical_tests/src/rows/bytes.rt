@@ -13,8 +13,7 @@ pub const DIGITS: [(u8, u32, Option<u32>); 8] = [
 ];
 
 /// A byte, a radix, and the value that is returned without a test that the byte is a digit.
-pub const UNTESTED_DIGITS: [(u8, u32, u32); 3] =
-    [(b'/', 10, 255), (b'A', 10, 17), (b'A', 11, 10)];
+pub const UNTESTED_DIGITS: [(u8, u32, u32); 3] = [(b'/', 10, 255), (b'A', 10, 17), (b'A', 11, 10)];
 
 /// A digit, a radix, and the character of the digit, which need not be a digit of the radix.
 pub const CHARACTERS: [(u32, u32, u8); 3] = [(11, 36, b'B'), (11, 10, b';'), (9, 36, b'9')];
