@@ -27,13 +27,12 @@ fn a_radix_is_packed_without_a_test(rt: HostRuntime) {
         assert!(rt; NumberFormatBuilder::from_radix(*radix) == *word, "{radix}");
         assert!(rt; format_error(*word) == *error, "{radix}");
     }
-    let named = [
+    let words = [
         NumberFormatBuilder::binary(),
         NumberFormatBuilder::octal(),
         NumberFormatBuilder::decimal(),
         NumberFormatBuilder::hexadecimal(),
     ];
-    for (word, (_, wanted, _)) in named.iter().zip(RADIX_WORDS[1..].iter()) {
-        assert!(rt; word == wanted);
-    }
+    let [_, binary, octal, decimal, hexadecimal, _, _] = RADIX_WORDS;
+    assert!(rt; words == [binary.1, octal.1, decimal.1, hexadecimal.1]);
 }

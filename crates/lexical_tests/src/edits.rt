@@ -1,6 +1,5 @@
 use crate::rows::edits::{
-    EDITED, EXPONENT_DIGITS, LISTED, MIGRATED, NORMAL_FORMS, RESERVED_BITS, SAME_FORMATS,
-    unused_separator,
+    EDITED, EXPONENT_DIGITS, LISTED, MIGRATED, NORMAL_FORMS, RESERVED_BITS, unused_separator,
 };
 use lexical_util::edits::{
     Edit, FlagSetter, apply_all, edit_word, edits_of, is_built, migrate, normal_form, same_format,
@@ -42,9 +41,6 @@ fn each_word_has_its_normal_form(rt: HostRuntime) {
         assert!(rt; normal_form(*word) == *normal, "{word:#034X}");
         assert!(rt; format_error(*normal) == *normal_error, "{word:#034X}");
         assert!(rt; same_format(*word, *normal), "{word:#034X}");
-    }
-    for (a, b, is_same) in &SAME_FORMATS {
-        assert!(rt; same_format(*a, *b) == *is_same, "{a:#034X} and {b:#034X}");
     }
 }
 

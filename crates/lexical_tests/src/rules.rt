@@ -17,19 +17,13 @@ fn the_first_broken_rule_decides_the_error(rt: HostRuntime) {
             [format_is_valid(*word), view.is_valid()] == [is_lawful; 2],
             "{word:#034X}"
         );
-    }
-}
-
-#[test]
-fn the_rules_of_radixes_come_first(rt: HostRuntime) {
-    for (word, error) in &ERRORS {
+        // The rules of radixes come first.
         let first = match error {
             Error::InvalidMantissaRadix
             | Error::InvalidExponentBase
             | Error::InvalidExponentRadix => *error,
             _ => Error::Success,
         };
-        let view = NumberFormat::new(*word);
         assert!(rt;
             [radix_error_impl(*word), view.error_radix()] == [first; 2],
             "{word:#034X}"
@@ -39,6 +33,10 @@ fn the_rules_of_radixes_come_first(rt: HostRuntime) {
             "{word:#034X}"
         );
     }
+}
+
+#[test]
+fn a_radix_is_from_2_to_36(rt: HostRuntime) {
     for (radix, is_valid) in &RADIXES {
         assert!(rt; is_valid_radix(*radix) == *is_valid, "{radix}");
     }

@@ -2,7 +2,6 @@
 
 use crate::rows::edits::{
     unused_separator, EDITED, EXPONENT_DIGITS, LISTED, MIGRATED, NORMAL_FORMS, RESERVED_BITS,
-    SAME_FORMATS,
 };
 use peltzivar::edits::{
     apply_all, edit_word, edits_of, is_built, migrate, normal_form, same_format, Edit, FlagSetter,
@@ -47,9 +46,6 @@ fn each_word_has_its_normal_form() {
         assert_eq!(normal_form(word), normal, "{word:#034X}");
         assert_eq!(format_error(normal), normal_error, "{word:#034X}");
         assert!(same_format(word, normal), "{word:#034X}");
-    }
-    for (a, b, is_same) in SAME_FORMATS {
-        assert_eq!(same_format(a, b), is_same, "{a:#034X} and {b:#034X}");
     }
 }
 

@@ -64,13 +64,6 @@ pub const RESERVED_BITS: [u32; 49] = [
     72, 73, 74, 75, 76, 77, 78, 79, 80, 81, 82, 83, 84, 85, 86, 87,
 ];
 
-/// Two words, and whether they have the same normal form.
-#[rattlefmt::skip]
-pub const SAME_FORMATS: [(u128, u128, bool); 2] = [
-    (0x00000A00_00000000_00000000_0000000C, 0x0A0A0A00_00000000_00000000_0000000C, true),
-    (0x0, 0xC, false),
-];
-
 /// A word, the word that its edits build, and the number of edits that change a new builder. A builder can build the word
 /// if both words are equal.
 #[rattlefmt::skip]
