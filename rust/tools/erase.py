@@ -50,6 +50,9 @@ LEFT_OUT = re.compile(rf"(lib|main|laws|examples)\.rt|{'|'.join(WRITTEN_ANEW)}|l
 MODULES = {"format": "word", "feature_format": "view"}
 VIEW = ("NumberFormat", "FormatView")
 
+# Tables of tests that plain Rust copies, and the folder of the copies.
+COPIED = {"lexical_tests/src/rows/*.rt": "tests/rows"}
+
 # Texts that plain Rust replaces: the file, the text, and the replacement. The text and its replacement have the same number of lines.
 COMPARED = "#[derive(Clone, Copy, PartialEq, Eq, Hash)]"
 PUT_DECIMAL = """let has_front = n >= 10;
@@ -425,6 +428,11 @@ def made_files():
                 text = attributes.of_file(comments.of_file(text, name), str(name))
             head = f"{MADE} from crates/{crate}/src/{name}: change that file.\n\n"
             files[RUST.joinpath(folder, first, *rest)] = laid_out(head + text)
+    for pattern, folder in COPIED.items():
+        for path in sorted(CRATES.glob(pattern)):
+            text = f"{MADE} from crates/{path.relative_to(CRATES)}: change that file.\n\n{path.read_text()}"
+            text = renamed(text.replace("rattlefmt::skip", "rustfmt::skip"), "peltzivar", "std")
+            files[RUST.joinpath(folder, path.stem).with_suffix(".rs")] = laid_out(text)
     for file, old, _ in SUBSTITUTIONS:
         if not any(path.name == file.replace(".rt", ".rs") or path.stem == MODULES.get(file[:-3]) for path in files):
             raise Refused(f"{file} is no source, and this is to stand in it: {old}")
@@ -444,7 +452,8 @@ def main():
     except (Refused, documentation.Unfit) as refused:
         sys.exit(f"rust/tools/erase.py: {refused}")
     stale = [path for path, text in files.items() if not path.exists() or path.read_text() != text]
-    sources = [it for folder in {folder for folder, _, _ in PLACES.values()} for it in (RUST / folder).rglob("*.rs")]
+    folders = {folder for folder, _, _ in PLACES.values()} | set(COPIED.values())
+    sources = [it for folder in folders for it in (RUST / folder).rglob("*.rs")]
     gone = [it for it in sources if it not in files and it.read_text().startswith(MADE)]
     names = " ".join(str(path.relative_to(RUST)) for path in stale + gone)
     if "--check" in sys.argv[1:]:

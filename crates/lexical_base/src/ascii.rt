@@ -46,14 +46,14 @@ pub fn is_valid_letter_slice(slc: &[u8]) -> bool
 // Returns whether `byte & mask` is in one of two ranges for every `byte` of `bytes`. Each range is given by its
 // lowest and its highest byte.
 //
-// The function tests chunks of 32 bytes, then the remaining bytes. At most 31 bytes remain.
+// The function tests chunks of 32 bytes, and then the remaining bytes one by one. At most 31 bytes remain.
 #[inline(always)]
 fn all_in_ranges(bytes: &[u8], mask: u8, first: (u8, u8), second: (u8, u8)) -> bool
     requires { AreTwoRanges first second }
     ensures { IsTrue result ↔ AllPass (in_two_ranges mask first second) bytes.now }
 {
     let (chunks, rest) = bytes.as_chunks::<32>();
-    chunks_in_ranges(chunks, mask, first, second) & rest_in_ranges(rest, mask, first, second)
+    chunks_in_ranges(chunks, mask, first, second) & bytes_in_ranges(rest, mask, first, second)
 }
 
 // Returns whether every byte of `chunks`, masked with `mask`, is in one of the two ranges.
@@ -119,17 +119,6 @@ fn max_distance<const N: usize>(
     let from_first = (bytes - Simd::splat(first.0)).saturating_add(Simd::splat(longer));
     let from_second = bytes - Simd::splat(second.0);
     largest.simd_max(from_first.simd_min(from_second))
-}
-
-// Returns whether every byte of `bytes`, masked with `mask`, is in one of the two ranges. There are fewer than 32
-// bytes. The function tests each 16 of them at once, and the others one by one.
-#[inline(always)]
-fn rest_in_ranges(bytes: &[u8], mask: u8, first: (u8, u8), second: (u8, u8)) -> bool
-    requires { AreTwoRanges first second }
-    ensures { result ≡ list_all (in_two_ranges mask first second) bytes.now }
-{
-    let (halves, rest) = bytes.as_chunks::<16>();
-    block_in_ranges(halves, mask, first, second) & bytes_in_ranges(rest, mask, first, second)
 }
 
 // Returns whether every byte of `bytes`, masked with `mask`, is in one of the two ranges. There are only a few bytes.

@@ -2,3 +2,4 @@
 #![tactic(auto)]
 
 pub mod format_builder;
+pub mod laws;

@@ -44,7 +44,8 @@ pub const REQUIRED_DIGITS: u128 = 0xF;
 /// The mask of this [flag][lexical_builder::format_builder::NumberFormatBuilder::no_positive_mantissa_sign].
 pub const NO_POSITIVE_MANTISSA_SIGN: u128 = 0x10;
 
-/// The mask of this [flag][lexical_builder::format_builder::NumberFormatBuilder::required_mantissa_sign].
+/// The mask of this [flag][lexical_builder::format_builder::NumberFormatBuilder::required_mantissa_sign], which requires a
+/// sign: `+` or `-`.
 pub const REQUIRED_MANTISSA_SIGN: u128 = 0x20;
 
 /// The mask of this [flag][lexical_builder::format_builder::NumberFormatBuilder::no_exponent_notation].
@@ -53,7 +54,8 @@ pub const NO_EXPONENT_NOTATION: u128 = 0x40;
 /// The mask of this [flag][lexical_builder::format_builder::NumberFormatBuilder::no_positive_exponent_sign].
 pub const NO_POSITIVE_EXPONENT_SIGN: u128 = 0x80;
 
-/// The mask of this [flag][lexical_builder::format_builder::NumberFormatBuilder::required_exponent_sign].
+/// The mask of this [flag][lexical_builder::format_builder::NumberFormatBuilder::required_exponent_sign], which requires a
+/// sign: `+` or `-`.
 pub const REQUIRED_EXPONENT_SIGN: u128 = 0x100;
 
 /// The mask of this [flag][lexical_builder::format_builder::NumberFormatBuilder::no_exponent_without_fraction].

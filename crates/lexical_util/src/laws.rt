@@ -1,24 +1,15 @@
 //! Laws: public functions with empty bodies, whose clauses are theorems. To use a law, call it.
 
-ghost use Rattle.std.specs.Prelude.{◌≡◌, ◌↔◌, ◌+◌, ℕ, List, [], ◌++◌};
-ghost use Rattle.lexical_flags.specs.Record.{Record, raw};
+ghost use Rattle.std.specs.Prelude.{◌≡◌, ◌↔◌, ℕ};
+ghost use Rattle.lexical_flags.specs.Record.{raw};
 ghost use Rattle.lexical_flags.specs.Rules.{Lawful};
-ghost use Rattle.lexical_builder.specs.Writes.{Write, after};
 ghost use Rattle.lexical_util.specs.NormalForm.{normal_form_of, SameFormat};
-ghost use Rattle.lexical_util.specs.declared.edits.setters.Edit.{Edit};
 
 pub mod examples;
 
 pub use lexical_base::laws as base;
+pub use lexical_builder::laws::write_facts;
 pub use lexical_flags::laws as flags;
-
-/// States that an empty list of writes changes nothing, and that applying two lists in turn is equivalent to applying
-/// both as one list.
-pub fn write_facts()
-    ensures none { (r : Record) → after r [] ≡ r }
-    ensures append { (r : Record) → (first second : List Write)
-        → after (after r first) second ≡ after r (first ++ second) }
-{}
 
 /// States when two words have the same normal form, and when a normal form is lawful.
 #[inline(always)]

@@ -324,7 +324,8 @@ impl FormatView {
         self.format & flags::DIGIT_SEPARATOR_FLAG_MASK
     }
 
-    /// Returns the bitwise AND of the word and [`EXPONENT_FLAG_MASK`][flags::EXPONENT_FLAG_MASK].
+    /// Returns the bitwise AND of the word and [`EXPONENT_FLAG_MASK`][flags::EXPONENT_FLAG_MASK], which does not contain
+    /// the flag `case_sensitive_exponent`.
     #[must_use]
     #[inline(always)]
     pub const fn exponent_flags(&self) -> u128 {

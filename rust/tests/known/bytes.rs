@@ -1,74 +1,69 @@
 //! Digits, and tests of bytes and of slices.
 
+use crate::rows::bytes::{
+    ALLOWED_ASCII, CHARACTERS, DIGITS, DIGIT_CHARACTERS, LENGTHS, SLICES, UNTESTED_DIGITS,
+};
 use peltzivar::ascii::{
     is_valid_ascii, is_valid_ascii_slice, is_valid_letter, is_valid_letter_slice,
 };
 use peltzivar::digit::*;
 
-const DIGITS: &[u8; 36] = b"0123456789ABCDEFGHIJKLMNOPQRSTUVWXYZ";
-
 #[test]
-fn each_digit_has_its_characters() {
-    for (value, upper) in (0..).zip(*DIGITS) {
-        assert_eq!(digit_to_char(value), upper);
-        for radix in value + 1..=36 {
-            assert_eq!(
-                digit_to_char_const(value, radix),
-                upper,
-                "{value} in {radix}"
-            );
-        }
-        for c in [upper, upper.to_ascii_lowercase()] {
-            for radix in 0..=37 {
-                let digit = (value < radix).then_some(value);
-                let read = [char_to_digit(c, radix), char_to_digit_const(c, radix)];
-                assert_eq!(read, [digit; 2], "{c} in {radix}");
-                let is_digit = [char_is_digit(c, radix), char_is_digit_const(c, radix)];
-                assert_eq!(is_digit, [value < radix; 2], "{c} in {radix}");
-                if let Some(digit) = digit {
-                    assert_eq!(char_to_valid_digit_const(c, radix), digit, "{c} in {radix}");
-                }
-            }
-        }
+fn a_byte_is_a_digit_if_its_value_is_below_the_radix() {
+    for (c, radix, digit) in DIGITS {
+        let read = [char_to_digit(c, radix), char_to_digit_const(c, radix)];
+        assert_eq!(read, [digit; 2], "{c} in {radix}");
+        let tests = [char_is_digit(c, radix), char_is_digit_const(c, radix)];
+        assert_eq!(tests, [digit.is_some(); 2], "{c} in {radix}");
     }
 }
 
 #[test]
-fn every_other_byte_is_no_digit() {
-    for c in (0..=255_u8).filter(|c| !c.is_ascii_alphanumeric()) {
-        for radix in [2, 10, 11, 36, 255] {
-            assert_eq!(
-                [char_to_digit(c, radix), char_to_digit_const(c, radix)],
-                [None; 2],
-                "{c} in {radix}"
-            );
-            assert_eq!(
-                [char_is_digit(c, radix), char_is_digit_const(c, radix)],
-                [false; 2],
-                "{c} in {radix}"
-            );
-        }
-        assert_eq!(
-            [char_to_digit(c, 256), char_to_digit_const(c, 256)],
-            [Some(255); 2],
-            "{c}"
-        );
-        assert_eq!(char_to_valid_digit_const(c, 36), 255, "{c}");
-        assert_eq!(
-            char_to_valid_digit_const(c, 10),
-            u32::from(c.wrapping_sub(b'0')),
-            "{c}"
-        );
-    }
-}
-
-#[test]
-fn characters_and_values_need_not_be_digits_of_the_radix() {
-    for (c, radix, value) in [(b'/', 10, 255), (b'A', 10, 17), (b'A', 11, 10)] {
+fn an_untested_digit_need_not_be_a_digit_of_the_radix() {
+    for (c, radix, value) in UNTESTED_DIGITS {
         assert_eq!(char_to_valid_digit_const(c, radix), value, "{c} in {radix}");
     }
-    for (value, radix, c) in [(11, 36, b'B'), (11, 10, b';'), (9, 36, b'9')] {
-        assert_eq!(digit_to_char_const(value, radix), c, "{value} in {radix}");
+}
+
+#[test]
+fn each_digit_has_its_character() {
+    for (digit, radix, c) in CHARACTERS {
+        assert_eq!(digit_to_char_const(digit, radix), c, "{digit} in {radix}");
+    }
+    for (digit, c) in DIGIT_CHARACTERS {
+        assert_eq!(digit_to_char(digit), c, "{digit}");
+    }
+}
+
+#[test]
+fn allowed_ascii_has_no_other_control_characters() {
+    for (c, is_allowed) in ALLOWED_ASCII {
+        assert_eq!(is_valid_ascii(c), is_allowed, "{c}");
+    }
+}
+
+#[test]
+fn a_slice_passes_if_each_byte_does() {
+    for (bytes, is_ascii, is_letters) in SLICES {
+        assert_eq!(is_valid_ascii_slice(bytes), is_ascii, "{bytes:?}");
+        assert_eq!(is_valid_letter_slice(bytes), is_letters, "{bytes:?}");
+    }
+}
+
+#[test]
+fn one_wrong_byte_is_found_at_each_index() {
+    for length in LENGTHS {
+        let mut bytes = vec![b'A'; length];
+        assert!(
+            is_valid_ascii_slice(&bytes) && is_valid_letter_slice(&bytes),
+            "{length}"
+        );
+        for index in 0..length {
+            bytes[index] = 0x7F;
+            let passes = is_valid_ascii_slice(&bytes) || is_valid_letter_slice(&bytes);
+            assert!(!passes, "{index} of {length}");
+            bytes[index] = b'A';
+        }
     }
 }
 

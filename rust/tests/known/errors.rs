@@ -1,29 +1,20 @@
 //! The outcomes: tests, ranks, texts, and the traits of the standard library.
 
-use crate::outcomes::OUTCOMES;
+use crate::rows::errors::{tests, ORDERED, OUTCOMES, TEXTS};
 use peltzivar::error::{Class, Error, Piece, ShortText, EMPTY_PIECE};
 use std::collections::HashSet;
 use std::io::Write as _;
 
 #[test]
-fn each_outcome_has_its_test_rank_and_text() {
-    for (rank, outcome) in OUTCOMES.iter().enumerate() {
-        let error = (outcome.at)(7);
-        let name = outcome.name;
-        assert_eq!(usize::from(error.rank()), rank, "{name}");
-        assert_eq!(error.description(), outcome.description, "{name}");
-        assert_eq!(error.index(), outcome.holds_index.then_some(&7), "{name}");
-        assert_eq!(Error::from_rank(rank as u8, 7), Some(error), "{name}");
-        let tests: Vec<usize> = (0..49)
-            .filter(|test| (OUTCOMES[*test].test)(&error))
-            .collect();
-        assert_eq!(tests, [rank], "{name}");
-        let debug = if rank < 19 {
-            format!("{name}(7)")
-        } else {
-            name.to_string()
-        };
-        assert_eq!(format!("{error:?}"), debug);
+fn each_outcome_has_its_rank_description_index_and_test() {
+    for (rank, (error, description)) in OUTCOMES.into_iter().enumerate() {
+        assert_eq!(usize::from(error.rank()), rank, "{error:?}");
+        assert_eq!(Error::from_rank(rank as u8, 7), Some(error), "{error:?}");
+        assert_eq!(error.description(), description, "{error:?}");
+        assert_eq!(error.index(), (rank < 19).then_some(&7), "{error:?}");
+        for (test, holds) in tests(&error).into_iter().enumerate() {
+            assert_eq!(holds, test == rank, "test {test} of {error:?}");
+        }
     }
     for rank in 49..=255 {
         assert_eq!(Error::from_rank(rank, 7), None);
@@ -31,30 +22,24 @@ fn each_outcome_has_its_test_rank_and_text() {
 }
 
 #[test]
-fn each_outcome_prints_its_class_text_and_index() {
-    for (rank, outcome) in OUTCOMES.iter().enumerate() {
-        let (class, about) = match rank {
-            0..19 => ("lexical parse error: ", Class::Parse),
-            19..36 => ("lexical number format error: ", Class::Format),
-            36..48 => ("lexical options error: ", Class::Options),
-            _ => ("", Class::Success),
+fn each_outcome_prints_its_class_description_and_index() {
+    for (rank, (error, description)) in OUTCOMES.into_iter().enumerate() {
+        let (class, about, at) = match rank {
+            0..19 => ("lexical parse error: ", Class::Parse, " at index 7"),
+            19..36 => ("lexical number format error: ", Class::Format, ""),
+            36..48 => ("lexical options error: ", Class::Options, ""),
+            _ => ("", Class::Success, ""),
         };
-        assert_eq!((outcome.at)(7).class(), about);
-        let at = if rank < 19 { " at index 7" } else { "" };
-        let text = format!("{class}{}{at}", outcome.description);
-        assert_eq!((outcome.at)(7).to_string(), text);
+        assert_eq!(error.class(), about);
+        let text = format!("{class}{description}{at}");
+        assert_eq!(error.to_string(), text);
         // The formatter fails if the text does not fit.
         let mut room = vec![0; text.len()];
         for len in 0..text.len() {
-            assert!(
-                write!(&mut room[..len], "{}", (outcome.at)(7)).is_err(),
-                "{text} in {len}"
-            );
+            let printed = write!(&mut room[..len], "{error}");
+            assert!(printed.is_err(), "{text} in {len}");
         }
-        assert!(
-            write!(&mut room[..], "{}", (outcome.at)(7)).is_ok(),
-            "{text}"
-        );
+        assert!(write!(&mut room[..], "{error}").is_ok(), "{text}");
     }
 }
 
@@ -63,27 +48,22 @@ fn each_index_is_printed_in_decimal() {
     let powers = (0..20).map(|exponent| 10_usize.pow(exponent));
     let near_powers = powers.flat_map(|power| [power - 1, power, power + 1]);
     for index in (0..10_000).chain(near_powers).chain([usize::MAX]) {
-        for outcome in OUTCOMES.iter().filter(|outcome| outcome.holds_index) {
-            let text = format!(
-                "lexical parse error: {} at index {index}",
-                outcome.description
-            );
-            assert_eq!((outcome.at)(index).to_string(), text);
-        }
+        let text = format!("lexical parse error: 'invalid digit found' at index {index}");
+        assert_eq!(Error::InvalidDigit(index).to_string(), text);
     }
 }
 
 #[test]
-fn width_fill_and_precision_change_nothing() {
-    for outcome in &OUTCOMES {
-        let error = (outcome.at)(7);
-        let styled = [
+fn width_fill_and_precision_do_not_change_a_text() {
+    for (error, text) in TEXTS {
+        let printed = [
+            format!("{error}"),
             format!("{error:80}"),
             format!("{error:->080}"),
             format!("{error:#^80}"),
             format!("{error:+.3}"),
         ];
-        assert_eq!(styled, [(); 4].map(|()| error.to_string()));
+        assert_eq!(printed, [text; 5]);
     }
 }
 
@@ -104,12 +84,15 @@ fn a_short_text_prints_a_number_in_hexadecimal() {
 
 #[test]
 fn outcomes_are_ordered_by_rank_and_then_by_index() {
-    let outcomes: Vec<Error> = OUTCOMES
-        .iter()
-        .flat_map(|outcome| {
+    for (less, greater) in ORDERED {
+        assert!(less < greater, "{less:?} and {greater:?}");
+    }
+    let outcomes: Vec<Error> = (0..49)
+        .flat_map(|rank| {
             let indices = [0, 1, 1 << 32, usize::MAX];
-            let count = if outcome.holds_index { 4 } else { 1 };
-            indices.into_iter().take(count).map(outcome.at)
+            let count = if rank < 19 { 4 } else { 1 };
+            let at = move |index| Error::from_rank(rank, index).expect("an outcome");
+            indices.into_iter().take(count).map(at)
         })
         .collect();
     for (a, first) in outcomes.iter().enumerate() {

@@ -1,5 +1,5 @@
-//! One word or value for each constant, getter, setter, rule and call. Expected values are from `docs/FORMAT.md`, or
-//! `lexical-util` 1.0.7 returned them.
+//! One word or value for each constant, getter, setter, rule and call, and the tables in `rows`. Expected values are from
+//! `docs/FORMAT.md`, or `lexical-util` 1.0.7 returned them.
 
 // Calls `$rows!` with `$args` and the flags: bit, setter, constant, getter of a builder.
 macro_rules! with_flags {
@@ -53,5 +53,13 @@ mod settings;
 mod texts;
 mod views;
 
-#[path = "../outcomes/mod.rs"]
-mod outcomes;
+/// Tables that `crates/lexical_tests` has too.
+#[path = "../rows"]
+mod rows {
+    pub mod builders;
+    pub mod bytes;
+    pub mod edits;
+    pub mod errors;
+    pub mod rules;
+    pub mod views;
+}

@@ -1,8 +1,10 @@
 //! The builder: its setters and getters, and the words that it packs.
 
+use crate::rows::builders::{built, underscored, RADIX_WORDS};
 use peltzivar::edits::{apply, Edit, FlagSetter, SETTERS};
 use peltzivar::error::Error;
-use peltzivar::format::{NonZeroU8, NumberFormatBuilder, STANDARD};
+use peltzivar::format::{NonZeroU8, NumberFormatBuilder};
+use peltzivar::word::format_error;
 
 const NO_FLAGS: NumberFormatBuilder = NumberFormatBuilder::rebuild(0);
 const ALL_FLAGS: NumberFormatBuilder = NumberFormatBuilder::rebuild(0x1FFF_0003_FFFF);
@@ -204,36 +206,19 @@ fn a_builder_of_a_word_keeps_exponent_bytes_absent() {
 }
 
 #[test]
-fn the_words_of_common_radixes() {
-    for (word, wanted) in [
-        (
-            NumberFormatBuilder::binary(),
-            0x02020200_00000000_00000000_0000000C,
-        ),
-        (
-            NumberFormatBuilder::octal(),
-            0x08080800_00000000_00000000_0000000C,
-        ),
-        (
-            NumberFormatBuilder::decimal(),
-            0x0A0A0A00_00000000_00000000_0000000C,
-        ),
-        (
-            NumberFormatBuilder::hexadecimal(),
-            0x10101000_00000000_00000000_0000000C,
-        ),
-        (
-            NumberFormatBuilder::from_radix(36),
-            0x24242400_00000000_00000000_0000000C,
-        ),
-        (
-            NumberFormatBuilder::from_radix(255),
-            0xFFFFFF00_00000000_00000000_0000000C,
-        ),
-        (NumberFormatBuilder::from_radix(0), 0xC),
-        (NumberFormatBuilder::new().build_unchecked(), STANDARD),
-    ] {
-        assert_eq!(word, wanted);
+fn a_radix_is_packed_without_a_test() {
+    for (radix, word, error) in RADIX_WORDS {
+        assert_eq!(NumberFormatBuilder::from_radix(radix), word);
+        assert_eq!(format_error(word), error, "{radix}");
+    }
+    let named = [
+        NumberFormatBuilder::binary(),
+        NumberFormatBuilder::octal(),
+        NumberFormatBuilder::decimal(),
+        NumberFormatBuilder::hexadecimal(),
+    ];
+    for (word, (_, wanted, _)) in named.into_iter().zip(&RADIX_WORDS[1..]) {
+        assert_eq!(word, *wanted);
     }
 }
 
@@ -249,69 +234,18 @@ fn parts_are_the_flags_without_gap_and_the_bytes() {
 }
 
 #[test]
-fn a_builder_packs_with_and_without_a_check() {
-    let separated = NumberFormatBuilder::new().digit_separator(NonZeroU8::new(b'5'));
-    let packed = 0x00000A00_00000035_00000001_0000000C;
-    for (builder, word, strict) in [
-        (NumberFormatBuilder::new(), STANDARD, Ok(STANDARD)),
-        // No flag allows the separator, so it is not packed.
-        (separated, STANDARD, Ok(STANDARD)),
-        (
-            separated.integer_internal_digit_separator(true),
-            packed,
-            Err(Error::InvalidDigitSeparator),
-        ),
-        (NO_FLAGS, 0, Err(Error::InvalidMantissaRadix)),
-    ] {
-        assert_eq!([builder.build_unchecked(), builder.build()], [word; 2]);
-        assert_eq!(builder.build_strict(), strict);
+fn only_lawful_words_pass_the_strict_build() {
+    for (builder, word, error) in built() {
+        let packed = [builder.build_unchecked(), builder.build()];
+        assert_eq!(packed, [word; 2], "{word:#034X}");
+        if error == Error::Success {
+            assert_eq!(builder.build_strict(), Ok(word));
+            assert_eq!(builder.build_or_panic(), word);
+        } else {
+            assert_eq!(builder.build_strict(), Err(error), "{word:#034X}");
+        }
     }
-    assert_eq!(
-        NumberFormatBuilder::new().radix(16).build_or_panic(),
-        0x1000 << 96 | 0xC
-    );
-}
-
-/// A new builder with the prefix `h` and a suffix.
-fn affixed(suffix: u8) -> NumberFormatBuilder {
-    NumberFormatBuilder::new()
-        .base_prefix(NonZeroU8::new(b'h'))
-        .base_suffix(NonZeroU8::new(suffix))
-}
-
-#[test]
-#[rustfmt::skip]
-fn the_last_setter_counts_and_only_lawful_words_pass() {
-    use Error::*;
-    let new = NumberFormatBuilder::new();
-    let separated = new.digit_separator(NonZeroU8::new(b'_'));
-    let fives = new.radix(2).digit_separator(NonZeroU8::new(b'5')).digit_separator_flags(true);
-    for (builder, word, error) in [
-        (new.radix(16), 0x00001000_00000000_00000000_0000000C, Success),
-        (separated.special_digit_separator(true), 0x00000A00_0000005F_00001000_0000000C, Success),
-        (separated.exponent_digit_separator_flags(true), 0x00000A00_0000005F_00000924_0000000C, Success),
-        (new.required_digits(true).required_exponent_digits(false), 0x00000A00_00000000_00000000_0000000B, Success),
-        (new.required_exponent_digits(false).required_digits(true), 0x00000A00_00000000_00000000_0000000F, Success),
-        (fives, 0x00000200_00000035_00001FFF_0000000C, Success),
-        (fives.exponent_base(NonZeroU8::new(10)), 0x000A0200_00000035_00001FFF_0000000C, Success),
-        // `h` and `H` clash unless both are case-sensitive.
-        (affixed(b'h'), 0x00000A68_68000000_00000000_0000000C, InvalidPunctuation),
-        (affixed(b'H'), 0x00000A48_68000000_00000000_0000000C, InvalidPunctuation),
-        (affixed(b'H').case_sensitive_base_prefix(true).case_sensitive_base_suffix(true),
-            0x00000A48_68000000_00000000_0003000C, Success),
-        (new.integer_consecutive_digit_separator(true),
-            0x00000A00_00000000_00000200_0000000C, InvalidConsecutiveIntegerDigitSeparator),
-        (new.integer_consecutive_digit_separator(true).no_special(true).case_sensitive_special(true),
-            0x00000A00_00000000_00000200_00000C0C, InvalidSpecial),
-        (new.no_exponent_notation(true).no_special(true), 0x00000A00_00000000_00000000_0000044C, Success),
-        // A rebuilt builder keeps its exponent bytes under the radix 16, which has the digit `e`.
-        (NumberFormatBuilder::rebuild(0x00000A00_00000065_00001FFF_0000000C).radix(16),
-            0x0A0A1000_00000065_00001FFF_0000000C, InvalidDigitSeparator),
-    ] {
-        let strict = if error == Success { Ok(word) } else { Err(error) };
-        assert_eq!([builder.build_unchecked(), builder.build()], [word; 2], "{word:034X}");
-        assert_eq!(builder.build_strict(), strict, "{word:034X}");
-    }
+    assert_eq!(underscored().get_digit_separator(), NonZeroU8::new(95));
 }
 
 #[test]

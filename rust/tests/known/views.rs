@@ -1,10 +1,11 @@
 //! The getters of both views: the view at run time, and the view whose word is a const argument.
 
+use crate::rows::views::{FIELDS, GROUPS, MASKED, POWERS};
 use peltzivar::error::Error;
 use peltzivar::feature_format::NumberFormat;
 use peltzivar::format::STANDARD;
 use peltzivar::format_builder::NumberFormatBuilder;
-use peltzivar::word::FormatView;
+use peltzivar::word::{self, FormatView};
 
 /// A word whose six bytes differ and have their highest bits set: 143, 152, 168, 145, 220 and 226.
 const BYTES: u128 = 0xE2DC91A8_9800008F_00000000_00000000;
@@ -124,16 +125,86 @@ fn bytes_and_radixes() {
         exponent_radix [226, 10, 17];
     }
     both_views! {
-        (0x0F00 << 96, 0x1000 << 96, 0x2400 << 96, 0xFF00 << 96)
-        radix2 [225, 256, 1296, 65_025];
-        radix4 [50_625, 65_536, 1_679_616, 4_228_250_625];
-        radix8 [2_562_890_625, 0, 3_611_361_280, 3_357_276_161];
-    }
-    both_views! {
         (0x01 << 64, 0x80 << 88, 0x10 << 96, !(0xFF << 64 | 0xFF << 88 | 0xFF << 96))
         has_digit_separator [true, false, false, false];
         has_base_prefix [false, true, false, false];
         has_base_suffix [false, false, true, false];
+    }
+}
+
+#[test]
+fn each_byte_is_read_from_the_word_and_from_its_view() {
+    for (word, bytes) in FIELDS {
+        let read = [
+            word::digit_separator(word).into(),
+            word::base_prefix(word).into(),
+            word::base_suffix(word).into(),
+            word::mantissa_radix(word),
+            word::exponent_base(word),
+            word::exponent_radix(word),
+        ];
+        let view = FormatView::new(word);
+        let viewed = [
+            view.digit_separator().into(),
+            view.base_prefix().into(),
+            view.base_suffix().into(),
+            view.mantissa_radix(),
+            view.exponent_base(),
+            view.exponent_radix(),
+        ];
+        assert_eq!([read, viewed], [bytes; 2], "{word:#034X}");
+        let present = [
+            view.has_digit_separator(),
+            view.has_base_prefix(),
+            view.has_base_suffix(),
+        ];
+        assert_eq!(
+            present[..],
+            bytes.map(|byte| byte != 0)[..3],
+            "{word:#034X}"
+        );
+        assert_eq!(view.radix(), bytes[3], "{word:#034X}");
+    }
+}
+
+#[test]
+fn a_group_is_set_if_any_of_its_flags_is() {
+    for (word, groups) in GROUPS {
+        let view = FormatView::new(word);
+        let read = [
+            view.required_digits(),
+            view.internal_digit_separator(),
+            view.leading_digit_separator(),
+            view.trailing_digit_separator(),
+            view.consecutive_digit_separator(),
+        ];
+        assert_eq!(read, groups, "{word:#034X}");
+    }
+}
+
+#[test]
+fn a_view_returns_the_bits_of_each_mask() {
+    for (word, masked) in MASKED {
+        let view = FormatView::new(word);
+        let read = [
+            view.flags(),
+            view.interface_flags(),
+            view.exponent_flags(),
+            view.digit_separator_flags(),
+            view.integer_digit_separator_flags(),
+            view.fraction_digit_separator_flags(),
+            view.exponent_digit_separator_flags(),
+        ];
+        assert_eq!(read, masked, "{word:#034X}");
+    }
+}
+
+#[test]
+fn the_eighth_power_of_a_radix_is_reduced_to_32_bits() {
+    for (radix, powers) in POWERS {
+        let view = FormatView::new(u128::from(radix) << 104);
+        let read = [view.radix2(), view.radix4(), view.radix8()];
+        assert_eq!(read, powers, "{radix}");
     }
 }
 
@@ -245,6 +316,9 @@ fn a_view_gives_builders() {
         [FormatView::builder(), NumberFormat::<BYTES>::builder()],
         [new; 2]
     );
+    let rebuilt = FormatView::default().rebuild().build_unchecked();
+    assert_eq!(rebuilt, NumberFormatBuilder::decimal());
+    assert_eq!(FormatView::builder().build_unchecked(), STANDARD);
     // An exponent base and an exponent radix of 0 become the mantissa radix, and the reserved bit 31 is dropped.
     const WORD: u128 = 0x00001068_7800005F_00000001_80000400;
     let built = [

@@ -112,7 +112,8 @@ impl NumberFormat {
         has_any!(self, NO_SPECIAL)
     }
 
-    /// Returns whether this [flag][super::NumberFormatBuilder::case_sensitive_special] is set.
+    /// Returns whether this [flag][super::NumberFormatBuilder::case_sensitive_special] is set. If so, `NaN` and `nan` are
+    /// different.
     #[inline(always)]
     pub const fn case_sensitive_special(&self) -> bool
         ensures { result ≡ (raw self.now).flag layout.case_sensitive_special }
@@ -202,7 +203,8 @@ impl NumberFormat {
         has_any!(self, INTEGER_LEADING_DIGIT_SEPARATOR)
     }
 
-    /// Returns whether this [flag][super::NumberFormatBuilder::fraction_leading_digit_separator] is set.
+    /// Returns whether this [flag][super::NumberFormatBuilder::fraction_leading_digit_separator] is set. If so, a digit
+    /// separator is allowed before the fraction digits.
     #[inline(always)]
     pub const fn fraction_leading_digit_separator(&self) -> bool
         ensures { result ≡ (raw self.now).flag layout.fraction_leading_digit_separator }
@@ -339,7 +341,8 @@ impl NumberFormat {
         self.format & flags::DIGIT_SEPARATOR_FLAG_MASK
     }
 
-    /// Returns the bitwise AND of the word and [`EXPONENT_FLAG_MASK`][flags::EXPONENT_FLAG_MASK].
+    /// Returns the bitwise AND of the word and [`EXPONENT_FLAG_MASK`][flags::EXPONENT_FLAG_MASK], which does not contain
+    /// the flag `case_sensitive_exponent`.
     #[inline(always)]
     pub const fn exponent_flags(&self) -> u128
         ensures bits { result ≡ bits_of self.now masks.exponent_flags }

@@ -1,5 +1,5 @@
 use Rattle.lexical_builder.proofs.WriteLemmas.{after_none, after-append}
-use Rattle.lexical_util.proofs.laws.write_facts.Goals as goal
+use Rattle.lexical_builder.proofs.laws.write_facts.Goals as goal
 
 pub returns-clause-none : goal.returns-clause-none
 returns-clause-none c = after_none

@@ -1,0 +1,70 @@
+use crate::rows::rules::{ERRORS, OPTIONS, RADIXES, RADIXES_OF_DECIMAL, SEPARATORS};
+use lexical_util::error::Error;
+use lexical_util::format::{
+    NumberFormat, NumberFormatBuilder, format_error, format_error_impl, format_is_valid,
+    is_valid_digit_separator, is_valid_options_punctuation, is_valid_radix, radix_error_impl,
+    radix_from_flags,
+};
+
+#[test]
+fn the_first_broken_rule_decides_the_error(rt: HostRuntime) {
+    for (word, error) in &ERRORS {
+        let view = NumberFormat::new(*word);
+        let errors = [format_error_impl(*word), format_error(*word), view.error()];
+        assert!(rt; errors == [*error; 3], "{word:#034X}");
+        let is_lawful = *error == Error::Success;
+        assert!(rt;
+            [format_is_valid(*word), view.is_valid()] == [is_lawful; 2],
+            "{word:#034X}"
+        );
+        // The rules of radixes come first.
+        let first = match error {
+            Error::InvalidMantissaRadix
+            | Error::InvalidExponentBase
+            | Error::InvalidExponentRadix => *error,
+            _ => Error::Success,
+        };
+        assert!(rt;
+            [radix_error_impl(*word), view.error_radix()] == [first; 2],
+            "{word:#034X}"
+        );
+        assert!(rt;
+            view.is_valid_radix() == (first == Error::Success),
+            "{word:#034X}"
+        );
+    }
+}
+
+#[test]
+fn a_radix_is_from_2_to_36(rt: HostRuntime) {
+    for (radix, is_valid) in &RADIXES {
+        assert!(rt; is_valid_radix(*radix) == *is_valid, "{radix}");
+    }
+}
+
+#[test]
+fn a_separator_is_tested_in_the_larger_radix(rt: HostRuntime) {
+    for (word, is_valid) in &SEPARATORS {
+        assert!(rt;
+            is_valid_digit_separator(*word) == *is_valid,
+            "{word:#034X}"
+        );
+    }
+}
+
+#[test]
+fn a_radix_is_read_by_mask_and_shift(rt: HostRuntime) {
+    for (mask, shift, radix) in &RADIXES_OF_DECIMAL {
+        assert!(rt; *shift >= 0 && *shift < 128);
+        let read = radix_from_flags(NumberFormatBuilder::decimal(), *mask, *shift);
+        assert!(rt; read == *radix, "{mask:#034X}");
+    }
+}
+
+#[test]
+fn the_exponent_character_and_the_decimal_point_have_roles_of_their_own(rt: HostRuntime) {
+    for (word, exponent, point, is_valid) in &OPTIONS {
+        let result = is_valid_options_punctuation(*word, *exponent, *point);
+        assert!(rt; result == *is_valid, "{word:#034X} {exponent} {point}");
+    }
+}
