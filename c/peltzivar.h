@@ -34,11 +34,11 @@
 
 /* These macros state the version of this header. PELTZIVAR_VERSION_NUMBER is (major << 16) | (minor << 8) | patch. The
  * function peltzivar_version returns the version of the library in the same form. */
-#define PELTZIVAR_VERSION "0.4.0"
+#define PELTZIVAR_VERSION "0.5.0"
 #define PELTZIVAR_VERSION_MAJOR 0
-#define PELTZIVAR_VERSION_MINOR 4
+#define PELTZIVAR_VERSION_MINOR 5
 #define PELTZIVAR_VERSION_PATCH 0
-#define PELTZIVAR_VERSION_NUMBER 0x000400
+#define PELTZIVAR_VERSION_NUMBER 0x000500
 
 /* PELTZIVAR_API marks the functions that the library exports. To link with the DLL of the library on Windows, define
  * PELTZIVAR_SHARED before you include this header. */
@@ -266,12 +266,10 @@ enum {
 
 /* PELTZIVAR_RULE_COUNT is the number of rules. PELTZIVAR_MAX_REASONS is the maximum number of reasons why a word breaks
  * one rule. PELTZIVAR_CANDIDATE_COUNT is the number of slots that a word has for reasons (see REASONS below).
- * PELTZIVAR_MAX_MENDING_EDITS is the maximum number of edits that peltzivar_word_reason_mend writes.
  * PELTZIVAR_MAX_NOTES is the maximum number of notes on one peltzivar_fields (see peltzivar_note). */
 #define PELTZIVAR_RULE_COUNT 16
 #define PELTZIVAR_MAX_REASONS 3
 #define PELTZIVAR_CANDIDATE_COUNT 24
-#define PELTZIVAR_MAX_MENDING_EDITS 3
 #define PELTZIVAR_MAX_NOTES 3
 
 /* A buffer of PELTZIVAR_SOURCE_SIZE bytes can hold any string that peltzivar_source writes, including the null
@@ -430,20 +428,6 @@ PELTZIVAR_API uint8_t peltzivar_word_reason_rule(peltzivar_word format, uint8_t 
  * not the number of a rule. A word can break several rules because of the same reason: if the mantissa radix is out of
  * range and an exponent byte is absent, the word also breaks the radix rule for that exponent byte. */
 PELTZIVAR_API bool peltzivar_word_reason_breaks(peltzivar_word format, uint8_t index, uint8_t rule);
-
-/* Writes edits that mend a word by changing one field, and returns the number of these edits. If peltzivar_edit_word
- * applies them to the word, the new word satisfies each rule that the old word satisfied, and each rule that the old
- * word broke only because of the reason in the slot. If no such edits exist, if the slot is empty, or if `field` is not
- * the number of a field, returns 0 and leaves the array unchanged. Otherwise, the elements of the array that follow
- * these edits are unspecified.
- *
- * The fields are numbered from 0 to PELTZIVAR_FIELD_COUNT - 1: first the flags in the order of their setters, then the
- * six bytes in the order of their bits. The edits set a flag to false, make a byte absent, or set the mantissa radix to
- * 10. In the last case, absent exponent bytes stay absent. If the word breaks a rule for several reasons, the edits do
- * not always remove the reason in the slot. Ignore edits that write none of the bits on which this reason depends (see
- * peltzivar_word_reason_mask), since they never remove it. */
-PELTZIVAR_API size_t peltzivar_word_reason_mend(
-    peltzivar_word format, uint8_t index, uint8_t field, peltzivar_edit edits[PELTZIVAR_MAX_MENDING_EDITS]);
 
 /* Returns a mask of the bits of the fields that a note describes (see peltzivar_note). The mask is 0 if peltzivar_note
  * writes an empty string for the same fields and index. */

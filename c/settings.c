@@ -110,28 +110,15 @@ static void read_line(char *line, size_t len, size_t number) {
     status = 1;
 }
 
-/* Prints the word unless a problem was found. Then prints each reason why the word is not lawful, next to the
- * settings that mend it, and each note. */
+/* Prints the word unless a problem was found. Then prints each reason why the word is not lawful, and each note. */
 static void print_format(void) {
     char text[PELTZIVAR_TEXT_SIZE];
-    peltzivar_edit edits[PELTZIVAR_MAX_MENDING_EDITS];
     const peltzivar_word word = peltzivar_pack(&fields);
     if (peltzivar_format_error(word)) status = 1;
     if (!status && peltzivar_text_of_word(word, text, sizeof text)) printf("%s\n", text);
     for (uint8_t index = 0; index < PELTZIVAR_CANDIDATE_COUNT; index++) {
         if (!peltzivar_word_reason(word, index, text, sizeof text)) continue;
-        const peltzivar_word blamed = peltzivar_word_reason_mask(word, index);
-        print_located(blamed, text, "");
-        for (uint8_t field = 0; field < PELTZIVAR_FIELD_COUNT; field++) {
-            /* The first edit mends the field. The other edits only keep exponent bytes absent. An edit of a field that
-             * the reason does not blame is ignored, since it does not remove the reason. */
-            if (!peltzivar_word_reason_mend(word, index, field, edits)) continue;
-            const peltzivar_word mask = peltzivar_edit_mask(edits[0]);
-            if (!((mask.low & blamed.low) | (mask.high & blamed.high))) continue;
-            peltzivar_text_of_edit(edits[0], text, sizeof text);
-            printf("; mend: %s", text);
-        }
-        printf("\n");
+        print_located(peltzivar_word_reason_mask(word, index), text, "\n");
     }
     for (uint8_t index = 0; index < PELTZIVAR_MAX_NOTES; index++) {
         if (!peltzivar_note(&fields, index, text, sizeof text)) continue;

@@ -564,113 +564,6 @@
 //!   same_bytes : (b : Byte) → last_byte writes b ≡ last_byte others b
 //! ```
 //!
-//! # The writes of an edit, and the word that results from applying writes to a word
-//!
-//! ## `flags_of`
-//!
-//! `flags_of setter` lists the flags that `setter` writes.
-//!
-//! ```text
-//! flags_of : FlagSetter → List Flag
-//! flags_of setters.RequiredIntegerDigits = layout.required_integer_digits ∷ []
-//! flags_of setters.RequiredFractionDigits = layout.required_fraction_digits ∷ []
-//! flags_of setters.RequiredExponentDigits = layout.required_exponent_digits ∷ []
-//! flags_of setters.RequiredMantissaDigits = layout.required_mantissa_digits ∷ []
-//! flags_of setters.NoPositiveMantissaSign = layout.no_positive_mantissa_sign ∷ []
-//!   ..
-//! flags_of setters.ExponentDigitSeparatorFlags = layout.exponent_digit_separator_flags
-//! ```
-//!
-//! ## `writes_of`
-//!
-//! `writes_of edit` lists the writes of `edit`: one for each field that it writes.
-//!
-//! ```text
-//! writes_of : Edit → List Write
-//! writes_of (edits.Flag setter value) = write_flags (flags_of setter) value
-//! writes_of (edits.DigitSeparator byte) = write_byte layout.digit_separator (byte_of_option byte) ∷ []
-//! writes_of (edits.BasePrefix byte) = write_byte layout.base_prefix (byte_of_option byte) ∷ []
-//! writes_of (edits.BaseSuffix byte) = write_byte layout.base_suffix (byte_of_option byte) ∷ []
-//! writes_of (edits.MantissaRadix radix) = write_byte layout.mantissa_radix radix ∷ []
-//! writes_of (edits.Radix radix) = write_byte layout.mantissa_radix radix ∷ []
-//! writes_of (edits.ExponentBase base) = write_byte layout.exponent_base (byte_of_option base) ∷ []
-//! writes_of (edits.ExponentRadix radix) = write_byte layout.exponent_radix (byte_of_option radix) ∷ []
-//! ```
-//!
-//! ## `all_writes`
-//!
-//! `all_writes list` lists the writes of all edits in `list`, in order.
-//!
-//! ```text
-//! all_writes : List Edit → List Write
-//! all_writes list = flat_map writes_of list
-//! ```
-//!
-//! ## `edited`
-//!
-//! `edited word writes` is the result of filling the fields of `word`, applying `writes` to them in order, and packing them.
-//!
-//! ```text
-//! edited : ℕ → List Write → ℕ
-//! edited word writes = pack (after (fill (raw word)) writes)
-//! ```
-//!
-//! # The words that setter calls build, and the single-field setter calls that build a word
-//!
-//! ## `IsEditOf`
-//!
-//! `IsEditOf write edit` holds if `edit` calls the setter of a single field, and its only write is `write`.
-//!
-//! ```text
-//! IsEditOf : Write → Edit → Type 0
-//! IsEditOf (write_flag f value) (edits.Flag setter flag) = (flags_of setter ≡ f ∷ []) × (flag ≡ value)
-//! IsEditOf (write_flag f value) _ = ⊥
-//! IsEditOf (write_byte layout.digit_separator value) edit = edit ≡ edits.DigitSeparator (option_of_byte value)
-//! IsEditOf (write_byte layout.base_prefix value) edit = edit ≡ edits.BasePrefix (option_of_byte value)
-//! IsEditOf (write_byte layout.base_suffix value) edit = edit ≡ edits.BaseSuffix (option_of_byte value)
-//! IsEditOf (write_byte layout.mantissa_radix value) edit = edit ≡ edits.MantissaRadix value
-//! IsEditOf (write_byte layout.exponent_base value) edit = edit ≡ edits.ExponentBase (option_of_byte value)
-//! IsEditOf (write_byte layout.exponent_radix value) edit = edit ≡ edits.ExponentRadix (option_of_byte value)
-//! ```
-//!
-//! ## `field_writes`
-//!
-//! `field_writes r` lists, for each field, the write of its value in `r`, in the order of the fields' bits.
-//!
-//! ```text
-//! field_writes : Record → List Write
-//! field_writes r = map (λ f. write_flag f (r.flag f)) flags ++ map (λ b. write_byte b (r.byte b)) bytes
-//! ```
-//!
-//! ## `needed_writes`
-//!
-//! `needed_writes r` lists the field writes of `r` that change a new builder.
-//!
-//! ```text
-//! needed_writes : Record → List Write
-//! needed_writes r = filter (changes new_record) (field_writes r)
-//! ```
-//!
-//! ## `other_writes`
-//!
-//! `other_writes r` lists the field writes of `r` that do not change a new builder.
-//!
-//! ```text
-//! other_writes : Record → List Write
-//! other_writes r = filter (λ write. not (changes new_record write)) (field_writes r)
-//! ```
-//!
-//! ## `IsBuiltByWrites`
-//!
-//! `IsBuiltByWrites word` holds if a new builder packs into `word` after some legal writes.
-//!
-//! ```text
-//! record IsBuiltByWrites (word : ℕ) : Type 0 where
-//!   writes : List Write
-//!   legal : All IsLegal writes
-//!   makes : pack (after new_record writes) ≡ word
-//! ```
-//!
 //! # Lists in which each element is related to every later one
 //!
 //! ## `ArePairwise`
@@ -1070,6 +963,113 @@
 //!   exponent_byte : ℕ
 //!   point_byte : ℕ
 //!   fit : OptionsHaveOneRole word exponent_byte point_byte
+//! ```
+//!
+//! # The writes of an edit, and the word that results from applying writes to a word
+//!
+//! ## `flags_of`
+//!
+//! `flags_of setter` lists the flags that `setter` writes.
+//!
+//! ```text
+//! flags_of : FlagSetter → List Flag
+//! flags_of setters.RequiredIntegerDigits = layout.required_integer_digits ∷ []
+//! flags_of setters.RequiredFractionDigits = layout.required_fraction_digits ∷ []
+//! flags_of setters.RequiredExponentDigits = layout.required_exponent_digits ∷ []
+//! flags_of setters.RequiredMantissaDigits = layout.required_mantissa_digits ∷ []
+//! flags_of setters.NoPositiveMantissaSign = layout.no_positive_mantissa_sign ∷ []
+//!   ..
+//! flags_of setters.ExponentDigitSeparatorFlags = layout.exponent_digit_separator_flags
+//! ```
+//!
+//! ## `writes_of`
+//!
+//! `writes_of edit` lists the writes of `edit`: one for each field that it writes.
+//!
+//! ```text
+//! writes_of : Edit → List Write
+//! writes_of (edits.Flag setter value) = write_flags (flags_of setter) value
+//! writes_of (edits.DigitSeparator byte) = write_byte layout.digit_separator (byte_of_option byte) ∷ []
+//! writes_of (edits.BasePrefix byte) = write_byte layout.base_prefix (byte_of_option byte) ∷ []
+//! writes_of (edits.BaseSuffix byte) = write_byte layout.base_suffix (byte_of_option byte) ∷ []
+//! writes_of (edits.MantissaRadix radix) = write_byte layout.mantissa_radix radix ∷ []
+//! writes_of (edits.Radix radix) = write_byte layout.mantissa_radix radix ∷ []
+//! writes_of (edits.ExponentBase base) = write_byte layout.exponent_base (byte_of_option base) ∷ []
+//! writes_of (edits.ExponentRadix radix) = write_byte layout.exponent_radix (byte_of_option radix) ∷ []
+//! ```
+//!
+//! ## `all_writes`
+//!
+//! `all_writes list` lists the writes of all edits in `list`, in order.
+//!
+//! ```text
+//! all_writes : List Edit → List Write
+//! all_writes list = flat_map writes_of list
+//! ```
+//!
+//! ## `edited`
+//!
+//! `edited word writes` is the result of filling the fields of `word`, applying `writes` to them in order, and packing them.
+//!
+//! ```text
+//! edited : ℕ → List Write → ℕ
+//! edited word writes = pack (after (fill (raw word)) writes)
+//! ```
+//!
+//! # The words that setter calls build, and the single-field setter calls that build a word
+//!
+//! ## `IsEditOf`
+//!
+//! `IsEditOf write edit` holds if `edit` calls the setter of a single field, and its only write is `write`.
+//!
+//! ```text
+//! IsEditOf : Write → Edit → Type 0
+//! IsEditOf (write_flag f value) (edits.Flag setter flag) = (flags_of setter ≡ f ∷ []) × (flag ≡ value)
+//! IsEditOf (write_flag f value) _ = ⊥
+//! IsEditOf (write_byte layout.digit_separator value) edit = edit ≡ edits.DigitSeparator (option_of_byte value)
+//! IsEditOf (write_byte layout.base_prefix value) edit = edit ≡ edits.BasePrefix (option_of_byte value)
+//! IsEditOf (write_byte layout.base_suffix value) edit = edit ≡ edits.BaseSuffix (option_of_byte value)
+//! IsEditOf (write_byte layout.mantissa_radix value) edit = edit ≡ edits.MantissaRadix value
+//! IsEditOf (write_byte layout.exponent_base value) edit = edit ≡ edits.ExponentBase (option_of_byte value)
+//! IsEditOf (write_byte layout.exponent_radix value) edit = edit ≡ edits.ExponentRadix (option_of_byte value)
+//! ```
+//!
+//! ## `field_writes`
+//!
+//! `field_writes r` lists, for each field, the write of its value in `r`, in the order of the fields' bits.
+//!
+//! ```text
+//! field_writes : Record → List Write
+//! field_writes r = map (λ f. write_flag f (r.flag f)) flags ++ map (λ b. write_byte b (r.byte b)) bytes
+//! ```
+//!
+//! ## `needed_writes`
+//!
+//! `needed_writes r` lists the field writes of `r` that change a new builder.
+//!
+//! ```text
+//! needed_writes : Record → List Write
+//! needed_writes r = filter (changes new_record) (field_writes r)
+//! ```
+//!
+//! ## `other_writes`
+//!
+//! `other_writes r` lists the field writes of `r` that do not change a new builder.
+//!
+//! ```text
+//! other_writes : Record → List Write
+//! other_writes r = filter (λ write. not (changes new_record write)) (field_writes r)
+//! ```
+//!
+//! ## `IsBuiltByWrites`
+//!
+//! `IsBuiltByWrites word` holds if a new builder packs into `word` after some legal writes.
+//!
+//! ```text
+//! record IsBuiltByWrites (word : ℕ) : Type 0 where
+//!   writes : List Write
+//!   legal : All IsLegal writes
+//!   makes : pack (after new_record writes) ≡ word
 //! ```
 //!
 //! # The flags of a word that are in a list of flags

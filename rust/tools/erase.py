@@ -8,8 +8,7 @@ Items that only the prover reads are left out as a whole: ghost items, clauses, 
 calls. All other words stay in their order, except for
 
 - the table SUBSTITUTIONS, each row of which has to apply exactly once, EVERYWHERE, and ITEMS, which plain Rust derives;
-- the paths of the crates, and of the two modules in MODULES with the type of the view;
-- exports to C, where a slice becomes a pointer and a length.
+- the paths of the crates, and of the two modules in MODULES with the type of the view.
 
 `#[must_use]` is added, and in the library the attributes in HIDDEN, GROWING and DERIVED; `#[doc(inline)]` is left out
 there, and documentation.py changes the documentation. rustfmt does the layout. These are refused with their file and
@@ -38,7 +37,6 @@ PLACES = {
     "lexical_flags": LIBRARY,
     "lexical_builder": LIBRARY,
     "lexical_util": LIBRARY,
-    "lexical_c": ("capi/src", "peltzivar", "core"),
     "numfmt": ("numfmt/src", "peltzivar", "std"),
 }
 
@@ -79,25 +77,12 @@ SUBSTITUTIONS = [
     ("output.rt", "use std::fmt::Display;", "use std::fmt::Arguments;"),
     ("output.rt", "write_fmt<D: Display + Drop>(&mut self, text: D) -> io::Result<()> {", "write_fmt(&mut self, text: Arguments<'_>) -> io::Result<()> {"),
     ("output.rt", "write_fmt<D: Display + Drop>(&mut self, text: D)", "write_fmt(&mut self, text: Arguments<'_>)"),
-    # C may leave the output of a call unset, so no reference points to it: rust/capi/src/outputs.rs.
-    ("texts.rt", "out[..count].copy_from_slice(&text[..count]);", "crate::outputs::write_bytes(&mut out[..count], &text[..count]);"),
-    ("texts.rt", "out[count] = 0;", "out[count].write(0);"),
 ]
 
 # Texts that plain Rust replaces in every file, wherever they occur.
 EVERYWHERE = [
     (".as_chunks::<", ".split_chunks::<"),
     ("fn fmt<W: fmt::Write>(&self, f: &mut fmt::Formatter<W>)", "fn fmt(&self, f: &mut fmt::Formatter<'_>)"),
-    ("out: &mut Word", "out: crate::outputs::Out<Word>"),
-    ("*out = Word::new(word);", "out.write(Word::new(word));"),
-    ("*out = Word::new(builder.build_unchecked());", "out.write(Word::new(builder.build_unchecked()));"),
-    ("out: &mut NumberedEdit", "out: crate::outputs::Out<NumberedEdit>"),
-    ("*out = NumberedEdit::new(&edit);", "out.write(NumberedEdit::new(&edit));"),
-    ("edits: &mut [NumberedEdit; FIELD_COUNT]", "mut edits: crate::outputs::Out<[NumberedEdit; FIELD_COUNT]>"),
-    ("edits[index] = NumberedEdit::new(&list[index]);", "edits.write_at(index, NumberedEdit::new(&list[index]));"),
-    ("edits: &mut [NumberedEdit; MAX_MENDING_EDITS]", "edits: crate::outputs::Out<[NumberedEdit; MAX_MENDING_EDITS]>"),
-    ("*edits = numbered;", "edits.write(numbered);"),
-    ("out: &mut [u8]", "out: &mut crate::outputs::Buffer"),
 ]
 
 # Items that plain Rust replaces by a derive.
@@ -149,14 +134,8 @@ GHOST = {
     "decreases", "assume",
 }  # fmt: skip
 
-# The reason for each `unsafe` in an export to C, whose caller does what c/peltzivar.h asks.
-NO_MANGLE = "// SAFETY: no other library has names that begin with `peltzivar_`."
-ARRAY = "// SAFETY: the length is 0, or the caller passes a pointer to as many values."
-BUFFER = "// SAFETY: the length is 0, or the caller passes a pointer to as many bytes, and nothing else uses them."
-
 TOKEN = re.compile(r"""//[^\n]*|b?"(?:\\.|[^"\\])*"|b?'(?:\\[^']+|[^\\'\n])'|'?\w+|\S""")
 CLOSING = {"(": ")", "[": "]", "{": "}"}
-SLICE = re.compile(r"(\w+): &(mut )?\[(\w+)\]")
 
 
 class Refused(Exception):
@@ -268,9 +247,9 @@ class Source:
         return body
 
     def public(self, index, body, clauses):
-        """Adds documentation, `#[must_use]`, and pointers for slices to a public function."""
+        """Adds documentation and `#[must_use]` to a public function."""
         start = index
-        while self.words[start - 1] in ("const", "extern", '"C"', "pub"):
+        while self.words[start - 1] in ("const", "pub"):
             start -= 1
         if self.words[start] != "pub":
             return
@@ -283,9 +262,7 @@ class Source:
         self.premises(above, clauses)
         if name in documentation.PROVED.get(self.name, ()):
             self.document(above, name, clauses)
-        if '"C"' in self.words[start:index]:
-            self.export(above, start, body)
-        elif re.search(r"\) -> (?!(io::)?Result<)", self.text[self.tokens[start].start() : self.tokens[body].start()]):
+        if re.search(r"\) -> (?!(io::)?Result<)", self.text[self.tokens[start].start() : self.tokens[body].start()]):
             self.changes.append((self.tokens[above].start(),) * 2 + ("#[must_use]\n",))
 
     def comment(self, above):
@@ -313,19 +290,6 @@ class Source:
         lines = documentation.proved(self.name, name, clauses).split("\n")
         at = self.tokens[above - 1].end()
         self.changes.append((at, at, "".join(f"\n/// {line}".rstrip(" ") for line in lines)))
-
-    def export(self, above, start, body):
-        """Replaces each slice of an export to C by a pointer and a length, and adds a statement that builds the slice."""
-        at, end = self.tokens[start].start(), self.tokens[body].start()
-        self.changes.append((self.tokens[above].start(),) * 2 + (f"{NO_MANGLE}\n",))
-        head = self.text[at : next((s for s, e, _ in self.changes if s >= at and e == end), end)]
-        slices = SLICE.findall(head)
-        if slices:
-            plain = SLICE.sub(lambda m: f"{m[1]}: *{'mut' if m[2] else 'const'} {m[3]}, {m[1]}_len: usize", head)
-            self.changes.append((at, at + len(head), plain.replace("extern", "unsafe extern")))
-            text = "{2}\nlet {0} = unsafe {{ crate::slices::of{1}({0}, {0}_len) }};"
-            made = (text.format(name, *(("_mut", BUFFER) if mutable else ("", ARRAY))) for name, mutable, _ in slices)
-            self.changes.append((end + 1, end + 1, "\n" + "\n".join(made)))
 
     def check_left_out(self, modules):
         """Refuses an item in a file without counterpart if plain Rust would lose it. `modules` has the names of the

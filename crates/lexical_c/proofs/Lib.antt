@@ -1,3 +1,0 @@
-mod EditLemmas
-mod TextLemmas
-mod OutcomeLemmas

@@ -1,5 +1,0 @@
-pub mod Words
-pub mod Edits
-pub mod Outcomes
-pub mod Texts
-pub mod RuleNumbers
