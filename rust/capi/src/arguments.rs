@@ -35,7 +35,7 @@ impl<T> Out<T> {
     }
 }
 
-/// Writes what `value` displays and a null terminator to the `len` bytes that begin at `start`, as `snprintf` does. If
+/// Writes what `value` displays, or nothing if it is `None`, and a null terminator to the `len` bytes that begin at `start`, as `snprintf` does. If
 /// they do not fit, writes only the beginning and a null terminator. If `len` is 0, writes nothing. Returns the length
 /// of the whole text.
 ///
@@ -43,7 +43,7 @@ impl<T> Out<T> {
 ///
 /// If `len` is not 0, `start` must point to `len` bytes that a C caller passes, initialised or not. Nothing else may
 /// read or write them during the call that passes them.
-pub unsafe fn write_text(start: *mut u8, len: usize, value: impl Display) -> usize {
+pub unsafe fn write_text(start: *mut u8, len: usize, value: Option<impl Display>) -> usize {
     let room: &mut [MaybeUninit<u8>] = if len == 0 {
         &mut []
     } else {
@@ -52,8 +52,10 @@ pub unsafe fn write_text(start: *mut u8, len: usize, value: impl Display) -> usi
         unsafe { slice::from_raw_parts_mut(start.cast(), len) }
     };
     let mut text = Text { room, len: 0 };
-    // `Text` never fails, and no `Display` here fails of its own.
-    let _ = write!(text, "{value}");
+    if let Some(value) = value {
+        // `Text` never fails, and no `Display` here fails of its own.
+        let _ = write!(text, "{value}");
+    }
     let end = text.len.min(len.saturating_sub(1));
     if let Some(byte) = text.room.get_mut(end) {
         byte.write(0);

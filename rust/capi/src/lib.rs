@@ -21,7 +21,6 @@ mod arguments;
 mod bytes;
 mod numbers;
 mod reasons;
-mod rules;
 mod settings;
 mod texts;
 mod words;

@@ -1,7 +1,7 @@
 //! The structs of C, and the numbers that C uses for setters, rules and errors.
 
 use core::num::NonZeroU8;
-use peltzivar::{Edit, Error, FlagSetter, NumberFormatBuilder, Rule};
+use peltzivar::{Edit, Error, FlagSetter, FormatView, NumberFormatBuilder, Reason, Rule};
 
 /// A format word as two halves, since C has no 128-bit integer type that every compiler supports.
 #[repr(C)]
@@ -12,12 +12,14 @@ pub struct Word {
 }
 
 impl Word {
-    /// A word without bits.
-    pub const ZERO: Word = Word { low: 0, high: 0 };
-
     /// Returns the number with these halves.
     pub fn number(self) -> u128 {
         u128::from(self.high) << 64 | u128::from(self.low)
+    }
+
+    /// Returns the view of the word.
+    pub fn view(self) -> FormatView {
+        FormatView::new(self.number())
     }
 }
 
@@ -30,31 +32,30 @@ impl From<u128> for Word {
     }
 }
 
-/// The fields of a builder. The first flag is bit 0 of `flags`. The bits above the flags are ignored. `bytes` has the
-/// six bytes as in a word, lowest first. An absent byte is 0.
+/// The fields of a builder. `flags` has each flag at its bit of a word. The other bits are ignored. `bytes` has the six
+/// bytes as in a word, lowest first. An absent byte is 0.
 #[repr(C)]
 #[derive(Clone, Copy)]
 pub struct Fields {
-    flags: u32,
+    flags: u64,
     bytes: [u8; 6],
 }
 
-/// The number of flags below the gap of a word. The other flags begin at bit 32.
-const LOW_FLAGS: u32 = 18;
+fn byte_or_zero(byte: Option<NonZeroU8>) -> u8 {
+    byte.map_or(0, NonZeroU8::get)
+}
 
 impl From<NumberFormatBuilder> for Fields {
     fn from(builder: NumberFormatBuilder) -> Fields {
-        let flags = builder.view().flags() as u64;
-        let byte = |byte: Option<NonZeroU8>| byte.map_or(0, NonZeroU8::get);
         Fields {
-            flags: flags as u32 | ((flags >> 32) as u32) << LOW_FLAGS,
+            flags: builder.view().flags() as u64,
             bytes: [
-                byte(builder.get_digit_separator()),
-                byte(builder.get_base_prefix()),
-                byte(builder.get_base_suffix()),
+                byte_or_zero(builder.get_digit_separator()),
+                byte_or_zero(builder.get_base_prefix()),
+                byte_or_zero(builder.get_base_suffix()),
                 builder.get_mantissa_radix(),
-                byte(builder.get_exponent_base()),
-                byte(builder.get_exponent_radix()),
+                byte_or_zero(builder.get_exponent_base()),
+                byte_or_zero(builder.get_exponent_radix()),
             ],
         }
     }
@@ -64,9 +65,7 @@ impl Fields {
     /// Returns a builder with these fields.
     pub fn builder(self) -> NumberFormatBuilder {
         let [separator, prefix, suffix, radix, base, exponent_radix] = self.bytes;
-        let low = self.flags & ((1 << LOW_FLAGS) - 1);
-        let flags = u64::from(self.flags >> LOW_FLAGS) << 32 | u64::from(low);
-        NumberFormatBuilder::from_word(u128::from(flags))
+        NumberFormatBuilder::from_word(u128::from(self.flags))
             .digit_separator(NonZeroU8::new(separator))
             .base_prefix(NonZeroU8::new(prefix))
             .base_suffix(NonZeroU8::new(suffix))
@@ -76,70 +75,118 @@ impl Fields {
     }
 }
 
-/// An edit as a setter number and a value. The numbers are the indices of the flag setters and group setters in
-/// [`FlagSetter::ALL`], followed by those of the byte setters.
+/// The number of a setter: the bit of a flag, the lowest bit of a byte, or [`FIRST_GROUP`] plus an index in [`GROUPS`].
+pub type Setter = u8;
+
+/// The number of no setter.
+pub const NO_SETTER: Setter = 255;
+
+const FIRST_GROUP: Setter = 128;
+
+const GROUPS: [FlagSetter; 9] = [
+    FlagSetter::RequiredDigits,
+    FlagSetter::InternalDigitSeparator,
+    FlagSetter::LeadingDigitSeparator,
+    FlagSetter::TrailingDigitSeparator,
+    FlagSetter::ConsecutiveDigitSeparator,
+    FlagSetter::DigitSeparatorFlags,
+    FlagSetter::IntegerDigitSeparatorFlags,
+    FlagSetter::FractionDigitSeparatorFlags,
+    FlagSetter::ExponentDigitSeparatorFlags,
+];
+
+/// An edit as the number of its setter and a value.
 #[repr(C)]
 #[derive(Clone, Copy)]
 pub struct NumberedEdit {
-    pub setter: u8,
-    pub value: u8,
+    setter: Setter,
+    value: u8,
+}
+
+/// Returns the edit with a setter and a value, or `None` if the setter is unknown.
+pub fn edit_of(setter: Setter, value: u8) -> Option<Edit> {
+    let byte = NonZeroU8::new(value);
+    match setter {
+        64 => Some(Edit::DigitSeparator(byte)),
+        88 => Some(Edit::BasePrefix(byte)),
+        96 => Some(Edit::BaseSuffix(byte)),
+        104 => Some(Edit::MantissaRadix(value)),
+        112 => Some(Edit::ExponentBase(byte)),
+        120 => Some(Edit::ExponentRadix(byte)),
+        _ => Some(Edit::Flag(flag_setter(setter)?, value != 0)),
+    }
+}
+
+/// Returns the setter of a flag or a group.
+pub fn flag_setter(setter: Setter) -> Option<FlagSetter> {
+    match setter {
+        0..64 => {
+            let mut all = FlagSetter::ALL.iter().copied();
+            all.find(|it| Edit::Flag(*it, true).mask() == u128::from(1_u64 << setter))
+        }
+        FIRST_GROUP.. => GROUPS.get(usize::from(setter - FIRST_GROUP)).copied(),
+        _ => None,
+    }
 }
 
 impl NumberedEdit {
+    /// Returns the number of the setter.
+    pub fn setter(self) -> Setter {
+        self.setter
+    }
+
     /// Returns the edit, or `None` if the setter is unknown.
     pub fn edit(self) -> Option<Edit> {
-        let byte = NonZeroU8::new(self.value);
-        match self.setter {
-            40 => Some(Edit::DigitSeparator(byte)),
-            41 => Some(Edit::BasePrefix(byte)),
-            42 => Some(Edit::BaseSuffix(byte)),
-            43 => Some(Edit::MantissaRadix(self.value)),
-            44 => Some(Edit::Radix(self.value)),
-            45 => Some(Edit::ExponentBase(byte)),
-            46 => Some(Edit::ExponentRadix(byte)),
-            setter => Some(Edit::Flag(flag_setter(setter)?, self.value != 0)),
-        }
+        edit_of(self.setter, self.value)
     }
 }
 
 impl From<Edit> for NumberedEdit {
     fn from(edit: Edit) -> NumberedEdit {
-        let (setter, value) = match edit {
-            Edit::Flag(setter, value) => (number_of(setter), Some(u8::from(value))),
-            Edit::DigitSeparator(byte) => (40, byte.map(NonZeroU8::get)),
-            Edit::BasePrefix(byte) => (41, byte.map(NonZeroU8::get)),
-            Edit::BaseSuffix(byte) => (42, byte.map(NonZeroU8::get)),
-            Edit::MantissaRadix(radix) => (43, Some(radix)),
-            Edit::Radix(radix) => (44, Some(radix)),
-            Edit::ExponentBase(byte) => (45, byte.map(NonZeroU8::get)),
-            Edit::ExponentRadix(byte) => (46, byte.map(NonZeroU8::get)),
+        let value = match edit {
+            Edit::Flag(_, value) => u8::from(value),
+            Edit::MantissaRadix(radix) | Edit::Radix(radix) => radix,
+            Edit::DigitSeparator(byte)
+            | Edit::BasePrefix(byte)
+            | Edit::BaseSuffix(byte)
+            | Edit::ExponentBase(byte)
+            | Edit::ExponentRadix(byte) => byte_or_zero(byte),
         };
+        let mut groups = (FIRST_GROUP..).zip(GROUPS);
+        let group =
+            groups.find(|(_, group)| matches!(edit, Edit::Flag(setter, _) if setter == *group));
         NumberedEdit {
-            setter,
-            value: value.unwrap_or(0),
+            setter: group.map_or(edit.mask().trailing_zeros() as Setter, |(number, _)| number),
+            value,
         }
     }
 }
 
-/// Returns the flag setter or group setter with a number.
-pub fn flag_setter(number: u8) -> Option<FlagSetter> {
-    FlagSetter::ALL.get(usize::from(number)).copied()
-}
+/// The rules in the order of their numbers, which begin with 1.
+const RULES: [Rule; 16] = [
+    Rule::MantissaRadixInRange,
+    Rule::ExponentBaseInRange,
+    Rule::ExponentRadixInRange,
+    Rule::DigitSeparatorIsPunctuation,
+    Rule::BasePrefixIsPunctuation,
+    Rule::BaseSuffixIsPunctuation,
+    Rule::PunctuationDiffers,
+    Rule::ExponentFlagsAgree,
+    Rule::MantissaSignFlagsAgree,
+    Rule::ExponentSignFlagsAgree,
+    Rule::SpecialCaseFlagsAgree,
+    Rule::SpecialSeparatorFlagsAgree,
+    Rule::IntegerConsecutiveIsAllowed,
+    Rule::FractionConsecutiveIsAllowed,
+    Rule::ExponentConsecutiveIsAllowed,
+    Rule::ReservedBitsAreZero,
+];
 
-fn number_of(setter: FlagSetter) -> u8 {
-    let index = FlagSetter::ALL.iter().position(|it| *it == setter);
-    index.map_or(u8::MAX, |index| index as u8)
-}
-
-/// Returns the rule with a number. The number of a rule is its index in [`Rule::ALL`].
-pub fn rule_of(number: u8) -> Option<Rule> {
-    Rule::ALL.get(usize::from(number)).copied()
-}
-
-/// Returns the number of a rule.
-pub fn rule_number(rule: Rule) -> u8 {
-    let index = Rule::ALL.iter().position(|it| *it == rule);
-    index.unwrap_or(Rule::ALL.len()) as u8
+/// Returns the rules that a word breaks because of a reason. Bit n is the rule with the number n.
+pub fn broken_rules(reason: Reason) -> u32 {
+    let numbered = (1..).zip(RULES);
+    let broken = numbered.filter(|(_, rule)| reason.breaks(*rule));
+    broken.fold(0, |bits, (number, _)| bits | 1 << number)
 }
 
 /// The number that C uses for an [`Error`]: 0 for success, then the parse errors, then the other errors.

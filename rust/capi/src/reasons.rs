@@ -1,76 +1,48 @@
-//! Calls that print the reasons why words break rules, and notes. C numbers the slots of reasons and notes.
+//! Calls that print the reasons why words break rules, and notes.
 
 use crate::arguments::write_text;
-use crate::numbers::{rule_number, rule_of, Fields, Word};
-use peltzivar::reasons::{notes_of_fields, reasons, reasons_of, Note, Reason};
-use peltzivar::Rule;
+use crate::numbers::{broken_rules, Fields, Word};
+use peltzivar::{Note, Reason};
 
-fn reason_at(format: Word, index: u8) -> Option<Reason> {
-    *reasons(format.number()).get(usize::from(index))?
+fn reason_at(format: Word, index: usize) -> Option<Reason> {
+    format.view().reasons().nth(index)
 }
 
-fn note_at(fields: &Fields, index: u8) -> Option<Note> {
-    *notes_of_fields(&fields.builder()).get(usize::from(index))?
+fn note_at(fields: &Fields, index: usize) -> Option<Note> {
+    fields.builder().notes().nth(index)
 }
 
 #[unsafe(no_mangle)]
-pub unsafe extern "C" fn peltzivar_reason(
+pub unsafe extern "C" fn peltzivar_reason_text(
     format: Word,
-    rule: u8,
-    index: u8,
+    index: usize,
     text: *mut u8,
     len: usize,
 ) -> usize {
-    let reasons = rule_of(rule).map(|rule| reasons_of(rule, format.number()));
-    match reasons.and_then(|it| *it.get(usize::from(index))?) {
-        Some(reason) => write_text(text, len, reason),
-        None => write_text(text, len, ""),
-    }
+    write_text(text, len, reason_at(format, index))
 }
 
 #[unsafe(no_mangle)]
-pub unsafe extern "C" fn peltzivar_word_reason(
-    format: Word,
-    index: u8,
-    text: *mut u8,
-    len: usize,
-) -> usize {
-    match reason_at(format, index) {
-        Some(reason) => write_text(text, len, reason),
-        None => write_text(text, len, ""),
-    }
+pub extern "C" fn peltzivar_reason_mask(format: Word, index: usize) -> Word {
+    reason_at(format, index).map_or(0, |it| it.mask()).into()
 }
 
 #[unsafe(no_mangle)]
-pub extern "C" fn peltzivar_word_reason_mask(format: Word, index: u8) -> Word {
-    reason_at(format, index).map_or(Word::ZERO, |reason| reason.mask().into())
+pub extern "C" fn peltzivar_reason_rules(format: Word, index: usize) -> u32 {
+    reason_at(format, index).map_or(0, broken_rules)
 }
 
 #[unsafe(no_mangle)]
-pub extern "C" fn peltzivar_word_reason_rule(format: Word, index: u8) -> u8 {
-    reason_at(format, index).map_or(Rule::ALL.len() as u8, |reason| rule_number(reason.rule()))
-}
-
-#[unsafe(no_mangle)]
-pub extern "C" fn peltzivar_word_reason_breaks(format: Word, index: u8, rule: u8) -> bool {
-    let rule = rule_of(rule);
-    reason_at(format, index).is_some_and(|reason| rule.is_some_and(|rule| reason.breaks(rule)))
-}
-
-#[unsafe(no_mangle)]
-pub unsafe extern "C" fn peltzivar_note(
+pub unsafe extern "C" fn peltzivar_note_text(
     fields: &Fields,
-    index: u8,
+    index: usize,
     text: *mut u8,
     len: usize,
 ) -> usize {
-    match note_at(fields, index) {
-        Some(note) => write_text(text, len, note),
-        None => write_text(text, len, ""),
-    }
+    write_text(text, len, note_at(fields, index))
 }
 
 #[unsafe(no_mangle)]
-pub extern "C" fn peltzivar_note_mask(fields: &Fields, index: u8) -> Word {
-    note_at(fields, index).map_or(Word::ZERO, |note| note.mask().into())
+pub extern "C" fn peltzivar_note_mask(fields: &Fields, index: usize) -> Word {
+    note_at(fields, index).map_or(0, |it| it.mask()).into()
 }

@@ -1,52 +1,31 @@
 //! Calls that name setters, and that parse and print settings.
 
 use crate::arguments::{input, write_text, Out};
-use crate::numbers::{NumberedEdit, Word};
+use crate::numbers::{edit_of, NumberedEdit, Setter, Word, NO_SETTER};
 use core::str::from_utf8;
-use peltzivar::{Edit, SettingError};
+use peltzivar::Edit;
 
-#[unsafe(no_mangle)]
-pub unsafe extern "C" fn peltzivar_setter_name(setter: u8, text: *mut u8, len: usize) -> usize {
-    let edit = NumberedEdit { setter, value: 0 }.edit();
-    write_text(text, len, edit.map_or("", Edit::name))
+/// Why a string is not a setting, with the numbers of C. 0 is a setting.
+#[repr(u32)]
+#[derive(Clone, Copy)]
+enum Refusal {
+    UnknownName = 1,
+    BadValue = 2,
+    NoEquals = 3,
 }
 
-#[unsafe(no_mangle)]
-pub unsafe extern "C" fn peltzivar_setter_of_name(name: *const u8, len: usize) -> u8 {
-    let name = input(name, len);
-    let mut edits = (0..u8::MAX).map_while(|setter| NumberedEdit { setter, value: 0 }.edit());
-    let index = edits.position(|edit| edit.name().as_bytes() == name);
-    index.map_or(u8::MAX, |index| index as u8)
-}
-
-/// Parses a setting. Also returns the number of the error in C.
-fn parsed(text: &[u8]) -> Result<Edit, (u32, Option<SettingError>)> {
-    let text = from_utf8(text).map_err(|_| (1, None))?;
-    text.parse().map_err(|error: SettingError| {
-        let number = match text.split_once('=') {
-            None => 4,
-            Some(_) if error.name().is_none() => 1,
-            Some((name, value)) if !is_flag(name) && is_number(value) => 3,
-            Some(_) => 2,
-        };
-        (number, Some(error))
+/// Parses a setting. A name that is not UTF-8 is the name of no setter.
+fn parsed(setting: &[u8]) -> Result<Edit, Refusal> {
+    let setting = from_utf8(setting).map_err(|_| Refusal::UnknownName)?;
+    let (name, value) = setting.split_once('=').ok_or(Refusal::NoEquals)?;
+    Edit::from_setting(name, value).map_err(|error| match error.name() {
+        Some(_) => Refusal::BadValue,
+        None => Refusal::UnknownName,
     })
 }
 
-fn is_flag(name: &str) -> bool {
-    Edit::from_setting(name, "true").is_ok()
-}
-
-fn is_number(value: &str) -> bool {
-    let (digits, radix) = match value.strip_prefix("0x") {
-        Some(digits) => (digits, 16),
-        None => (value, 10),
-    };
-    !digits.is_empty() && digits.chars().all(|it| it.is_digit(radix))
-}
-
 #[unsafe(no_mangle)]
-pub unsafe extern "C" fn peltzivar_edit_of_text(
+pub unsafe extern "C" fn peltzivar_parse_edit(
     text: *const u8,
     len: usize,
     out: Out<NumberedEdit>,
@@ -56,37 +35,46 @@ pub unsafe extern "C" fn peltzivar_edit_of_text(
             out.write(edit.into());
             0
         }
-        Err((number, _)) => number,
+        Err(refusal) => refusal as u32,
     }
 }
 
 #[unsafe(no_mangle)]
-pub unsafe extern "C" fn peltzivar_setting_error(
+pub unsafe extern "C" fn peltzivar_setting_error_text(
     text: *const u8,
     len: usize,
     to: *mut u8,
     to_len: usize,
 ) -> usize {
-    match parsed(input(text, len)) {
-        Ok(_) => write_text(to, to_len, ""),
-        Err((_, Some(error))) => write_text(to, to_len, error),
-        Err((_, None)) => write_text(to, to_len, "unknown setting name"),
-    }
+    // The text of a string that is not UTF-8 is that of any unknown name.
+    let setting = from_utf8(input(text, len)).unwrap_or("=");
+    write_text(to, to_len, setting.parse::<Edit>().err())
 }
 
 #[unsafe(no_mangle)]
-pub unsafe extern "C" fn peltzivar_text_of_edit(
+pub unsafe extern "C" fn peltzivar_edit_text(
     edit: NumberedEdit,
     text: *mut u8,
     len: usize,
 ) -> usize {
-    match edit.edit() {
-        Some(edit) => write_text(text, len, edit),
-        None => write_text(text, len, ""),
-    }
+    write_text(text, len, edit.edit())
 }
 
 #[unsafe(no_mangle)]
-pub extern "C" fn peltzivar_edit_mask(edit: NumberedEdit) -> Word {
-    edit.edit().map_or(Word::ZERO, |edit| edit.mask().into())
+pub unsafe extern "C" fn peltzivar_setter_name(setter: Setter, text: *mut u8, len: usize) -> usize {
+    write_text(text, len, edit_of(setter, 0).map(Edit::name))
+}
+
+#[unsafe(no_mangle)]
+pub unsafe extern "C" fn peltzivar_setter_of_name(name: *const u8, len: usize) -> Setter {
+    let name = input(name, len);
+    let edits = (0..NO_SETTER).filter_map(|setter| edit_of(setter, 0));
+    let mut known = edits.chain([Edit::Radix(0)]);
+    let edit = known.find(|edit| edit.name().as_bytes() == name);
+    edit.map_or(NO_SETTER, |edit| NumberedEdit::from(edit).setter())
+}
+
+#[unsafe(no_mangle)]
+pub extern "C" fn peltzivar_setter_mask(setter: Setter) -> Word {
+    edit_of(setter, 0).map_or(0, Edit::mask).into()
 }

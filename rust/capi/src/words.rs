@@ -1,7 +1,7 @@
 //! Calls that build, read, edit and compare words and fields.
 
 use crate::arguments::{input, Out};
-use crate::numbers::{error_number, ErrorNumber, Fields, NumberedEdit, Word};
+use crate::numbers::{error_number, flag_setter, ErrorNumber, Fields, NumberedEdit, Setter, Word};
 use peltzivar::{edits, Error, NumberFormatBuilder};
 
 /// The number of fields of a word.
@@ -21,8 +21,8 @@ fn write_packed(builder: Option<NumberFormatBuilder>, out: Out<Word>) -> bool {
     builder.is_some()
 }
 
-/// Writes a word that is lawful. Otherwise, writes nothing and returns the number of the error.
-fn write_lawful(word: Result<u128, Error>, out: Out<Word>) -> ErrorNumber {
+/// Writes the word. If it is an error, writes nothing and returns the number of the error.
+pub fn write_word(word: Result<u128, Error>, out: Out<Word>) -> ErrorNumber {
     match word {
         Ok(word) => {
             out.write(word.into());
@@ -30,6 +30,71 @@ fn write_lawful(word: Result<u128, Error>, out: Out<Word>) -> ErrorNumber {
         }
         Err(error) => error_number(error),
     }
+}
+
+#[unsafe(no_mangle)]
+pub extern "C" fn peltzivar_version() -> u32 {
+    let part = |text: &str| text.parse::<u32>().unwrap_or(0);
+    part(env!("CARGO_PKG_VERSION_MAJOR")) << 16
+        | part(env!("CARGO_PKG_VERSION_MINOR")) << 8
+        | part(env!("CARGO_PKG_VERSION_PATCH"))
+}
+
+#[unsafe(no_mangle)]
+pub unsafe extern "C" fn peltzivar_build(
+    edits: *const NumberedEdit,
+    len: usize,
+    out: Out<Word>,
+) -> bool {
+    write_packed(edited(NumberFormatBuilder::new(), input(edits, len)), out)
+}
+
+#[unsafe(no_mangle)]
+pub unsafe extern "C" fn peltzivar_edit_word(
+    format: Word,
+    edits: *const NumberedEdit,
+    len: usize,
+    out: Out<Word>,
+) -> bool {
+    let builder = NumberFormatBuilder::rebuild(format.number());
+    write_packed(edited(builder, input(edits, len)), out)
+}
+
+#[unsafe(no_mangle)]
+pub extern "C" fn peltzivar_check(format: Word) -> ErrorNumber {
+    error_number(format.view().error())
+}
+
+#[unsafe(no_mangle)]
+pub extern "C" fn peltzivar_normal_form(format: Word) -> Word {
+    edits::normal_form(format.number()).into()
+}
+
+#[unsafe(no_mangle)]
+pub extern "C" fn peltzivar_same_format(a: Word, b: Word) -> bool {
+    edits::same_format(a.number(), b.number())
+}
+
+#[unsafe(no_mangle)]
+pub extern "C" fn peltzivar_migrate(format: Word, out: Out<Word>) -> ErrorNumber {
+    write_word(edits::migrate(format.number()), out)
+}
+
+#[unsafe(no_mangle)]
+pub extern "C" fn peltzivar_is_built(format: Word) -> bool {
+    edits::is_built(format.number())
+}
+
+#[unsafe(no_mangle)]
+pub extern "C" fn peltzivar_edits_of(format: Word, out: Out<[NumberedEdit; FIELD_COUNT]>) -> usize {
+    let (list, count) = edits::edits_of(format.number());
+    out.write(list.map(NumberedEdit::from));
+    count
+}
+
+#[unsafe(no_mangle)]
+pub extern "C" fn peltzivar_flag(format: Word, setter: Setter) -> bool {
+    flag_setter(setter).is_some_and(|setter| setter.is_set(format.number()))
 }
 
 #[unsafe(no_mangle)]
@@ -53,57 +118,4 @@ pub unsafe extern "C" fn peltzivar_edit_fields(
 #[unsafe(no_mangle)]
 pub extern "C" fn peltzivar_pack(fields: &Fields) -> Word {
     fields.builder().build_unchecked().into()
-}
-
-#[unsafe(no_mangle)]
-pub unsafe extern "C" fn peltzivar_build(
-    fields: &Fields,
-    edits: *const NumberedEdit,
-    len: usize,
-    out: Out<Word>,
-) -> bool {
-    write_packed(edited(fields.builder(), input(edits, len)), out)
-}
-
-#[unsafe(no_mangle)]
-pub extern "C" fn peltzivar_build_strict(fields: &Fields, out: Out<Word>) -> ErrorNumber {
-    write_lawful(fields.builder().build_strict(), out)
-}
-
-#[unsafe(no_mangle)]
-pub unsafe extern "C" fn peltzivar_edit_word(
-    format: Word,
-    edits: *const NumberedEdit,
-    len: usize,
-    out: Out<Word>,
-) -> bool {
-    let builder = NumberFormatBuilder::rebuild(format.number());
-    write_packed(edited(builder, input(edits, len)), out)
-}
-
-#[unsafe(no_mangle)]
-pub extern "C" fn peltzivar_normal_form(format: Word) -> Word {
-    edits::normal_form(format.number()).into()
-}
-
-#[unsafe(no_mangle)]
-pub extern "C" fn peltzivar_migrate(format: Word, out: Out<Word>) -> ErrorNumber {
-    write_lawful(edits::migrate(format.number()), out)
-}
-
-#[unsafe(no_mangle)]
-pub extern "C" fn peltzivar_same_format(a: Word, b: Word) -> bool {
-    edits::same_format(a.number(), b.number())
-}
-
-#[unsafe(no_mangle)]
-pub extern "C" fn peltzivar_is_built(format: Word) -> bool {
-    edits::is_built(format.number())
-}
-
-#[unsafe(no_mangle)]
-pub extern "C" fn peltzivar_edits_of(format: Word, out: Out<[NumberedEdit; FIELD_COUNT]>) -> usize {
-    let (list, count) = edits::edits_of(format.number());
-    out.write(list.map(NumberedEdit::from));
-    count
 }
