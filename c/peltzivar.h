@@ -19,31 +19,27 @@
  * is absent, the mantissa radix is used in its place. The flags in bits 32 to 44 are the digit separator flags.
  *
  * A setter writes a flag, a group of flags, or a byte. An edit is a setter with a value. A word is lawful if it
- * satisfies all 16 rules below (PELTZIVAR_RULE_*). In the repository, docs/FORMAT.md describes each field and each rule,
- * and the program c/settings.c checks a settings file.
+ * satisfies all rules below. In the repository, docs/FORMAT.md describes each field and each rule, and the program
+ * c/settings.c checks a settings file.
  *
  * An argument that is a word, an edit, a number or a byte may have any value. A pointer that is passed with a length
  * must point to an array of at least that many elements, but it may be null if the length is 0. Any other pointer must
  * point to an object of the declared type, or to an array of at least the declared size. All input must be initialised.
- * This includes *fields in peltzivar_edit_fields, since *fields is both input and output. Memory that is only
- * output need not be initialised. Memory that a function writes to must not overlap memory to which another argument
- * points. No function allocates memory, retains a pointer or sets errno. Several threads may call these functions
- * at the same time, provided that no call writes memory that another call reads or writes.
+ * This includes *fields in peltzivar_edit_fields, since *fields is both input and output. Memory that is only output
+ * need not be initialised. Memory that a function writes to must not overlap memory to which another argument points.
+ * No function allocates memory, retains a pointer or sets errno. Several threads may call these functions at the same
+ * time, provided that no call writes memory that another call reads or writes.
  *
- * A setter, a rule or an error has the same number in every version of the library. The SONAME of the shared library
+ * From 0.6 on, a setter, a rule or an error has the same number in every version. The SONAME of the shared library
  * contains the minor version, and changes only if a function, a structure or a result changes. */
 #ifndef PELTZIVAR_H
 #define PELTZIVAR_H
-
 #include <stdbool.h>
 #include <stddef.h>
 #include <stdint.h>
 
 /* The version of this header. PELTZIVAR_VERSION_NUMBER is (major << 16) | (minor << 8) | patch. */
 #define PELTZIVAR_VERSION "0.6.0"
-#define PELTZIVAR_VERSION_MAJOR 0
-#define PELTZIVAR_VERSION_MINOR 6
-#define PELTZIVAR_VERSION_PATCH 0
 #define PELTZIVAR_VERSION_NUMBER 0x000600
 
 /* PELTZIVAR_API marks the functions that the library exports. To link with the DLL of the library on Windows, define
@@ -60,9 +56,7 @@
 
 /* PELTZIVAR_MUST_USE marks functions whose result reports an error, or reports whether they wrote their output. */
 #ifndef PELTZIVAR_MUST_USE
-#if defined(__cplusplus) && __cplusplus >= 201703L
-#define PELTZIVAR_MUST_USE [[nodiscard]]
-#elif defined(__STDC_VERSION__) && __STDC_VERSION__ >= 202311L
+#if (defined(__cplusplus) && __cplusplus >= 201703L) || (defined(__STDC_VERSION__) && __STDC_VERSION__ >= 202311L)
 #define PELTZIVAR_MUST_USE [[nodiscard]]
 #elif defined(__GNUC__)
 #define PELTZIVAR_MUST_USE __attribute__((warn_unused_result))
@@ -75,8 +69,6 @@
 extern "C" {
 #endif
 
-/* TYPES */
-
 /* A word: bits 0 to 63 are in `low`, and bits 64 to 127 are in `high`. */
 typedef struct {
     uint64_t low, high;
@@ -86,12 +78,7 @@ typedef struct {
  * ignored on input and are 0 on output. */
 typedef struct {
     uint64_t flags;
-    uint8_t digit_separator;
-    uint8_t base_prefix;
-    uint8_t base_suffix;
-    uint8_t mantissa_radix;
-    uint8_t exponent_base;
-    uint8_t exponent_radix;
+    uint8_t digit_separator, base_prefix, base_suffix, mantissa_radix, exponent_base, exponent_radix;
 } peltzivar_fields;
 
 /* The numbers of setters (PELTZIVAR_SET_*), rules (PELTZIVAR_RULE_*) and errors (see the end of this header). */
@@ -123,19 +110,15 @@ enum {
 static const peltzivar_word PELTZIVAR_STANDARD = PELTZIVAR_STANDARD_INIT;
 static const peltzivar_fields PELTZIVAR_NEW_FIELDS = PELTZIVAR_NEW_FIELDS_INIT;
 
-/* The numbers of fields of a word, and of setters. */
+/* Sizes of arrays: the number of fields, and the sizes of buffers for any string that peltzivar_source
+ * writes, and for any string that another function writes. */
 #define PELTZIVAR_FIELD_COUNT 37
-#define PELTZIVAR_SETTER_COUNT 46
-
-/* A buffer of PELTZIVAR_SOURCE_SIZE bytes can hold any string that peltzivar_source writes, with its null terminator. A
- * buffer of PELTZIVAR_TEXT_SIZE bytes can hold any string that the other functions write. */
-#define PELTZIVAR_TEXT_SIZE 256
 #define PELTZIVAR_SOURCE_SIZE 2048
+#define PELTZIVAR_TEXT_SIZE 256
 
-/* Results for a name without a setter, for a byte that is not a digit, and for a digit without a character. */
+/* Results for a name without a setter, and for a byte that is not a digit. */
 #define PELTZIVAR_NO_SETTER 255
 #define PELTZIVAR_NO_DIGIT UINT32_MAX
-#define PELTZIVAR_NO_CHAR 0
 
 /* Returns the version of the library in the form of PELTZIVAR_VERSION_NUMBER. */
 PELTZIVAR_API uint32_t peltzivar_version(void);
@@ -147,27 +130,24 @@ PELTZIVAR_API uint32_t peltzivar_version(void);
  * unlawful: call peltzivar_check. */
 PELTZIVAR_MUST_USE PELTZIVAR_API bool peltzivar_build(const peltzivar_edit *edits, size_t len, peltzivar_word *out);
 
-/* Applies the edits, in order, to the fields of a word, packs the fields as peltzivar_pack does, writes the new word to
- * *out and returns true. If an edit has an unknown setter, returns false and leaves *out unchanged. Before the edits
- * are applied, the mantissa radix replaces each absent exponent byte. After they are applied, packing may drop the
- * digit separator. Therefore, two calls do not always give the same word as one call with all of the edits. Edit the
- * digit separator and its flags in the same call. */
+/* Does the same for the fields of a word that peltzivar_fields_of returns. Since that call fills absent exponent bytes,
+ * and packing may drop the digit separator, two calls do not always give the same word as one call with all of the
+ * edits. Edit the digit separator and its flags in the same call. */
 PELTZIVAR_MUST_USE PELTZIVAR_API bool peltzivar_edit_word(
     peltzivar_word format, const peltzivar_edit *edits, size_t len, peltzivar_word *out);
 
 /* Returns PELTZIVAR_SUCCESS if a word is lawful, and otherwise the error of the first rule that it breaks. */
 PELTZIVAR_MUST_USE PELTZIVAR_API peltzivar_error peltzivar_check(peltzivar_word format);
 
-/* Returns the normal form of a word. The normal form has the same fields, except that the mantissa radix replaces each
- * absent exponent byte, and that the digit separator is 0 if no digit separator flag is set. All reserved bits of the
- * normal form are 0. */
+/* Returns the normal form of a word: the same fields, except that the mantissa radix replaces each absent exponent
+ * byte, that the digit separator is 0 if no digit separator flag is set, and that all reserved bits are 0. */
 PELTZIVAR_API peltzivar_word peltzivar_normal_form(peltzivar_word format);
 
 /* Returns whether two words have the same normal form. */
 PELTZIVAR_API bool peltzivar_same_format(peltzivar_word a, peltzivar_word b);
 
-/* If the normal form of a word is lawful, writes the normal form to *out and returns PELTZIVAR_SUCCESS. Otherwise,
- * returns the error of the first rule that the normal form breaks, and leaves *out unchanged. */
+/* If the normal form of a word is lawful, writes it to *out and returns PELTZIVAR_SUCCESS. Otherwise, returns the error
+ * of the first rule that the normal form breaks, and leaves *out unchanged. */
 PELTZIVAR_MUST_USE PELTZIVAR_API peltzivar_error peltzivar_migrate(peltzivar_word format, peltzivar_word *out);
 
 /* Returns whether a word is one that peltzivar_pack can return: all its reserved bits are 0, and at least one of its
@@ -204,17 +184,15 @@ PELTZIVAR_MUST_USE PELTZIVAR_API peltzivar_error peltzivar_parse_word(
 /* Writes a word as `0x` followed by 32 uppercase hexadecimal digits. */
 PELTZIVAR_API size_t peltzivar_word_text(peltzivar_word format, char *text, size_t len);
 
-/* Writes Rust code that sets the fields of a word and packs them, such as
- * "NumberFormatBuilder::new().mantissa_radix(16).build_unchecked()". The result of the code is the word itself if and
- * only if peltzivar_is_built returns true for the word. */
+/* Writes Rust code that builds a word, such as "NumberFormatBuilder::new().mantissa_radix(16).build_unchecked()". The
+ * result of the code is the word itself if and only if peltzivar_is_built returns true for the word. */
 PELTZIVAR_API size_t peltzivar_source(peltzivar_word format, char *text, size_t len);
 
 /* Writes the description of an error in single quotes, such as "'invalid radix for mantissa digits'". */
 PELTZIVAR_API size_t peltzivar_description(peltzivar_error error, char *text, size_t len);
 
-/* Writes the full message of an error, such as "lexical parse error: 'numeric overflow occurred' at index 7". The
- * message consists of the kind of error, the description of the error and, for a parse error, the index that is passed.
- * For any other error, the index is ignored. The message of PELTZIVAR_SUCCESS is only its description. */
+/* Writes the full message of an error, such as "lexical parse error: 'numeric overflow occurred' at index 7". Only a
+ * parse error has an index. The message of PELTZIVAR_SUCCESS is only its description. */
 PELTZIVAR_API size_t peltzivar_error_text(peltzivar_error error, size_t index, char *text, size_t len);
 
 /* FIELDS */
@@ -222,8 +200,7 @@ PELTZIVAR_API size_t peltzivar_error_text(peltzivar_error error, size_t index, c
 /* Returns the fields of a word. In the result, the mantissa radix replaces each absent exponent byte. */
 PELTZIVAR_API peltzivar_fields peltzivar_fields_of(peltzivar_word format);
 
-/* Applies the edits, in order, to *fields and returns true. If an edit has an unknown setter, returns false and leaves
- * *fields unchanged. */
+/* Applies the edits, in order, to *fields. If a setter is unknown, returns false and leaves *fields unchanged. */
 PELTZIVAR_MUST_USE PELTZIVAR_API bool peltzivar_edit_fields(
     peltzivar_fields *fields, const peltzivar_edit *edits, size_t len);
 
@@ -252,17 +229,16 @@ PELTZIVAR_MUST_USE PELTZIVAR_API peltzivar_setting_error peltzivar_parse_edit(
  * has len bytes, and the buffer `to` has to_len bytes. If peltzivar_parse_edit accepts it, writes an empty string. */
 PELTZIVAR_API size_t peltzivar_setting_error_text(const char *text, size_t len, char *to, size_t to_len);
 
-/* Writes an edit as NAME=VALUE. For a flag or a group, VALUE is `true` or `false`. If the edit makes a byte absent,
- * VALUE is `none`. For any other edit of a byte, VALUE is a decimal number. peltzivar_parse_edit parses this string into
- * an edit that has the same effect. */
+/* Writes an edit as NAME=VALUE, where VALUE is `true`, `false`, `none` or a decimal number. peltzivar_parse_edit parses
+ * this string into an edit that has the same effect. */
 PELTZIVAR_API size_t peltzivar_edit_text(peltzivar_edit edit, char *text, size_t len);
 
 /* Writes the name of a setter, such as "digit_separator". The name is the setter's constant without PELTZIVAR_SET_, in
  * lowercase. */
 PELTZIVAR_API size_t peltzivar_setter_name(peltzivar_setter setter, char *text, size_t len);
 
-/* Returns the setter with a given name, or PELTZIVAR_NO_SETTER if no setter has this name. The name has len bytes and
- * need not be null-terminated. The name radix stands for mantissa_radix. */
+/* Returns the setter with a given name of len bytes, or PELTZIVAR_NO_SETTER. The name radix stands for
+ * mantissa_radix. */
 PELTZIVAR_API peltzivar_setter peltzivar_setter_of_name(const char *name, size_t len);
 
 /* Returns a mask of the bits that a setter writes. The mask is 0 if the setter is unknown. */
@@ -270,20 +246,19 @@ PELTZIVAR_API peltzivar_word peltzivar_setter_mask(peltzivar_setter setter);
 
 /* REASONS AND NOTES
  *
- * A reason states why a word breaks one or more rules. The reasons of a word have the indices from 0 on, in the order of
- * the first rule that each breaks. A word is lawful if and only if it has no reason. */
+ * A reason states why a word breaks one or more rules. The reasons of a word have the indices from 0 on, in the order
+ * of the first rule that each breaks. A word is lawful if and only if it has no reason. */
 
 /* Writes a reason as a sentence, such as "no_special and case_sensitive_special cannot both be set". */
 PELTZIVAR_API size_t peltzivar_reason_text(peltzivar_word format, size_t index, char *text, size_t len);
 
 /* Returns a mask of the bits on which a reason depends: the reason applies to every word in which these bits have the
- * same values. The mask is 0 if there is no such reason. If the word was built from a list of edits, an edit is to blame
- * for the reason if it wrote one of these bits and no later edit wrote that bit (see peltzivar_setter_mask). */
+ * same values. The mask is 0 if there is no such reason. If the word was built from a list of edits, an edit is to
+ * blame for the reason if it wrote one of these bits and no later edit wrote that bit (see peltzivar_setter_mask). */
 PELTZIVAR_API peltzivar_word peltzivar_reason_mask(peltzivar_word format, size_t index);
 
-/* Returns the rules that a word breaks because of a reason: bit n is set for the rule with the number n. The result is 0
- * if there is no such reason. It has several bits only if the mantissa radix is out of range and is used in place of an
- * absent exponent byte. */
+/* Returns the rules that a word breaks because of a reason: bit n is set for the rule with the number n. The result is
+ * 0 if there is no such reason. */
 PELTZIVAR_API uint32_t peltzivar_reason_rules(peltzivar_word format, size_t index);
 
 /* Writes a note on fields that have no effect, such as "no number can have the digit separator '_': no flag allows
@@ -299,8 +274,8 @@ PELTZIVAR_API peltzivar_word peltzivar_note_mask(const peltzivar_fields *fields,
 
 /* OPTIONS AND BYTES OF A NUMBER */
 
-/* Checks whether an exponent character and a decimal point fit a word. They fit if both are punctuation, if they do
- * not clash with each other, and if neither of them clashes with the digit separator, base prefix or base suffix of the
+/* Checks whether an exponent character and a decimal point fit a word. They fit if both are punctuation, if they do not
+ * clash with each other, and if neither of them clashes with the digit separator, base prefix or base suffix of the
  * word. Two characters clash if there is a byte that both of them match. The decimal point matches only itself. If the
  * exponent character is a letter, it matches both cases of the letter unless case_sensitive_exponent is set. The
  * comment on PELTZIVAR_RULE_PUNCTUATION_DIFFERS states which bytes the other characters match. Does not check whether
@@ -311,8 +286,7 @@ PELTZIVAR_API peltzivar_word peltzivar_note_mask(const peltzivar_fields *fields,
 PELTZIVAR_MUST_USE PELTZIVAR_API peltzivar_error peltzivar_check_options(
     peltzivar_word format, uint8_t exponent, uint8_t decimal_point);
 
-/* Return the value of a byte as a digit in the mantissa radix or in the exponent radix of a word, or PELTZIVAR_NO_DIGIT
- * if it is not a digit in that radix. */
+/* Return the value of a byte as a digit in the mantissa radix or the exponent radix, or PELTZIVAR_NO_DIGIT. */
 PELTZIVAR_API uint32_t peltzivar_mantissa_digit(peltzivar_word format, uint8_t byte);
 PELTZIVAR_API uint32_t peltzivar_exponent_digit(peltzivar_word format, uint8_t byte);
 
@@ -324,21 +298,18 @@ PELTZIVAR_API bool peltzivar_is_separator(peltzivar_word format, uint8_t byte);
 PELTZIVAR_API bool peltzivar_is_base_prefix(peltzivar_word format, uint8_t byte);
 PELTZIVAR_API bool peltzivar_is_base_suffix(peltzivar_word format, uint8_t byte);
 
-/* Returns the digit value of a byte if this value is less than the radix, and PELTZIVAR_NO_DIGIT otherwise. The
- * characters `0` to `9` have the values 0 to 9, and letters of either case have the values 10 to 35. Every other byte
- * has the value 255, so it is a digit in any radix above 255. */
+/* Returns the digit value of a byte if this value is less than the radix, and PELTZIVAR_NO_DIGIT otherwise. Digits have
+ * the values 0 to 9, and letters of either case 10 to 35. Every other byte has the value 255. */
 PELTZIVAR_API uint32_t peltzivar_char_to_digit(uint8_t byte, uint32_t radix);
 
-/* Returns the character for a digit: `0` to `9` or an uppercase letter. Returns PELTZIVAR_NO_CHAR if the digit is 36 or
- * more. */
+/* Returns the character for a digit, `0` to `9` or `A` to `Z`, or 0 if the digit is 36 or more. */
 PELTZIVAR_API uint8_t peltzivar_digit_to_char(uint32_t digit);
 
 #ifdef __cplusplus
 }
 #endif
 
-/* The setters. The number of a flag is its bit, and the number of a byte is its lowest bit. The numbers of groups of
- * flags begin at 128. */
+/* The setters: the bit of a flag, the lowest bit of a byte, and from 128 on the groups of flags. */
 enum {
     PELTZIVAR_SET_REQUIRED_INTEGER_DIGITS = 0,
     PELTZIVAR_SET_REQUIRED_FRACTION_DIGITS = 1,
@@ -388,12 +359,10 @@ enum {
     PELTZIVAR_SET_EXPONENT_DIGIT_SEPARATOR_FLAGS = 136
 };
 
-/* The rules, in the order in which they are checked, with their numbers in docs/FORMAT.md. Each comment states what the
- * rule requires. A word satisfies a rule if it meets this requirement, and breaks the rule otherwise.
- *
- * The allowed ASCII bytes are the bytes 9 to 13 and 32 to 126. Punctuation is any allowed ASCII byte other than a sign
- * (+ or -), a digit in the mantissa radix, or a digit in the exponent radix. The rules use the mantissa radix in place
- * of an absent exponent byte. */
+/* The rules, in the order in which they are checked. Each comment states what the rule requires. The allowed ASCII
+ * bytes are the bytes 9 to 13 and 32 to 126. Punctuation is any allowed ASCII byte other than a sign (+ or -), a digit
+ * in the mantissa radix, or a digit in the exponent radix. The rules use the mantissa radix in place of an absent
+ * exponent byte. */
 enum {
     PELTZIVAR_RULE_MANTISSA_RADIX_IN_RANGE = 1, /* mantissa_radix is between 2 and 36. */
     PELTZIVAR_RULE_EXPONENT_BASE_IN_RANGE = 2, /* exponent_base is between 2 and 36. */
@@ -402,9 +371,8 @@ enum {
     PELTZIVAR_RULE_BASE_PREFIX_IS_PUNCTUATION = 5, /* base_prefix is 0 or punctuation. */
     PELTZIVAR_RULE_BASE_SUFFIX_IS_PUNCTUATION = 6, /* base_suffix is 0 or punctuation. */
     /* No two of digit_separator, base_prefix and base_suffix match the same byte. An absent byte matches nothing.
-     * digit_separator matches only itself. If base_prefix is a letter, it matches both cases of the letter unless
-     * case_sensitive_base_prefix is set. If base_suffix is a letter, it matches both cases of the letter unless
-     * case_sensitive_base_suffix is set. */
+     * digit_separator matches only itself. If base_prefix or base_suffix is a letter, it matches both cases of the
+     * letter unless case_sensitive_base_prefix or case_sensitive_base_suffix, respectively, is set. */
     PELTZIVAR_RULE_PUNCTUATION_DIFFERS = 7,
     /* no_exponent_notation and required_exponent_notation are not both set. */
     PELTZIVAR_RULE_EXPONENT_FLAGS_AGREE = 8,
