@@ -58,7 +58,7 @@ def part(used):
 
 def made(text):
     head, _, tail = re.fullmatch(r"(.*?# Made by make_python\.py[^\n]*\n)(.*?)(# End\n.*)", text, re.S).groups()
-    used = {"version", *re.findall(r"_library\.(\w+)", head + tail)}
+    used = set(re.findall(r"_library\.(\w+)", head + tail))
     return head + "\n".join(part(used)) + "\n\n" + tail
 
 

@@ -192,7 +192,6 @@ class _Edit(Structure):
 
 
 _CALLS: Dict[str, Tuple[Any, List[Any]]] = {
-    "version": (c_uint32, []),
     "build": (c_bool, [POINTER(_Edit), c_size_t, POINTER(_Word)]),
     "edit_word": (c_bool, [_Word, POINTER(_Edit), c_size_t, POINTER(_Word)]),
     "check": (c_uint32, [_Word]),
@@ -251,15 +250,14 @@ def _load() -> Any:
             f"the shared library of peltzivar.h does not load ({why[0]}): name its path in PELTZIVAR_LIBRARY, "
             f"put it beside {__file__}, or install it where the system's loader finds it"
         )
+    version = getattr(library, "peltzivar_version", lambda: 0)()
+    if version >> 8 != _VERSION >> 8:
+        raise ImportError(f"{path} has version {version >> 16}.{version >> 8 & 255}, and this file {_VERSION >> 16}.{_VERSION >> 8 & 255}")
     calls = SimpleNamespace(path=path)
     for name, (result, arguments) in _CALLS.items():
-        call = getattr(library, f"peltzivar_{name}", None)
-        if call is None:
-            raise ImportError(f"{path} does not have the call peltzivar_{name}")
+        call = getattr(library, f"peltzivar_{name}")
         call.restype, call.argtypes = result, arguments
         setattr(calls, name, call)
-    if calls.version() >> 8 != _VERSION >> 8:
-        raise ImportError(f"{path} has version {calls.version():#08x}, and this file {_VERSION:#08x}")
     return calls
 
 
