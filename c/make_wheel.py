@@ -1,4 +1,4 @@
-"""Builds the wheel of `pip install ./c`: the module, and beside it the shared library, which `make` builds."""
+"""Builds the wheel that `pip install ./c` installs: the module and the shared library."""
 import base64
 import hashlib
 import pathlib

@@ -81,9 +81,8 @@ typedef struct {
     uint8_t digit_separator, base_prefix, base_suffix, mantissa_radix, exponent_base, exponent_radix;
 } peltzivar_fields;
 
-/* The numbers of setters (PELTZIVAR_SET_*), rules (PELTZIVAR_RULE_*) and errors (see the end of this header). */
+/* The numbers of setters (PELTZIVAR_SET_*) and of errors (see the end of this header). */
 typedef uint8_t peltzivar_setter;
-typedef uint8_t peltzivar_rule;
 typedef uint32_t peltzivar_error;
 
 /* An edit: a setter and a value. A flag becomes false if the value is 0, and true otherwise, and so does each flag of a
@@ -125,14 +124,14 @@ PELTZIVAR_API uint32_t peltzivar_version(void);
 
 /* WORDS */
 
-/* Applies the edits, in order, to a copy of PELTZIVAR_NEW_FIELDS, packs it as peltzivar_pack does, writes the word to
- * *out and returns true. If an edit has an unknown setter, returns false and leaves *out unchanged. The word may be
- * unlawful: call peltzivar_check. */
+/* Applies the edits, in order, to a copy of PELTZIVAR_NEW_FIELDS, packs it, writes the word to *out and returns true.
+ * If a setter is unknown, returns false and leaves *out unchanged. The word may be unlawful (see peltzivar_check). */
 PELTZIVAR_MUST_USE PELTZIVAR_API bool peltzivar_build(const peltzivar_edit *edits, size_t len, peltzivar_word *out);
 
-/* Does the same for the fields of a word that peltzivar_fields_of returns. Since that call fills absent exponent bytes,
- * and packing may drop the digit separator, two calls do not always give the same word as one call with all of the
- * edits. Edit the digit separator and its flags in the same call. */
+/* Applies the edits, in order, to the fields that peltzivar_fields_of returns, packs them, writes the word to *out and
+ * returns true. If a setter is unknown, returns false and leaves *out unchanged. Since absent exponent bytes are
+ * filled, and packing may drop the digit separator, two calls do not always give the same word as one call with all of
+ * the edits. Edit the digit separator and its flags in the same call. */
 PELTZIVAR_MUST_USE PELTZIVAR_API bool peltzivar_edit_word(
     peltzivar_word format, const peltzivar_edit *edits, size_t len, peltzivar_word *out);
 
@@ -221,7 +220,7 @@ PELTZIVAR_API peltzivar_word peltzivar_pack(const peltzivar_fields *fields);
  *
  * A flag or a group takes `true` or `false`. A byte takes one ASCII character in single quotes, `0x` followed by one or
  * two hexadecimal digits, or one to three decimal digits. Every byte except mantissa_radix also takes `none`, which
- * makes the byte absent, as 0 does. Spaces are not skipped. The name radix stands for mantissa_radix. */
+ * makes the byte absent, as 0 does. Spaces are not skipped. The name radix is read as mantissa_radix. */
 PELTZIVAR_MUST_USE PELTZIVAR_API peltzivar_setting_error peltzivar_parse_edit(
     const char *text, size_t len, peltzivar_edit *out);
 
@@ -237,7 +236,7 @@ PELTZIVAR_API size_t peltzivar_edit_text(peltzivar_edit edit, char *text, size_t
  * lowercase. */
 PELTZIVAR_API size_t peltzivar_setter_name(peltzivar_setter setter, char *text, size_t len);
 
-/* Returns the setter with a given name of len bytes, or PELTZIVAR_NO_SETTER. The name radix stands for
+/* Returns the setter with a given name of len bytes, or PELTZIVAR_NO_SETTER. radix is another name of
  * mantissa_radix. */
 PELTZIVAR_API peltzivar_setter peltzivar_setter_of_name(const char *name, size_t len);
 

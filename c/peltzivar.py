@@ -316,7 +316,7 @@ class Edit:
 
     A flag or a group takes `true` or `false`. A byte takes one ASCII character in single quotes, one to three decimal
     digits, or `0x` followed by one or two hexadecimal digits. Every byte except `mantissa_radix` also takes `none`.
-    Spaces are not skipped. The name `radix` stands for `mantissa_radix`. Raises ValueError if the text is not a setting.
+    Spaces are not skipped. `radix` is another name of `mantissa_radix`. Raises ValueError if the text is not a setting.
     """
 
     __slots__ = ("_edit",)

@@ -47,7 +47,7 @@ SOURCES = [("crates", "*.rt"), ("crates", "*.antt"), ("rust", "*.rs"), ("rust", 
 LANGUAGES = ["rust", "antt", "c", "python", "toml"]
 LIBRARIES = ["lexical_base", "lexical_flags", "lexical_builder", "lexical_util"]
 # The least numbers of must-fail edits and tests.
-LEAST_EDITS, LEAST_TESTS = 65, 115
+LEAST_EDITS, LEAST_TESTS = 63, 115
 # The largest number of lines of the pages, and of words of README.
 MOST_LINES, MOST_WORDS = 1400, 800
 # The starts of commands in README, each with the script that has the command.
@@ -256,7 +256,7 @@ def commands(text):
 
 def not_called():
     """Returns the tests that neither `.ci/run` nor a script that it runs calls."""
-    scripts = [(TOP / name).read_text() for name in (".ci/run", "rust/tools/test.sh", "c/test.sh", "explorer/test.sh")]
+    scripts = [(TOP / name).read_text() for name in (".ci/run", "rust/tools/test.sh", "explorer/test.sh")]
     calls = re.sub(r"^ *#.*", "", "\n".join(scripts), flags=re.M)
     for folder in sorted(path.name for path in TOP.iterdir() if path.is_dir() and path.name != ".git"):
         for path in files_of(folder, "*test.*"):

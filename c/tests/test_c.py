@@ -1,4 +1,5 @@
 """Tests peltzivar.h and the library from C and C++: `make -C c check`."""
+import ctypes
 import os
 import pathlib
 import re
@@ -159,8 +160,8 @@ class Header(unittest.TestCase):
         return f"Out<{TYPES[kind]}>" if name == "out" else f"&{'' if const else 'mut '}{TYPES[kind]}"
 
     def test_all_versions_are_the_same(self):
-        version = re.search(r'^version = "(.*)"', (TOP / "rust/Cargo.toml").read_text(), re.M)[1]
-        number = int.from_bytes(map(int, version.split(".")), "big")
+        number = ctypes.CDLL(str(SHARED)).peltzivar_version()  # That of cargo.
+        version = ".".join(map(str, number.to_bytes(3, "big")))
         self.assertIn(f'#define PELTZIVAR_VERSION "{version}"\n#define PELTZIVAR_VERSION_NUMBER 0x{number:06x}\n', HEADER)
         self.assertIn(f'version = "{version}"\n', (C / "pyproject.toml").read_text())
         self.assertIn(f"_VERSION = 0x{number:06x}\n", (C / "peltzivar.py").read_text())

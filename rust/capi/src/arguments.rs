@@ -44,34 +44,34 @@ impl<T> Out<T> {
 /// If `len` is not 0, `start` must point to `len` bytes that a C caller passes, initialised or not. Nothing else may
 /// read or write them during the call that passes them.
 pub unsafe fn write_text(start: *mut u8, len: usize, value: Option<impl Display>) -> usize {
-    let room: &mut [MaybeUninit<u8>] = if len == 0 {
+    let buffer: &mut [MaybeUninit<u8>] = if len == 0 {
         &mut []
     } else {
         // SAFETY: the caller guarantees the bytes. A byte that may be uninitialised needs no alignment and no value. No
         // object in C has more than `isize::MAX` bytes.
         unsafe { slice::from_raw_parts_mut(start.cast(), len) }
     };
-    let mut text = Text { room, len: 0 };
+    let mut text = Text { buffer, len: 0 };
     if let Some(value) = value {
         // `Text` never fails, and no `Display` here fails of its own.
         let _ = write!(text, "{value}");
     }
     let end = text.len.min(len.saturating_sub(1));
-    if let Some(byte) = text.room.get_mut(end) {
+    if let Some(byte) = text.buffer.get_mut(end) {
         byte.write(0);
     }
     text.len
 }
 
-/// Text that is written into `room` as far as it fits. `len` counts all of it.
+/// Text that is written into a buffer as far as it fits. `len` is the length of the whole text.
 struct Text<'a> {
-    room: &'a mut [MaybeUninit<u8>],
+    buffer: &'a mut [MaybeUninit<u8>],
     len: usize,
 }
 
 impl Write for Text<'_> {
     fn write_str(&mut self, piece: &str) -> fmt::Result {
-        for (byte, place) in piece.bytes().zip(self.room.iter_mut().skip(self.len)) {
+        for (byte, place) in piece.bytes().zip(self.buffer.iter_mut().skip(self.len)) {
             place.write(byte);
         }
         self.len += piece.len();

@@ -46,7 +46,7 @@ pub unsafe extern "C" fn peltzivar_setting_error_text(
     to: *mut u8,
     to_len: usize,
 ) -> usize {
-    // The text of a string that is not UTF-8 is that of any unknown name.
+    // A string that is not UTF-8 is read as one with an unknown name.
     let setting = from_utf8(input(text, len)).unwrap_or("=");
     write_text(to, to_len, setting.parse::<Edit>().err())
 }
