@@ -65,7 +65,7 @@ class Programs(unittest.TestCase):
     def test_the_calls_are_sound_with_the_checks_of_rust(self):
         build = self.folder / "checked"
         on = {f"CARGO_PROFILE_RELEASE_{it}": "true" for it in ("DEBUG_ASSERTIONS", "OVERFLOW_CHECKS")}
-        command = ["make", "-s", "-C", C, f"BUILD={build}", "build"]
+        command = ["make", "-s", "--no-print-directory", "-C", C, f"BUILD={build}", "build"]
         self.assertEqual(run(*command, env={**os.environ, **on}), ("", 0))
         program = self.made("cc", *STRICT, *SANITIZERS, TESTS / "calls.c", build / "release" / ARCHIVE.name)
         self.assertEqual(run(program), ("", 0))
