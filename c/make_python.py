@@ -12,7 +12,8 @@ HERE = pathlib.Path(__file__).resolve().parent
 HEADER = HERE.joinpath("peltzivar.h").read_text()
 CODE = " ".join(re.sub(r"/\*.*?\*/|^#.*?$", "", HEADER, flags=re.S | re.M).split())
 STRUCTS = {"peltzivar_word": "_Word", "peltzivar_fields": "_Fields", "peltzivar_edit": "_Edit"}
-TYPES = {"bool": "c_bool", "size_t": "c_size_t", **{f"uint{bits}_t": f"c_uint{bits}" for bits in (8, 32, 64)}, **STRUCTS}
+TYPES = {"bool": "c_bool", "size_t": "c_size_t", **STRUCTS}
+TYPES |= {f"uint{bits}_t": f"c_uint{bits}" for bits in (8, 32, 64)}
 TYPES |= {name: TYPES[kind] for kind, name in re.findall(r"typedef (\w+) (\w+);", CODE)}
 
 
@@ -22,7 +23,8 @@ def defined(name):
 
 def enumeration(name, pattern, meaning):
     members = sorted(re.findall(rf"^    PELTZIVAR_{pattern} = (\d+)", HEADER, re.M), key=lambda it: int(it[1]))
-    return ["", "", f"class {name}(IntEnum):", f'    """{meaning}"""', "", *(f"    {it} = {number}" for it, number in members)]
+    head = ["", "", f"class {name}(IntEnum):", f'    """{meaning}"""', ""]
+    return head + [f"    {it} = {number}" for it, number in members]
 
 
 def argument(text):
@@ -40,9 +42,12 @@ def part(used):
     flags, others = re.fullmatch(r"\{UINT64_C\((\w+)\), (.*)\}", defined("NEW_FIELDS_INIT")).groups()
     yield f"_NEW_FIELDS = ({flags}, {others})"
     yield from (f"_{name} = {defined(name)}" for name in ("FIELD_COUNT", "SOURCE_SIZE", "TEXT_SIZE"))
-    yield from enumeration("Setter", r"SET_(\w+)", "The number of each setter. A member's name is the setter's name in uppercase.")
-    yield from enumeration("Rule", r"RULE_(\w+)", "The number of each rule, in the order in which the rules are checked.")
-    yield from enumeration("Error", r"((?!SET_|RULE_|SETTING_)\w+)", "The number of each error, and of success, which is 0.")
+    for name, pattern, meaning in (
+        ("Setter", r"SET_(\w+)", "The number of each setter. The name of a member is the name of the setter in uppercase."),
+        ("Rule", r"RULE_(\w+)", "The number of each rule, in the order in which the rules are checked."),
+        ("Error", r"((?!SET_|RULE_|SETTING_)\w+)", "The number of each error, and of success, which is 0."),
+    ):
+        yield from enumeration(name, pattern, meaning)
     for body, struct in re.findall(r"typedef struct { (.*?) } (\w+);", CODE):
         members = [(it, kind) for kind, names in re.findall(r"(\w+) ([\w, ]+);", body) for it in names.split(", ")]
         yield from ("", "", f"class {STRUCTS[struct]}(Structure):", "    _fields_ = [")

@@ -27,8 +27,8 @@ from pathlib import Path
 from types import SimpleNamespace
 from typing import Any, Dict, Iterable, List, NamedTuple, Optional, Tuple, Type, TypeVar, Union
 
-__all__ = ["STANDARD", "Byte", "Edit", "Error", "Format", "FormatError", "FormatView", "Note", "Reason", "Rule", "Setter"]
-__all__ += ["Value", "notes_of"]
+__all__ = ["STANDARD", "Byte", "Edit", "Error", "Format", "FormatError", "FormatView", "Note", "Reason", "Rule"]
+__all__ += ["Setter", "Value", "notes_of"]
 
 # Made by make_python.py from peltzivar.h.
 _VERSION = 0x000600
@@ -40,7 +40,7 @@ _TEXT_SIZE = 256
 
 
 class Setter(IntEnum):
-    """The number of each setter. A member's name is the setter's name in uppercase."""
+    """The number of each setter. The name of a member is the name of the setter in uppercase."""
 
     REQUIRED_INTEGER_DIGITS = 0
     REQUIRED_FRACTION_DIGITS = 1
@@ -227,12 +227,13 @@ _CALLS: Dict[str, Tuple[Any, List[Any]]] = {
 
 
 def _candidates() -> Iterable[str]:
-    """Returns the paths of the library: the given one, or beside this file and in the folders above it, or the loader's."""
+    """Returns the paths where the library may be: the given one, or those in the folder of this file and the three
+    folders above it, and then the names that the system's loader looks for."""
     if given := os.environ.get("PELTZIVAR_LIBRARY"):
         return [os.path.abspath(given)]
     major, minor = _VERSION >> 16, _VERSION >> 8 & 255
     names = (f"libpeltzivar_c.so.{major}.{minor}", "libpeltzivar_c.so", "libpeltzivar_c.dylib", "peltzivar_c.dll")
-    folders = Path(__file__).resolve().parents[:4]
+    folders = list(Path(__file__).resolve().parents)[:4]
     return [*(str(it) for folder in folders for name in names if (it := folder / name).exists()), *names]
 
 
@@ -252,7 +253,8 @@ def _load() -> Any:
         )
     version = getattr(library, "peltzivar_version", lambda: 0)()
     if version >> 8 != _VERSION >> 8:
-        raise ImportError(f"{path} has version {version >> 16}.{version >> 8 & 255}, and this file {_VERSION >> 16}.{_VERSION >> 8 & 255}")
+        ours, theirs = (f"{it >> 16}.{it >> 8 & 255}" for it in (_VERSION, version))
+        raise ImportError(f"{path} has version {theirs}, and this file {ours}")
     calls = SimpleNamespace(path=path)
     for name, (result, arguments) in _CALLS.items():
         call = getattr(library, f"peltzivar_{name}")
@@ -635,7 +637,8 @@ class Format(FormatView):
         """Raises ValueError if an exponent character and a decimal point do not fit the format."""
         options = _byte(exponent), _byte(decimal_point)
         if min(options) < 0:
-            raise ValueError(f"an option is an ASCII character or a number from 0 to 255: {exponent!r}, {decimal_point!r}")
+            given = f"{exponent!r}, {decimal_point!r}"
+            raise ValueError(f"an option is an ASCII character or a number from 0 to 255: {given}")
         if error := _library.check_options(self._halves(), *options):
             raise ValueError(_text(_library.error_text, error, 0))
 

@@ -15,7 +15,8 @@ ARCHIVE = SHARED.with_suffix(".a")
 HEADER = (C / "peltzivar.h").read_text()
 STRICT = ["-Wall", "-Wextra", "-Wpedantic", "-Wconversion", "-Wshadow", "-Werror", "-I", C]
 SANITIZERS = ["-g", "-fsanitize=address,undefined", "-fno-sanitize-recover=all"]
-COMPILERS = {"gcc": "c99 c11 c17 c2x", "clang": "c99 c11 c17 c2x", "g++": "c++11 c++14 c++17 c++20", "clang++": "c++11 c++17 c++20"}
+COMPILERS = {"gcc": "c99 c11 c17 c2x", "clang": "c99 c11 c17 c2x", "g++": "c++11 c++14 c++17 c++20"}
+COMPILERS |= {"clang++": "c++11 c++14 c++17 c++20"}
 TYPES = {"peltzivar_word": "Word", "peltzivar_fields": "Fields", "peltzivar_edit": "NumberedEdit", "size_t": "usize"}
 TYPES |= {"bool": "bool", "char": "u8", "uint8_t": "u8", "uint32_t": "u32", "peltzivar_setter": "Setter"}
 TYPES |= {"peltzivar_error": "ErrorNumber", "peltzivar_setting_error": "u32"}
@@ -53,7 +54,7 @@ class Programs(unittest.TestCase):
                     self.made(compiler, f"-std={standard}", *STRICT, *language, "-c", TESTS / "calls.c")
 
     def test_a_compiler_warns_if_an_error_is_ignored(self):
-        code = '#include "peltzivar.h"\nvoid f(peltzivar_word it);\nvoid f(peltzivar_word it) { peltzivar_check(it); }\n'
+        code = '#include "peltzivar.h"\nstatic inline void f(peltzivar_word it) { peltzivar_check(it); }\n'
         for option in (["-x", "c"], ["-std=c2x", "-x", "c"]):
             printed, _ = run("cc", *option, "-I", C, "-c", "-o", self.folder / "object", "-", input=code)
             self.assertIn("Wunused-result", printed)
@@ -83,9 +84,13 @@ class Programs(unittest.TestCase):
 
     def test_the_example(self):
         program = self.made("cc", *STRICT, *SANITIZERS, C / "example.c", ARCHIVE)
-        self.assertEqual(run(program, "radix=2", "base_suffix=57"), ("0x0000023900000000000000000000000C\nbase_suffix=57\nmantissa_radix=2\n", 0))
-        self.assertEqual(run(program, "radix=16", "base_suffix='b'"), ("the base suffix 'b' is a digit in radix 16\n", 1))
-        self.assertEqual(run(program, "no_special=1"), ("no_special=1: no_special takes `true` or `false`\n", 2))
+        rows = [
+            ("radix=2 base_suffix=57", 0, "0x0000023900000000000000000000000C\nbase_suffix=57\nmantissa_radix=2\n"),
+            ("radix=16 base_suffix='b'", 1, "the base suffix 'b' is a digit in radix 16\n"),
+            ("no_special=1", 2, "no_special=1: no_special takes `true` or `false`\n"),
+        ]
+        for settings, status, printed in rows:
+            self.assertEqual(run(program, *settings.split()), (printed, status))
 
     def test_the_examples_print_what_the_page_shows(self):
         self.made("cc", C / "example.c", ARCHIVE, name="example")
@@ -134,17 +139,24 @@ class Header(unittest.TestCase):
 
         rules = variants("format_flags/all_rules.rs", "Rule")
         self.assertEqual(self.numbers(r"RULE_(\w+)"), {name: number for number, name in enumerate(rules, 1)})
-        errors = [it for it in variants("error.rs", "Error") if it != "SUCCESS"]
-        self.assertEqual(self.numbers(r"((?!SET_|RULE_|SETTING_)\w+)"), {"SUCCESS": 0} | {it: at for at, it in enumerate(errors, 1)})
+        errors = ["SUCCESS", *(it for it in variants("error.rs", "Error") if it != "SUCCESS")]
+        numbered = {name: number for number, name in enumerate(errors)}
+        self.assertEqual(self.numbers(r"((?!SET_|RULE_|SETTING_)\w+)"), numbered)
 
     def test_declarations_are_those_of_the_library(self):
         sources = " ".join("".join(path.read_text() for path in sorted((TOP / "rust/capi/src").glob("*.rs"))).split())
         exported = re.findall(r'extern "C" fn (\w+)\( ?(.*?),? ?\) -> (\w+) \{', sources)
-        wanted = {(name, tuple(it.split(": ")[1] for it in re.split(r", (?=\w+: )", of) if it), result) for name, of, result in exported}
+        wanted = {
+            (name, tuple(it.split(": ")[1] for it in re.split(r", (?=\w+: )", of) if it), result)
+            for name, of, result in exported
+        }
         code = " ".join(re.sub(r"/\*.*?\*/|^#.*?$", "", HEADER, flags=re.S | re.M).split())
         declared = re.findall(r"(\w+) (peltzivar_\w+)\( ?([^()]*)\);", code)
-        arguments = {(name, tuple(self.argument(it, of) for it in of.split(", ") if it != "void"), TYPES[result]) for result, name, of in declared}
-        self.assertEqual(arguments, wanted)
+        found = {
+            (name, tuple(self.argument(it, of) for it in of.split(", ") if it != "void"), TYPES[result])
+            for result, name, of in declared
+        }
+        self.assertEqual(found, wanted)
         printed, _ = run("nm", "-gD", "--defined-only", SHARED)
         self.assertEqual({line.split()[2] for line in printed.splitlines()}, {name for name, *_ in wanted})
 

@@ -11,7 +11,8 @@ import unittest
 C = pathlib.Path(__file__).resolve().parent.parent
 PAGE = (C.parent / "docs/C-AND-PYTHON.md").read_text()
 WORD = "0x0000100000000000000000000000000C"
-IMPORT = [sys.executable, "-B", "-c", "import peltzivar; print(peltzivar.Format.of(mantissa_radix=16), peltzivar.__file__)"]
+PROGRAM = "import peltzivar; print(peltzivar.Format.of(mantissa_radix=16), peltzivar.__file__)"
+IMPORT = [sys.executable, "-B", "-c", PROGRAM]
 
 
 def has_pip():
@@ -24,7 +25,8 @@ class Install(unittest.TestCase):
         self.addCleanup(folder.cleanup)
         self.folder = pathlib.Path(folder.name)
         self.prefix = self.folder / "a prefix"
-        self.environment = {it: os.environ[it] for it in os.environ if it not in ("PELTZIVAR_LIBRARY", "PYTHONPATH", "MAKEFLAGS")}
+        others = ("PELTZIVAR_LIBRARY", "PYTHONPATH", "MAKEFLAGS")
+        self.environment = {name: value for name, value in os.environ.items() if name not in others}
         self.environment |= {"PKG_CONFIG_PATH": f"{self.prefix}/lib/pkgconfig", "LD_LIBRARY_PATH": f"{self.prefix}/lib"}
 
     def run_in(self, *command, **options):
@@ -54,7 +56,7 @@ class Install(unittest.TestCase):
         self.assertEqual(self.run_in(*IMPORT), f"{WORD} {module}\n")
 
     def test_uninstall_removes_what_install_wrote(self):
-        paths = [f"PREFIX=/usr/my own", "LIBDIR=/usr/my own/lib here", f"DESTDIR={self.folder}/a root"]
+        paths = ["PREFIX=/usr/my own", "LIBDIR=/usr/my own/lib here", f"DESTDIR={self.folder}/a root"]
         self.make("install", *paths)
         root = self.folder / "a root/usr/my own"
         self.assertTrue((root / "lib here/pkgconfig/peltzivar.pc").exists() and (root / "include/peltzivar.h").exists())

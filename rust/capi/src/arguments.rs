@@ -22,8 +22,8 @@ pub unsafe fn input<'a, T>(start: *const T, len: usize) -> &'a [T] {
 
 /// Memory for one value that a call only writes.
 ///
-/// No code here creates an `Out`, since each one is an argument that a C caller passes. The header requires a pointer to
-/// an object of type `T` that nothing else reads or writes during the call.
+/// No code here creates an `Out`, since each one is an argument that a C caller passes. The header requires a pointer
+/// to an object of type `T` that nothing else reads or writes during the call.
 #[repr(transparent)]
 pub struct Out<T>(*mut T);
 
@@ -35,9 +35,9 @@ impl<T> Out<T> {
     }
 }
 
-/// Writes what `value` displays, or nothing if it is `None`, and a null terminator to the `len` bytes that begin at `start`, as `snprintf` does. If
-/// they do not fit, writes only the beginning and a null terminator. If `len` is 0, writes nothing. Returns the length
-/// of the whole text.
+/// Writes what `value` displays, or nothing if it is `None`, and a null terminator to the `len` bytes that begin at
+/// `start`, as `snprintf` does. If they do not fit, writes only the beginning and a null terminator. If `len` is 0,
+/// writes nothing. Returns the length of the whole text.
 ///
 /// # Safety
 ///

@@ -3,8 +3,8 @@
 use crate::numbers::{error_number, ErrorNumber, Word};
 use peltzivar::{digit, format_flags};
 
-/// The result for a byte that is not a digit. The result 255 would be ambiguous, since 255 is a digit in any radix above
-/// 255.
+/// The result for a byte that is not a digit. The result 255 would be ambiguous, since 255 is a digit in any radix
+/// above 255.
 const NO_DIGIT: u32 = u32::MAX;
 
 #[unsafe(no_mangle)]
