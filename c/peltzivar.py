@@ -424,7 +424,8 @@ class _Field:
         if view is None:
             return self
         if 64 <= self._setter < 128:
-            return _value(self._setter, getattr(view._fields(), self._name))
+            byte = getattr(view._fields(), self._name)
+            return byte if self._setter >= Setter.MANTISSA_RADIX else _value(self._setter, byte)
         return bool(_library.flag(view._halves(), self._setter))
 
     def __set__(self, view: FormatView, value: Value) -> None:

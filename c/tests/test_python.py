@@ -214,6 +214,7 @@ class Words(unittest.TestCase):
                 self.assertIs(getattr(view, name), str(bit) in bits.split(), (name, bit))
         names = {name for _, name in FLAGS + BYTES} | {name for name, _ in GROUPS}
         self.assertEqual({it.name.lower() for it in Setter}, names)
+        self.assertEqual([getattr(FormatView(0), name) for _, name in BYTES], [None, None, None, 0, 0, 0])
 
 
 class Loading(unittest.TestCase):
