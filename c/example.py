@@ -17,7 +17,7 @@ def main(settings: list[str]) -> int:
         print(error)
         return 2
     print(format, repr(format), *notes_of(*settings), sep="\n")
-    print("digits:", "".join(digit for digit in map(chr, range(128)) if format.is_digit(digit)))
+    print("digits:", "".join(byte for byte in map(chr, range(128)) if format.mantissa_digit(byte) is not None))
     print("without NaN:", format.edit(no_special=True, case_sensitive_special=False, special_digit_separator=False))
     return 0
 

@@ -7,9 +7,9 @@
     >>> print(format)
     0x0000100078000000000000000000000C
 
-This module needs the shared library of peltzivar.h, but no other package. Copy the library to the folder of this
-module, or install it, or set PELTZIVAR_LIBRARY to its path. If the library is not found, importing this module raises
-an ImportError.
+This module needs the shared library of peltzivar.h, but no other package. `make install` installs both. Otherwise, set
+PELTZIVAR_LIBRARY to the path of the library, or put it beside this file. If the library is not found, importing this
+module raises an ImportError.
 
 A word is lawful if it satisfies all rules. A `FormatView` holds any word, and a `Format` holds a lawful word. In the
 repository, docs/FORMAT.md describes the fields and the rules.
@@ -22,24 +22,21 @@ import os
 from ctypes import CDLL, POINTER, Structure, c_bool, c_char_p, c_size_t, c_uint8, c_uint32, c_uint64
 from ctypes import create_string_buffer
 from enum import IntEnum
+from itertools import count, takewhile
+from pathlib import Path
+from types import SimpleNamespace
 from typing import Any, Dict, Iterable, List, NamedTuple, Optional, Tuple, Type, TypeVar, Union
 
-__all__ = ["STANDARD", "Edit", "Error", "Format", "FormatError", "FormatView", "Note", "Reason", "Rule", "Setter"]
-__all__ += ["Value", "notes_of"]
+__all__ = ["STANDARD", "Byte", "Edit", "Error", "Format", "FormatError", "FormatView", "Note", "Reason", "Rule"]
+__all__ += ["Setter", "Value", "notes_of"]
 
-# Made: constants
-_MAJOR, _MINOR = 0, 4
+# Made by make_python.py from peltzivar.h.
+_VERSION = 0x000600
 STANDARD = 0x00000A0000000000000000000000000C
 _NEW_FIELDS = (0xC, 0, 0, 0, 10, 0, 0)
 _FIELD_COUNT = 37
-_CANDIDATE_COUNT = 24
-_MAX_NOTES = 3
-_TEXT_SIZE = 256
 _SOURCE_SIZE = 2048
-
-# End
-
-# Made: enums
+_TEXT_SIZE = 256
 
 
 class Setter(IntEnum):
@@ -63,56 +60,55 @@ class Setter(IntEnum):
     CASE_SENSITIVE_EXPONENT = 15
     CASE_SENSITIVE_BASE_PREFIX = 16
     CASE_SENSITIVE_BASE_SUFFIX = 17
-    INTEGER_INTERNAL_DIGIT_SEPARATOR = 18
-    FRACTION_INTERNAL_DIGIT_SEPARATOR = 19
-    EXPONENT_INTERNAL_DIGIT_SEPARATOR = 20
-    INTEGER_LEADING_DIGIT_SEPARATOR = 21
-    FRACTION_LEADING_DIGIT_SEPARATOR = 22
-    EXPONENT_LEADING_DIGIT_SEPARATOR = 23
-    INTEGER_TRAILING_DIGIT_SEPARATOR = 24
-    FRACTION_TRAILING_DIGIT_SEPARATOR = 25
-    EXPONENT_TRAILING_DIGIT_SEPARATOR = 26
-    INTEGER_CONSECUTIVE_DIGIT_SEPARATOR = 27
-    FRACTION_CONSECUTIVE_DIGIT_SEPARATOR = 28
-    EXPONENT_CONSECUTIVE_DIGIT_SEPARATOR = 29
-    SPECIAL_DIGIT_SEPARATOR = 30
-    REQUIRED_DIGITS = 31
-    INTERNAL_DIGIT_SEPARATOR = 32
-    LEADING_DIGIT_SEPARATOR = 33
-    TRAILING_DIGIT_SEPARATOR = 34
-    CONSECUTIVE_DIGIT_SEPARATOR = 35
-    DIGIT_SEPARATOR_FLAGS = 36
-    INTEGER_DIGIT_SEPARATOR_FLAGS = 37
-    FRACTION_DIGIT_SEPARATOR_FLAGS = 38
-    EXPONENT_DIGIT_SEPARATOR_FLAGS = 39
-    DIGIT_SEPARATOR = 40
-    BASE_PREFIX = 41
-    BASE_SUFFIX = 42
-    MANTISSA_RADIX = 43
-    RADIX = 44
-    EXPONENT_BASE = 45
-    EXPONENT_RADIX = 46
+    INTEGER_INTERNAL_DIGIT_SEPARATOR = 32
+    FRACTION_INTERNAL_DIGIT_SEPARATOR = 33
+    EXPONENT_INTERNAL_DIGIT_SEPARATOR = 34
+    INTEGER_LEADING_DIGIT_SEPARATOR = 35
+    FRACTION_LEADING_DIGIT_SEPARATOR = 36
+    EXPONENT_LEADING_DIGIT_SEPARATOR = 37
+    INTEGER_TRAILING_DIGIT_SEPARATOR = 38
+    FRACTION_TRAILING_DIGIT_SEPARATOR = 39
+    EXPONENT_TRAILING_DIGIT_SEPARATOR = 40
+    INTEGER_CONSECUTIVE_DIGIT_SEPARATOR = 41
+    FRACTION_CONSECUTIVE_DIGIT_SEPARATOR = 42
+    EXPONENT_CONSECUTIVE_DIGIT_SEPARATOR = 43
+    SPECIAL_DIGIT_SEPARATOR = 44
+    DIGIT_SEPARATOR = 64
+    BASE_PREFIX = 88
+    BASE_SUFFIX = 96
+    MANTISSA_RADIX = 104
+    EXPONENT_BASE = 112
+    EXPONENT_RADIX = 120
+    REQUIRED_DIGITS = 128
+    INTERNAL_DIGIT_SEPARATOR = 129
+    LEADING_DIGIT_SEPARATOR = 130
+    TRAILING_DIGIT_SEPARATOR = 131
+    CONSECUTIVE_DIGIT_SEPARATOR = 132
+    DIGIT_SEPARATOR_FLAGS = 133
+    INTEGER_DIGIT_SEPARATOR_FLAGS = 134
+    FRACTION_DIGIT_SEPARATOR_FLAGS = 135
+    EXPONENT_DIGIT_SEPARATOR_FLAGS = 136
 
 
 class Rule(IntEnum):
     """The number of each rule, in the order in which the rules are checked."""
 
-    MANTISSA_RADIX_IN_RANGE = 0
-    EXPONENT_BASE_IN_RANGE = 1
-    EXPONENT_RADIX_IN_RANGE = 2
-    DIGIT_SEPARATOR_IS_PUNCTUATION = 3
-    BASE_PREFIX_IS_PUNCTUATION = 4
-    BASE_SUFFIX_IS_PUNCTUATION = 5
-    PUNCTUATION_DIFFERS = 6
-    EXPONENT_FLAGS_AGREE = 7
-    MANTISSA_SIGN_FLAGS_AGREE = 8
-    EXPONENT_SIGN_FLAGS_AGREE = 9
-    SPECIAL_CASE_FLAGS_AGREE = 10
-    SPECIAL_SEPARATOR_FLAGS_AGREE = 11
-    INTEGER_CONSECUTIVE_IS_ALLOWED = 12
-    FRACTION_CONSECUTIVE_IS_ALLOWED = 13
-    EXPONENT_CONSECUTIVE_IS_ALLOWED = 14
-    RESERVED_BITS_ARE_ZERO = 15
+    MANTISSA_RADIX_IN_RANGE = 1
+    EXPONENT_BASE_IN_RANGE = 2
+    EXPONENT_RADIX_IN_RANGE = 3
+    DIGIT_SEPARATOR_IS_PUNCTUATION = 4
+    BASE_PREFIX_IS_PUNCTUATION = 5
+    BASE_SUFFIX_IS_PUNCTUATION = 6
+    PUNCTUATION_DIFFERS = 7
+    EXPONENT_FLAGS_AGREE = 8
+    MANTISSA_SIGN_FLAGS_AGREE = 9
+    EXPONENT_SIGN_FLAGS_AGREE = 10
+    SPECIAL_CASE_FLAGS_AGREE = 11
+    SPECIAL_SEPARATOR_FLAGS_AGREE = 12
+    INTEGER_CONSECUTIVE_IS_ALLOWED = 13
+    FRACTION_CONSECUTIVE_IS_ALLOWED = 14
+    EXPONENT_CONSECUTIVE_IS_ALLOWED = 15
+    RESERVED_BITS_ARE_ZERO = 16
 
 
 class Error(IntEnum):
@@ -168,10 +164,6 @@ class Error(IntEnum):
     INVALID_NEGATIVE_EXPONENT_BREAK = 47
     INVALID_POSITIVE_EXPONENT_BREAK = 48
 
-# End
-
-# Made: calls
-
 
 class _Word(Structure):
     _fields_ = [
@@ -182,7 +174,7 @@ class _Word(Structure):
 
 class _Fields(Structure):
     _fields_ = [
-        ("flags", c_uint32),
+        ("flags", c_uint64),
         ("digit_separator", c_uint8),
         ("base_prefix", c_uint8),
         ("base_suffix", c_uint8),
@@ -200,106 +192,87 @@ class _Edit(Structure):
 
 
 _CALLS: Dict[str, Tuple[Any, List[Any]]] = {
-    "peltzivar_version": (c_uint32, []),
-    "peltzivar_fields_of": (_Fields, [_Word]),
-    "peltzivar_edit_fields": (c_bool, [POINTER(_Fields), POINTER(_Edit), c_size_t]),
-    "peltzivar_pack": (_Word, [POINTER(_Fields)]),
-    "peltzivar_build": (c_bool, [POINTER(_Fields), POINTER(_Edit), c_size_t, POINTER(_Word)]),
-    "peltzivar_build_strict": (c_uint32, [POINTER(_Fields), POINTER(_Word)]),
-    "peltzivar_edit_word": (c_bool, [_Word, POINTER(_Edit), c_size_t, POINTER(_Word)]),
-    "peltzivar_normal_form": (_Word, [_Word]),
-    "peltzivar_migrate": (c_uint32, [_Word, POINTER(_Word)]),
-    "peltzivar_same_format": (c_bool, [_Word, _Word]),
-    "peltzivar_is_built": (c_bool, [_Word]),
-    "peltzivar_edits_of": (c_size_t, [_Word, POINTER(_Edit)]),
-    "peltzivar_format_error": (c_uint32, [_Word]),
-    "peltzivar_radix_error": (c_uint32, [_Word]),
-    "peltzivar_is_valid_radix": (c_bool, [c_uint32]),
-    "peltzivar_is_valid_exponent_flags": (c_bool, [_Word]),
-    "peltzivar_is_valid_digit_separator": (c_bool, [_Word]),
-    "peltzivar_is_valid_base_prefix": (c_bool, [_Word]),
-    "peltzivar_is_valid_base_suffix": (c_bool, [_Word]),
-    "peltzivar_is_valid_punctuation": (c_bool, [_Word]),
-    "peltzivar_is_valid_options_punctuation": (c_bool, [_Word, c_uint8, c_uint8]),
-    "peltzivar_options_error": (c_uint32, [_Word, c_uint8, c_uint8]),
-    "peltzivar_keeps_rule": (c_bool, [_Word, c_uint8]),
-    "peltzivar_rule_error": (c_uint32, [c_uint8]),
-    "peltzivar_rule_mask": (_Word, [c_uint8]),
-    "peltzivar_flag": (c_bool, [_Word, c_uint8]),
-    "peltzivar_word_reason_mask": (_Word, [_Word, c_uint8]),
-    "peltzivar_word_reason_rule": (c_uint8, [_Word, c_uint8]),
-    "peltzivar_word_reason_breaks": (c_bool, [_Word, c_uint8, c_uint8]),
-    "peltzivar_word_reason_mend": (c_size_t, [_Word, c_uint8, c_uint8, POINTER(_Edit)]),
-    "peltzivar_note_mask": (_Word, [POINTER(_Fields), c_uint8]),
-    "peltzivar_is_digit": (c_bool, [_Word, c_uint8]),
-    "peltzivar_is_base_prefix": (c_bool, [_Word, c_uint8]),
-    "peltzivar_is_base_suffix": (c_bool, [_Word, c_uint8]),
-    "peltzivar_radix_from_flags": (c_uint32, [_Word, _Word, c_uint32]),
-    "peltzivar_is_valid_ascii": (c_bool, [c_uint8]),
-    "peltzivar_is_valid_ascii_slice": (c_bool, [c_char_p, c_size_t]),
-    "peltzivar_is_valid_letter": (c_bool, [c_uint8]),
-    "peltzivar_is_valid_letter_slice": (c_bool, [c_char_p, c_size_t]),
-    "peltzivar_char_to_digit": (c_uint32, [c_uint8, c_uint32]),
-    "peltzivar_char_is_digit": (c_bool, [c_uint8, c_uint32]),
-    "peltzivar_digit_to_char": (c_uint8, [c_uint32]),
-    "peltzivar_char_to_digit_const": (c_uint32, [c_uint8, c_uint32]),
-    "peltzivar_char_to_valid_digit_const": (c_uint32, [c_uint8, c_uint32]),
-    "peltzivar_char_is_digit_const": (c_bool, [c_uint8, c_uint32]),
-    "peltzivar_digit_to_char_const": (c_uint8, [c_uint32, c_uint32]),
-    "peltzivar_text_of_word": (c_size_t, [_Word, c_char_p, c_size_t]),
-    "peltzivar_word_of_text": (c_uint32, [c_char_p, c_size_t, POINTER(_Word)]),
-    "peltzivar_source": (c_size_t, [_Word, c_char_p, c_size_t]),
-    "peltzivar_description": (c_size_t, [c_uint32, c_char_p, c_size_t]),
-    "peltzivar_text": (c_size_t, [c_uint32, c_size_t, c_char_p, c_size_t]),
-    "peltzivar_reason": (c_size_t, [_Word, c_uint8, c_uint8, c_char_p, c_size_t]),
-    "peltzivar_word_reason": (c_size_t, [_Word, c_uint8, c_char_p, c_size_t]),
-    "peltzivar_note": (c_size_t, [POINTER(_Fields), c_uint8, c_char_p, c_size_t]),
-    "peltzivar_setter_name": (c_size_t, [c_uint8, c_char_p, c_size_t]),
-    "peltzivar_setter_of_name": (c_uint8, [c_char_p, c_size_t]),
-    "peltzivar_edit_of_text": (c_uint32, [c_char_p, c_size_t, POINTER(_Edit)]),
-    "peltzivar_setting_error": (c_size_t, [c_char_p, c_size_t, c_char_p, c_size_t]),
-    "peltzivar_text_of_edit": (c_size_t, [_Edit, c_char_p, c_size_t]),
-    "peltzivar_edit_mask": (_Word, [_Edit]),
+    "build": (c_bool, [POINTER(_Edit), c_size_t, POINTER(_Word)]),
+    "edit_word": (c_bool, [_Word, POINTER(_Edit), c_size_t, POINTER(_Word)]),
+    "check": (c_uint32, [_Word]),
+    "normal_form": (_Word, [_Word]),
+    "is_built": (c_bool, [_Word]),
+    "edits_of": (c_size_t, [_Word, POINTER(_Edit)]),
+    "flag": (c_bool, [_Word, c_uint8]),
+    "parse_word": (c_uint32, [c_char_p, c_size_t, POINTER(_Word)]),
+    "word_text": (c_size_t, [_Word, c_char_p, c_size_t]),
+    "source": (c_size_t, [_Word, c_char_p, c_size_t]),
+    "description": (c_size_t, [c_uint32, c_char_p, c_size_t]),
+    "error_text": (c_size_t, [c_uint32, c_size_t, c_char_p, c_size_t]),
+    "fields_of": (_Fields, [_Word]),
+    "edit_fields": (c_bool, [POINTER(_Fields), POINTER(_Edit), c_size_t]),
+    "parse_edit": (c_uint32, [c_char_p, c_size_t, POINTER(_Edit)]),
+    "setting_error_text": (c_size_t, [c_char_p, c_size_t, c_char_p, c_size_t]),
+    "edit_text": (c_size_t, [_Edit, c_char_p, c_size_t]),
+    "setter_mask": (_Word, [c_uint8]),
+    "reason_text": (c_size_t, [_Word, c_size_t, c_char_p, c_size_t]),
+    "reason_mask": (_Word, [_Word, c_size_t]),
+    "reason_rules": (c_uint32, [_Word, c_size_t]),
+    "note_text": (c_size_t, [POINTER(_Fields), c_size_t, c_char_p, c_size_t]),
+    "note_mask": (_Word, [POINTER(_Fields), c_size_t]),
+    "check_options": (c_uint32, [_Word, c_uint8, c_uint8]),
+    "mantissa_digit": (c_uint32, [_Word, c_uint8]),
+    "exponent_digit": (c_uint32, [_Word, c_uint8]),
+    "is_separator": (c_bool, [_Word, c_uint8]),
+    "is_base_prefix": (c_bool, [_Word, c_uint8]),
+    "is_base_suffix": (c_bool, [_Word, c_uint8]),
 }
 
 # End
 
 
-def _load() -> CDLL:
-    """Loads the library, checks its version and declares its functions."""
-    version = f"{_MAJOR}.{_MINOR}"
-    names = (f"libpeltzivar_c.so.{version}", "libpeltzivar_c.so", "libpeltzivar_c.dylib", "peltzivar_c.dll")
-    given = os.environ.get("PELTZIVAR_LIBRARY")
-    folder = os.path.dirname(os.path.abspath(__file__))
-    beside = [path for path in (os.path.join(folder, name) for name in names) if os.path.exists(path)]
-    library, why = None, ""
-    for path in [os.path.abspath(given)] if given else [*beside, *names]:
+def _candidates() -> Iterable[str]:
+    """Returns the paths where the library may be: the given one, or those in the folder of this file and the three
+    folders above it, and then the names that the system's loader looks for."""
+    if given := os.environ.get("PELTZIVAR_LIBRARY"):
+        return [os.path.abspath(given)]
+    major, minor = _VERSION >> 16, _VERSION >> 8 & 255
+    names = (f"libpeltzivar_c.so.{major}.{minor}", "libpeltzivar_c.so", "libpeltzivar_c.dylib", "peltzivar_c.dll")
+    folders = list(Path(__file__).resolve().parents)[:4]
+    return [*(str(it) for folder in folders for name in names if (it := folder / name).exists()), *names]
+
+
+def _load() -> Any:
+    """Loads the library, checks its version and returns its calls."""
+    why: List[str] = []
+    for path in _candidates():
         try:
             library = CDLL(path)
             break
         except OSError as error:
-            why = why or str(error)
-    if library is None:
+            why.append(str(error))
+    else:
         raise ImportError(
-            f"the shared library of peltzivar.h {version} does not load ({why}): name its path in PELTZIVAR_LIBRARY, "
+            f"the shared library of peltzivar.h does not load ({why[0]}): name its path in PELTZIVAR_LIBRARY, "
             f"put it beside {__file__}, or install it where the system's loader finds it"
         )
-    # The first call is `peltzivar_version`, so the message for a library of another version names that version.
+    version = getattr(library, "peltzivar_version", lambda: 0)()
+    if version >> 8 != _VERSION >> 8:
+        ours, theirs = (f"{it >> 16}.{it >> 8 & 255}" for it in (_VERSION, version))
+        raise ImportError(f"{path} has version {theirs}, and this file {ours}")
+    calls = SimpleNamespace(path=path)
     for name, (result, arguments) in _CALLS.items():
-        call = getattr(library, name, None)
-        if call is None:
-            raise ImportError(f"{library._name} does not have the call {name} of peltzivar.h {version}")
+        call = getattr(library, f"peltzivar_{name}")
         call.restype, call.argtypes = result, arguments
-        if name == "peltzivar_version" and call() >> 8 != _MAJOR << 8 | _MINOR:
-            raise ImportError(f"{library._name} has version {call() >> 16}.{call() >> 8 & 255}, and this file {version}")
-    return library
+        setattr(calls, name, call)
+    return calls
 
 
 _library = _load()
 
-# The value of a setting. A flag setter takes a bool. A byte setter takes an ASCII character, a number, or None (absent).
+# The value of a setting. A flag or a group takes a bool. A byte takes an ASCII character, a number, or None (absent).
 Value = Union[bool, int, str, None]
+# A byte, as a number or as an ASCII character.
+Byte = Union[int, str]
 View = TypeVar("View", bound="FormatView")
+
+# The result of a call for a byte that is not a digit.
+_NO_DIGIT = (1 << 32) - 1
 
 
 def _text(call: Any, *arguments: Any, size: int = _TEXT_SIZE) -> str:
@@ -307,6 +280,11 @@ def _text(call: Any, *arguments: Any, size: int = _TEXT_SIZE) -> str:
     buffer = create_string_buffer(size)
     length = call(*arguments, buffer, size)
     return buffer.raw[:length].decode("ascii")
+
+
+def _texts(call: Any, of: Any) -> Iterable[str]:
+    """Returns the texts that a call writes for the indices from 0 on."""
+    return takewhile(bool, (_text(call, of, index) for index in count()))
 
 
 def _split(word: int) -> _Word:
@@ -319,18 +297,28 @@ def _joined(halves: _Word) -> int:
     return int(halves.high << 64 | halves.low)
 
 
-def _character(byte: int) -> Optional[str]:
-    """Returns a byte as a character, or None if it is 0."""
-    return chr(byte) if byte else None
+def _value(setter: int, byte: int) -> Value:
+    """Returns the value that is written as this byte."""
+    if setter in (Setter.MANTISSA_RADIX, Setter.EXPONENT_BASE, Setter.EXPONENT_RADIX):
+        return None if byte == 0 and setter != Setter.MANTISSA_RADIX else byte
+    if setter in (Setter.DIGIT_SEPARATOR, Setter.BASE_PREFIX, Setter.BASE_SUFFIX):
+        return chr(byte) if 0 < byte < 128 else byte or None
+    return bool(byte)
+
+
+def _byte(byte: Byte) -> int:
+    """Returns a byte as a number, or -1 for a number or a character that is not a byte."""
+    if isinstance(byte, str):
+        return ord(byte) if ord(byte) < 128 else -1
+    return operator.index(byte) if 0 <= operator.index(byte) < 256 else -1
 
 
 class Edit:
     """An edit: a setter and its value, parsed from a text NAME=VALUE such as `Edit("digit_separator='_'")`.
 
-    A flag setter or a group setter takes `true` or `false`. A byte setter takes one ASCII character in single quotes,
-    one to three decimal digits, or `0x` followed by one or two hexadecimal digits. Every byte setter except
-    `mantissa_radix` and `radix` also takes `none`. Spaces are not skipped. Raises ValueError if the text is not a
-    setting.
+    A flag or a group takes `true` or `false`. A byte takes one ASCII character in single quotes, one to three decimal
+    digits, or `0x` followed by one or two hexadecimal digits. Every byte except `mantissa_radix` also takes `none`.
+    Spaces are not skipped. `radix` is another name of `mantissa_radix`. Raises ValueError if the text is not a setting.
     """
 
     __slots__ = ("_edit",)
@@ -338,8 +326,8 @@ class Edit:
     def __init__(self, text: str) -> None:
         self._edit = _Edit()
         setting = text.encode("utf-8", "surrogatepass")
-        if _library.peltzivar_edit_of_text(setting, len(setting), self._edit):
-            raise ValueError(f"{text}: {_text(_library.peltzivar_setting_error, setting, len(setting))}")
+        if _library.parse_edit(setting, len(setting), self._edit):
+            raise ValueError(f"{text}: {_text(_library.setting_error_text, setting, len(setting))}")
 
     @classmethod
     def of(cls, name: str, value: Value) -> Edit:
@@ -353,7 +341,7 @@ class Edit:
     @classmethod
     def _of_numbers(cls, numbers: _Edit) -> Edit:
         edit = cls.__new__(cls)
-        edit._edit = numbers
+        edit._edit = _Edit(numbers.setter, numbers.value)
         return edit
 
     @property
@@ -363,21 +351,17 @@ class Edit:
 
     @property
     def value(self) -> Value:
-        """The value: a bool, an ASCII character, a number, or None."""
-        setter, value = Setter(self._edit.setter), int(self._edit.value)
-        if setter < Setter.DIGIT_SEPARATOR:
-            return bool(value)
-        is_number = setter >= Setter.MANTISSA_RADIX or value >= 128
-        return value if is_number else _character(value)
+        """The value: a bool, an ASCII character, a number, or None. A byte of 128 or more is a number."""
+        return _value(self._edit.setter, self._edit.value)
 
     @property
     def mask(self) -> int:
         """A mask of the bits of a word that the edit writes."""
-        return _joined(_library.peltzivar_edit_mask(self._edit))
+        return _joined(_library.setter_mask(self._edit.setter))
 
     def __str__(self) -> str:
         """Returns NAME=VALUE."""
-        return _text(_library.peltzivar_text_of_edit, self._edit)
+        return _text(_library.edit_text, self._edit)
 
     def __repr__(self) -> str:
         return f"Edit({str(self)!r})"
@@ -427,6 +411,31 @@ class FormatError(ValueError):
         return "; ".join(reason.text for reason in self.reasons)
 
 
+class _Field:
+    """A field or a group of a view. Its name is the name of its setter."""
+
+    def __init__(self, meaning: str) -> None:
+        self.__doc__ = meaning
+
+    def __set_name__(self, owner: type, name: str) -> None:
+        self._name, self._setter = name, Setter[name.upper()]
+
+    def __get__(self, view: Optional[FormatView], owner: type) -> Any:
+        if view is None:
+            return self
+        if 64 <= self._setter < 128:
+            byte = getattr(view._fields(), self._name)
+            return byte if self._setter >= Setter.MANTISSA_RADIX else _value(self._setter, byte)
+        return bool(_library.flag(view._halves(), self._setter))
+
+    def __set__(self, view: FormatView, value: Value) -> None:
+        raise AttributeError(f"a view does not change: edit({self._name}={value!r}) returns another one")
+
+
+def _field(meaning: str) -> Any:
+    return _Field(meaning)
+
+
 class FormatView:
     """A view of a format word, lawful or not. `int(view)` is the word, and `str(view)` is its text.
 
@@ -434,6 +443,53 @@ class FormatView:
     """
 
     __slots__ = ("_word",)
+
+    required_integer_digits: bool = _field("If true, a parser rejects `.5`.")
+    required_fraction_digits: bool = _field("If true, a parser rejects `1.` but accepts `1`.")
+    required_exponent_digits: bool = _field("If true, a parser rejects `1e`.")
+    required_mantissa_digits: bool = _field("If true, a parser rejects `.`.")
+    no_positive_mantissa_sign: bool = _field("If true, a parser rejects `+1` but accepts `-1`.")
+    required_mantissa_sign: bool = _field("If true, a parser rejects `1`.")
+    no_exponent_notation: bool = _field("If true, a parser rejects `1e5`.")
+    no_positive_exponent_sign: bool = _field("If true, a parser rejects `1e+5` but accepts `1e5` and `1e-5`.")
+    required_exponent_sign: bool = _field("If true, a parser rejects `1e5`.")
+    no_exponent_without_fraction: bool = _field("If true, a parser rejects `1e5` but accepts `1.0e5`.")
+    no_special: bool = _field("If true, a parser rejects `NaN` and `inf`.")
+    case_sensitive_special: bool = _field("If true, a parser rejects `nan` when the spelling of NaN is `NaN`.")
+    no_integer_leading_zeros: bool = _field("If true, a parser rejects the integer `01` but accepts `0`.")
+    no_float_leading_zeros: bool = _field("If true, a parser rejects `01.0` but accepts `0.1`.")
+    required_exponent_notation: bool = _field("If true, a parser rejects `1.0`.")
+    case_sensitive_exponent: bool = _field("If true, a parser rejects `1E5` when the exponent character is `e`.")
+    case_sensitive_base_prefix: bool = _field("If true, a parser rejects `0X1F` when the base prefix is `x`.")
+    case_sensitive_base_suffix: bool = _field("If true, a parser rejects `1FH` when the base suffix is `h`.")
+    integer_internal_digit_separator: bool = _field("If true, a parser accepts `1_2`.")
+    fraction_internal_digit_separator: bool = _field("If true, a parser accepts `0.1_2`.")
+    exponent_internal_digit_separator: bool = _field("If true, a parser accepts `1e1_2`.")
+    integer_leading_digit_separator: bool = _field("If true, a parser accepts `_12`.")
+    fraction_leading_digit_separator: bool = _field("If true, a parser accepts `0._12`.")
+    exponent_leading_digit_separator: bool = _field("If true, a parser accepts `1e_12`.")
+    integer_trailing_digit_separator: bool = _field("If true, a parser accepts `12_`.")
+    fraction_trailing_digit_separator: bool = _field("If true, a parser accepts `0.12_`.")
+    exponent_trailing_digit_separator: bool = _field("If true, a parser accepts `1e12_`.")
+    integer_consecutive_digit_separator: bool = _field("If true, a parser accepts several separators in a row wherever it accepts a single one: `1__2`, `__12`, `12__`.")
+    fraction_consecutive_digit_separator: bool = _field("If true, a parser accepts several separators in a row wherever it accepts a single one: `0.1__2`, `0.__12`, `0.12__`.")
+    exponent_consecutive_digit_separator: bool = _field("If true, a parser accepts several separators in a row wherever it accepts a single one: `1e1__2`, `1e__12`, `1e12__`.")
+    special_digit_separator: bool = _field("If true, a parser accepts `N__a_N_` as `NaN`.")
+    required_digits: bool = _field("True if any of the flags that require digits is set.")
+    internal_digit_separator: bool = _field("True if any of the flags that allow a digit separator between digits is set.")
+    leading_digit_separator: bool = _field("True if any of the flags that allow a digit separator before digits is set.")
+    trailing_digit_separator: bool = _field("True if any of the flags that allow a digit separator after digits is set.")
+    consecutive_digit_separator: bool = _field("True if any of the flags that allow consecutive digit separators is set.")
+    digit_separator_flags: bool = _field("True if any of the flags that allow digit separators is set.")
+    integer_digit_separator_flags: bool = _field("True if any of the flags that allow digit separators in the integer part is set.")
+    fraction_digit_separator_flags: bool = _field("True if any of the flags that allow digit separators in the fraction is set.")
+    exponent_digit_separator_flags: bool = _field("True if any of the flags that allow digit separators in the exponent is set.")
+    digit_separator: Value = _field("The byte that separates groups of digits, such as the `_` in `1_000`; None if it is absent.")
+    base_prefix: Value = _field("The byte that may follow a leading zero to indicate the radix, such as the `x` in `0x1F`; None if it is absent.")
+    base_suffix: Value = _field("The byte that may follow the digits to indicate the radix, such as the `h` in `1Fh`; None if it is absent.")
+    mantissa_radix: int = _field("The radix of the integer and fraction digits.")
+    exponent_base: int = _field("The base that is raised to the exponent, such as the 2 in 1 * 2^3; the mantissa radix if it is absent.")
+    exponent_radix: int = _field("The radix of the exponent digits; the mantissa radix if it is absent.")
 
     def __init__(self, word: int = STANDARD) -> None:
         self._word = operator.index(word)
@@ -450,261 +506,37 @@ class FormatView:
         A digit separator that no flag allows is dropped, and `notes_of` reports it. Raises ValueError if a setting is
         invalid.
         """
-        return cls(_joined(_library.peltzivar_pack(_fields_of(settings, fields))))
+        edits, word = _edits_of(settings, fields), _Word()
+        _library.build(edits, len(edits), word)
+        return cls(_joined(word))
 
     @classmethod
     def parse(cls: Type[View], text: str) -> View:
         """Parses `0x` followed by 1 to 32 hexadecimal digits. Raises ValueError if the text has another form."""
         word, digits = _Word(), text.encode("utf-8", "surrogatepass")
-        if error := _library.peltzivar_word_of_text(digits, len(digits), word):
-            raise ValueError(f"{text!r} is not a format word: {_text(_library.peltzivar_description, error)}")
+        if error := _library.parse_word(digits, len(digits), word):
+            raise ValueError(f"{text!r} is not a format word: {_text(_library.description, error)}")
         return cls(_joined(word))
 
-    # Made: getters
+    def mantissa_digit(self, byte: Byte) -> Optional[int]:
+        """Returns the value of a byte as a digit of the integer or the fraction, or None if it is not one."""
+        return self._digit(_library.mantissa_digit, byte)
 
-    @property
-    def required_integer_digits(self) -> bool:
-        """If true, a parser rejects `.5`."""
-        return self._flag(Setter.REQUIRED_INTEGER_DIGITS)
+    def exponent_digit(self, byte: Byte) -> Optional[int]:
+        """Returns the value of a byte as a digit of the exponent, or None if it is not one."""
+        return self._digit(_library.exponent_digit, byte)
 
-    @property
-    def required_fraction_digits(self) -> bool:
-        """If true, a parser rejects `1.` but accepts `1`."""
-        return self._flag(Setter.REQUIRED_FRACTION_DIGITS)
+    def is_separator(self, byte: Byte) -> bool:
+        """Returns whether a byte is the digit separator, and some flag allows it."""
+        return self._is(_library.is_separator, byte)
 
-    @property
-    def required_exponent_digits(self) -> bool:
-        """If true, a parser rejects `1e`."""
-        return self._flag(Setter.REQUIRED_EXPONENT_DIGITS)
+    def is_base_prefix(self, byte: Byte) -> bool:
+        """Returns whether the base prefix matches a byte. A letter matches both cases unless it is case-sensitive."""
+        return self._is(_library.is_base_prefix, byte)
 
-    @property
-    def required_mantissa_digits(self) -> bool:
-        """If true, a parser rejects `.`."""
-        return self._flag(Setter.REQUIRED_MANTISSA_DIGITS)
-
-    @property
-    def no_positive_mantissa_sign(self) -> bool:
-        """If true, a parser rejects `+1` but accepts `-1`."""
-        return self._flag(Setter.NO_POSITIVE_MANTISSA_SIGN)
-
-    @property
-    def required_mantissa_sign(self) -> bool:
-        """If true, a parser rejects `1`."""
-        return self._flag(Setter.REQUIRED_MANTISSA_SIGN)
-
-    @property
-    def no_exponent_notation(self) -> bool:
-        """If true, a parser rejects `1e5`."""
-        return self._flag(Setter.NO_EXPONENT_NOTATION)
-
-    @property
-    def no_positive_exponent_sign(self) -> bool:
-        """If true, a parser rejects `1e+5` but accepts `1e5` and `1e-5`."""
-        return self._flag(Setter.NO_POSITIVE_EXPONENT_SIGN)
-
-    @property
-    def required_exponent_sign(self) -> bool:
-        """If true, a parser rejects `1e5`."""
-        return self._flag(Setter.REQUIRED_EXPONENT_SIGN)
-
-    @property
-    def no_exponent_without_fraction(self) -> bool:
-        """If true, a parser rejects `1e5` but accepts `1.0e5`."""
-        return self._flag(Setter.NO_EXPONENT_WITHOUT_FRACTION)
-
-    @property
-    def no_special(self) -> bool:
-        """If true, a parser rejects `NaN` and `inf`."""
-        return self._flag(Setter.NO_SPECIAL)
-
-    @property
-    def case_sensitive_special(self) -> bool:
-        """If true, a parser rejects `nan` when the spelling of NaN is `NaN`."""
-        return self._flag(Setter.CASE_SENSITIVE_SPECIAL)
-
-    @property
-    def no_integer_leading_zeros(self) -> bool:
-        """If true, a parser rejects the integer `01` but accepts `0`."""
-        return self._flag(Setter.NO_INTEGER_LEADING_ZEROS)
-
-    @property
-    def no_float_leading_zeros(self) -> bool:
-        """If true, a parser rejects `01.0` but accepts `0.1`."""
-        return self._flag(Setter.NO_FLOAT_LEADING_ZEROS)
-
-    @property
-    def required_exponent_notation(self) -> bool:
-        """If true, a parser rejects `1.0`."""
-        return self._flag(Setter.REQUIRED_EXPONENT_NOTATION)
-
-    @property
-    def case_sensitive_exponent(self) -> bool:
-        """If true, a parser rejects `1E5` when the exponent character is `e`."""
-        return self._flag(Setter.CASE_SENSITIVE_EXPONENT)
-
-    @property
-    def case_sensitive_base_prefix(self) -> bool:
-        """If true, a parser rejects `0X1F` when the base prefix is `x`."""
-        return self._flag(Setter.CASE_SENSITIVE_BASE_PREFIX)
-
-    @property
-    def case_sensitive_base_suffix(self) -> bool:
-        """If true, a parser rejects `1FH` when the base suffix is `h`."""
-        return self._flag(Setter.CASE_SENSITIVE_BASE_SUFFIX)
-
-    @property
-    def integer_internal_digit_separator(self) -> bool:
-        """If true, a parser accepts `1_2`."""
-        return self._flag(Setter.INTEGER_INTERNAL_DIGIT_SEPARATOR)
-
-    @property
-    def fraction_internal_digit_separator(self) -> bool:
-        """If true, a parser accepts `0.1_2`."""
-        return self._flag(Setter.FRACTION_INTERNAL_DIGIT_SEPARATOR)
-
-    @property
-    def exponent_internal_digit_separator(self) -> bool:
-        """If true, a parser accepts `1e1_2`."""
-        return self._flag(Setter.EXPONENT_INTERNAL_DIGIT_SEPARATOR)
-
-    @property
-    def integer_leading_digit_separator(self) -> bool:
-        """If true, a parser accepts `_12`."""
-        return self._flag(Setter.INTEGER_LEADING_DIGIT_SEPARATOR)
-
-    @property
-    def fraction_leading_digit_separator(self) -> bool:
-        """If true, a parser accepts `0._12`."""
-        return self._flag(Setter.FRACTION_LEADING_DIGIT_SEPARATOR)
-
-    @property
-    def exponent_leading_digit_separator(self) -> bool:
-        """If true, a parser accepts `1e_12`."""
-        return self._flag(Setter.EXPONENT_LEADING_DIGIT_SEPARATOR)
-
-    @property
-    def integer_trailing_digit_separator(self) -> bool:
-        """If true, a parser accepts `12_`."""
-        return self._flag(Setter.INTEGER_TRAILING_DIGIT_SEPARATOR)
-
-    @property
-    def fraction_trailing_digit_separator(self) -> bool:
-        """If true, a parser accepts `0.12_`."""
-        return self._flag(Setter.FRACTION_TRAILING_DIGIT_SEPARATOR)
-
-    @property
-    def exponent_trailing_digit_separator(self) -> bool:
-        """If true, a parser accepts `1e12_`."""
-        return self._flag(Setter.EXPONENT_TRAILING_DIGIT_SEPARATOR)
-
-    @property
-    def integer_consecutive_digit_separator(self) -> bool:
-        """If true, a parser accepts several separators in a row wherever it accepts a single one: `1__2`, `__12`, `12__`."""
-        return self._flag(Setter.INTEGER_CONSECUTIVE_DIGIT_SEPARATOR)
-
-    @property
-    def fraction_consecutive_digit_separator(self) -> bool:
-        """If true, a parser accepts several separators in a row wherever it accepts a single one: `0.1__2`, `0.__12`, `0.12__`."""
-        return self._flag(Setter.FRACTION_CONSECUTIVE_DIGIT_SEPARATOR)
-
-    @property
-    def exponent_consecutive_digit_separator(self) -> bool:
-        """If true, a parser accepts several separators in a row wherever it accepts a single one: `1e1__2`, `1e__12`, `1e12__`."""
-        return self._flag(Setter.EXPONENT_CONSECUTIVE_DIGIT_SEPARATOR)
-
-    @property
-    def special_digit_separator(self) -> bool:
-        """If true, a parser accepts `N__a_N_` as `NaN`."""
-        return self._flag(Setter.SPECIAL_DIGIT_SEPARATOR)
-
-    @property
-    def required_digits(self) -> bool:
-        """True if any of the flags that require digits is set."""
-        return self._flag(Setter.REQUIRED_DIGITS)
-
-    @property
-    def internal_digit_separator(self) -> bool:
-        """True if any of the flags that allow a digit separator between digits is set."""
-        return self._flag(Setter.INTERNAL_DIGIT_SEPARATOR)
-
-    @property
-    def leading_digit_separator(self) -> bool:
-        """True if any of the flags that allow a digit separator before digits is set."""
-        return self._flag(Setter.LEADING_DIGIT_SEPARATOR)
-
-    @property
-    def trailing_digit_separator(self) -> bool:
-        """True if any of the flags that allow a digit separator after digits is set."""
-        return self._flag(Setter.TRAILING_DIGIT_SEPARATOR)
-
-    @property
-    def consecutive_digit_separator(self) -> bool:
-        """True if any of the flags that allow consecutive digit separators is set."""
-        return self._flag(Setter.CONSECUTIVE_DIGIT_SEPARATOR)
-
-    @property
-    def digit_separator_flags(self) -> bool:
-        """True if any of the flags that allow digit separators is set."""
-        return self._flag(Setter.DIGIT_SEPARATOR_FLAGS)
-
-    @property
-    def integer_digit_separator_flags(self) -> bool:
-        """True if any of the flags that allow digit separators in the integer part is set."""
-        return self._flag(Setter.INTEGER_DIGIT_SEPARATOR_FLAGS)
-
-    @property
-    def fraction_digit_separator_flags(self) -> bool:
-        """True if any of the flags that allow digit separators in the fraction is set."""
-        return self._flag(Setter.FRACTION_DIGIT_SEPARATOR_FLAGS)
-
-    @property
-    def exponent_digit_separator_flags(self) -> bool:
-        """True if any of the flags that allow digit separators in the exponent is set."""
-        return self._flag(Setter.EXPONENT_DIGIT_SEPARATOR_FLAGS)
-
-    @property
-    def digit_separator(self) -> Optional[str]:
-        """The byte that separates groups of digits, such as the `_` in `1_000`; None if it is absent."""
-        return _character(self._fields().digit_separator)
-
-    @property
-    def base_prefix(self) -> Optional[str]:
-        """The byte that may follow a leading zero to indicate the radix, such as the `x` in `0x1F`; None if it is absent."""
-        return _character(self._fields().base_prefix)
-
-    @property
-    def base_suffix(self) -> Optional[str]:
-        """The byte that may follow the digits to indicate the radix, such as the `h` in `1Fh`; None if it is absent."""
-        return _character(self._fields().base_suffix)
-
-    @property
-    def mantissa_radix(self) -> int:
-        """The radix of the integer and fraction digits."""
-        return int(self._fields().mantissa_radix)
-
-    @property
-    def exponent_base(self) -> int:
-        """The base that is raised to the exponent, such as the 2 in 1 * 2^3; the mantissa radix if it is absent."""
-        return int(self._fields().exponent_base)
-
-    @property
-    def exponent_radix(self) -> int:
-        """The radix of the exponent digits; the mantissa radix if it is absent."""
-        return int(self._fields().exponent_radix)
-
-    # End
-
-    def is_digit(self, character: str) -> bool:
-        """Returns whether a character is a digit in the mantissa radix or the exponent radix."""
-        return self._is(_library.peltzivar_is_digit, character)
-
-    def is_base_prefix(self, character: str) -> bool:
-        """Returns whether the base prefix matches a character. A letter matches both cases unless it is case-sensitive."""
-        return self._is(_library.peltzivar_is_base_prefix, character)
-
-    def is_base_suffix(self, character: str) -> bool:
-        """Returns whether the base suffix matches a character. A letter matches both cases unless it is case-sensitive."""
-        return self._is(_library.peltzivar_is_base_suffix, character)
+    def is_base_suffix(self, byte: Byte) -> bool:
+        """Returns whether the base suffix matches a byte. A letter matches both cases unless it is case-sensitive."""
+        return self._is(_library.is_base_suffix, byte)
 
     def edit(self: View, *settings: Union[Edit, str], **fields: Value) -> View:
         """Applies the settings to the word in order, and returns a view of the new word.
@@ -715,18 +547,18 @@ class FormatView:
         is not lawful.
         """
         edits, word = _edits_of(settings, fields), _Word()
-        _library.peltzivar_edit_word(self._halves(), edits, len(edits), word)
+        _library.edit_word(self._halves(), edits, len(edits), word)
         return type(self)(_joined(word))
 
     def edits(self) -> Tuple[Edit, ...]:
         """Returns an edit for each field of the word that differs from its default, in the order of the bits."""
         edits = (_Edit * _FIELD_COUNT)()
-        count = _library.peltzivar_edits_of(self._halves(), edits)
-        return tuple(Edit._of_numbers(edit) for edit in edits[:count])
+        changed = _library.edits_of(self._halves(), edits)
+        return tuple(Edit._of_numbers(edit) for edit in edits[:changed])
 
     def normal_form(self: View) -> View:
         """Returns the normal form of the word. Equivalent words have the same normal form."""
-        return type(self)(_joined(_library.peltzivar_normal_form(self._halves())))
+        return type(self)(_joined(_library.normal_form(self._halves())))
 
     def check(self) -> Format:
         """Returns the word as a `Format`. Raises FormatError if the word is not lawful."""
@@ -734,13 +566,12 @@ class FormatView:
 
     def error(self) -> Error:
         """Returns the error of the first rule that the word breaks, or `Error.SUCCESS` if the word is lawful."""
-        return Error(_library.peltzivar_format_error(self._halves()))
+        return Error(_library.check(self._halves()))
 
     def reasons(self) -> Tuple[Reason, ...]:
         """Returns each reason why the word is not lawful."""
         word = self._halves()
-        texts = (_text(_library.peltzivar_word_reason, word, index) for index in range(_CANDIDATE_COUNT))
-        return tuple(self._reason(index, text) for index, text in enumerate(texts) if text)
+        return tuple(self._reason(*it) for it in enumerate(_texts(_library.reason_text, word)))
 
     def notes(self) -> Tuple[Note, ...]:
         """Returns the notes on fields of the word that have no effect."""
@@ -748,24 +579,27 @@ class FormatView:
 
     def source(self) -> str:
         """Returns Rust code that sets the fields of the word and packs them."""
-        return _text(_library.peltzivar_source, self._halves(), size=_SOURCE_SIZE)
+        return _text(_library.source, self._halves(), size=_SOURCE_SIZE)
 
     def _halves(self) -> _Word:
         return _split(self._word)
 
     def _fields(self) -> Any:
-        return _library.peltzivar_fields_of(self._halves())
+        return _library.fields_of(self._halves())
 
-    def _is(self, call: Any, character: str) -> bool:
-        return ord(character) < 256 and bool(call(self._halves(), ord(character)))
+    def _is(self, call: Any, byte: Byte) -> bool:
+        number = _byte(byte)
+        return number >= 0 and bool(call(self._halves(), number))
 
-    def _flag(self, setter: Setter) -> bool:
-        return bool(_library.peltzivar_flag(self._halves(), setter))
+    def _digit(self, call: Any, byte: Byte) -> Optional[int]:
+        number = _byte(byte)
+        digit = call(self._halves(), number) if number >= 0 else _NO_DIGIT
+        return None if digit == _NO_DIGIT else int(digit)
 
     def _reason(self, index: int, text: str) -> Reason:
         word = self._halves()
-        mask = _joined(_library.peltzivar_word_reason_mask(word, index))
-        return Reason(text, mask, tuple(it for it in Rule if _library.peltzivar_word_reason_breaks(word, index, it)))
+        rules = _library.reason_rules(word, index)
+        return Reason(text, _joined(_library.reason_mask(word, index)), tuple(it for it in Rule if rules >> it & 1))
 
     def __int__(self) -> int:
         return self._word
@@ -773,11 +607,11 @@ class FormatView:
     __index__ = __int__
 
     def __str__(self) -> str:
-        return _text(_library.peltzivar_text_of_word, self._halves())
+        return _text(_library.word_text, self._halves())
 
     def __repr__(self) -> str:
         name = type(self).__name__
-        if not _library.peltzivar_is_built(self._halves()):
+        if not _library.is_built(self._halves()):
             return f"{name}({self})"
         return f"{name}.of({', '.join(f'{edit.name}={edit.value!r}' for edit in self.edits())})"
 
@@ -800,17 +634,27 @@ class Format(FormatView):
         if self.error():
             raise FormatError(FormatView(word))
 
+    def check_options(self, exponent: Byte, decimal_point: Byte) -> None:
+        """Raises ValueError if an exponent character and a decimal point do not fit the format."""
+        options = _byte(exponent), _byte(decimal_point)
+        if min(options) < 0:
+            given = f"{exponent!r}, {decimal_point!r}"
+            raise ValueError(f"an option is an ASCII character or a number from 0 to 255: {given}")
+        if error := _library.check_options(self._halves(), *options):
+            raise ValueError(_text(_library.error_text, error, 0))
+
 
 def notes_of(*settings: Union[Edit, str], **fields: Value) -> Tuple[Note, ...]:
     """Returns the notes on the fields that settings write, also on a digit separator that `FormatView.of` drops."""
-    return _notes(_fields_of(settings, fields))
+    made, edits = _Fields(*_NEW_FIELDS), _edits_of(settings, fields)
+    _library.edit_fields(made, edits, len(edits))
+    return _notes(made)
 
 
 def _notes(fields: _Fields) -> Tuple[Note, ...]:
     """Returns the notes on fields."""
-    texts = (_text(_library.peltzivar_note, fields, index) for index in range(_MAX_NOTES))
-    masks = (_joined(_library.peltzivar_note_mask(fields, index)) for index in range(_MAX_NOTES))
-    return tuple(Note(text, mask) for text, mask in zip(texts, masks) if text)
+    texts = enumerate(_texts(_library.note_text, fields))
+    return tuple(Note(text, _joined(_library.note_mask(fields, index))) for index, text in texts)
 
 
 def _edits_of(settings: Iterable[Union[Edit, str]], fields: Dict[str, Value]) -> Any:
@@ -818,10 +662,3 @@ def _edits_of(settings: Iterable[Union[Edit, str]], fields: Dict[str, Value]) ->
     edits = [it if isinstance(it, Edit) else Edit(it) for it in settings]
     edits += [Edit.of(name, value) for name, value in fields.items()]
     return (_Edit * len(edits))(*(edit._edit for edit in edits))
-
-
-def _fields_of(settings: Iterable[Union[Edit, str]], fields: Dict[str, Value]) -> _Fields:
-    """Applies settings to the default fields, and returns the new fields."""
-    made, edits = _Fields(*_NEW_FIELDS), _edits_of(settings, fields)
-    _library.peltzivar_edit_fields(made, edits, len(edits))
-    return made

@@ -1,6 +1,6 @@
-/* Reads a settings file and prints each problem and each note, after the numbers of its lines. If the file has no
- * problems, the program also prints the word that the settings build. A line of the file is blank, a comment that
- * begins with `#`, or a setting NAME = VALUE. The file may contain any bytes.
+/* Reads a settings file and prints each problem and each note after the numbers of its lines. If the file has no
+ * problems, also prints the word that the settings build. A line of the file is blank, a comment that begins with `#`,
+ * or a setting NAME = VALUE.
  *
  *     cc -Wall -Wextra -Werror settings.c libpeltzivar_c.a -o settings && ./settings hexadecimal.txt
  *
@@ -9,153 +9,84 @@
 #include "peltzivar.h"
 
 #include <stdio.h>
-#include <stdlib.h>
 #include <string.h>
 
-/* A setting: its setter, the number of its line, and each bit that it writes and that no later line writes. */
-typedef struct {
-    uint8_t setter;
-    size_t line;
-    peltzivar_word left;
-} setting;
+static const char BLANKS[] = " \t\f\r\n";
 
-/* `settings` has the settings that have bits left, at most one for each setter. `fields` has the values that the lines
- * read so far have set. `status` is the exit status. */
-static setting settings[PELTZIVAR_SET_EXPONENT_RADIX + 2];
-static size_t count;
-static peltzivar_fields fields = PELTZIVAR_NEW_FIELDS_INIT;
-static int status;
+/* For each bit of a word, the number of the last line that writes it. */
+static size_t line_of_bit[128];
 
-/* Prints the numbers of the lines whose settings have bits left under `mask`, then `sentence`, and then `end`. */
-static void print_located(peltzivar_word mask, const char *sentence, const char *end) {
-    size_t lines[sizeof settings / sizeof *settings], len = 0;
-    for (const setting *it = settings; it < settings + count; it++) {
-        if ((it->left.low & mask.low) | (it->left.high & mask.high)) lines[len++] = it->line;
-    }
-    printf(len == 1 ? "line" : "lines");
-    for (size_t i = 0; i < len; i++) printf("%s %zu", i > 0 ? "," : "", lines[i]);
-    printf(": %s%s", sentence, end);
+static bool has_bit(peltzivar_word mask, int bit) {
+    return (bit < 64 ? mask.low >> bit : mask.high >> (bit - 64)) & 1;
 }
 
-/* Adds a setting. If an earlier setting then has no bits left, that is a problem. A setting may override a part of an
- * earlier group setting. */
-static void add(peltzivar_edit edit, size_t line) {
-    const peltzivar_word mask = peltzivar_edit_mask(edit);
-    char name[PELTZIVAR_TEXT_SIZE];
-    setting *kept = settings;
-    for (setting *old = settings; old < settings + count; old++) {
-        old->left = (peltzivar_word){old->left.low & ~mask.low, old->left.high & ~mask.high};
-        if (old->left.low | old->left.high) {
-            *kept++ = *old;
-            continue;
+/* Prints a sentence after the numbers of the lines that write the bits of a mask. */
+static void print_problem(peltzivar_word mask, const char *sentence) {
+    const char *before = "";
+    for (size_t last = 0, next = 0;; last = next) {
+        for (int bit = 0; bit < 128; bit++) {
+            const size_t line = has_bit(mask, bit) ? line_of_bit[bit] : 0;
+            if (line > last && (next == last || line < next)) next = line;
         }
-        peltzivar_setter_name(old->setter, name, sizeof name);
-        printf("lines %zu, %zu: %s is set twice\n", old->line, line, name);
-        status = 1;
+        if (next == last) break;
+        printf("%s%zu", *before ? before : "line ", next);
+        before = ", ";
     }
-    *kept++ = (setting){edit.setter, line, mask};
-    count = (size_t)(kept - settings);
-    status |= !peltzivar_edit_fields(&fields, &edit, 1);
+    printf("%s%s\n", *before ? ": " : "", sentence);
 }
 
-/* Prints, as a question, the setter name that shares the largest part of its pairs of adjacent characters with an
- * unknown name. Prints nothing if no setter name is similar enough. */
-static void print_suggestion(const char *name, size_t len) {
-    bool has_pair[128][128] = {{false}};
-    char text[PELTZIVAR_TEXT_SIZE];
-    uint8_t nearest = PELTZIVAR_NO_SETTER;
-    size_t most = 50;
-    for (size_t i = 1; i < len; i++) has_pair[(int)name[i - 1]][(int)name[i]] = true;
-    for (uint8_t setter = 0; setter <= PELTZIVAR_SET_EXPONENT_RADIX; setter++) {
-        size_t pairs = 0, text_len = peltzivar_setter_name(setter, text, sizeof text);
-        for (size_t i = 1; i < text_len; i++) pairs += has_pair[(int)text[i - 1]][(int)text[i]];
-        if (200 * pairs / (len + text_len) < most) continue;
-        most = 200 * pairs / (len + text_len);
-        nearest = setter;
-    }
-    if (peltzivar_setter_name(nearest, text, sizeof text)) printf("; did you mean %s?", text);
+/* Returns a text without the blanks at its ends. Writes a null terminator after it. */
+static char *trimmed(char *text) {
+    text += strspn(text, BLANKS);
+    size_t len = strlen(text);
+    while (len > 0 && strchr(BLANKS, text[len - 1])) len--;
+    text[len] = 0;
+    return text;
 }
 
-/* Copies the text from `start` to `end` without the blanks at its ends, and returns the length of the copy. */
-static size_t copy(char *to, const char *start, const char *end) {
-    while (start < end && memchr(" \t\f\r", *start, 4)) start++;
-    while (start < end && memchr(" \t\f\r", end[-1], 4)) end--;
-    memcpy(to, start, (size_t)(end - start));
-    return (size_t)(end - start);
-}
-
-/* Reads a line that is blank, a comment or a setting. Any other line is a problem. The buffer has capacity for two
- * copies after the line. */
-static void read_line(char *line, size_t len, size_t number) {
-    char *const text = line + len, *const end = text + copy(text, line, text), why[PELTZIVAR_TEXT_SIZE];
-    if (text == end || *text == '#') return;
-    const char *const equals = memchr(text, '=', (size_t)(end - text));
-    const size_t name_len = copy(end, text, equals ? equals : end);
-    end[name_len] = '=';
-    len = name_len + (equals ? 1 + copy(end + name_len + 1, equals + 1, end) : 0);
+/* Reads a line and applies its setting to the fields. Returns whether the line has no problem. */
+static bool read_line(char *line, size_t number, peltzivar_fields *fields) {
+    char setting[1024], why[PELTZIVAR_TEXT_SIZE];
+    line = trimmed(line);
+    if (*line == 0 || *line == '#') return true;
+    char *equals = strchr(line, '=');
+    if (equals) *equals++ = 0;
+    const char *const value = equals ? trimmed(equals) : "";
+    const int len = snprintf(setting, sizeof setting, "%s%s%s", trimmed(line), equals ? "=" : "", value);
     peltzivar_edit edit;
-    const uint32_t error = peltzivar_edit_of_text(end, len, &edit);
-    if (!error) add(edit, number);
-    if (!error) return;
-    bool is_ascii = true;
-    printf("line %zu: ", number);
-    for (const char *byte = text; byte < end; byte++) {
-        printf(*byte >= ' ' && *byte <= '~' ? "%c" : "\\x%02x", (unsigned char)*byte);
-        is_ascii &= (unsigned char)*byte < 128;
+    if (peltzivar_parse_edit(setting, (size_t)len, &edit) || !peltzivar_edit_fields(fields, &edit, 1)) {
+        peltzivar_setting_error_text(setting, (size_t)len, why, sizeof why);
+        printf("line %zu: %s: %s\n", number, setting, why);
+        return false;
     }
-    peltzivar_setting_error(end, len, why, sizeof why);
-    printf(": %s", is_ascii ? why : "the line is not ASCII");
-    if (is_ascii && error == PELTZIVAR_SETTING_UNKNOWN_NAME) print_suggestion(end, name_len);
-    printf("\n");
-    status = 1;
-}
-
-/* Prints the word unless a problem was found. Then prints each reason why the word is not lawful, next to the
- * settings that mend it, and each note. */
-static void print_format(void) {
-    char text[PELTZIVAR_TEXT_SIZE];
-    peltzivar_edit edits[PELTZIVAR_MAX_MENDING_EDITS];
-    const peltzivar_word word = peltzivar_pack(&fields);
-    if (peltzivar_format_error(word)) status = 1;
-    if (!status && peltzivar_text_of_word(word, text, sizeof text)) printf("%s\n", text);
-    for (uint8_t index = 0; index < PELTZIVAR_CANDIDATE_COUNT; index++) {
-        if (!peltzivar_word_reason(word, index, text, sizeof text)) continue;
-        const peltzivar_word blamed = peltzivar_word_reason_mask(word, index);
-        print_located(blamed, text, "");
-        for (uint8_t field = 0; field < PELTZIVAR_FIELD_COUNT; field++) {
-            /* The first edit mends the field. The other edits only keep exponent bytes absent. An edit of a field that
-             * the reason does not blame is ignored, since it does not remove the reason. */
-            if (!peltzivar_word_reason_mend(word, index, field, edits)) continue;
-            const peltzivar_word mask = peltzivar_edit_mask(edits[0]);
-            if (!((mask.low & blamed.low) | (mask.high & blamed.high))) continue;
-            peltzivar_text_of_edit(edits[0], text, sizeof text);
-            printf("; mend: %s", text);
-        }
-        printf("\n");
+    const peltzivar_word mask = peltzivar_setter_mask(edit.setter);
+    for (int bit = 0; bit < 128; bit++) {
+        if (has_bit(mask, bit)) line_of_bit[bit] = number;
     }
-    for (uint8_t index = 0; index < PELTZIVAR_MAX_NOTES; index++) {
-        if (!peltzivar_note(&fields, index, text, sizeof text)) continue;
-        print_located(peltzivar_note_mask(&fields, index), text, "\n");
-    }
+    return true;
 }
 
 int main(int argc, char **argv) {
+    char line[1000], text[PELTZIVAR_TEXT_SIZE];
+    peltzivar_fields fields = PELTZIVAR_NEW_FIELDS;
+    bool is_good = true;
     if (argc != 2) return fputs("settings: name one file\n", stderr), 2;
-    FILE *const file = fopen(argv[1], "rb");
-    char *line = NULL;
-    size_t room = 0, number = 0;
-    for (int byte = '\n'; file && byte != EOF;) {
-        size_t len = 0;
-        for (number++; (byte = getc(file)) != EOF && byte != '\n'; line[len++] = (char)byte) {
-            if (3 * len + 4 < room) continue;
-            line = realloc(line, room = 2 * room + 64);
-            if (!line) return perror(argv[1]), 2;
-        }
-        if (len > 0) read_line(line, len, number);
+    FILE *const file = fopen(argv[1], "r");
+    if (!file) return perror(argv[1]), 2;
+    for (size_t number = 1; fgets(line, sizeof line, file); number++) {
+        if (!strchr(line, '\n') && !feof(file)) return fprintf(stderr, "line %zu is too long\n", number), 2;
+        is_good &= read_line(line, number, &fields);
     }
-    if (!file || ferror(file)) return perror(argv[1]), 2;
-    print_format();
+    if (ferror(file)) return perror(argv[1]), 2;
     fclose(file);
-    free(line);
-    return fflush(stdout) ? perror("standard output"), 2 : status;
+    const peltzivar_word word = peltzivar_pack(&fields);
+    for (size_t i = 0; peltzivar_reason_text(word, i, text, sizeof text); i++) {
+        print_problem(peltzivar_reason_mask(word, i), text);
+        is_good = false;
+    }
+    for (size_t i = 0; peltzivar_note_text(&fields, i, text, sizeof text); i++) {
+        print_problem(peltzivar_note_mask(&fields, i), text);
+    }
+    if (is_good && peltzivar_word_text(word, text, sizeof text)) printf("%s\n", text);
+    return fflush(stdout) ? perror("standard output"), 2 : !is_good;
 }

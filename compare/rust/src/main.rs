@@ -2,8 +2,6 @@
 //!
 //!     driver [--seed N] [--scale N] [--threads N] [--only WORD] [--record FILE]
 
-mod export_sections;
-mod exports;
 mod inputs;
 mod integers;
 mod ours;
@@ -79,16 +77,6 @@ fn run(tasks: &[Task], threads: usize) -> Vec<(&'static str, Tally)> {
     sections.into_inner().expect("no task panics")
 }
 
-/// The comparison of both libraries of exports, if `PROVED` and `PLAIN` name them. `HEADER` names the header.
-fn exports(settings: &Settings) -> Vec<Task> {
-    let (Ok(proved), Ok(plain)) = (env::var("PROVED"), env::var("PLAIN")) else {
-        return vec![];
-    };
-    let path = env::var("HEADER").expect("HEADER names the header");
-    let header = fs::read_to_string(&path).unwrap_or_else(|error| panic!("{path}: {error}"));
-    export_sections::tasks([&proved, &plain], header, settings.seed, 3_000_000 * settings.scale)
-}
-
 fn main() {
     let settings = settings();
     panics::hush();
@@ -103,7 +91,6 @@ fn main() {
     let mut tasks = sections::tasks(settings.seed, settings.scale);
     tasks.push(source::task(settings.seed));
     tasks.extend(integers::tasks(settings.seed));
-    tasks.extend(exports(&settings));
     tasks.retain(|task| task.section.contains(&settings.only));
     let sections = run(&tasks, settings.threads);
 

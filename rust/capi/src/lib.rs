@@ -1,34 +1,31 @@
 //! The calls of `c/peltzivar.h` as a static and a shared library without `std`.
 //!
-//! `rust/tools/erase.py` generates the calls from the proved exports in `crates/lexical_c`. This file, `outputs` and
-//! `slices` are written by hand. Build with `--release`: the libraries of a dev build can be neither linked nor loaded,
-//! since they need a symbol that only `std` has.
+//! Build with `--release`: the libraries of a dev build can be neither linked nor loaded, since they need a symbol that
+//! only `std` has.
 //!
-//! A call relies on its caller to meet the requirements of the header. Arguments are initialised. Each pointer points
-//! to an object of its type, or to as many objects as its length states. During the call, memory that it reads is not
-//! written by anything else, and memory to which it writes is neither read nor written by anything else.
+//! # Safety
+//!
+//! Each call relies on its caller to meet the requirements of the header. Arguments are initialised. Each pointer
+//! points to an object of its type, or to as many objects as its length states. During the call, memory that it reads
+//! is not written by anything else, and memory to which it writes is neither read nor written by anything else. The
+//! helpers in `arguments` need just this, so a call passes its arguments to them as they are.
+//!
+//! No other library has names that begin with `peltzivar_`, so `no_mangle` is sound.
 #![no_std]
-
-#[allow(clippy::manual_unwrap_or, reason = "as it is proved")]
-mod bytes;
-#[allow(
-    clippy::question_mark,
-    clippy::needless_range_loop,
-    reason = "as it is proved"
+#![allow(
+    clippy::missing_safety_doc,
+    reason = "the header states what a caller ensures"
 )]
-mod edits;
-mod outcomes;
-mod outputs;
+
+mod arguments;
+mod bytes;
+mod numbers;
 mod reasons;
-mod rules;
-mod setters;
-mod slices;
+mod settings;
 mod texts;
-mod version;
-mod word_texts;
 mod words;
 
-/// Ends the program. This function is never called, since the sources are proved not to panic.
+/// Ends the program. No call panics, so this function is never called.
 #[cfg(not(test))]
 #[panic_handler]
 fn stop(_: &core::panic::PanicInfo<'_>) -> ! {

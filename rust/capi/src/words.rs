@@ -1,85 +1,121 @@
-// Made by rust/tools/erase.py from crates/lexical_c/src/words.rt: change that file.
+//! Calls that build, read, edit and compare words and fields.
 
-//! The structs that represent a word, an edit and the fields of a builder in C.
+use crate::arguments::{input, Out};
+use crate::numbers::{error_number, flag_setter, ErrorNumber, Fields, NumberedEdit, Setter, Word};
+use peltzivar::{edits, Error, NumberFormatBuilder};
 
-use peltzivar::edits::Edit;
-use peltzivar::format_builder::NumberFormatBuilder;
+/// The number of fields of a word.
+const FIELD_COUNT: usize = 37;
 
-/// A format word as two halves, since C has no 128-bit integer type that every compiler supports.
-#[repr(C)]
-#[derive(Clone, Copy)]
-pub struct Word {
-    pub low: u64,
-    pub high: u64,
+/// Applies the edits in order. Returns `None` if an edit has an unknown setter.
+fn edited(builder: NumberFormatBuilder, list: &[NumberedEdit]) -> Option<NumberFormatBuilder> {
+    list.iter()
+        .try_fold(builder, |it, edit| Some(edits::apply(it, edit.edit()?)))
 }
 
-impl Word {
-    /// Splits a number into its halves.
-    #[must_use]
-    #[inline(always)]
-    pub fn new(number: u128) -> Word {
-        Word {
-            low: (number % (1 << 64)) as u64,
-            high: (number / (1 << 64)) as u64,
+/// Writes the word that `builder` packs. Writes nothing if it is `None`.
+fn write_packed(builder: Option<NumberFormatBuilder>, out: Out<Word>) -> bool {
+    if let Some(builder) = builder {
+        out.write(builder.build_unchecked().into());
+    }
+    builder.is_some()
+}
+
+/// Writes the word. If it is an error, writes nothing and returns the number of the error.
+pub fn write_word(word: Result<u128, Error>, out: Out<Word>) -> ErrorNumber {
+    match word {
+        Ok(word) => {
+            out.write(word.into());
+            0
         }
-    }
-
-    /// Returns the number with these halves.
-    #[must_use]
-    #[inline(always)]
-    pub fn number(self) -> u128 {
-        self.low as u128 + self.high as u128 * (1 << 64)
+        Err(error) => error_number(error),
     }
 }
 
-/// An edit as a setter number and an argument.
-#[repr(C)]
-#[derive(Clone, Copy)]
-pub struct NumberedEdit {
-    pub setter: u8,
-    pub value: u8,
+#[unsafe(no_mangle)]
+pub extern "C" fn peltzivar_version() -> u32 {
+    let part = |text: &str| text.parse::<u32>().unwrap_or(0);
+    part(env!("CARGO_PKG_VERSION_MAJOR")) << 16
+        | part(env!("CARGO_PKG_VERSION_MINOR")) << 8
+        | part(env!("CARGO_PKG_VERSION_PATCH"))
 }
 
-impl NumberedEdit {
-    /// Returns the setter number and the argument of an edit.
-    #[must_use]
-    pub fn new(edit: &Edit) -> NumberedEdit {
-        NumberedEdit {
-            setter: edit.setter_number(),
-            value: edit.argument_byte(),
-        }
-    }
-
-    /// Returns the edit, or `None` if the setter is unknown.
-    #[must_use]
-    #[inline(always)]
-    pub fn edit(self) -> Option<Edit> {
-        Edit::from_number(self.setter, self.value)
-    }
+#[unsafe(no_mangle)]
+pub unsafe extern "C" fn peltzivar_build(
+    edits: *const NumberedEdit,
+    len: usize,
+    out: Out<Word>,
+) -> bool {
+    write_packed(edited(NumberFormatBuilder::new(), input(edits, len)), out)
 }
 
-/// The fields of a builder. The first flag is bit 0 of `flags`. The bits above the flags are ignored. `bytes` has the
-/// six bytes as in a word, lowest first. An absent byte is 0.
-#[repr(C)]
-#[derive(Clone, Copy)]
-pub struct Fields {
-    pub flags: u32,
-    pub bytes: [u8; 6],
+#[unsafe(no_mangle)]
+pub unsafe extern "C" fn peltzivar_edit_word(
+    format: Word,
+    edits: *const NumberedEdit,
+    len: usize,
+    out: Out<Word>,
+) -> bool {
+    let builder = NumberFormatBuilder::rebuild(format.number());
+    write_packed(edited(builder, input(edits, len)), out)
 }
 
-impl Fields {
-    /// Returns the fields of a builder.
-    #[must_use]
-    #[inline(always)]
-    pub fn new(builder: &NumberFormatBuilder) -> Fields {
-        let (flags, bytes) = builder.to_parts();
-        Fields { flags, bytes }
-    }
+#[unsafe(no_mangle)]
+pub extern "C" fn peltzivar_check(format: Word) -> ErrorNumber {
+    error_number(format.view().error())
+}
 
-    /// Returns a builder with these fields.
-    #[must_use]
-    #[inline(always)]
-    pub fn builder(self) -> NumberFormatBuilder {
-        NumberFormatBuilder::from_parts(self.flags, self.bytes)
+#[unsafe(no_mangle)]
+pub extern "C" fn peltzivar_normal_form(format: Word) -> Word {
+    edits::normal_form(format.number()).into()
+}
+
+#[unsafe(no_mangle)]
+pub extern "C" fn peltzivar_same_format(a: Word, b: Word) -> bool {
+    edits::same_format(a.number(), b.number())
+}
+
+#[unsafe(no_mangle)]
+pub extern "C" fn peltzivar_migrate(format: Word, out: Out<Word>) -> ErrorNumber {
+    write_word(edits::migrate(format.number()), out)
+}
+
+#[unsafe(no_mangle)]
+pub extern "C" fn peltzivar_is_built(format: Word) -> bool {
+    edits::is_built(format.number())
+}
+
+#[unsafe(no_mangle)]
+pub extern "C" fn peltzivar_edits_of(format: Word, out: Out<[NumberedEdit; FIELD_COUNT]>) -> usize {
+    let (list, count) = edits::edits_of(format.number());
+    out.write(list.map(NumberedEdit::from));
+    count
+}
+
+#[unsafe(no_mangle)]
+pub extern "C" fn peltzivar_flag(format: Word, setter: Setter) -> bool {
+    flag_setter(setter).is_some_and(|setter| setter.is_set(format.number()))
+}
+
+#[unsafe(no_mangle)]
+pub extern "C" fn peltzivar_fields_of(format: Word) -> Fields {
+    NumberFormatBuilder::rebuild(format.number()).into()
+}
+
+#[unsafe(no_mangle)]
+pub unsafe extern "C" fn peltzivar_edit_fields(
+    fields: &mut Fields,
+    edits: *const NumberedEdit,
+    len: usize,
+) -> bool {
+    let builder = edited(fields.builder(), input(edits, len));
+    if let Some(builder) = builder {
+        *fields = builder.into();
     }
+    builder.is_some()
+}
+
+#[unsafe(no_mangle)]
+pub extern "C" fn peltzivar_pack(fields: &Fields) -> Word {
+    fields.builder().build_unchecked().into()
 }

@@ -1,0 +1,251 @@
+/* Tests each function of peltzivar.h: what it returns, and what it writes. It compiles as C and as C++. The expected
+ * values come from the layout of a word, from lexical-util 1.0.7, and from known strings. */
+#include "peltzivar.h"
+
+#include <stdio.h>
+#include <string.h>
+
+static int failed = 0;
+
+#define CHECK(condition) \
+    do { \
+        if (!(condition)) { \
+            printf("line %d: %s\n", __LINE__, #condition); \
+            failed = 1; \
+        } \
+    } while (0)
+
+static const peltzivar_fields starts[] = {PELTZIVAR_NEW_FIELDS_INIT, PELTZIVAR_NEW_FIELDS_INIT};
+static const peltzivar_word words[] = {PELTZIVAR_STANDARD_INIT, {1, 2}};
+static const peltzivar_word ZERO = {0, 0}, RESERVED = {0x8000000C, 0x00000A0000000000};
+static char text[PELTZIVAR_TEXT_SIZE];
+
+static bool is_word(peltzivar_word word, uint64_t high, uint64_t low) {
+    return word.high == high && word.low == low;
+}
+
+/* Calls a function that writes a string to `text`, and returns whether it writes this string and nothing after it. */
+#define WRITES(wanted, call) \
+    (memset(text, '#', sizeof text), (call) == strlen(wanted) && !strcmp(text, wanted) && text[strlen(wanted) + 1] == '#')
+
+static void test_constants(void) {
+    CHECK(peltzivar_version() == PELTZIVAR_VERSION_NUMBER);
+    CHECK(is_word(peltzivar_pack(&starts[1]), 0x00000A0000000000, 0xC));
+    CHECK(is_word(peltzivar_pack(&PELTZIVAR_NEW_FIELDS), PELTZIVAR_STANDARD.high, PELTZIVAR_STANDARD.low));
+    CHECK(is_word(words[0], PELTZIVAR_STANDARD.high, PELTZIVAR_STANDARD.low));
+    CHECK(sizeof(peltzivar_word) == 16 && sizeof(peltzivar_fields) == 16 && sizeof(peltzivar_edit) == 2);
+}
+
+/* Returns the flags that a setter writes. */
+static uint64_t flags_of(int setter) {
+    static const uint64_t groups[] = {0xF, 7ull << 32, 7ull << 35, 7ull << 38, 7ull << 41, 0x1FFFull << 32,
+                                      0x249ull << 32, 0x492ull << 32, 0x924ull << 32};
+    if (setter >= 128) return setter <= 136 ? groups[setter - 128] : 0;
+    return setter < 18 || (setter >= 32 && setter < 45) ? 1ull << setter : 0;
+}
+
+/* The number of a setter is the lowest bit that it writes, or at least 128. */
+static void test_setters(void) {
+    for (int number = 0; number < 256; number++) {
+        const bool is_byte = number == 64 || number == 88 || (number >= 96 && number <= 120 && number % 8 == 0);
+        const uint64_t flags = flags_of(number), byte = is_byte ? 0xFFull << (number - 64) : 0;
+        const peltzivar_setter setter = (peltzivar_setter)number;
+        const peltzivar_edit edit = {setter, 200};
+        const bool is_known = flags || byte;
+        peltzivar_word word = {1, 2};
+        peltzivar_fields fields = PELTZIVAR_NEW_FIELDS;
+        CHECK(is_word(peltzivar_setter_mask(setter), byte, flags));
+        CHECK(peltzivar_edit_word(ZERO, &edit, 1, &word) == is_known);
+        if (flags) CHECK(is_word(word, 0, flags) && peltzivar_fields_of(word).flags == flags);
+        if (byte && number != 64) CHECK((word.high & byte) == 200ull << (number - 64) && word.low == 0);
+        if (!is_known) CHECK(is_word(word, 2, 1));
+        CHECK(peltzivar_build(&edit, 1, &word) == is_known);
+        CHECK(peltzivar_edit_fields(&fields, &edit, 1) == is_known);
+        CHECK(is_known || memcmp(&fields, &PELTZIVAR_NEW_FIELDS, 14) == 0);
+        word.low = flags;
+        CHECK(peltzivar_flag(word, setter) == (flags != 0));
+        CHECK(!peltzivar_flag(ZERO, setter));
+        const size_t len = peltzivar_setter_name(setter, text, sizeof text);
+        CHECK((len != 0) == is_known && len == strlen(text));
+        if (is_known) CHECK(peltzivar_setter_of_name(text, len) == setter);
+        CHECK(peltzivar_setter_of_name(text, len ? len - 1 : 0) == PELTZIVAR_NO_SETTER);
+        CHECK((peltzivar_edit_text(edit, text, sizeof text) != 0) == is_known);
+        peltzivar_edit read = {7, 9};
+        if (!is_known) continue;
+        CHECK(peltzivar_parse_edit(text, strlen(text), &read) == PELTZIVAR_SETTING_READ);
+        CHECK(read.setter == setter && read.value == (flags ? 1 : 200));
+    }
+    CHECK(peltzivar_setter_of_name("radix=", 5) == PELTZIVAR_SET_MANTISSA_RADIX);
+    CHECK(WRITES("exponent_base", peltzivar_setter_name(PELTZIVAR_SET_EXPONENT_BASE, text, sizeof text)));
+}
+
+static void test_fields(void) {
+    const peltzivar_edit edits[] = {{64, 1}, {88, 2}, {96, 3}, {104, 4}, {112, 5}, {120, 6}, {44, 1}, {3, 0}};
+    const peltzivar_edit unknown[] = {{104, 7}, {PELTZIVAR_NO_SETTER, 0}};
+    peltzivar_fields fields = PELTZIVAR_NEW_FIELDS;
+    peltzivar_word word = {1, 2};
+    CHECK(peltzivar_edit_fields(&fields, edits, 8));
+    CHECK(fields.flags == (1ull << 44 | 4) && fields.digit_separator == 1 && fields.base_prefix == 2);
+    CHECK(fields.base_suffix == 3 && fields.mantissa_radix == 4 && fields.exponent_base == 5 && fields.exponent_radix == 6);
+    fields.flags |= 0xFFFFE000FFFC0000;
+    CHECK(is_word(peltzivar_pack(&fields), 0x0605040302000001, 1ull << 44 | 4));
+    CHECK(!peltzivar_edit_fields(&fields, unknown, 2) && fields.mantissa_radix == 4 && fields.flags >> 63);
+    CHECK(!peltzivar_build(unknown, 2, &word) && is_word(word, 2, 1));
+    CHECK(peltzivar_build(edits, 8, &word) && is_word(word, 0x0605040302000001, 1ull << 44 | 4));
+    CHECK(peltzivar_fields_of(words[0]).exponent_base == 10);
+}
+
+static void test_words(void) {
+    const peltzivar_edit separator[] = {{64, '_'}, {32, 1}}, radix[] = {{112, 0}, {104, 16}};
+    peltzivar_edit edits[PELTZIVAR_FIELD_COUNT + 1];
+    const peltzivar_word hexadecimal = {0xD, 0x0000100000000000};
+    peltzivar_word word = {1, 2};
+    CHECK(peltzivar_check(PELTZIVAR_STANDARD) == PELTZIVAR_SUCCESS && peltzivar_check(RESERVED) == PELTZIVAR_INVALID_FLAGS);
+    CHECK(peltzivar_migrate(ZERO, &word) == PELTZIVAR_INVALID_MANTISSA_RADIX && is_word(word, 2, 1));
+    CHECK(!peltzivar_migrate(RESERVED, &word) && is_word(word, 0x0A0A0A0000000000, 0xC));
+    CHECK(is_word(peltzivar_normal_form(PELTZIVAR_STANDARD), 0x0A0A0A0000000000, 0xC));
+    CHECK(peltzivar_same_format(PELTZIVAR_STANDARD, RESERVED) && !peltzivar_same_format(PELTZIVAR_STANDARD, ZERO));
+    CHECK(peltzivar_is_built(PELTZIVAR_STANDARD) && !peltzivar_is_built(RESERVED));
+    CHECK(peltzivar_edit_word(PELTZIVAR_STANDARD, separator, 2, &word) && is_word(word, 0x0A0A0A000000005F, 0x10000000C));
+    CHECK(peltzivar_edit_word(PELTZIVAR_STANDARD, separator, 1, &word) && is_word(word, 0x0A0A0A0000000000, 0xC));
+    CHECK(peltzivar_edit_word(PELTZIVAR_STANDARD, radix, 2, &word) && is_word(word, 0x0A00100000000000, 0xC));
+    memset(edits, '#', sizeof edits);
+    CHECK(peltzivar_edits_of(hexadecimal, edits) == 2);
+    CHECK(edits[0].setter == 0 && edits[0].value == 1 && edits[1].setter == 104 && edits[1].value == 16);
+    CHECK(edits[36].setter == 120 && edits[36].value == 0 && edits[37].setter == '#');
+}
+
+static void test_reasons(void) {
+    const peltzivar_word clash = {0xC00, 0x0000100061000000};
+    const peltzivar_edit edits[] = {{64, '_'}, {PELTZIVAR_SET_CASE_SENSITIVE_BASE_SUFFIX, 1}};
+    peltzivar_fields fields = PELTZIVAR_NEW_FIELDS;
+    CHECK(WRITES("the base prefix 'a' is a digit in radix 16", peltzivar_reason_text(clash, 0, text, sizeof text)));
+    CHECK(WRITES("no_special and case_sensitive_special cannot both be set",
+                 peltzivar_reason_text(clash, 1, text, sizeof text)));
+    CHECK(is_word(peltzivar_reason_mask(clash, 0), 0x0000FF00FF000000, 0));
+    CHECK(is_word(peltzivar_reason_mask(clash, 1), 0, 0xC00));
+    CHECK(peltzivar_reason_rules(clash, 0) == 1 << PELTZIVAR_RULE_BASE_PREFIX_IS_PUNCTUATION);
+    CHECK(peltzivar_reason_rules(clash, 1) == 1 << PELTZIVAR_RULE_SPECIAL_CASE_FLAGS_AGREE);
+    CHECK(peltzivar_reason_rules(ZERO, 0) == 0xE);
+    for (size_t index = 2; index < 40; index++) {
+        CHECK(WRITES("", peltzivar_reason_text(clash, index, text, sizeof text)));
+        CHECK(is_word(peltzivar_reason_mask(clash, index), 0, 0) && !peltzivar_reason_rules(clash, index));
+    }
+    CHECK(!peltzivar_reason_text(PELTZIVAR_STANDARD, 0, NULL, 0) && !peltzivar_reason_rules(clash, SIZE_MAX));
+    CHECK(!peltzivar_note_text(&fields, 0, text, sizeof text));
+    CHECK(peltzivar_edit_fields(&fields, edits, 2));
+    CHECK(peltzivar_note_text(&fields, 0, text, sizeof text) == strlen(text) && strstr(text, "digit separator '_'"));
+    CHECK(is_word(peltzivar_note_mask(&fields, 0), 0xFF, 0x00001FFF00000000));
+    CHECK(peltzivar_note_text(&fields, 1, text, sizeof text) == strlen(text) && strstr(text, "no base suffix"));
+    CHECK(is_word(peltzivar_note_mask(&fields, 1), 0xFF00000000, 0x20000));
+    CHECK(WRITES("", peltzivar_note_text(&fields, 2, text, sizeof text)) && is_word(peltzivar_note_mask(&fields, 2), 0, 0));
+}
+
+/* The word has the separator `_`, the prefix `x`, the suffix `H`, the mantissa radix 16 and the exponent radix 10. */
+static void test_bytes(void) {
+    const peltzivar_word word = {0x100010000, 0x0A02104878000000 | '_'};
+    const char *const digits = "0123456789ABCDEF";
+    for (int number = 0; number < 256; number++) {
+        const uint8_t byte = (uint8_t)number;
+        const int upper = byte >= 'a' && byte <= 'z' ? byte - 32 : byte;
+        const char *const found = upper ? strchr(digits, upper) : NULL;
+        const uint32_t digit = found ? (uint32_t)(found - digits) : PELTZIVAR_NO_DIGIT;
+        CHECK(peltzivar_mantissa_digit(word, byte) == digit && peltzivar_char_to_digit(byte, 16) == digit);
+        CHECK(peltzivar_exponent_digit(word, byte) == (digit < 10 ? digit : PELTZIVAR_NO_DIGIT));
+        CHECK(peltzivar_is_separator(word, byte) == (byte == '_') && !peltzivar_is_separator(ZERO, byte));
+        CHECK(peltzivar_is_base_prefix(word, byte) == (byte == 'x') && !peltzivar_is_base_prefix(ZERO, byte));
+        CHECK(peltzivar_is_base_suffix(word, byte) == (upper == 'H') && !peltzivar_is_base_suffix(ZERO, byte));
+        CHECK(peltzivar_digit_to_char(byte) == (byte < 10 ? '0' + byte : byte < 36 ? 'A' + byte - 10 : 0));
+    }
+    CHECK(!peltzivar_is_separator((words[1]), 2) && peltzivar_char_to_digit('!', 256) == 255);
+    CHECK(peltzivar_check_options(PELTZIVAR_STANDARD, 'e', '.') == PELTZIVAR_SUCCESS);
+    CHECK(peltzivar_check_options(PELTZIVAR_STANDARD, '5', '5') == PELTZIVAR_INVALID_EXPONENT_SYMBOL);
+    CHECK(peltzivar_check_options(PELTZIVAR_STANDARD, 'e', '+') == PELTZIVAR_INVALID_DECIMAL_POINT);
+    CHECK(peltzivar_check_options(PELTZIVAR_STANDARD, 'e', 'e') == PELTZIVAR_INVALID_PUNCTUATION);
+}
+
+static void test_texts(void) {
+    const peltzivar_word word = {0x12ab, 0x0A0A10000000005F}, longest = {0x00001FFF0003FFF3, 0xFFFFFFFFFF0000FF};
+    const char *const whole = "lexical number format error: 'invalid flags enabled without the format feature'";
+    char source[PELTZIVAR_SOURCE_SIZE], wanted[100];
+    peltzivar_word read = {1, 2};
+    CHECK(WRITES("'not actually an error'", peltzivar_description(PELTZIVAR_SUCCESS, text, sizeof text)));
+    CHECK(WRITES("", peltzivar_description(49, text, sizeof text)));
+    CHECK(WRITES("", peltzivar_error_text(UINT32_MAX, 0, text, sizeof text)));
+    CHECK(WRITES("lexical parse error: 'numeric overflow occurred' at index 7",
+                 peltzivar_error_text(PELTZIVAR_OVERFLOW, 7, text, sizeof text)));
+    for (size_t room = 0; room <= sizeof wanted; room++) {
+        snprintf(wanted, room, "%s", whole);
+        memset(text, '#', sizeof text);
+        CHECK(peltzivar_error_text(PELTZIVAR_INVALID_FLAGS, 0, text, room) == 79);
+        CHECK(room == 0 || strcmp(text, wanted) == 0);
+        CHECK(text[room < 80 ? room : 80] == '#');
+    }
+    CHECK(WRITES("0x0A0A10000000005F00000000000012AB", peltzivar_word_text(word, text, sizeof text)));
+    CHECK(!peltzivar_parse_word(text, 34, &read) && is_word(read, word.high, word.low));
+    CHECK(!peltzivar_parse_word("0xaBc]", 5, &read) && is_word(read, 0, 0xABC));
+    CHECK(peltzivar_parse_word("0x", 2, &read) == PELTZIVAR_EMPTY && is_word(read, 0, 0xABC));
+    CHECK(peltzivar_parse_word("0x12 4", 6, &read) == PELTZIVAR_INVALID_DIGIT);
+    CHECK(peltzivar_parse_word("0x1\xFF", 4, &read) == PELTZIVAR_INVALID_DIGIT);
+    CHECK(peltzivar_parse_word("0x000000000000000000000000000000000", 35, &read) == PELTZIVAR_OVERFLOW);
+    /* The longest source: each flag differs from its default, and each byte has three decimal digits. */
+    CHECK(peltzivar_source(longest, source, sizeof source) == 1294 && strlen(source) == 1294);
+    CHECK(WRITES("NumberFormatBuilder::new().build_unchecked()", peltzivar_source(words[0], text, sizeof text)));
+}
+
+static void test_settings(void) {
+    static const struct {
+        const char *setting;
+        peltzivar_setting_error error;
+        peltzivar_edit edit;
+        const char *why;
+    } rows[] = {
+        {"radix=0x10", PELTZIVAR_SETTING_READ, {PELTZIVAR_SET_MANTISSA_RADIX, 16}, ""},
+        {"no_special=true", PELTZIVAR_SETTING_READ, {PELTZIVAR_SET_NO_SPECIAL, 1}, ""},
+        {"base_prefix=none", PELTZIVAR_SETTING_READ, {PELTZIVAR_SET_BASE_PREFIX, 0}, ""},
+        {"base_suffix='''", PELTZIVAR_SETTING_READ, {PELTZIVAR_SET_BASE_SUFFIX, '\''}, ""},
+        {"radix", PELTZIVAR_SETTING_NO_EQUALS, {7, 9}, "expected NAME=VALUE"},
+        {"\xFF", PELTZIVAR_SETTING_UNKNOWN_NAME, {7, 9}, "unknown setting name"},
+        {"colour=7", PELTZIVAR_SETTING_UNKNOWN_NAME, {7, 9}, "unknown setting name"},
+        {"no_special=1", PELTZIVAR_SETTING_BAD_VALUE, {7, 9}, "no_special takes `true` or `false`"},
+        {"radix=256", PELTZIVAR_SETTING_BAD_VALUE, {7, 9}, "radix takes a number, 2 to 36 in a lawful format"},
+    };
+    for (size_t row = 0; row < sizeof rows / sizeof *rows; row++) {
+        const size_t len = strlen(rows[row].setting);
+        peltzivar_edit edit = {7, 9};
+        CHECK(peltzivar_parse_edit(rows[row].setting, len, &edit) == rows[row].error);
+        CHECK(edit.setter == rows[row].edit.setter && edit.value == rows[row].edit.value);
+        CHECK(WRITES(rows[row].why, peltzivar_setting_error_text(rows[row].setting, len, text, sizeof text)));
+    }
+}
+
+/* A null pointer with a length of 0 is accepted as an empty array. */
+static void test_null(void) {
+    peltzivar_fields fields = PELTZIVAR_NEW_FIELDS;
+    peltzivar_word word = {1, 2};
+    peltzivar_edit edit = {104, 16};
+    CHECK(peltzivar_edit_fields(&fields, NULL, 0) && peltzivar_build(NULL, 0, &word));
+    CHECK(is_word(word, 0x00000A0000000000, 0xC));
+    CHECK(peltzivar_edit_word(RESERVED, NULL, 0, &word) && is_word(word, 0x0A0A0A0000000000, 0xC));
+    CHECK(peltzivar_parse_word(NULL, 0, &word) == PELTZIVAR_EMPTY);
+    CHECK(peltzivar_parse_edit(NULL, 0, &edit) == PELTZIVAR_SETTING_NO_EQUALS);
+    CHECK(peltzivar_setter_of_name(NULL, 0) == PELTZIVAR_NO_SETTER);
+    CHECK(peltzivar_word_text(ZERO, NULL, 0) == 34 && peltzivar_source(ZERO, NULL, 0) > 40);
+    CHECK(peltzivar_description(0, NULL, 0) == 23 && peltzivar_error_text(0, 0, NULL, 0) == 23);
+    CHECK(peltzivar_setter_name(104, NULL, 0) == 14 && peltzivar_edit_text(edit, NULL, 0) == 17);
+    CHECK(peltzivar_setting_error_text(NULL, 0, NULL, 0) == strlen("expected NAME=VALUE"));
+    CHECK(peltzivar_reason_text(ZERO, 0, NULL, 0) > 40 && peltzivar_note_text(&fields, 0, NULL, 0) == 0);
+}
+
+int main(void) {
+    test_constants();
+    test_setters();
+    test_fields();
+    test_words();
+    test_reasons();
+    test_bytes();
+    test_texts();
+    test_settings();
+    test_null();
+    return failed;
+}

@@ -1,0 +1,185 @@
+"""Tests peltzivar.h and the library from C and C++: `make -C c check`."""
+import ctypes
+import os
+import pathlib
+import re
+import shutil
+import subprocess
+import tempfile
+import unittest
+
+TESTS = pathlib.Path(__file__).resolve().parent
+C, TOP = TESTS.parent, TESTS.parent.parent
+SHARED = pathlib.Path(os.environ["PELTZIVAR_LIBRARY"]).absolute()
+ARCHIVE = SHARED.with_suffix(".a")
+HEADER = (C / "peltzivar.h").read_text()
+STRICT = ["-Wall", "-Wextra", "-Wpedantic", "-Wconversion", "-Wshadow", "-Werror", "-I", C]
+SANITIZERS = ["-g", "-fsanitize=address,undefined", "-fno-sanitize-recover=all"]
+COMPILERS = {"gcc": "c99 c11 c17 c2x", "clang": "c99 c11 c17 c2x", "g++": "c++11 c++14 c++17 c++20"}
+COMPILERS |= {"clang++": "c++11 c++14 c++17 c++20"}
+TYPES = {"peltzivar_word": "Word", "peltzivar_fields": "Fields", "peltzivar_edit": "NumberedEdit", "size_t": "usize"}
+TYPES |= {"bool": "bool", "char": "u8", "uint8_t": "u8", "uint32_t": "u32", "peltzivar_setter": "Setter"}
+TYPES |= {"peltzivar_error": "ErrorNumber", "peltzivar_setting_error": "u32"}
+
+
+def run(*command, **options):
+    """Runs a command, and returns what it prints and its status."""
+    ran = subprocess.run(command, stdout=subprocess.PIPE, stderr=subprocess.STDOUT, text=True, **options)
+    return ran.stdout, ran.returncode
+
+
+def in_c(rust):
+    """Returns a name such as InvalidRadix as in C."""
+    return re.sub(r"(?<=[a-z])(?=[A-Z])", "_", rust).upper()
+
+
+class Programs(unittest.TestCase):
+    def setUp(self):
+        folder = tempfile.TemporaryDirectory()
+        self.addCleanup(folder.cleanup)
+        self.folder = pathlib.Path(folder.name)
+
+    def made(self, *command, name="program"):
+        """Compiles a program without a warning, and returns its path."""
+        self.assertEqual(run(*command, "-o", self.folder / name), ("", 0), command)
+        return self.folder / name
+
+    def test_the_calls_compile_in_each_language_without_a_warning(self):
+        for compiler, standards in COMPILERS.items():
+            for standard in standards.split():
+                with self.subTest(compiler, standard=standard):
+                    if not shutil.which(compiler):
+                        self.skipTest(compiler)
+                    language = ["-x", "c++"] if "++" in compiler else []
+                    self.made(compiler, f"-std={standard}", *STRICT, *language, "-c", TESTS / "calls.c")
+
+    def test_a_compiler_warns_if_an_error_is_ignored(self):
+        code = '#include "peltzivar.h"\nvoid f(peltzivar_word it) { peltzivar_check(it); }\n'
+        for option in (["-x", "c"], ["-std=c2x", "-x", "c"]):
+            printed, _ = run("cc", *option, "-I", C, "-c", "-o", self.folder / "object", "-", input=code)
+            self.assertIn("Wunused-result", printed)
+
+    def test_the_calls_return_what_they_should(self):
+        self.assertEqual(run(self.made("cc", "-std=c99", *STRICT, TESTS / "calls.c", ARCHIVE)), ("", 0))
+        self.assertEqual(run(self.made("cc", *STRICT, *SANITIZERS, TESTS / "calls.c", ARCHIVE)), ("", 0))
+
+    def test_the_calls_are_sound_with_the_checks_of_rust(self):
+        build = self.folder / "checked"
+        on = {f"CARGO_PROFILE_RELEASE_{it}": "true" for it in ("DEBUG_ASSERTIONS", "OVERFLOW_CHECKS")}
+        command = ["make", "-s", "--no-print-directory", "-C", C, f"BUILD={build}", "build"]
+        self.assertEqual(run(*command, env={**os.environ, **on}), ("", 0))
+        program = self.made("cc", *STRICT, *SANITIZERS, TESTS / "calls.c", build / "release" / ARCHIVE.name)
+        self.assertEqual(run(program), ("", 0))
+
+    @unittest.skipUnless(shutil.which("valgrind"), "valgrind")
+    def test_valgrind_finds_nothing(self):
+        program = self.made("cc", "-g", "-I", C, TESTS / "calls.c", ARCHIVE)
+        self.assertEqual(run("valgrind", "-q", "--error-exitcode=9", "--leak-check=full", program), ("", 0))
+
+    def test_the_first_program_of_the_header(self):
+        lines = re.findall(r"^ \*     (.*)$", HEADER, re.M)
+        self.folder.joinpath("first.c").write_text("\n".join(lines) + "\n")
+        program = self.made("cc", *STRICT, self.folder / "first.c", ARCHIVE)
+        self.assertEqual(run(program), ("the base prefix 'b' is a digit in radix 16\n", 1))
+
+    def test_the_example(self):
+        program = self.made("cc", *STRICT, *SANITIZERS, C / "example.c", ARCHIVE)
+        rows = [
+            ("radix=2 base_suffix=57", 0, "0x0000023900000000000000000000000C\nbase_suffix=57\nmantissa_radix=2\n"),
+            ("radix=16 base_suffix='b'", 1, "the base suffix 'b' is a digit in radix 16\n"),
+            ("no_special=1", 2, "no_special=1: no_special takes `true` or `false`\n"),
+        ]
+        for settings, status, printed in rows:
+            self.assertEqual(run(program, *settings.split()), (printed, status))
+
+    def test_the_examples_print_what_the_page_shows(self):
+        self.made("cc", C / "example.c", ARCHIVE, name="example")
+        shutil.copy(C / "example.py", self.folder)
+        page = (TOP / "docs/C-AND-PYTHON.md").read_text()
+        shown = re.findall(r"^    \$ (.*example.*)\n((?:    (?!\$).*\n)+)", page, re.M)
+        self.assertEqual(len(shown), 4)
+        environment = {**os.environ, "PELTZIVAR_LIBRARY": str(SHARED), "PYTHONPATH": str(C)}
+        for command, printed in shown:
+            wanted = re.sub("^    ", "", printed, flags=re.M)
+            self.assertEqual(run("bash", "-c", command, cwd=self.folder, env=environment)[0], wanted)
+
+    def test_the_reader_of_settings(self):
+        program = self.made("cc", *STRICT, *SANITIZERS, C / "settings.c", ARCHIVE)
+        rows = [
+            ("# Hexadecimal\nradix = 16\r\n\n base_prefix='x'\ndigit_separator= 95\ninternal_digit_separator =true", 0, "0x000010007800005F000000070000000C"),
+            ("required_digits=true\nbase_prefix = 98\n\nmantissa_radix=16", 1, "line 2, 4: the base prefix 'b' is a digit in radix 16"),
+            ("radix\nno_special = 1\ncolour=7\n", 1, "line 1: radix: expected NAME=VALUE\nline 2: no_special=1: no_special takes `true` or `false`\nline 3: colour=7: unknown setting name"),
+            ("", 0, "0x00000A0000000000000000000000000C"),
+            (f"radix = {'0' * 2000}2", 2, "line 1 is too long"),
+        ]
+        for settings, status, printed in rows:
+            path = self.folder / "settings.txt"
+            path.write_text(settings, newline="")
+            self.assertEqual(run(program, path), (printed + "\n", status))
+        self.assertEqual(run(program, self.folder / "nothing")[1], 2)
+        self.assertEqual(run(program), ("settings: name one file\n", 2))
+
+
+class Header(unittest.TestCase):
+    def numbers(self, pattern):
+        return {name: int(number) for name, number in re.findall(rf"^    PELTZIVAR_{pattern} = (\d+)", HEADER, re.M)}
+
+    def test_setters_have_the_numbers_of_the_tables_of_format(self):
+        page = (TOP / "docs/FORMAT.md").read_text()
+        flags = re.findall(r"^\| (\d+) \| `(\w+)` \|", page, re.M)
+        flags += re.findall(r"^\| (\d+) to \d+ \| `(\w+)` \|", page, re.M)
+        groups = re.findall(r"^\| `(\w+)` \| \d[\d ]* \|", page, re.M)
+        numbered = [(name, int(bit)) for bit, name in flags] + [(name, 128 + row) for row, name in enumerate(groups)]
+        self.assertEqual(self.numbers(r"SET_(\w+)"), {name.upper(): number for name, number in numbered})
+
+    def test_rules_and_errors_have_the_order_of_the_sources(self):
+        def variants(path, enum):
+            body = re.search(rf"^pub enum {enum} \{{(.*?)^\}}", (TOP / "rust/src" / path).read_text(), re.M | re.S)[1]
+            return [in_c(name) for name in re.findall(r"^    (\w+)", body, re.M)]
+
+        rules = variants("format_flags/all_rules.rs", "Rule")
+        self.assertEqual(self.numbers(r"RULE_(\w+)"), {name: number for number, name in enumerate(rules, 1)})
+        errors = ["SUCCESS", *(it for it in variants("error.rs", "Error") if it != "SUCCESS")]
+        numbered = {name: number for number, name in enumerate(errors)}
+        self.assertEqual(self.numbers(r"((?!SET_|RULE_|SETTING_)\w+)"), numbered)
+
+    def test_declarations_are_those_of_the_library(self):
+        sources = " ".join("".join(path.read_text() for path in sorted((TOP / "rust/capi/src").glob("*.rs"))).split())
+        exported = re.findall(r'extern "C" fn (\w+)\( ?(.*?),? ?\) -> (\w+) \{', sources)
+        wanted = {
+            (name, tuple(it.split(": ")[1] for it in re.split(r", (?=\w+: )", of) if it), result)
+            for name, of, result in exported
+        }
+        code = " ".join(re.sub(r"/\*.*?\*/|^#.*?$", "", HEADER, flags=re.S | re.M).split())
+        declared = re.findall(r"(\w+) (peltzivar_\w+)\( ?([^()]*)\);", code)
+        found = {
+            (name, tuple(self.argument(it, of) for it in of.split(", ") if it != "void"), TYPES[result])
+            for result, name, of in declared
+        }
+        self.assertEqual(found, wanted)
+        printed, _ = run("nm", "-gD", "--defined-only", SHARED)
+        self.assertEqual({line.split()[2] for line in printed.splitlines()}, {name for name, *_ in wanted})
+
+    def argument(self, text, others):
+        """Returns the type in Rust of an argument in C. A pointer before a length is a raw pointer."""
+        const, kind, pointer, name, array = re.fullmatch(r"(const )?(\w+) (\*?)(\w+)(\[\w+\])?", text).groups()
+        if array:
+            return f"Out<[{TYPES[kind]}; FIELD_COUNT]>"
+        if not pointer:
+            return TYPES[kind]
+        if re.search(rf"\*{name}, size_t (to_)?len\b", others):
+            return f"*{'const' if const else 'mut'} {TYPES[kind]}"
+        return f"Out<{TYPES[kind]}>" if name == "out" else f"&{'' if const else 'mut '}{TYPES[kind]}"
+
+    def test_all_versions_are_the_same(self):
+        number = ctypes.CDLL(str(SHARED)).peltzivar_version()  # That of cargo.
+        version = ".".join(map(str, number.to_bytes(3, "big")))
+        self.assertIn(f'#define PELTZIVAR_VERSION "{version}"\n#define PELTZIVAR_VERSION_NUMBER 0x{number:06x}\n', HEADER)
+        self.assertIn(f'version = "{version}"\n', (C / "pyproject.toml").read_text())
+        self.assertIn(f"_VERSION = 0x{number:06x}\n", (C / "peltzivar.py").read_text())
+        self.assertIn(f"libpeltzivar_c.so.{version.rpartition('.')[0]}]", run("readelf", "-d", SHARED)[0])
+        self.assertRegex((TOP / "CHANGELOG.md").read_text(), rf"\A# Changelog\n\n## {re.escape(version)}\b")
+
+
+if __name__ == "__main__":
+    unittest.main()

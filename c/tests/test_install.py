@@ -1,0 +1,79 @@
+"""Tests what `make install` and pip install, below a prefix with a blank: `make -C c check`."""
+import os
+import pathlib
+import re
+import shutil
+import subprocess
+import sys
+import tempfile
+import unittest
+
+C = pathlib.Path(__file__).resolve().parent.parent
+PAGE = (C.parent / "docs/C-AND-PYTHON.md").read_text()
+WORD = "0x0000100000000000000000000000000C"
+PROGRAM = "import peltzivar; print(peltzivar.Format.of(mantissa_radix=16), peltzivar.__file__)"
+IMPORT = [sys.executable, "-B", "-c", PROGRAM]
+
+
+def has_pip():
+    return subprocess.run([sys.executable, "-m", "pip", "--version"], capture_output=True).returncode == 0
+
+
+class Install(unittest.TestCase):
+    def setUp(self):
+        folder = tempfile.TemporaryDirectory()
+        self.addCleanup(folder.cleanup)
+        self.folder = pathlib.Path(folder.name)
+        self.prefix = self.folder / "a prefix"
+        others = ("PELTZIVAR_LIBRARY", "PYTHONPATH", "MAKEFLAGS")
+        self.environment = {name: value for name, value in os.environ.items() if name not in others}
+        self.environment |= {"PKG_CONFIG_PATH": f"{self.prefix}/lib/pkgconfig", "LD_LIBRARY_PATH": f"{self.prefix}/lib"}
+
+    def run_in(self, *command, **options):
+        ran = subprocess.run(command, cwd=self.folder, env=self.environment, capture_output=True, text=True, **options)
+        self.assertEqual(ran.returncode, 0, (command, ran.stdout, ran.stderr))
+        return ran.stdout
+
+    def make(self, *arguments):
+        return self.run_in("make", "-s", "-C", C, *arguments)
+
+    @unittest.skipUnless(shutil.which("pkg-config"), "pkg-config")
+    def test_a_program_is_built_by_the_lines_of_the_page(self):
+        self.make("install", f"PREFIX={self.prefix}")
+        shutil.copy(C / "example.c", self.folder)
+        lines = [line for line in re.findall(r"^ *(?:eval )?cc .*pkg-config.*$", PAGE, re.M)]
+        self.assertEqual(len(lines), 2)
+        for line in lines:
+            self.run_in("bash", "-c", line)
+            self.assertEqual(self.run_in("./example", "radix=16").split()[0], WORD)
+
+    def test_python_finds_the_library_below_the_prefix(self):
+        self.make("install", f"PREFIX={self.prefix}")
+        (module,) = self.prefix.glob("lib/python3.*/site-packages/peltzivar/__init__.py")
+        self.assertTrue(module.with_name("py.typed").exists())
+        del self.environment["LD_LIBRARY_PATH"]
+        self.environment["PYTHONPATH"] = str(module.parent.parent)
+        self.assertEqual(self.run_in(*IMPORT), f"{WORD} {module}\n")
+
+    def test_uninstall_removes_what_install_wrote(self):
+        paths = ["PREFIX=/usr/my own", "LIBDIR=/usr/my own/lib here", f"DESTDIR={self.folder}/a root"]
+        self.make("install", *paths)
+        root = self.folder / "a root/usr/my own"
+        self.assertTrue((root / "lib here/pkgconfig/peltzivar.pc").exists() and (root / "include/peltzivar.h").exists())
+        self.make("uninstall", *paths)
+        self.assertEqual([it for it in root.rglob("*") if not it.is_dir()], [])
+
+    def test_a_relative_prefix_is_refused(self):
+        with self.assertRaisesRegex(AssertionError, "PREFIX must be an absolute path"):
+            self.make("install", "PREFIX=relative", f"DESTDIR={self.folder}/")
+
+    @unittest.skipUnless(has_pip(), "pip")
+    def test_pip_installs_the_checkout(self):
+        options = ["--no-build-isolation", "--no-index", "--no-deps", "--quiet", "--disable-pip-version-check"]
+        self.run_in(sys.executable, "-m", "pip", "install", *options, "--target", self.prefix, C)
+        self.environment["PYTHONPATH"] = str(self.prefix)
+        self.assertEqual(self.run_in(*IMPORT).split()[0], WORD)
+
+
+if __name__ == "__main__":
+    unittest.main()

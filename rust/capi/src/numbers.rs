@@ -1,0 +1,269 @@
+//! The structs of C, and the numbers that C uses for setters, rules and errors.
+
+use core::num::NonZeroU8;
+use peltzivar::{Edit, Error, FlagSetter, FormatView, NumberFormatBuilder, Reason, Rule};
+
+/// A format word as two halves, since C has no 128-bit integer type that every compiler supports.
+#[repr(C)]
+#[derive(Clone, Copy)]
+pub struct Word {
+    low: u64,
+    high: u64,
+}
+
+impl Word {
+    /// Returns the number with these halves.
+    pub fn number(self) -> u128 {
+        u128::from(self.high) << 64 | u128::from(self.low)
+    }
+
+    /// Returns the view of the word.
+    pub fn view(self) -> FormatView {
+        FormatView::new(self.number())
+    }
+}
+
+impl From<u128> for Word {
+    fn from(number: u128) -> Word {
+        Word {
+            low: number as u64,
+            high: (number >> 64) as u64,
+        }
+    }
+}
+
+/// The fields of a builder. `flags` has each flag at its bit of a word. The other bits are ignored. `bytes` has the six
+/// bytes as in a word, lowest first. An absent byte is 0.
+#[repr(C)]
+#[derive(Clone, Copy)]
+pub struct Fields {
+    flags: u64,
+    bytes: [u8; 6],
+}
+
+fn byte_or_zero(byte: Option<NonZeroU8>) -> u8 {
+    byte.map_or(0, NonZeroU8::get)
+}
+
+impl From<NumberFormatBuilder> for Fields {
+    fn from(builder: NumberFormatBuilder) -> Fields {
+        Fields {
+            flags: builder.view().flags() as u64,
+            bytes: [
+                byte_or_zero(builder.get_digit_separator()),
+                byte_or_zero(builder.get_base_prefix()),
+                byte_or_zero(builder.get_base_suffix()),
+                builder.get_mantissa_radix(),
+                byte_or_zero(builder.get_exponent_base()),
+                byte_or_zero(builder.get_exponent_radix()),
+            ],
+        }
+    }
+}
+
+impl Fields {
+    /// Returns a builder with these fields.
+    pub fn builder(self) -> NumberFormatBuilder {
+        let [separator, prefix, suffix, radix, base, exponent_radix] = self.bytes;
+        NumberFormatBuilder::from_word(u128::from(self.flags))
+            .digit_separator(NonZeroU8::new(separator))
+            .base_prefix(NonZeroU8::new(prefix))
+            .base_suffix(NonZeroU8::new(suffix))
+            .mantissa_radix(radix)
+            .exponent_base(NonZeroU8::new(base))
+            .exponent_radix(NonZeroU8::new(exponent_radix))
+    }
+}
+
+/// The number of a setter: the bit of a flag, the lowest bit of a byte, or [`FIRST_GROUP`] plus an index in [`GROUPS`].
+pub type Setter = u8;
+
+/// The number of no setter.
+pub const NO_SETTER: Setter = 255;
+
+const FIRST_GROUP: Setter = 128;
+
+const GROUPS: [FlagSetter; 9] = [
+    FlagSetter::RequiredDigits,
+    FlagSetter::InternalDigitSeparator,
+    FlagSetter::LeadingDigitSeparator,
+    FlagSetter::TrailingDigitSeparator,
+    FlagSetter::ConsecutiveDigitSeparator,
+    FlagSetter::DigitSeparatorFlags,
+    FlagSetter::IntegerDigitSeparatorFlags,
+    FlagSetter::FractionDigitSeparatorFlags,
+    FlagSetter::ExponentDigitSeparatorFlags,
+];
+
+/// An edit as the number of its setter and a value.
+#[repr(C)]
+#[derive(Clone, Copy)]
+pub struct NumberedEdit {
+    setter: Setter,
+    value: u8,
+}
+
+/// Returns the edit with a setter and a value, or `None` if the setter is unknown.
+pub fn edit_of(setter: Setter, value: u8) -> Option<Edit> {
+    let byte = NonZeroU8::new(value);
+    match setter {
+        64 => Some(Edit::DigitSeparator(byte)),
+        88 => Some(Edit::BasePrefix(byte)),
+        96 => Some(Edit::BaseSuffix(byte)),
+        104 => Some(Edit::MantissaRadix(value)),
+        112 => Some(Edit::ExponentBase(byte)),
+        120 => Some(Edit::ExponentRadix(byte)),
+        _ => Some(Edit::Flag(flag_setter(setter)?, value != 0)),
+    }
+}
+
+/// Returns the setter of a flag or a group.
+pub fn flag_setter(setter: Setter) -> Option<FlagSetter> {
+    match setter {
+        0..64 => {
+            let mut all = FlagSetter::ALL.iter().copied();
+            all.find(|it| Edit::Flag(*it, true).mask() == u128::from(1_u64 << setter))
+        }
+        FIRST_GROUP.. => GROUPS.get(usize::from(setter - FIRST_GROUP)).copied(),
+        _ => None,
+    }
+}
+
+impl NumberedEdit {
+    /// Returns the number of the setter.
+    pub fn setter(self) -> Setter {
+        self.setter
+    }
+
+    /// Returns the edit, or `None` if the setter is unknown.
+    pub fn edit(self) -> Option<Edit> {
+        edit_of(self.setter, self.value)
+    }
+}
+
+impl From<Edit> for NumberedEdit {
+    fn from(edit: Edit) -> NumberedEdit {
+        let value = match edit {
+            Edit::Flag(_, value) => u8::from(value),
+            Edit::MantissaRadix(radix) | Edit::Radix(radix) => radix,
+            Edit::DigitSeparator(byte)
+            | Edit::BasePrefix(byte)
+            | Edit::BaseSuffix(byte)
+            | Edit::ExponentBase(byte)
+            | Edit::ExponentRadix(byte) => byte_or_zero(byte),
+        };
+        let mut groups = (FIRST_GROUP..).zip(GROUPS);
+        let group =
+            groups.find(|(_, group)| matches!(edit, Edit::Flag(setter, _) if setter == *group));
+        NumberedEdit {
+            setter: group.map_or(edit.mask().trailing_zeros() as Setter, |(number, _)| number),
+            value,
+        }
+    }
+}
+
+/// The rules in the order of their numbers, which begin with 1.
+const RULES: [Rule; 16] = [
+    Rule::MantissaRadixInRange,
+    Rule::ExponentBaseInRange,
+    Rule::ExponentRadixInRange,
+    Rule::DigitSeparatorIsPunctuation,
+    Rule::BasePrefixIsPunctuation,
+    Rule::BaseSuffixIsPunctuation,
+    Rule::PunctuationDiffers,
+    Rule::ExponentFlagsAgree,
+    Rule::MantissaSignFlagsAgree,
+    Rule::ExponentSignFlagsAgree,
+    Rule::SpecialCaseFlagsAgree,
+    Rule::SpecialSeparatorFlagsAgree,
+    Rule::IntegerConsecutiveIsAllowed,
+    Rule::FractionConsecutiveIsAllowed,
+    Rule::ExponentConsecutiveIsAllowed,
+    Rule::ReservedBitsAreZero,
+];
+
+/// Returns the rules that a word breaks because of a reason. Bit n is the rule with the number n.
+pub fn broken_rules(reason: Reason) -> u32 {
+    let numbered = (1..).zip(RULES);
+    let broken = numbered.filter(|(_, rule)| reason.breaks(*rule));
+    broken.fold(0, |bits, (number, _)| bits | 1 << number)
+}
+
+/// The number that C uses for an [`Error`]: 0 for success, then the parse errors, then the other errors.
+pub type ErrorNumber = u32;
+
+/// The parse errors, which have an index. The first has the number 1.
+const PARSE_ERRORS: [fn(usize) -> Error; 19] = [
+    Error::Overflow,
+    Error::Underflow,
+    Error::InvalidDigit,
+    Error::Empty,
+    Error::EmptyMantissa,
+    Error::EmptyExponent,
+    Error::EmptyInteger,
+    Error::EmptyFraction,
+    Error::InvalidPositiveMantissaSign,
+    Error::MissingMantissaSign,
+    Error::InvalidExponent,
+    Error::InvalidPositiveExponentSign,
+    Error::MissingExponentSign,
+    Error::ExponentWithoutFraction,
+    Error::InvalidLeadingZeros,
+    Error::MissingExponent,
+    Error::MissingSign,
+    Error::InvalidPositiveSign,
+    Error::InvalidNegativeSign,
+];
+
+/// The other errors. The first has the number after the last parse error.
+const OTHER_ERRORS: [Error; 29] = [
+    Error::InvalidMantissaRadix,
+    Error::InvalidExponentBase,
+    Error::InvalidExponentRadix,
+    Error::InvalidDigitSeparator,
+    Error::InvalidDecimalPoint,
+    Error::InvalidExponentSymbol,
+    Error::InvalidBasePrefix,
+    Error::InvalidBaseSuffix,
+    Error::InvalidPunctuation,
+    Error::InvalidExponentFlags,
+    Error::InvalidMantissaSign,
+    Error::InvalidExponentSign,
+    Error::InvalidSpecial,
+    Error::InvalidConsecutiveIntegerDigitSeparator,
+    Error::InvalidConsecutiveFractionDigitSeparator,
+    Error::InvalidConsecutiveExponentDigitSeparator,
+    Error::InvalidFlags,
+    Error::InvalidNanString,
+    Error::NanStringTooLong,
+    Error::InvalidInfString,
+    Error::InfStringTooLong,
+    Error::InvalidInfinityString,
+    Error::InfinityStringTooLong,
+    Error::InfinityStringTooShort,
+    Error::InvalidFloatParseAlgorithm,
+    Error::InvalidRadix,
+    Error::InvalidFloatPrecision,
+    Error::InvalidNegativeExponentBreak,
+    Error::InvalidPositiveExponentBreak,
+];
+
+/// Returns the number of an error or of success.
+pub fn error_number(error: Error) -> ErrorNumber {
+    let index = error.index().copied().unwrap_or(0);
+    let parse = PARSE_ERRORS.iter().position(|it| it(index) == error);
+    let other = || OTHER_ERRORS.iter().position(|it| *it == error);
+    let place = parse.or_else(|| Some(PARSE_ERRORS.len() + other()?));
+    place.map_or(0, |place| place as u32 + 1)
+}
+
+/// Returns the error with a number. A parse error holds `index`.
+pub fn error_of(number: ErrorNumber, index: usize) -> Option<Error> {
+    let Some(place) = (number as usize).checked_sub(1) else {
+        return Some(Error::Success);
+    };
+    match PARSE_ERRORS.get(place) {
+        Some(error) => Some(error(index)),
+        None => OTHER_ERRORS.get(place - PARSE_ERRORS.len()).copied(),
+    }
+}
