@@ -75,7 +75,7 @@ def outcomes():
 
 def constants():
     """Returns the lines of the header with the version of the library, and the bytes in which each text fits."""
-    number = re.search(r'^version = "(.*)"', (TOP / "rust/Cargo.toml").read_text(), re.M)[1]
+    number = re.search(r'^version = "(.*)"', (TOP / "Cargo.toml").read_text(), re.M)[1]
     yield f'#define PELTZIVAR_VERSION "{number}"\n'
     parts = [int(part) for part in number.split(".")]
     for part, value in zip(("MAJOR", "MINOR", "PATCH"), parts):
