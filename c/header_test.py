@@ -55,7 +55,7 @@ def constants():
     texts = "".join(path.read_text() for path in sorted(CRATES.glob("lexical_*/src/**/*.rt")))
     rust = dict(re.findall(r"^pub const ([A-Z_]+): usize = (\d+);", texts, re.M))
     found = {f"PELTZIVAR_{name}": int(rust[name]) for name in rust if re.search(rf"#define PELTZIVAR_{name} ", HEADER)}
-    manifest = (TOP / "Cargo.toml").read_text()
+    manifest = (TOP / "rust/Cargo.toml").read_text()
     version = [int(it) for it in re.search(r'^version = "(.*)"', manifest, re.M)[1].split(".")]
     short_text = (CRATES / "lexical_base/src/error/short_text.rt").read_text()
     source = (CRATES / "lexical_c/src/word_texts.rt").read_text()
