@@ -3,8 +3,7 @@
 
 use peltzivar::format::{NumberFormatBuilder, STANDARD};
 use peltzivar::{
-    Edit, Error, FlagSetter, Format, FormatView, Mend, Note, NumberFormat, Reason, Rule,
-    SettingError,
+    Edit, Error, FlagSetter, Format, FormatView, Note, NumberFormat, Reason, Rule, SettingError,
 };
 use std::error::Error as StdError;
 use std::fmt::{Debug, Display};
@@ -23,7 +22,6 @@ const _: () = {
     is_value::<FlagSetter>();
     is_value::<Format>();
     is_value::<FormatView>();
-    is_value::<Mend>();
     is_value::<Note>();
     is_value::<NumberFormat<STANDARD>>();
     is_value::<NumberFormatBuilder>();
@@ -32,7 +30,6 @@ const _: () = {
     is_value::<SettingError>();
     is_shown::<Edit>();
     is_shown::<FlagSetter>();
-    is_shown::<Mend>();
     is_shown::<Note>();
     is_error::<Error>();
     is_error::<Reason>();
