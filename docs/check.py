@@ -8,12 +8,13 @@
 """
 import pathlib
 import re
-import subprocess
 import sys
 
 TOP = pathlib.Path(__file__).resolve().parent.parent
-PATHS = subprocess.run(["git", "ls-files", "-co", "--exclude-standard"], cwd=TOP, capture_output=True, text=True, check=True)
-PATHS = [path for path in PATHS.stdout.split() if (TOP / path).is_file()]
+BUILT = {".git", "out", "target"}
+FOLDERS = [TOP, *(it for it in TOP.iterdir() if it.is_dir() and it.name not in BUILT)]
+FILES = [it for folder in FOLDERS for it in (folder.glob("*") if folder == TOP else folder.rglob("*")) if it.is_file()]
+PATHS = sorted(str(it.relative_to(TOP)) for it in FILES if not BUILT & set(it.relative_to(TOP).parts))
 PAGES = [TOP / path for path in PATHS if path.endswith(".md")]
 SOURCE = re.compile(r"\.(rt|antt|rs|toml|[ch]|cpp|py|js|sh|edit)$|Makefile$|(^|/)(run|build)$|crates\.txt$")
 LANGUAGES = ["rust", "antt", "c", "python", "toml"]
