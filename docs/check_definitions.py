@@ -4,16 +4,16 @@
     docs/check_definitions.py edit_word    prints what the contract of `edit_word` cites, directly or by definitions
     docs/check_definitions.py              names the calls, each with the number of lines that this prints
 
-The status is 1 if a contract reaches a constant of the program, or an addition: a definition in a folder of specs/ or in
-Private.antt. Such definitions serve other calls.
+The status is 1 if a contract reaches a constant of the program, or an addition: a definition in a folder of specs/ or
+in Private.antt. Such definitions serve other calls.
 """
 import sys
 
 sys.dont_write_bytecode = True
 from definitions import CRATES, FILES, closure, contract, functions, reading_order
 
-CALLS = """edit_word normal_form format_error check build_strict is_built edits_of is_valid_options_punctuation options_error
-migrate""".split()
+CALLS = """edit_word normal_form format_error check build_strict is_built edits_of is_valid_options_punctuation
+options_error migrate""".split()
 
 
 def unfit(item, above):

@@ -1,4 +1,4 @@
-"""Reads the tables of docs/FORMAT.md, for the generators of the page and of the Python module, and for their tests.
+"""Reads the tables of docs/FORMAT.md, for the generator of the page.
 
 `cargo test` compares these tables with the library (`rust/tests/pages.rs`).
 """
