@@ -42,8 +42,8 @@ prepare_upstream() {
 # Copies the library as plain Rust, so that nothing is built in the checkout.
 prepare_rust() {
     rm -rf "$work/rust"
-    mkdir -p "$work/rust"
-    (cd "$repository/rust" && tar -c --exclude ./target .) | tar -x -C "$work/rust"
+    mkdir -p "$work"
+    (cd "$repository" && tar -c Cargo.toml Cargo.lock rust) | tar -x -C "$work"
 }
 
 # Copies the crates of the library for `rt`, with the results of earlier checks.

@@ -1,8 +1,7 @@
 """Reads the definitions in crates/*/specs and the contracts in crates/*/src, and finds what each of their names means.
 
 The `ghost use` lines of a file give names to its contracts, and the `use` lines of a file to its definitions. A type in a
-signature brings what its `impl Model` cites and what the types of its fields bring. A word is unknown if it is not the
-name of a definition, of std, or of a type or constant of the program, and not a keyword, number, field or bound name.
+signature brings what its `impl Model` cites and what the types of its fields bring.
 """
 import collections
 import functools
@@ -17,26 +16,16 @@ MODEL = re.compile(r"^impl Model for (\w+) \{(.*?)^\}", re.M | re.S)
 OWNER = re.compile(r"^(?:pub )?(?:impl|trait)\b.*", re.M)
 FUNCTION = re.compile(r"^( *)(pub )?(?:pub\S+ )?(?:const |extern \S+ )*fn (\w+)(.*?)(?: \{|\n\1\{\}?|;)$", re.M | re.S)
 WORD = re.compile(r"\.?\d\w*|\.?[^\W\d][\w'-]*×?(?:\.\w+)*|\[\]|[^\s\w(){}\[\];,]+")
-KEYWORDS = set("λ _ → = : . × ⊥ ¬ Type data record where let in then else pub abbrev unfoldable unfolding tt".split())
-KEYWORDS |= set("ensures requires result self Ok Err Some None".split())
-CONSTRUCTORS = set("true false zero suc Ok Err Some None".split())
 # The meaning of a word: the file and name of a definition, or the kind (std, type, constant, unknown name) and the name.
 Item = collections.namedtuple("Item", "file name")
 Function = collections.namedtuple("Function", "path name is_public signature clauses")
 
 
 def imports(text):
-    """Returns the names that `use` lines bring, each with a path and the name there, which is empty for an alias.
-
-    A name with two meanings gets a path that leads to nothing.
-    """
-    found = {}
-    for path, alias, names in USE.findall(text):
-        pairs = [it.partition(" as ") for it in names.split(", ") if it] or [("", "", alias)]
-        for name, _, other in pairs:
-            is_new = found.setdefault(other or name, (path, name)) == (path, name)
-            found[other or name] = (path, name) if is_new else ("two.specs.paths", name)
-    return found
+    """Returns the names that `use` lines bring, each with a path and the name there, which is empty for an alias."""
+    pairs = [(path, it.partition(" as ")) for path, alias, names in USE.findall(text)
+             for it in [*names.split(", "), alias and f" as {alias}"] if it]
+    return {other or name: (path, name) for path, (name, _, other) in pairs}
 
 
 class File:
@@ -44,7 +33,7 @@ class File:
 
     def __init__(self, path):
         text = path.read_text()
-        self.path, self.imports, self.lines, self.has, self.fields = path, imports(text), {}, {}, set()
+        self.path, self.imports, self.lines, self.has = path, imports(text), {}, {}
         self.header, comment, kind, name = re.match(r"(?:--.*\n)*", text)[0].splitlines(), [], "", ""
         for line in text.splitlines()[len(self.header):]:
             if line.startswith("-- "):
@@ -55,49 +44,41 @@ class File:
                 self.lines.setdefault(name, []).extend([*comment, line])
                 comment, inside = [], re.findall(r"^  (?:pub )?(\S+) :", line)
                 self.has |= dict.fromkeys([name, *(inside if kind == "data " else [])], name)
-                self.fields |= set(inside if kind == "record " else [])
 
 
-PATHS = sorted(CRATES.glob("*/specs/**/*.antt"))
-FILES = {".".join(path.relative_to(CRATES).with_suffix("").parts): File(path) for path in PATHS}
+FILES = {".".join(path.relative_to(CRATES).with_suffix("").parts): File(path)
+         for path in sorted(CRATES.glob("*/specs/**/*.antt"))}
 # The paths that a Lib.antt gives to a file, or a folder, of another crate.
 EXPORTS = {f"{file.removesuffix('Lib')}{path.split('.')[-1]}": path for file in FILES if file.endswith(".Lib")
            for path, *_ in USE.findall(FILES[file].path.read_text())}
 SOURCES = {path: path.read_text() for path in sorted(CRATES.glob("*/src/**/*.rt"))}
 TYPES = {name: re.sub(r"//.*", "", body) for text in SOURCES.values() for name, body in TYPE.findall(text)}
-MODELS = {name: Function(path, name, True, "", body)
-          for path, text in SOURCES.items() for name, body in MODEL.findall(text)}
-# The names after a dot: fields of std's models, of records, and of structs.
-FIELDS = {"now", "old", "new", "items"}.union(*(file.fields for file in FILES.values()))
-FIELDS |= {field for body in TYPES.values() for field in re.findall(r"^ +(?:pub )?(\w+):", body, re.M)}
+MODELS = {it[0]: Function(path, it[0], True, "", it[1]) for path, text in SOURCES.items() for it in MODEL.findall(text)}
 
 
 def reading_order():
     """Returns the files so that each comes after those that it imports."""
-    done = []
+    done = {}
 
     def read(file):
         for path, _ in FILES[file].imports.values():
-            if path in FILES and path not in done and path != file:
+            if path in FILES and path not in done:
                 read(path)
-        done.append(file)
+        done[file] = True
 
     for file in FILES:
-        if file not in done:
-            read(file)
-    return done
+        read(file)
+    return list(done)
 
 
 def functions():
-    """Returns the functions with their contracts, and each ghost item of an `impl` or a trait as one without a name."""
+    """Yields the functions with their contracts."""
     for path, text in SOURCES.items():
         for it in FUNCTION.finditer(text):
             owners = OWNER.findall(text[:it.start()])
             is_public = bool(it[2] or it[1] and owners and re.search(" for |trait ", owners[-1]))
             signature, *clauses = re.split(r"^(?= *(?:requires|ensures)\b)", it[4], maxsplit=1, flags=re.M)
             yield Function(path, it[3], is_public, signature, "".join(clauses))
-        for body in re.findall(r"^    ghost \w+(?: =|:)(.*?);$", text, re.M | re.S):
-            yield Function(path, "", True, "", body)
 
 
 def found(path, name):
@@ -116,50 +97,29 @@ def found(path, name):
     return Item(path, file.has[name]) if file and name in file.has else Item("unknown name", f"{path}.{name}")
 
 
-def meaning(word, file, imported, bound):
+def meaning(word, file, imported):
     """Returns what a word means in a file of definitions, or in a contract (no file); None if it cites nothing."""
     head, *rest = word.split(".") if word.strip(".") else [word]
-    if not head or head in bound:
-        return None if all(it.isdigit() or it in FIELDS for it in rest) else Item("unknown name", word)
     if file and head in FILES[file].has:
         return Item(file, FILES[file].has[head])
     for name in (head, f"◌{head}◌", f"{head}◌then◌else◌"):
-        if name in imported:
+        if head and name in imported:
             path, there = imported[name]
             return found(path, there or "".join(rest[:1]))
-    if not file and head in TYPES:
-        return Item("type", head)
-    return None if head in KEYWORDS or head[0].isdigit() else Item("unknown name", word)
+    return Item("type", head) if not file and head in TYPES else None
 
 
-def bound_names(text, names):
-    """Returns the names that a text binds: by binders, `λ`, `let`, `where`, as fields, and on the left of equations."""
-    local = re.findall(r"^ +(?:pub )?([\w-]+) :", text, re.M)
-    bound = {*local, *re.findall(r"\blet (\w+) =", text), *re.findall(r"[{;]\s*(\w+) =", text)}
-    groups = re.findall(r"[({]((?:[\w'-]+ )+): ", text) + re.findall(r"λ ([^.]*)\.", text)
-    for name in map(re.escape, [*names, *local]):
-        groups += re.findall(rf"^ *{name} (.*?) ?=(?= |$)", text, re.M)
-    return bound.union(*(re.findall(r"(?<![\w.])[^\W\d][\w'-]*(?![\w.])", group) for group in groups))
-
-
-def items(text, file, imported, names, bound=()):
-    """Returns what the words of a text mean, each once. A name of a definition is never taken for a bound one."""
-    text = re.sub(r'"[^"\n]*"|(?:--|//).*', "", text)
-
-    def is_absent_or_punctuation(word):
-        item = meaning(word, file, imported, ())
-        return not item or item.file == "unknown name" or item.file == "std" and word not in CONSTRUCTORS
-
-    bound = set(filter(is_absent_or_punctuation, {*bound, *bound_names(text, names)}))
-    return list(dict.fromkeys(it for it in (meaning(word, file, imported, bound) for word in WORD.findall(text)) if it))
+def items(text, file, imported):
+    """Returns what the words of a text mean, each once."""
+    words = WORD.findall(re.sub(r'"[^"\n]*"|(?:--|//).*', "", text))
+    return list(dict.fromkeys(it for it in (meaning(word, file, imported) for word in words) if it))
 
 
 def contract(function):
     """Returns what a contract cites: the words of its clauses, and the types of its signature."""
-    names = re.compile(r"^ *ghost use .*|\b(ensures|requires) \w+(?= \{)|\bghost \w+(?= =)", re.M)
-    clauses = names.sub("", function.clauses)
+    clauses = re.sub(r"^ *ghost use .*|\b(ensures|requires) \w+(?= \{)|\bghost \w+(?= =)", "", function.clauses, flags=re.M)
     types = [Item("type", name) for name in re.findall(r"\b[A-Z]\w*", function.signature) if name in TYPES]
-    return [*items(clauses, "", imports(SOURCES[function.path]), [], re.findall(r"(\w+):", function.signature)), *types]
+    return [*items(clauses, "", imports(SOURCES[function.path])), *types]
 
 
 @functools.cache
@@ -170,7 +130,7 @@ def cites(item):
         inside = re.findall(r"\b[A-Z]\w*", TYPES.get(item.name, ""))
         return [*model, *(Item("type", name) for name in inside if name in TYPES)]
     file = FILES.get(item.file)
-    return items("\n".join(file.lines[item.name]), item.file, file.imports, [item.name]) if file else []
+    return items("\n".join(file.lines[item.name]), item.file, file.imports) if file else []
 
 
 def closure(starts):

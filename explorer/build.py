@@ -127,7 +127,7 @@ def data():
 
 def hash_of(wasm):
     """Returns a hash of the WebAssembly and its sources. Comments and blank lines of the sources do not count."""
-    files = [HERE / "shim.rs", TOP / "rust/Cargo.toml"]
+    files = [HERE / "shim.rs", TOP / "Cargo.toml"]
     files += sorted((TOP / "rust/src").rglob("*.rs")) + sorted((TOP / "rust/capi/src").rglob("*.rs"))
     whole = hashlib.sha256(json.dumps([wasm, compiler_flags()]).encode())
     for path in files:
@@ -180,7 +180,7 @@ def compiled():
             library(rustc, folder, "core", core)
             library(rustc, folder, "compiler_builtins", HERE / "shim.rs")
         library(rustc, folder, "peltzivar", TOP / "rust/src/lib.rs")
-        version = re.search(r'^version = "(\d+)\.(\d+)\.(\d+)"$', (TOP / "rust/Cargo.toml").read_text(), re.M)
+        version = re.search(r'^version = "(\d+)\.(\d+)\.(\d+)"$', (TOP / "Cargo.toml").read_text(), re.M)
         parts = zip(("MAJOR", "MINOR", "PATCH"), version.groups())
         names = {f"CARGO_PKG_VERSION_{name}": number for name, number in parts}
         options = ["--crate-type=cdylib", "-Clto=fat", "-Ccodegen-units=1", "-Cstrip=symbols", "--extern=peltzivar"]

@@ -218,27 +218,3 @@ fn exponents_have_the_bases_of_their_grammars() {
         );
     }
 }
-
-#[test]
-fn setters_have_the_effects_in_their_comments() {
-    let mut lines = include_str!("../examples/recipes.rs").lines().peekable();
-    for (name, word, exponent) in RECIPES {
-        let exponent = (!name.ends_with("_INTEGER")).then_some(exponent);
-        lines.find(|line| line.starts_with(&format!("pub const {name}: ")));
-        while let Some(line) = lines.next_if(|line| !line.contains("build_or_panic")) {
-            let mut verb = None;
-            let comment = line.split_once("//").map_or("", |(_, comment)| comment);
-            for (index, words) in comment.split('`').enumerate() {
-                match verb {
-                    Some(verb) if index % 2 == 1 => {
-                        assert_eq!(is_number(word, exponent, words), verb, "{name}: {words}")
-                    }
-                    _ if words.contains("accepts") => verb = Some(true),
-                    _ if words.contains("rejects") => verb = Some(false),
-                    _ if words.contains(", not") => verb = verb.map(|verb| !verb),
-                    _ => (),
-                }
-            }
-        }
-    }
-}

@@ -1,5 +1,5 @@
-//! Compares the plain Rust with files of other folders: with results that `lexical-util` 1.0.7 returned, whose lines
-//! `crates/recorded/src/reading.rt` describes, and with the proved table of digits.
+//! Compares the plain Rust with results that `lexical-util` 1.0.7 returned. `crates/recorded/src/reading.rt` describes
+//! their lines.
 
 #[path = "rows/errors.rs"]
 #[allow(dead_code)]
@@ -13,18 +13,6 @@ use peltzivar::error::Error;
 use peltzivar::format_builder::{NonZeroU8, NumberFormatBuilder};
 use peltzivar::format_flags::is_valid_options_punctuation;
 use peltzivar::word::{format_error, FormatView};
-
-/// The number of lines of each kind in the file.
-const COUNTS: [(&str, usize); 8] = [
-    ("byte", 256),
-    ("digit", 2048),
-    ("printed", 87),
-    ("fields", 4000),
-    ("check", 6049),
-    ("options", 2600),
-    ("edit", 2594),
-    ("build", 2500),
-];
 
 fn word(text: &str) -> Option<u128> {
     u128::from_str_radix(text, 16).ok()
@@ -129,41 +117,16 @@ fn keeps(line: &str) -> Option<bool> {
     })
 }
 
-/// Returns the text of a file in `crates/`.
-fn text_of(file: &str) -> String {
-    let path = format!("{}/../crates/{file}", env!("CARGO_MANIFEST_DIR"));
-    std::fs::read_to_string(path).expect("a file of the repository")
-}
-
-/// The entries of the proved table are bytes, and the entries of the plain Rust are numbers of 32 bits.
-#[test]
-fn each_byte_has_the_digit_value_of_the_proved_table() {
-    let source = text_of("lexical_base/src/digit.rt");
-    let (_, table) = source
-        .split_once("const VALUES: [u8; 256] = [")
-        .expect("the table");
-    let (table, _) = table.split_once(']').expect("its end");
-    let values: Vec<u8> = table
-        .split(',')
-        .flat_map(|value| value.trim().parse())
-        .collect();
-    assert_eq!(values.len(), 256);
-    for (byte, value) in (0..=255).zip(values) {
-        assert_eq!(char_to_digit(byte, 256), Some(value.into()), "{byte}");
-    }
-}
-
 #[test]
 fn recorded_results_are_kept() {
-    let text = text_of("recorded/data/results.txt");
-    let mut counts = COUNTS.map(|(kind, _)| (kind, 0));
+    let path = concat!(
+        env!("CARGO_MANIFEST_DIR"),
+        "/../crates/recorded/data/results.txt"
+    );
+    let text = std::fs::read_to_string(path).expect("a file of the repository");
     for line in text.lines() {
         // After ` crate: `, the line has what `lexical-util` returns where this library differs on purpose.
         let fact = line.split_once(" crate: ").map_or(line, |(fact, _)| fact);
         assert_eq!(keeps(fact), Some(true), "{line}");
-        let kind = fact.split(' ').next();
-        let count = counts.iter_mut().find(|count| kind == Some(count.0));
-        count.expect("a known kind").1 += 1;
     }
-    assert_eq!(counts, COUNTS);
 }

@@ -3,11 +3,9 @@
 the tables of erase.py. Comments are not words. The order of imports, and commas and braces that rustfmt adds, do not
 matter.
 
-This test reads the sources by itself and takes only the tables from erase.py. It also tests that faults are found which
-are planted in generated files, or in sources that the eraser has to refuse. The last line is `N passed, M failed`.
+This test reads the sources by itself and takes only the tables from erase.py. It prints each file that differs.
 """
 import pathlib
-import random
 import re
 import sys
 
@@ -160,24 +158,7 @@ def wanted_words(path, place):
     return with_attributes(words, str(path).rpartition("/src/")[2]) if is_library else words
 
 
-LET = r"let \w+ = unsafe \{ crate : : slices : : \w+ \( \w+ , \w+ \) \} ; "
-EXPORT = re.compile(rf'unsafe extern "C" fn (\w+) \( (.*?) \) ((?:- > \w+ )?)\{{ ((?:{LET})*)')
-POINTER = re.compile(r"(\w+) : \* (const|mut) (\w+) , \1_len : usize")
 IMPORT = re.compile(r"(?:# \[ [^\]]* \] )*(?:pub (?:\( \w+ \) )?)?(?:use [^;]*|mod \w+) ;")
-
-
-def with_slices(export):
-    """An export with a slice in place of each pointer and length, if its body begins with one `let` for each, and the
-    export itself if not."""
-    name, arguments, result, lets = export.groups()
-    wanted = ""
-    for argument, kind, _ in POINTER.findall(arguments):
-        of = "of_mut" if kind == "mut" else "of"
-        wanted += f"let {argument} = unsafe {{ crate : : slices : : {of} ( {argument} , {argument}_len ) }} ; "
-    if not wanted or lets != wanted:
-        return export[0]
-    arguments = POINTER.sub(lambda m: f"{m[1]} : & {'mut ' * (m[2] == 'mut')}[ {m[3]} ]", arguments)
-    return f'extern "C" fn {name} ( {arguments} ) {result}{{ '
 
 
 def import_of(text):
@@ -190,11 +171,9 @@ def import_of(text):
     return text
 
 
-def normal(words, is_made=False):
+def normal(words):
     """The imports, sorted, and the other words without what rustfmt and the eraser add."""
-    text = " ".join(words)
-    if is_made:
-        text = EXPORT.sub(with_slices, text.replace("# [ must_use ] ", ""))
+    text = " ".join(words).replace("# [ must_use ] ", "")
     imports = sorted(import_of(it) for it in IMPORT.findall(text))
     rest = re.sub(r" +", " ", re.sub(r", (?=[)\]}])", "", IMPORT.sub("", text)))
     return imports, rest.split()
@@ -229,7 +208,7 @@ def depth_of(words, index, cache={}):
 
 
 def are_same(wanted, made):
-    wanted, made = normal(wanted), normal(made, is_made=True)
+    wanted, made = normal(wanted), normal(made)
     return wanted[0] == made[0] and same_words(wanted[1], made[1])
 
 
@@ -252,108 +231,11 @@ def made_files():
         yield made, wanted_words(path, place), words_of(made.read_text())
 
 
-def faults(made, chance):
-    """Some faults in the words of a generated file: a missing word, a repeated word, a missing statement."""
-    names = [at for at, word in enumerate(made) if word[0].isalnum()]
-    for at in chance.sample(names, min(8, len(names))):
-        yield f"without {made[at]} at {at}", made[:at] + made[at + 1 :]
-        yield f"{made[at]} twice at {at}", made[:at] + made[at : at + 1] + made[at:]
-    ends = [at for at in range(made.index("fn") if "fn" in made else len(made), len(made)) if made[at] == ";"]
-    for at in chance.sample(ends, min(4, len(ends))):
-        start = 1 + max(index for index in range(at) if made[index] in (";", "{", "}"))
-        yield f"without the statement at {start}", made[:start] + made[at + 1 :]
-
-
-# Sources that the eraser refuses, each with the refusal.
-REFUSED = {
-    "pub fn f() {\n    prove!(true);\n}\n": "2: this is not plain Rust",
-    "pub fn f() {\n    let ghost x = 1;\n}\n": "2: this is not plain Rust",
-    "pub fn f()\n    promises { x }\n{\n}\n": "2: no clause is known that begins so",
-    "pub fn f() -> u8\n    promises { x }\n{\n}\n": "2: no clause is known that begins so",
-    "pub fn f(x: u8) -> u8\n    ensures { λ }\n    x ≡ 1\n{\n}\n": "3: no clause is known that begins so",
-    "impl Drop for X {\n}\n": "1: this is not plain Rust",
-    "use crate::laws::facts;\npub fn f() {\n    g(facts);\n}\n": "3: this is not plain Rust",
-    "use crate::laws::facts;\npub fn f() {\n    facts() + 1;\n}\n": "3: a law is used, and not called as a statement",
-    "pub fn f() {\n    g(;\n}\n": "3: this closes another bracket",
-    "pub fn f() {\n    g();\n": "1: a bracket is not closed",
-    "/// Returns.\npub fn f()\n    requires { x }\n{\n}\n": "2: a public call has a premise",
-    "/// # Examples\n#[inline]\npub const fn f() -> u8\n    ensures { y }\n    requires x { x }\n{\n    1\n}\n":
-    "2: a public call has a premise",
-    "pub fn f() {\n    λ;\n}\n": "2: this is not plain Rust",
-    "ghost x = { y }\npub fn f() {\n}\n": "2: a ghost item does not end with `;`",
-    "pub fn f() -> u8\n    ensures x ≡ 1\n{\n    1\n}\n": "2: a clause has no braces",
-    "pub fn f() -> u8\n    ensures name x\n{\n    1\n}\n": "2: a clause has no braces",
-    "pub fn f() {\n    while x decreases { y } {\n    }\n}\n": "2: this is not plain Rust",
-}
-# The words of the ghost language. A source in which one of them is left is refused.
-GHOST = "ghost requires ensures tactic prove invariant measure Model Drop laws rt alloc decreases assume"
-REFUSED |= {f"pub fn f() {{\n    x.{word};\n}}\n": "2: this is not plain Rust" for word in GHOST.split()}
-
-# Files without counterpart, with the module `ascii` in plain Rust, each with the refusal, or nothing.
-LAW = "pub fn f()\n    ensures { x }\n{\n    g::h();\n}\n"
-LEFT_OUT = [
-    ("lib.rt", "#![tactic(auto)]\npub mod ascii;\nmod laws;\npub use a::{b};\nghost use c;\n", ""),
-    ("lib.rt", "pub mod other;\n", "1: plain Rust has no such module"),
-    ("lib.rt", "mod ascii {\n}\n", "1: plain Rust has no such module"),
-    ("lib.rt", "pub mod ascii;\nimpl Default for X {\n}\n", "2: plain Rust would lose this item"),
-    ("lib.rt", "macro_rules! x {\n}\n", "1: plain Rust would lose this item"),
-    ("lib.rt", "pub const X: u8 = 1;\n", "1: plain Rust would lose this item"),
-    ("lib.rt", "pub fn f() {\n}\n", "1: plain Rust would lose this item"),
-    ("main.rt", "mod ascii;\nfn main() {\n    let x = Y { z: 1 };\n}\n", ""),
-    ("main.rt", "pub fn f() {\n}\n", "1: plain Rust would lose this item"),
-    ("main.rt", "mod other;\n", "1: plain Rust has no such module"),
-    ("main.rt", "#[derive(Clone)]\nstruct X;\n", "2: plain Rust would lose this item"),
-    ("main.rt", "enum X {\n}\n", "1: plain Rust would lose this item"),
-    ("main.rt", "trait X {\n}\n", "1: plain Rust would lose this item"),
-    ("main.rt", "static X: u8 = 1;\n", "1: plain Rust would lose this item"),
-    ("main.rt", "type X = u8;\n", "1: plain Rust would lose this item"),
-    ("laws.rt", f"pub mod examples;\n{LAW}", ""),
-    ("laws.rt", f"{LAW}impl X {{\n}}\n", "6: plain Rust would lose this item"),
-    ("laws.rt", "pub fn f() -> u8 {\n    1\n}\n", "1: this function is not a law"),
-    ("laws.rt", "pub fn f() {\n    g(1);\n}\n", "1: this function is not a law"),
-    ("laws.rt", "union X {\n}\n", "1: plain Rust would lose this item"),
-    ("examples.rt", "#[no_mangle]\npub extern fn f() {\n}\n", "2: plain Rust would lose this item"),
-]
-
-
-def refusal(call, path, text, *arguments, name=""):
-    """The refusal of a text, or nothing."""
-    try:
-        call(erase.Source(pathlib.Path(path), text, name), *arguments)
-    except erase.Refused as refused:
-        return str(refused)
-    return ""
-
-
-def refusals():
-    """Each source that the eraser has to refuse or to accept, with the refusal that it needs, and its own."""
-    for text, says in REFUSED.items():
-        yield text, says, refusal(erase.Source.erase, "f.rt", text)
-    text, says = "pub fn migrate() -> u8\n    ensures { x }\n{\n    1\n}\n", "1: a function whose clauses are shown has no"
-    yield text, says, refusal(erase.Source.erase, "edits.rt", text, name="edits.rt")
-    for path, text, says in LEFT_OUT:
-        modules = {"ascii", "laws", "examples"}
-        yield f"{path}: {text}", says, refusal(erase.Source.check_left_out, path, text, modules)
-
-
 def main():
-    passed, failed = 0, []
-    chance = random.Random(1)
-    for path, wanted, made in made_files():
-        name = path.relative_to(erase.RUST)
-        for what, words in [("", made), *faults(made, chance)]:
-            if are_same(wanted, words) == (what == ""):
-                passed += 1
-            else:
-                failed.append(f"{name}: {'not found: ' + what if what else 'not the words of its source'}")
-    for text, wanted, says in refusals():
-        if says == "" if wanted == "" else wanted in says:
-            passed += 1
-        else:
-            failed.append(f"{text!r}\n  wanted: {wanted or 'no refusal'}\n  got:    {says or 'no refusal'}")
-    print(*failed, f"{passed} passed, {len(failed)} failed", sep="\n")
-    return bool(failed)
+    files = list(made_files())
+    found = [str(path.relative_to(erase.RUST)) for path, wanted, made in files if not are_same(wanted, made)]
+    sys.exit(f"not the words of the source: {', '.join(found)}" if found or not files else 0)
 
 
 if __name__ == "__main__":
-    sys.exit(main())
+    main()
