@@ -1,0 +1,48 @@
+# shellcheck shell=bash
+# compare/run and bench/run source this file. UPSTREAM names the sources of lexical-util 1.0.7: its folder, or a folder
+# with its files as src--src--NAME.rs.txt. WORK names a folder to build in and keep. By default, it is temporary.
+: "${UPSTREAM:?needs the folder of the sources of lexical-util 1.0.7, such as those that cargo vendor fetches}"
+repository=$(cd "$(dirname "${BASH_SOURCE[0]}")/.." && pwd)
+if [ -n "${WORK:-}" ]; then
+    mkdir -p "$WORK"
+    work=$(cd "$WORK" && pwd)
+else
+    work=$(mktemp -d)
+    trap 'rm -rf "$work"' EXIT
+fi
+
+# manifest NAME DEPENDENCY=FOLDER.. writes the manifest of a crate to stdout.
+manifest() {
+    printf '[package]\nname = "%s"\nversion = "0.0.0"\nedition = "2021"\n\n[workspace]\n' "$1"
+    printf '\n[profile.release]\nopt-level = 3\nlto = "fat"\ncodegen-units = 1\n\n[dependencies]\n'
+    local dependency
+    for dependency in "${@:2}"; do
+        printf '%s = { path = "%s" }\n' "${dependency%%=*}" "${dependency#*=}"
+    done
+}
+
+# Copies seven modules of lexical-util into the frame, the crate `upstream`.
+mkdir -p "$work/upstream/src"
+cp "$repository/compare/upstream.rs" "$work/upstream/src/lib.rs"
+for module in ascii digit error feature_format format format_builder format_flags; do
+    from=$UPSTREAM/src/$module.rs
+    [ -f "$from" ] || from=$UPSTREAM/src--src--$module.rs.txt
+    cp "$from" "$work/upstream/src/$module.rs"
+done
+features='"format", "power-of-two", "radix", "parse-integers", "parse-floats", "write-integers", "write-floats"'
+{
+    manifest upstream
+    printf '\n[features]\ndefault = [%s]\n' "$features"
+    printf '%s = []\n' ${features//[\",]/} std compact f16
+} > "$work/upstream/Cargo.toml"
+
+# driver FOLDER RUST NAME PROCESSOR: builds the driver of a folder over the library in the folder RUST as $work/NAME. No
+# jump crosses a 32-byte boundary. Otherwise, times would depend on the addresses of code.
+driver() {
+    mkdir -p "$work/driver"
+    { manifest driver "peltzivar=$2" "upstream=$work/upstream"
+      printf '\n[[bin]]\nname = "driver"\npath = "%s/src/main.rs"\n' "$1"; } > "$work/driver/Cargo.toml"
+    RUSTFLAGS="-C target-cpu=$4 -C llvm-args=-x86-branches-within-32B-boundaries" CARGO_TARGET_DIR=$work/target-$4 \
+        cargo build --release --offline --quiet --manifest-path "$work/driver/Cargo.toml"
+    cp "$work/target-$4/release/driver" "$work/$3"
+}
