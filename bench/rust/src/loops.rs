@@ -1,5 +1,5 @@
-// The loops that have one source, over `lexical-util` and over the library as plain Rust. `theirs.rs` and `plain.rs`
-// include them, each under its own imports.
+// The loops that have one source, over the library and over `lexical-util`. `ours.rs` and `theirs.rs` include
+// them, each under its own imports.
 
 // BYTES AND DIGITS
 
@@ -31,6 +31,22 @@ pub fn decimal_read(bytes: &[u8]) -> u64 {
         }
     }
     number
+}
+
+/// Hexadecimal digits, with separators between digits.
+const HEXADECIMAL: u128 = 0x10 << 104 | 0x5F << 64 | 1 << 32 | 0xC;
+
+pub fn constant_read(bytes: &[u8]) -> u64 {
+    let format = NumberFormat::<HEXADECIMAL>::new();
+    let (mut fold, mut number) = (Fold::new(), 0u64);
+    for c in bytes {
+        if let Some(digit) = char_to_digit(*c, format.radix()) {
+            number = number.wrapping_mul(format.radix() as u64).wrapping_add(digit as u64);
+        } else if !(format.integer_internal_digit_separator() && *c == format.digit_separator()) {
+            fold = fold.with(number);
+        }
+    }
+    fold.with(number).sum
 }
 
 pub fn is_digit(bytes: &[u8], radix: u32) -> u64 {

@@ -11,6 +11,7 @@ use upstream::ascii::{is_valid_ascii, is_valid_ascii_slice, is_valid_letter_slic
 use upstream::checks::{format_error, radix_error};
 use upstream::digit::{char_is_digit, char_to_digit, char_to_digit_const, digit_to_char};
 use upstream::error::Error;
+use upstream::feature_format::NumberFormat;
 use upstream::format_builder::{NumberFormatBuilder, OptionU8};
 use upstream::format_flags as flags;
 
@@ -74,8 +75,7 @@ with_setters!(truths);
 pub fn few_getters(cases: &[u64]) -> u64 {
     over(cases, |fold, word, _| {
         let flag = |mask: u128| word & mask != 0;
-        let radix = if flag(flags::REQUIRED_INTEGER_DIGITS) || flag(flags::SPECIAL_DIGIT_SEPARATOR)
-        {
+        let radix = if flag(flags::REQUIRED_INTEGER_DIGITS) || flag(flags::SPECIAL_DIGIT_SEPARATOR) {
             flags::exponent_radix(word)
         } else {
             flags::mantissa_radix(word)
