@@ -29,11 +29,12 @@ for module in ascii digit error feature_format format format_builder format_flag
     [ -f "$from" ] || from=$UPSTREAM/src--src--$module.rs.txt
     cp "$from" "$work/upstream/src/$module.rs"
 done
-features='"format", "power-of-two", "radix", "parse-integers", "parse-floats", "write-integers", "write-floats"'
+features=(format power-of-two radix parse-integers parse-floats write-integers write-floats)
 {
     manifest upstream
-    printf '\n[features]\ndefault = [%s]\n' "$features"
-    printf '%s = []\n' ${features//[\",]/} std compact f16
+    printf '\n[features]\n'
+    printf '%s = []\n' "${features[@]}" std compact f16
+    printf 'default = ['; printf '"%s", ' "${features[@]}"; printf ']\n'
 } > "$work/upstream/Cargo.toml"
 
 # driver FOLDER RUST NAME PROCESSOR: builds the driver of a folder over the library in the folder RUST as $work/NAME. No

@@ -296,44 +296,22 @@ pub fn same_formats(cases: &[u64]) -> u64 {
 
 // EDITS
 
-pub fn known_edits(cases: &[u64]) -> u64 {
-    over(cases, |fold, word, bits| {
-        let edits = [
-            Edit::Flag(FlagSetter::NoSpecial, bits % 2 == 1),
-            Edit::DigitSeparator(NonZeroU8::new((bits >> 16) as u8)),
-            Edit::MantissaRadix((bits >> 24) as u8),
-        ];
-        fold.with_word(edit_word(word, &edits))
-    })
-}
-
 pub fn any_edits(cases: &[u64]) -> u64 {
     over(cases, |fold, word, bits| {
-        let edits = [edit_of(bits), edit_of(bits >> 16), edit_of(bits >> 32)];
-        fold.with_word(edit_word(word, &edits))
+        fold.with_word(edit_word(word, &[edit_of(bits), edit_of(bits >> 16), edit_of(bits >> 32)]))
     })
 }
 
 fn edit_of(bits: u64) -> Edit {
-    let flag = (bits >> 7) % 2 == 1;
-    let value = (bits >> 8) as u8;
-    let byte = NonZeroU8::new(value);
-    match bits % 16 {
+    let (flag, byte) = (bits >> 7 & 1 == 1, NonZeroU8::new((bits >> 8) as u8));
+    match bits % 8 {
         0 => Edit::Flag(FlagSetter::RequiredIntegerDigits, flag),
-        1 => Edit::Flag(FlagSetter::NoSpecial, flag),
-        2 => Edit::Flag(FlagSetter::CaseSensitiveBaseSuffix, flag),
-        3 => Edit::Flag(FlagSetter::ExponentTrailingDigitSeparator, flag),
-        4 => Edit::Flag(FlagSetter::SpecialDigitSeparator, flag),
-        5 => Edit::Flag(FlagSetter::RequiredDigits, flag),
-        6 => Edit::Flag(FlagSetter::LeadingDigitSeparator, flag),
-        7 => Edit::Flag(FlagSetter::DigitSeparatorFlags, flag),
-        8 => Edit::Flag(FlagSetter::FractionDigitSeparatorFlags, flag),
-        9 => Edit::DigitSeparator(byte),
-        10 => Edit::BasePrefix(byte),
-        11 => Edit::BaseSuffix(byte),
-        12 => Edit::MantissaRadix(value),
-        13 => Edit::Radix(value),
-        14 => Edit::ExponentBase(byte),
-        _ => Edit::ExponentRadix(byte),
+        1 => Edit::Flag(FlagSetter::SpecialDigitSeparator, flag),
+        2 => Edit::Flag(FlagSetter::LeadingDigitSeparator, flag),
+        3 => Edit::Flag(FlagSetter::DigitSeparatorFlags, flag),
+        4 => Edit::DigitSeparator(byte),
+        5 => Edit::BasePrefix(byte),
+        6 => Edit::Radix((bits >> 8) as u8),
+        _ => Edit::ExponentBase(byte),
     }
 }

@@ -5,7 +5,6 @@
 //!     driver [--rounds N] [--only TEXT]
 
 mod data;
-mod edits;
 mod fold;
 mod measure;
 mod ours;
@@ -33,7 +32,6 @@ struct Data {
     numbers: Vec<u64>,
     lawful: Vec<u64>,
     broken: Vec<u64>,
-    few: Vec<u64>,
     any: Vec<u64>,
 }
 
@@ -49,7 +47,6 @@ impl Data {
             numbers: data::numbers(random, 4096),
             lawful: data::cases(random, 4096, Words::Lawful),
             broken: data::cases(random, 4096, Words::Broken),
-            few: data::cases(random, 1024, Words::Any),
             any: data::cases(random, 4096, Words::Any),
         }
     }
@@ -104,7 +101,7 @@ fn byte_rows(data: &Data) -> Vec<Row<'_>> {
 /// The rows of outcomes, words, builders and edits.
 fn word_rows(data: &Data) -> Vec<Row<'_>> {
     let numbers = &data.numbers[..];
-    let [lawful, broken, few, any] = [&data.lawful, &data.broken, &data.few, &data.any].map(|cases| &cases[..]);
+    let [lawful, broken, any] = [&data.lawful, &data.broken, &data.any].map(|cases| &cases[..]);
     let (each, times, count) = (numbers.len(), numbers.len() * TIMES, lawful.len() / 3);
     vec![
         row!("description", numbers, times, descriptions),
@@ -117,7 +114,7 @@ fn word_rows(data: &Data) -> Vec<Row<'_>> {
         row!("five rules by their own calls", lawful, count, validators),
         row!("is_valid_options_punctuation, lawful", lawful, count, options),
         row!("is_valid_options_punctuation, unlawful", broken, count, options),
-        row!("view, 48 getters", any, count, view),
+        row!("view, 42 getters", any, count, view),
         row!("view, 4 getters", lawful, count, few_getters),
         row!("view, 7 masks", any, count, masks),
         row!("new, 5 setters, build", any, count, new_builders),
@@ -127,8 +124,7 @@ fn word_rows(data: &Data) -> Vec<Row<'_>> {
         row!("normal_form", any, count, normal_forms),
         row!("same_format", any, count, same_formats),
         row!("edit_word, 3 known edits", any, count, known_edits),
-        row!("edit_word, 3 of any kind, 1024 words", few, few.len() / 3, any_edits),
-        row!("edit_word, 3 of any kind, 4096 words", any, count, any_edits),
+        row!("edit_word, 3 of any kind", any, count, any_edits),
         row!("migrate, lawful", lawful, count, migrate),
     ]
 }
