@@ -21,13 +21,7 @@ HERE = {
 
 # A value for each type of an argument.
 VALUES = {
-    "u8": "0",
-    "u32": "2",
-    "i32": "0",
-    "u128": "STANDARD",
-    "bool": "true",
-    "&[u8]": 'b""',
-    "OptionU8": "None",
+    "u8": "0", "u32": "2", "i32": "0", "u128": "STANDARD", "bool": "true", "&[u8]": 'b""', "OptionU8": "None",
     "&Error": "&Error::Success",
     "NumberFormatBuilder": "NumberFormatBuilder::new()",
     "&NumberFormatBuilder": "&NumberFormatBuilder::new()",

@@ -296,6 +296,17 @@ pub fn same_formats(cases: &[u64]) -> u64 {
 
 // EDITS
 
+pub fn known_edits(cases: &[u64]) -> u64 {
+    over(cases, |fold, word, bits| {
+        let edits = [
+            Edit::Flag(FlagSetter::NoSpecial, bits % 2 == 1),
+            Edit::DigitSeparator(NonZeroU8::new((bits >> 16) as u8)),
+            Edit::MantissaRadix((bits >> 24) as u8),
+        ];
+        fold.with_word(edit_word(word, &edits))
+    })
+}
+
 pub fn any_edits(cases: &[u64]) -> u64 {
     over(cases, |fold, word, bits| {
         fold.with_word(edit_word(word, &[edit_of(bits), edit_of(bits >> 16), edit_of(bits >> 32)]))

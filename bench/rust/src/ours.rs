@@ -20,17 +20,6 @@ pub fn build_strict(cases: &[u64]) -> u64 {
     over(cases, |fold, word, _| fold.with_word(NumberFormatBuilder::rebuild(word).build_strict().unwrap_or(0)))
 }
 
-pub fn known_edits(cases: &[u64]) -> u64 {
-    over(cases, |fold, word, bits| {
-        let edits = [
-            Edit::Flag(FlagSetter::NoSpecial, bits % 2 == 1),
-            Edit::DigitSeparator(NonZeroU8::new((bits >> 16) as u8)),
-            Edit::MantissaRadix((bits >> 24) as u8),
-        ];
-        fold.with_word(edit_word(word, &edits))
-    })
-}
-
 pub fn migrate(cases: &[u64]) -> u64 {
     over(cases, |fold, word, _| fold.with_word(peltzivar::edits::migrate(word).unwrap_or(0)))
 }

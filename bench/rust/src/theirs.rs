@@ -21,11 +21,6 @@ pub fn build_strict(cases: &[u64]) -> u64 {
     over(cases, |fold, word, _| fold.with_word(NumberFormatBuilder::rebuild(word).build_strict()))
 }
 
-/// Makes the setter calls that the edits are.
-pub fn known_edits(cases: &[u64]) -> u64 {
-    setters(cases)
-}
-
 macro_rules! edits {
     ({ $($Flag:ident $flag:ident $get:ident $CONST:ident;)* } { $($Group:ident $group:ident;)* }) => {
         /// Makes the setter call that an edit of the library is.

@@ -17,18 +17,15 @@ pub fn byte(c: u8) -> Results<2> {
 
 pub fn slice(bytes: &[u8]) -> Results<2> {
     results! {
-        is_valid_ascii_slice: is_valid_ascii_slice(bytes),
-        is_valid_letter_slice: is_valid_letter_slice(bytes),
+        is_valid_ascii_slice: is_valid_ascii_slice(bytes), is_valid_letter_slice: is_valid_letter_slice(bytes),
     }
 }
 
 pub fn digit(c: u8, radix: u32) -> Results<5> {
     results! {
         char_to_valid_digit_const: char_to_valid_digit_const(c, radix),
-        char_to_digit_const: char_to_digit_const(c, radix),
-        char_to_digit: char_to_digit(c, radix),
-        char_is_digit_const: char_is_digit_const(c, radix),
-        char_is_digit: char_is_digit(c, radix),
+        char_to_digit_const: char_to_digit_const(c, radix), char_to_digit: char_to_digit(c, radix),
+        char_is_digit_const: char_is_digit_const(c, radix), char_is_digit: char_is_digit(c, radix),
     }
 }
 
@@ -77,9 +74,7 @@ with_outcomes!(outcomes);
 pub fn outcome(position: u128, index: usize) -> Results<4> {
     let error = error_at(position, index);
     results! {
-        tests: tests(error),
-        has_index: error.index().is_some(),
-        index: error.index().map_or(0, |index| *index),
+        tests: tests(error), has_index: error.index().is_some(), index: error.index().map_or(0, |index| *index),
         clone_is_equal: error.clone() == error,
     }
 }
@@ -108,34 +103,22 @@ pub fn display(position: u128, index: usize, style: u32) -> String {
 // WORDS
 
 /// The rules and the fields of a word: first what `rules::word` changes. Of `format_error_impl`, the call `format_error`
-/// and the view the errors are given.
-fn word_of(word: u128, [error, call_error, view_error]: [Error; 3], [is_valid, view_is_valid]: [bool; 2]) -> Results<16> {
+/// and the view the errors are given, and then of the two calls for radixes.
+fn word_of(word: u128, errors: [Error; 3], are_valid: [bool; 2], radixes: [Error; 2], is_valid_radix: bool) -> Results<19> {
+    let [format_error_impl, format_error, view_error] = errors.map(position);
+    let [radix_error, view_radix_error] = radixes.map(position);
     results! {
-        format_error_impl: position(error),
-        format_error: position(call_error),
-        view_error: position(view_error),
-        format_is_valid: is_valid,
-        view_is_valid: view_is_valid,
-        is_valid_punctuation: flags::is_valid_punctuation(word),
-        digit_separator: flags::digit_separator(word),
-        base_prefix: flags::base_prefix(word),
-        base_suffix: flags::base_suffix(word),
-        mantissa_radix: flags::mantissa_radix(word),
-        exponent_base: flags::exponent_base(word),
-        exponent_radix: flags::exponent_radix(word),
+        format_error_impl: format_error_impl, format_error: format_error, view_error: view_error,
+        format_is_valid: are_valid[0], view_is_valid: are_valid[1],
+        is_valid_punctuation: flags::is_valid_punctuation(word), radix_error: radix_error,
+        view_radix_error: view_radix_error, view_is_valid_radix: is_valid_radix,
+        digit_separator: flags::digit_separator(word), base_prefix: flags::base_prefix(word),
+        base_suffix: flags::base_suffix(word), mantissa_radix: flags::mantissa_radix(word),
+        exponent_base: flags::exponent_base(word), exponent_radix: flags::exponent_radix(word),
         is_valid_exponent_flags: flags::is_valid_exponent_flags(word),
         is_valid_digit_separator: flags::is_valid_digit_separator(word),
         is_valid_base_prefix: flags::is_valid_base_prefix(word),
         is_valid_base_suffix: flags::is_valid_base_suffix(word),
-    }
-}
-
-/// The errors of the radixes of a word, by `radix_error_impl` and by the view.
-fn radixes_of(error: Error, view_error: Error, view_is_valid: bool) -> Results<3> {
-    results! {
-        radix_error: position(error),
-        error_radix: position(view_error),
-        is_valid_radix: view_is_valid,
     }
 }
 
@@ -161,14 +144,9 @@ macro_rules! view_of {
     ) => {
         results! {
             $($flag: $view.$flag(),)* $($truth: $view.$truth(),)* $($byte: $view.$byte(),)* $($radix: $view.$radix(),)*
-            $($mask: $view.$mask(),)*
-            has_digit_separator: $view.has_digit_separator(),
-            has_base_prefix: $view.has_base_prefix(),
-            has_base_suffix: $view.has_base_suffix(),
-            radix: $view.radix(),
-            radix2: $view.radix2(),
-            radix4: $view.radix4(),
-            radix8: $view.radix8(),
+            $($mask: $view.$mask(),)* has_digit_separator: $view.has_digit_separator(),
+            has_base_prefix: $view.has_base_prefix(), has_base_suffix: $view.has_base_suffix(), radix: $view.radix(),
+            radix2: $view.radix2(), radix4: $view.radix4(), radix8: $view.radix8(),
         }
     };
 }
@@ -176,14 +154,10 @@ macro_rules! view_of {
 // WORDS THAT ARE KNOWN WHEN THIS IS COMPILED
 
 /// The rules of a word by the calls that take it as a const argument, and the fields.
-pub fn const_word<const WORD: u128>() -> Results<16> {
+pub fn const_word<const WORD: u128>() -> Results<19> {
     let (view, error) = (known::NumberFormat::<WORD>::new(), known::format_error::<WORD>());
-    word_of(WORD, [error, error, view.error()], [known::format_is_valid::<WORD>(), view.is_valid()])
-}
-
-pub fn const_radixes<const WORD: u128>() -> Results<3> {
-    let view = known::NumberFormat::<WORD>::new();
-    radixes_of(view.error_radix(), view.error_radix(), view.is_valid_radix())
+    let are_valid = [known::format_is_valid::<WORD>(), view.is_valid()];
+    word_of(WORD, [error, error, view.error()], are_valid, [view.error_radix(); 2], view.is_valid_radix())
 }
 
 /// The getters of the view that has the word as a const argument.
@@ -246,12 +220,9 @@ macro_rules! builders {
         /// The getters of a builder; an absent byte is 0.
         fn fields(builder: &NumberFormatBuilder) -> Results<37> {
             results! {
-                $($flag: builder.$get(),)*
-                mantissa_radix: builder.get_mantissa_radix(),
-                digit_separator: builder.get_digit_separator(),
-                base_prefix: builder.get_base_prefix(),
-                base_suffix: builder.get_base_suffix(),
-                exponent_base: builder.get_exponent_base(),
+                $($flag: builder.$get(),)* mantissa_radix: builder.get_mantissa_radix(),
+                digit_separator: builder.get_digit_separator(), base_prefix: builder.get_base_prefix(),
+                base_suffix: builder.get_base_suffix(), exponent_base: builder.get_exponent_base(),
                 exponent_radix: builder.get_exponent_radix(),
             }
         }
@@ -318,12 +289,9 @@ pub fn from_radix(radix: u8) -> Results<1> {
 pub fn standards() -> Results<7> {
     let [builder, default_view] = builders_of_views();
     results! {
-        binary: NumberFormatBuilder::binary(),
-        octal: NumberFormatBuilder::octal(),
-        decimal: NumberFormatBuilder::decimal(),
-        hexadecimal: NumberFormatBuilder::hexadecimal(),
-        builder: builder.build_unchecked(),
-        default_view: default_view.build_unchecked(),
+        binary: NumberFormatBuilder::binary(), octal: NumberFormatBuilder::octal(),
+        decimal: NumberFormatBuilder::decimal(), hexadecimal: NumberFormatBuilder::hexadecimal(),
+        builder: builder.build_unchecked(), default_view: default_view.build_unchecked(),
         default_builder: NumberFormatBuilder::default().build_unchecked(),
     }
 }

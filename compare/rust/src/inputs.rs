@@ -57,8 +57,7 @@ pub fn single_calls(values: u16) -> impl Iterator<Item = SetterCall> {
 }
 
 impl Random {
-    /// A byte that a word may hold for separator, prefix or suffix: often none, a letter of either
-    /// case, or a sign of text, and sometimes any byte.
+    /// A byte for separator, prefix or suffix: often none, a letter of either case, or a sign, and sometimes any byte.
     pub fn punctuation(&mut self) -> u8 {
         match self.below(8) {
             0..3 => 0,
@@ -143,8 +142,7 @@ pub fn bits_turned(base: u128) -> impl Iterator<Item = u128> {
     pairs.map(move |(i, j)| base ^ (1 << i) ^ if i == j { 0 } else { 1 << j })
 }
 
-/// A word of a few that are known when this is compiled: each single bit, each with the standard
-/// format below it, and then mixed bits.
+/// A word that is known when this is compiled: the standard format with a single bit flipped, or mixed bits.
 pub const fn known_word(position: usize) -> u128 {
     const STANDARD: u128 = 0x00000A00_00000000_00000000_0000000C;
     match position {

@@ -13,15 +13,11 @@ use peltzivar::word::{format_error, format_is_valid, FormatView};
 
 include!("calls.rs");
 
-pub fn word(word: u128) -> Results<16> {
+pub fn word(word: u128) -> Results<19> {
     let view = FormatView::new(word);
     let errors = [flags::format_error_impl(word), format_error(word), view.error()];
-    word_of(word, errors, [format_is_valid(word), view.is_valid()])
-}
-
-pub fn radixes(word: u128) -> Results<3> {
-    let view = FormatView::new(word);
-    radixes_of(flags::radix_error_impl(word), view.error_radix(), view.is_valid_radix())
+    let radixes = [flags::radix_error_impl(word), view.error_radix()];
+    word_of(word, errors, [format_is_valid(word), view.is_valid()], radixes, view.is_valid_radix())
 }
 
 pub fn view(word: u128) -> Results<56> {
@@ -65,11 +61,9 @@ pub fn const_is_digit<const WORD: u128>(byte: u8) -> bool {
 pub fn converted<const WORD: u128>() -> Results<6> {
     let format = known::NumberFormat::<WORD>::new();
     results! {
-        view: format.view().word(),
-        view_from: FormatView::from(format).word(),
+        view: format.view().word(), view_from: FormatView::from(format).word(),
         default: FormatView::from(known::NumberFormat::<WORD>::default()).word(),
-        from_word: FormatView::from(WORD).word(),
-        word_from: u128::from(FormatView::from(WORD)),
+        from_word: FormatView::from(WORD).word(), word_from: u128::from(FormatView::from(WORD)),
         word_from_view: u128::from(format.view()),
     }
 }
@@ -107,11 +101,7 @@ pub fn listed(word: u128) -> [Results<37>; 2] {
 pub fn own(word: u128, other: u128) -> Results<6> {
     let (migrated, error) = word_or_error(migrate(word));
     results! {
-        normal_form: normal_form(word),
-        migrate: migrated,
-        error: error,
-        same_format: same_format(word, other),
-        is_built: is_built(word),
-        edits_of: edits_of(word).1,
+        normal_form: normal_form(word), migrate: migrated, error: error, same_format: same_format(word, other),
+        is_built: is_built(word), edits_of: edits_of(word).1,
     }
 }

@@ -86,9 +86,7 @@ fn slices(tally: &mut Tally, random: &mut Random) {
             }
         }
         // Slices that begin anywhere.
-        for start in 0..len.min(32) {
-            compare(&letters[start..]);
-        }
+        (0..len.min(32)).for_each(|start| compare(&letters[start..]));
     }
     for _ in 0..100_000 {
         let len = random.below(150) as usize;
@@ -146,9 +144,6 @@ fn known<const WORD: u128>(tally: &mut Tally) {
     for ours in [ours::const_word::<WORD>(), ours::word(WORD)] {
         tally.expect(input, ours, rules::word(WORD, theirs), theirs);
     }
-    for ours in [ours::const_radixes::<WORD>(), ours::radixes(WORD)] {
-        tally.same(input, ours, theirs::const_radixes::<WORD>());
-    }
     for ours in [ours::const_view::<WORD>(), ours::view(WORD)] {
         tally.same(input, ours, theirs::const_view::<WORD>());
     }
@@ -168,7 +163,6 @@ fn known<const WORD: u128>(tally: &mut Tally) {
 fn rules_of(tally: &mut Tally, word: u128) {
     let theirs = theirs::word(word);
     tally.expect(("word", word), ours::word(word), rules::word(word, theirs), theirs);
-    tally.same(("word", word), ours::radixes(word), theirs::radixes(word));
 }
 
 /// All calls on a word, and those on two.

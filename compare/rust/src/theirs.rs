@@ -12,14 +12,9 @@ use upstream::format_flags as flags;
 
 include!("calls.rs");
 
-pub fn word(word: u128) -> Results<16> {
-    let error = checks::format_error(word);
-    word_of(word, [error; 3], [error.is_success(); 2])
-}
-
-pub fn radixes(word: u128) -> Results<3> {
-    let error = checks::radix_error(word);
-    radixes_of(error, error, error.is_success())
+pub fn word(word: u128) -> Results<19> {
+    let (error, radix_error) = (checks::format_error(word), checks::radix_error(word));
+    word_of(word, [error; 3], [error.is_success(); 2], [radix_error; 2], radix_error.is_success())
 }
 
 macro_rules! bits_of {
@@ -30,10 +25,8 @@ macro_rules! bits_of {
         results! {
             $($flag: $word & flags::$FLAG != 0,)* $($truth: $word & flags::$T != 0,)* $($byte: flags::$byte($word),)*
             $($radix: flags::$radix($word),)* $($mask: $word & flags::$M,)*
-            has_digit_separator: flags::digit_separator($word) != 0,
-            has_base_prefix: flags::base_prefix($word) != 0,
-            has_base_suffix: flags::base_suffix($word) != 0,
-            radix: flags::mantissa_radix($word),
+            has_digit_separator: flags::digit_separator($word) != 0, has_base_prefix: flags::base_prefix($word) != 0,
+            has_base_suffix: flags::base_suffix($word) != 0, radix: flags::mantissa_radix($word),
             radix2: flags::mantissa_radix($word).wrapping_pow(2),
             radix4: flags::mantissa_radix($word).wrapping_pow(4),
             radix8: flags::mantissa_radix($word).wrapping_pow(8),
@@ -119,11 +112,8 @@ pub fn own(word: u128, other: u128) -> Results<6> {
     let normal = normal_form(word);
     let error = checks::format_error(normal);
     results! {
-        normal_form: normal,
-        migrate: if error.is_success() { normal } else { 0 },
-        error: position(error),
-        same_format: normal == normal_form(other),
-        is_built: raw_builder(word).build_unchecked() == word,
+        normal_form: normal, migrate: if error.is_success() { normal } else { 0 }, error: position(error),
+        same_format: normal == normal_form(other), is_built: raw_builder(word).build_unchecked() == word,
         edits_of: distance(word),
     }
 }
