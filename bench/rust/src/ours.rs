@@ -57,7 +57,7 @@ with_setters!(getters);
 pub fn few_getters(cases: &[u64]) -> u64 {
     over(cases, |fold, word, _| {
         let view = FormatView::new(word);
-        let radix = if view.required_integer_digits() || view.special_digit_separator() {
+        let radix = if view.required_integer_digits() | view.special_digit_separator() {
             view.exponent_radix()
         } else {
             view.mantissa_radix()

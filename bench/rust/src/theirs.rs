@@ -93,7 +93,7 @@ with_setters!(getters);
 pub fn few_getters(cases: &[u64]) -> u64 {
     over(cases, |fold, word, _| {
         let flag = |mask: u128| word & mask != 0;
-        let radix = if flag(flags::REQUIRED_INTEGER_DIGITS) || flag(flags::SPECIAL_DIGIT_SEPARATOR) {
+        let radix = if flag(flags::REQUIRED_INTEGER_DIGITS) | flag(flags::SPECIAL_DIGIT_SEPARATOR) {
             flags::exponent_radix(word)
         } else {
             flags::mantissa_radix(word)
