@@ -37,12 +37,19 @@ features=(format power-of-two radix parse-integers parse-floats write-integers w
     printf 'default = ['; printf '"%s", ' "${features[@]}"; printf ']\n'
 } > "$work/upstream/Cargo.toml"
 
-# driver FOLDER RUST NAME PROCESSOR: builds the driver of a folder over the library in the folder RUST as $work/NAME. No
-# jump crosses a 32-byte boundary. Otherwise, times would depend on the addresses of code.
+# driver TREE FOLDER NAME PROCESSOR: builds the driver in a folder of a tree over the tree's library, as $work/NAME. Each
+# tree is copied to the same place, because paths decide the order of functions. No jump crosses a 32-byte boundary.
+# Otherwise, times would depend on the addresses of code.
 driver() {
-    mkdir -p "$work/driver"
-    { manifest driver "peltzivar=$2" "upstream=$work/upstream"
-      printf '\n[[bin]]\nname = "driver"\npath = "%s/src/main.rs"\n' "$1"; } > "$work/driver/Cargo.toml"
+    rm -rf "$work/tree"
+    mkdir -p "$work/tree" "$work/driver"
+    local root=()
+    [ -f "$1/Cargo.toml" ] && root=(Cargo.toml)
+    (cd "$1" && tar -c --exclude target rust compare bench "${root[@]}") | tar -xm -C "$work/tree"
+    {
+        manifest driver "peltzivar=$work/tree/rust" "upstream=$work/upstream"
+        printf '\n[[bin]]\nname = "driver"\npath = "%s/rust/src/main.rs"\n' "$work/tree/$2"
+    } > "$work/driver/Cargo.toml"
     RUSTFLAGS="-C target-cpu=$4 -C llvm-args=-x86-branches-within-32B-boundaries" CARGO_TARGET_DIR=$work/target-$4 \
         cargo build --release --offline --quiet --manifest-path "$work/driver/Cargo.toml"
     cp "$work/target-$4/release/driver" "$work/$3"
