@@ -18,10 +18,7 @@ impl Fold {
     }
 
     pub fn with(self, number: u64) -> Fold {
-        Fold {
-            sum: self.sum.wrapping_add(number.wrapping_mul(self.weight)),
-            weight: self.weight.wrapping_add(2),
-        }
+        Fold { sum: self.sum.wrapping_add(number.wrapping_mul(self.weight)), weight: self.weight.wrapping_add(2) }
     }
 
     pub fn with_word(self, word: u128) -> Fold {

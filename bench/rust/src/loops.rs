@@ -1,5 +1,5 @@
-// The loops that have one source, over `lexical-util` and over the library as plain Rust. `theirs.rs` and `plain.rs`
-// include them, each under its own imports.
+// The loops that have one source, over the library and over `lexical-util`. `ours.rs` and `theirs.rs` include
+// them, each under its own imports.
 
 // BYTES AND DIGITS
 
@@ -31,6 +31,22 @@ pub fn decimal_read(bytes: &[u8]) -> u64 {
         }
     }
     number
+}
+
+/// Hexadecimal digits, with separators between digits.
+const HEXADECIMAL: u128 = 0x10 << 104 | 0x5F << 64 | 1 << 32 | 0xC;
+
+pub fn constant_read(bytes: &[u8]) -> u64 {
+    let format = NumberFormat::<HEXADECIMAL>::new();
+    let (mut fold, mut number) = (Fold::new(), 0u64);
+    for c in bytes {
+        if let Some(digit) = char_to_digit(*c, format.radix()) {
+            number = number.wrapping_mul(format.radix() as u64).wrapping_add(digit as u64);
+        } else if !(format.integer_internal_digit_separator() && *c == format.digit_separator()) {
+            fold = fold.with(number);
+        }
+    }
+    fold.with(number).sum
 }
 
 pub fn is_digit(bytes: &[u8], radix: u32) -> u64 {
@@ -293,31 +309,20 @@ pub fn known_edits(cases: &[u64]) -> u64 {
 
 pub fn any_edits(cases: &[u64]) -> u64 {
     over(cases, |fold, word, bits| {
-        let edits = [edit_of(bits), edit_of(bits >> 16), edit_of(bits >> 32)];
-        fold.with_word(edit_word(word, &edits))
+        fold.with_word(edit_word(word, &[edit_of(bits), edit_of(bits >> 16), edit_of(bits >> 32)]))
     })
 }
 
 fn edit_of(bits: u64) -> Edit {
-    let flag = (bits >> 7) % 2 == 1;
-    let value = (bits >> 8) as u8;
-    let byte = NonZeroU8::new(value);
-    match bits % 16 {
+    let (flag, byte) = (bits >> 7 & 1 == 1, NonZeroU8::new((bits >> 8) as u8));
+    match bits % 8 {
         0 => Edit::Flag(FlagSetter::RequiredIntegerDigits, flag),
-        1 => Edit::Flag(FlagSetter::NoSpecial, flag),
-        2 => Edit::Flag(FlagSetter::CaseSensitiveBaseSuffix, flag),
-        3 => Edit::Flag(FlagSetter::ExponentTrailingDigitSeparator, flag),
-        4 => Edit::Flag(FlagSetter::SpecialDigitSeparator, flag),
-        5 => Edit::Flag(FlagSetter::RequiredDigits, flag),
-        6 => Edit::Flag(FlagSetter::LeadingDigitSeparator, flag),
-        7 => Edit::Flag(FlagSetter::DigitSeparatorFlags, flag),
-        8 => Edit::Flag(FlagSetter::FractionDigitSeparatorFlags, flag),
-        9 => Edit::DigitSeparator(byte),
-        10 => Edit::BasePrefix(byte),
-        11 => Edit::BaseSuffix(byte),
-        12 => Edit::MantissaRadix(value),
-        13 => Edit::Radix(value),
-        14 => Edit::ExponentBase(byte),
-        _ => Edit::ExponentRadix(byte),
+        1 => Edit::Flag(FlagSetter::SpecialDigitSeparator, flag),
+        2 => Edit::Flag(FlagSetter::LeadingDigitSeparator, flag),
+        3 => Edit::Flag(FlagSetter::DigitSeparatorFlags, flag),
+        4 => Edit::DigitSeparator(byte),
+        5 => Edit::BasePrefix(byte),
+        6 => Edit::Radix((bits >> 8) as u8),
+        _ => Edit::ExponentBase(byte),
     }
 }

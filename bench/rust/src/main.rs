@@ -1,14 +1,13 @@
-//! Times loops over the library, in Rattle and as plain Rust, and the same loops over `lexical-util`. Both fold the
-//! results of the calls into one number. A row is not timed if the numbers differ.
+//! Times loops over the library and the same loops over `lexical-util`. Both fold the results of the calls into one
+//! number, and the program panics if the numbers differ. It prints a line for each row: the name, and the least
+//! nanoseconds of a call on both sides.
 //!
 //!     driver [--rounds N] [--only TEXT]
 
 mod data;
-mod edits;
 mod fold;
 mod measure;
 mod ours;
-mod plain;
 #[path = "../../../compare/rust/src/random.rs"]
 mod random;
 #[path = "../../../compare/rust/src/rows.rs"]
@@ -21,7 +20,6 @@ use fold::TIMES;
 use measure::Row;
 use random::Random;
 use std::hint::black_box;
-use std::process::exit;
 
 const KIB: usize = 1024;
 
@@ -34,7 +32,6 @@ struct Data {
     numbers: Vec<u64>,
     lawful: Vec<u64>,
     broken: Vec<u64>,
-    few: Vec<u64>,
     any: Vec<u64>,
 }
 
@@ -50,158 +47,90 @@ impl Data {
             numbers: data::numbers(random, 4096),
             lawful: data::cases(random, 4096, Words::Lawful),
             broken: data::cases(random, 4096, Words::Broken),
-            few: data::cases(random, 1024, Words::Any),
             any: data::cases(random, 4096, Words::Any),
         }
     }
 }
 
-/// Returns a row over bytes that makes the given number of calls.
-fn over_bytes<'a>(
-    name: impl Into<String>,
-    bytes: &'a [u8],
-    calls: usize,
-    ours: impl Fn(&[u8]) -> u64 + 'a,
-    theirs: impl Fn(&[u8]) -> u64 + 'a,
-) -> Row<'a> {
-    let ours = Box::new(move || ours(black_box(bytes)));
-    let theirs = Box::new(move || theirs(black_box(bytes)));
-    Row { name: name.into(), calls, ours, theirs }
+/// A row: its name, the input of both loops, the calls of a pass, the name of the loops and their other argument.
+macro_rules! row {
+    ($name:expr, $input:expr, $calls:expr, $pass:ident $($argument:expr)?) => {{
+        let input = $input;
+        Row {
+            name: $name.to_string(),
+            calls: $calls,
+            ours: Box::new(move || ours::$pass(black_box(input) $(, $argument)?)),
+            theirs: Box::new(move || theirs::$pass(black_box(input) $(, $argument)?)),
+        }
+    }};
 }
 
-type OverNumbers = fn(&[u64]) -> u64;
-
-/// Returns a row over numbers, with the given number of them for each call.
-fn over_numbers<'a>(
-    name: &str,
-    (numbers, each): (&'a [u64], usize),
-    ours: OverNumbers,
-    theirs: OverNumbers,
-) -> Row<'a> {
-    let ours = Box::new(move || ours(black_box(numbers)));
-    let theirs = Box::new(move || theirs(black_box(numbers)));
-    Row { name: name.to_string(), calls: numbers.len() / each, ours, theirs }
-}
-
-/// A row over outcomes, each of which is asked several times.
-fn over_outcomes<'a>(
-    name: &str,
-    numbers: &'a [u64],
-    ours: OverNumbers,
-    theirs: OverNumbers,
-) -> Row<'a> {
-    let row = over_numbers(name, (numbers, 1), ours, theirs);
-    Row { calls: row.calls * TIMES, ..row }
-}
-
-fn size_name(size: usize) -> String {
-    match size {
-        0..1024 => format!("{size} B"),
-        1024..1_048_576 => format!("{} KiB", size / KIB),
-        _ => format!("{} MiB", size / KIB / KIB),
+/// The rows of bytes and digits.
+fn byte_rows(data: &Data) -> Vec<Row<'_>> {
+    let mut rows = vec![];
+    for (radix, digits) in &data.digits {
+        let (radix, digits, calls) = (*radix, &digits[..], digits.len());
+        rows.push(row!(format!("char_to_digit, summed, radix {radix}"), digits, calls, digit_sum radix));
+        rows.push(row!(format!("char_to_digit, read, radix {radix}"), digits, calls, digit_read radix));
     }
+    let (decimal, any) = (&data.digits[0].1[..], &data.any_bytes[..]);
+    let (hexadecimal, calls) = (&data.digits[1].1[..], any.len());
+    rows.extend([
+        row!("char_to_digit, any bytes, radix 36", any, calls, digit_sum 36),
+        row!("char_is_digit, any bytes, radix 16", any, calls, is_digit 16),
+        row!("char_to_digit_const, read, radix 10", decimal, calls, decimal_read),
+        row!("constant format in a reader's loop", hexadecimal, calls, constant_read),
+        row!("digit_to_char", any, calls, digits_to_char),
+        row!("is_valid_ascii", any, calls, ascii),
+        row!("from_radix", any, calls, from_radix),
+    ]);
+    for (size, size_name) in
+        [(16, "16 B"), (64, "64 B"), (KIB, "1 KiB"), (64 * KIB, "64 KiB"), (16 * KIB * KIB, "16 MiB")]
+    {
+        // At least 16 KiB, so that a pass takes some time.
+        let whole = size.max(16 * KIB);
+        let (text, letters, calls) = (&data.text[..whole], &data.letters[..whole], whole / size);
+        rows.push(row!(format!("is_valid_ascii_slice, {size_name}"), text, calls, ascii_slices size));
+        rows.push(row!(format!("is_valid_letter_slice, {size_name}"), letters, calls, letter_slices size));
+    }
+    let spoiled = &data.spoiled[..];
+    rows.push(row!("is_valid_ascii_slice, 0 to 63 B, spoiled", spoiled, spoiled.len() / 64, short_slices));
+    rows
 }
 
-/// A row over bytes: the loop in a module, and the loop of the same name over `lexical-util`.
-macro_rules! bytes {
-    ($side:ident, $prefix:literal, $name:expr, $bytes:expr, $calls:expr, $pass:ident($($argument:expr)?)) => {
-        over_bytes(
-            format!("{}{}", $prefix, $name),
-            $bytes,
-            $calls,
-            move |bytes| $side::$pass(bytes $(, $argument)?),
-            move |bytes| theirs::$pass(bytes $(, $argument)?),
-        )
-    };
-}
-
-/// The same rows of bytes and digits over any module.
-macro_rules! byte_rows {
-    ($side:ident, $prefix:literal, $data:ident) => {{
-        let mut rows = vec![];
-        for (radix, digits) in &$data.digits {
-            let (radix, calls) = (*radix, digits.len());
-            let name = format!("char_to_digit, summed, radix {radix}");
-            rows.push(bytes!($side, $prefix, name, digits, calls, digit_sum(radix)));
-            let name = format!("char_to_digit, read, radix {radix}");
-            rows.push(bytes!($side, $prefix, name, digits, calls, digit_read(radix)));
-        }
-        let (decimal, any) = (&$data.digits[0].1, &$data.any_bytes);
-        let calls = any.len();
-        rows.extend([
-            bytes!($side, $prefix, "char_to_digit, any bytes, radix 36", any, calls, digit_sum(36)),
-            bytes!($side, $prefix, "char_is_digit, any bytes, radix 16", any, calls, is_digit(16)),
-            bytes!(
-                $side,
-                $prefix,
-                "char_to_digit_const, read, radix 10",
-                decimal,
-                calls,
-                decimal_read()
-            ),
-            bytes!($side, $prefix, "digit_to_char", any, calls, digits_to_char()),
-            bytes!($side, $prefix, "is_valid_ascii", any, calls, ascii()),
-            bytes!($side, $prefix, "from_radix", any, calls, from_radix()),
-        ]);
-        for size in [16, 64, KIB, 64 * KIB, 16 * KIB * KIB] {
-            // At least 16 KiB, so that a pass takes some time.
-            let whole = size.max(16 * KIB);
-            let (size_name, calls) = (size_name(size), whole / size);
-            let (text, letters) = (&$data.text[..whole], &$data.letters[..whole]);
-            let name = format!("is_valid_ascii_slice, {size_name}");
-            rows.push(bytes!($side, $prefix, name, text, calls, ascii_slices(size)));
-            let name = format!("is_valid_letter_slice, {size_name}");
-            rows.push(bytes!($side, $prefix, name, letters, calls, letter_slices(size)));
-        }
-        let (name, spoiled) = ("is_valid_ascii_slice, 0 to 63 B, spoiled", &$data.spoiled);
-        rows.push(bytes!($side, $prefix, name, spoiled, spoiled.len() / 64, short_slices()));
-        rows
-    }};
-}
-
-/// Rows over numbers: how they are counted, name, numbers, loop.
-macro_rules! numbers {
-    ($side:ident, $prefix:literal, { $($over:ident $name:literal $numbers:expr, $pass:ident;)* }) => {
-        [$($over(concat!($prefix, $name), $numbers, $side::$pass, theirs::$pass),)*]
-    };
-}
-
-/// The same rows of outcomes, words, builders and edits over any module.
-macro_rules! number_rows {
-    ($side:ident, $prefix:literal, $data:ident) => {{
-        let numbers = &$data.numbers;
-        let [lawful, broken, few, any] =
-            [&$data.lawful, &$data.broken, &$data.few, &$data.any].map(|cases| (&cases[..], 3));
-        numbers!($side, $prefix, {
-            over_outcomes "description" numbers, descriptions;
-            over_numbers "Display" (numbers, 1), display;
-            over_outcomes "4 tests and index" numbers, tests;
-            over_outcomes "cmp and ==" numbers, order;
-            over_numbers "format_error, lawful" lawful, format_errors;
-            over_numbers "format_error, unlawful" broken, format_errors;
-            over_numbers "radix_error_impl" any, radix_errors;
-            over_numbers "5 rules by their own calls" lawful, validators;
-            over_numbers "is_valid_options_punctuation, lawful" lawful, options;
-            over_numbers "is_valid_options_punctuation, unlawful" broken, options;
-            over_numbers "view, 48 getters" any, view;
-            over_numbers "view, 4 getters" lawful, few_getters;
-            over_numbers "view, 7 masks" any, masks;
-            over_numbers "new, 5 setters, build" any, new_builders;
-            over_numbers "rebuild, 3 setters, build" any, setters;
-            over_numbers "rebuild, 37 getters" any, builder_getters;
-            over_numbers "rebuild, build_strict, lawful" lawful, build_strict;
-            over_numbers "normal_form" any, normal_forms;
-            over_numbers "same_format" any, same_formats;
-            over_numbers "edit_word, 3 known edits" any, known_edits;
-            over_numbers "edit_word, 3 of any kind, 1024 words" few, any_edits;
-            over_numbers "edit_word, 3 of any kind, 4096 words" any, any_edits;
-            over_numbers "migrate, lawful" lawful, migrate;
-        })
-    }};
+/// The rows of outcomes, words, builders and edits.
+fn word_rows(data: &Data) -> Vec<Row<'_>> {
+    let numbers = &data.numbers[..];
+    let [lawful, broken, any] = [&data.lawful, &data.broken, &data.any].map(|cases| &cases[..]);
+    let (each, times, count) = (numbers.len(), numbers.len() * TIMES, lawful.len() / 3);
+    vec![
+        row!("description", numbers, times, descriptions),
+        row!("Display", numbers, each, display),
+        row!("four tests and index", numbers, times, tests),
+        row!("cmp and ==", numbers, times, order),
+        row!("format_error, lawful", lawful, count, format_errors),
+        row!("format_error, unlawful", broken, count, format_errors),
+        row!("radix_error_impl", any, count, radix_errors),
+        row!("five rules by their own calls", lawful, count, validators),
+        row!("is_valid_options_punctuation, lawful", lawful, count, options),
+        row!("is_valid_options_punctuation, unlawful", broken, count, options),
+        row!("view, 42 getters", any, count, view),
+        row!("view, 4 getters", lawful, count, few_getters),
+        row!("view, 7 masks", any, count, masks),
+        row!("new, 5 setters, build", any, count, new_builders),
+        row!("rebuild, 3 setters, build", any, count, setters),
+        row!("rebuild, 37 getters", any, count, builder_getters),
+        row!("rebuild, build_strict, lawful", lawful, count, build_strict),
+        row!("normal_form", any, count, normal_forms),
+        row!("same_format", any, count, same_formats),
+        row!("edit_word, 3 known edits", any, count, known_edits),
+        row!("edit_word, 3 of any kind", any, count, any_edits),
+        row!("migrate, lawful", lawful, count, migrate),
+    ]
 }
 
 fn main() {
-    let (mut rounds, mut only) = (21, String::new());
+    let (mut rounds, mut only) = (25, String::new());
     let mut args = std::env::args().skip(1);
     while let Some(arg) = args.next() {
         let value = args.next().unwrap_or_else(|| panic!("{arg} needs a value"));
@@ -211,40 +140,11 @@ fn main() {
             _ => panic!("there is no option {arg}"),
         }
     }
-    assert!(rounds > 0, "--rounds needs at least 1");
-
-    let data = Data::new();
-    let inputs = user::Inputs::new(&mut Random::new(20_261_124));
-    let mut rows: Vec<Row> = byte_rows!(ours, "", data);
-    rows.extend(number_rows!(ours, "", data));
-    rows.extend(byte_rows!(plain, "plain: ", data));
-    rows.extend(number_rows!(plain, "plain: ", data));
-    rows.extend(inputs.rows());
-    rows.retain(|row| row.name.contains(&only));
-    println!("{:<50} {:>10} {:>10} {:>6} {:>14}", "row", "library ns", "crate ns", "ratio", "spread");
-    let (mut differing, mut worst) = (0, None::<(f64, &str)>);
-    for row in &rows {
-        let (ours, theirs) = ((row.ours)(), (row.theirs)());
-        let is_bounded = !row.name.ends_with(user::OVER);
-        if ours != theirs && is_bounded {
-            differing += 1;
-            println!("{:<50} differs: {ours:016x} and {theirs:016x}", row.name);
-            continue;
-        }
-        let times = row.measure(rounds);
-        if is_bounded && worst.is_none_or(|(ratio, _)| times.ratio > ratio) {
-            worst = Some((times.ratio, &row.name));
-        }
-        println!(
-            "{:<50} {:>10.3} {:>10.3} {:>6.2} {:>6.2} to {:.2}",
-            row.name, times.ours, times.theirs, times.ratio, times.low, times.high
-        );
-    }
-    if differing > 0 {
-        println!("{differing} rows differ and were not timed");
-        exit(1);
-    }
-    if let Some((ratio, name)) = worst {
-        println!("worst row: {ratio:.2}, {name}");
+    let (data, inputs) = (Data::new(), user::Inputs::new(&mut Random::new(20_261_124)));
+    let rows = byte_rows(&data).into_iter().chain(word_rows(&data)).chain(inputs.rows());
+    for row in rows.filter(|row| row.name.contains(&only)) {
+        assert!((row.ours)() == (row.theirs)() || row.name.ends_with(user::OVER), "{}: the results differ", row.name);
+        let [ours, theirs] = row.measure(rounds);
+        println!("{}\t{ours:.4}\t{theirs:.4}", row.name);
     }
 }

@@ -1,61 +1,67 @@
-//! The loops over the library, linked from a static library that is written in Rattle.
+//! The loops over the library, the crate in `rust/`.
 
-macro_rules! over_bytes {
-    ($($name:ident: $symbol:ident($($argument:ident: $type:ty)?),)*) => {
-        extern "C" {
-            $(fn $symbol(start: *const u8, len: usize $(, $argument: $type)?) -> u64;)*
-        }
+use crate::fold::{over, Fold, Page, TIMES};
+use crate::rows::{with_getters, with_outcomes, with_setters};
+use peltzivar::ascii::{is_valid_ascii, is_valid_ascii_slice, is_valid_letter_slice};
+use peltzivar::digit::{char_is_digit, char_to_digit, char_to_digit_const, digit_to_char};
+use peltzivar::edits::{edit_word, normal_form, same_format, Edit, FlagSetter};
+use peltzivar::error::Error;
+use peltzivar::format::NumberFormat;
+use peltzivar::format_builder::{NumberFormatBuilder, OptionU8};
+use peltzivar::format_flags::{self as flags, radix_error_impl as radix_error};
+use peltzivar::word::{format_error, FormatView};
+use std::cmp::Ordering;
+use std::fmt::Write;
+use std::num::NonZeroU8;
 
-        $(pub fn $name(bytes: &[u8] $(, $argument: $type)?) -> u64 {
-            unsafe { $symbol(bytes.as_ptr(), bytes.len() $(, $argument)?) }
-        })*
+include!("loops.rs");
+
+pub fn build_strict(cases: &[u64]) -> u64 {
+    over(cases, |fold, word, _| fold.with_word(NumberFormatBuilder::rebuild(word).build_strict().unwrap_or(0)))
+}
+
+pub fn migrate(cases: &[u64]) -> u64 {
+    over(cases, |fold, word, _| fold.with_word(peltzivar::edits::migrate(word).unwrap_or(0)))
+}
+
+// VIEWS
+
+macro_rules! getters {
+    ({ $($Flag:ident $flag:ident $get:ident $CONST:ident;)* } $groups:tt) => {
+        with_getters! { views ($($flag $CONST)*) }
     };
 }
 
-macro_rules! over_numbers {
-    ($($name:ident: $symbol:ident,)*) => {
-        extern "C" {
-            $(fn $symbol(start: *const u64, len: usize) -> u64;)*
+macro_rules! views {
+    (
+        ($($flag:ident $FLAG:ident)*) { $($truth:ident $T:ident;)* } { $($byte:ident $B:ident;)* }
+        { $($radix:ident $R:ident;)* } { $($mask:ident $M:ident;)* }
+    ) => {
+        pub fn view(cases: &[u64]) -> u64 {
+            over(cases, |fold, word, _| {
+                let (view, mut bits) = (FormatView::new(word), 0u64);
+                $(bits = bits << 1 | view.$flag() as u64;)*
+                $(bits = bits << 1 | view.$truth() as u64;)*
+                fold.with(bits)$(.with(view.$byte() as u64))*$(.with(view.$radix() as u64))*
+            })
         }
 
-        $(pub fn $name(numbers: &[u64]) -> u64 {
-            unsafe { $symbol(numbers.as_ptr(), numbers.len()) }
-        })*
+        pub fn masks(cases: &[u64]) -> u64 {
+            over(cases, |fold, word, _| fold$(.with_word(FormatView::new(word).$mask()))*)
+        }
     };
 }
 
-over_bytes! {
-    digit_sum: bench_digit_sum(radix: u32),
-    digit_read: bench_digit_read(radix: u32),
-    decimal_read: bench_decimal_read(),
-    is_digit: bench_is_digit(radix: u32),
-    digits_to_char: bench_digit_to_char(),
-    ascii: bench_ascii(),
-    ascii_slices: bench_ascii_slices(size: usize),
-    letter_slices: bench_letter_slices(size: usize),
-    short_slices: bench_short_slices(),
-    from_radix: bench_from_radix(),
-}
+with_setters!(getters);
 
-over_numbers! {
-    descriptions: bench_descriptions,
-    display: bench_display,
-    order: bench_order,
-    tests: bench_tests,
-    format_errors: bench_format_error,
-    radix_errors: bench_radix_error,
-    validators: bench_validators,
-    options: bench_options,
-    view: bench_view,
-    few_getters: bench_few_getters,
-    masks: bench_masks,
-    setters: bench_setters,
-    new_builders: bench_new_builders,
-    build_strict: bench_build_strict,
-    builder_getters: bench_builder_getters,
-    known_edits: bench_known_edits,
-    any_edits: bench_any_edits,
-    normal_forms: bench_normal_form,
-    same_formats: bench_same_format,
-    migrate: bench_migrate,
+pub fn few_getters(cases: &[u64]) -> u64 {
+    over(cases, |fold, word, _| {
+        let view = FormatView::new(word);
+        let radix = if view.required_integer_digits() | view.special_digit_separator() {
+            view.exponent_radix()
+        } else {
+            view.mantissa_radix()
+        };
+        fold.with(radix as u64).with(view.digit_separator() as u64)
+    })
 }

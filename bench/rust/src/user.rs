@@ -1,14 +1,13 @@
-//! Rows of what a user does with words, settings and texts that are known only at run time: plain Rust, and the
-//! shortest code over `lexical-util`. Where `lexical-util` has no such call, the other side is its `format_error`.
+//! Rows of what a user does with words, settings and texts that are known only at run time: the library,
+//! and the shortest code over `lexical-util`. `lexical-util` has no reasons, so their row is over its `format_error`.
 
 use crate::data::{self, Words};
-use crate::fold::{over, Fold, Page};
+use crate::fold::{over, Fold};
 use crate::measure::Row;
 use crate::random::Random;
 use crate::rows::with_setters;
 use peltzivar::edits::apply;
 use peltzivar::{Edit, Format, FormatView, NumberFormatBuilder};
-use std::fmt::{Display, Write};
 use std::hint::black_box;
 use std::num::NonZeroU8;
 use upstream::checks::format_error;
@@ -52,7 +51,6 @@ impl Inputs {
             over_texts("FormatView from text", &self.texts, parsed_view, parsed_word),
             over_texts("Edit::from_setting", &self.settings, edited, set),
             over_words("reasons, 1 broken rule, over format_error", &self.one_broken, reasons, error),
-            over_words("explain's sentences, over format_error", &self.one_broken, sentences, error),
         ]
     }
 }
@@ -80,27 +78,15 @@ fn over_words<'a>(name: &str, cases: &'a [u64], ours: fn(u128) -> u64, theirs: f
     row(name, cases.len() / 3, pass, ours, theirs)
 }
 
-fn over_texts<'a>(
-    name: &str,
-    texts: &'a [String],
-    ours: fn(&str) -> u64,
-    theirs: fn(&str) -> u64,
-) -> Row<'a> {
-    let pass = move |side: fn(&str) -> u64| {
-        black_box(texts).iter().fold(Fold::new(), |fold, text| fold.with(side(text))).sum
-    };
+fn over_texts<'a>(name: &str, texts: &'a [String], ours: fn(&str) -> u64, theirs: fn(&str) -> u64) -> Row<'a> {
+    let pass =
+        move |side: fn(&str) -> u64| black_box(texts).iter().fold(Fold::new(), |fold, text| fold.with(side(text))).sum;
     row(name, texts.len(), pass, ours, theirs)
 }
 
-fn row<'a, S: Copy + 'a>(
-    name: &str,
-    calls: usize,
-    pass: impl Fn(S) -> u64 + Copy + 'a,
-    ours: S,
-    theirs: S,
-) -> Row<'a> {
+fn row<'a, S: Copy + 'a>(name: &str, calls: usize, pass: impl Fn(S) -> u64 + Copy + 'a, ours: S, theirs: S) -> Row<'a> {
     let (ours, theirs) = (Box::new(move || pass(ours)), Box::new(move || pass(theirs)));
-    Row { name: format!("plain: {name}"), calls, ours, theirs }
+    Row { name: name.to_string(), calls, ours, theirs }
 }
 
 fn halves(word: u128) -> u64 {
@@ -179,16 +165,4 @@ fn reasons(word: u128) -> u64 {
 
 fn error(word: u128) -> u64 {
     format_error(word).is_success() as u64
-}
-
-fn sentences(word: u128) -> u64 {
-    let view = FormatView::new(word);
-    let fold = view.reasons().fold(Fold::new(), |fold, reason| fold.with(length(reason)));
-    view.notes().fold(fold, |fold, note| fold.with(length(note))).sum
-}
-
-fn length(sentence: impl Display) -> u64 {
-    let mut page = Page { text: [0; 160], len: 0 };
-    let _ = write!(page, "{sentence}");
-    page.len as u64
 }

@@ -10,7 +10,7 @@ use upstream::format_flags::FLAG_MASK;
 /// value sets a flag, and the value 0 empties a byte that may be absent.
 #[derive(Clone, Copy)]
 pub struct SetterCall {
-    pub setter: u32,
+    pub setter: usize,
     pub value: u8,
 }
 
@@ -36,15 +36,10 @@ macro_rules! setter_names {
 /// The names of the setters, each at its position.
 pub const SETTER_NAMES: &[&str] = &with_setters!(setter_names);
 
-const SETTERS: u32 = SETTER_NAMES.len() as u32;
+const SETTERS: usize = SETTER_NAMES.len();
 
 /// The number of setters that take a `bool`. The seven byte setters follow them.
-pub const OF_FLAGS: u32 = SETTERS - 7;
-
-/// The position of the setter with a name.
-pub fn setter_named(name: &str) -> Option<u32> {
-    (0..SETTERS).find(|position| SETTER_NAMES[*position as usize] == name)
-}
+pub const OF_FLAGS: usize = SETTERS - 7;
 
 impl Debug for SetterCall {
     fn fmt(&self, f: &mut Formatter) -> fmt::Result {
@@ -58,14 +53,11 @@ impl Debug for SetterCall {
 
 /// Returns calls of one setter each, with the first `values` values.
 pub fn single_calls(values: u16) -> impl Iterator<Item = SetterCall> {
-    (0..SETTERS).flat_map(move |setter| {
-        (0..values).map(move |value| SetterCall { setter, value: value as u8 })
-    })
+    (0..SETTERS).flat_map(move |setter| (0..values).map(move |value| SetterCall { setter, value: value as u8 }))
 }
 
 impl Random {
-    /// A byte that a word may hold for separator, prefix or suffix: often none, a letter of either
-    /// case, or a sign of text, and sometimes any byte.
+    /// A byte for separator, prefix or suffix: often none, a letter of either case, or a sign, and sometimes any byte.
     pub fn punctuation(&mut self) -> u8 {
         match self.below(8) {
             0..3 => 0,
@@ -91,8 +83,7 @@ impl Random {
             // Leave out one flag of each two that exclude each other.
             flags &= !(1 << 14 | 1 << 5 | 1 << 8 | 1 << 11 | 1 << 44 | 7 << 41);
         }
-        let empty_or_radix =
-            |random: &mut Random| if random.one_in(2) { 0 } else { random.radix() };
+        let empty_or_radix = |random: &mut Random| if random.one_in(2) { 0 } else { random.radix() };
         let base = empty_or_radix(self);
         let exponent_radix = empty_or_radix(self);
         flags as u128
@@ -121,7 +112,7 @@ impl Random {
     }
 
     fn call(&mut self) -> SetterCall {
-        let setter = self.below(SETTERS as u64) as u32;
+        let setter = self.below(SETTERS as u64) as usize;
         let value = match setter.checked_sub(OF_FLAGS) {
             None => self.one_in(3) as u8,
             Some(0..3) => self.punctuation(),
@@ -151,8 +142,7 @@ pub fn bits_turned(base: u128) -> impl Iterator<Item = u128> {
     pairs.map(move |(i, j)| base ^ (1 << i) ^ if i == j { 0 } else { 1 << j })
 }
 
-/// A word of a few that are known when this is compiled: each single bit, each with the standard
-/// format below it, and then mixed bits.
+/// A word that is known when this is compiled: the standard format with a single bit flipped, or mixed bits.
 pub const fn known_word(position: usize) -> u128 {
     const STANDARD: u128 = 0x00000A00_00000000_00000000_0000000C;
     match position {

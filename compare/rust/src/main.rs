@@ -3,9 +3,7 @@
 //!     driver [--seed N] [--scale N] [--threads N] [--only WORD] [--record FILE]
 
 mod inputs;
-mod integers;
 mod ours;
-mod panics;
 mod random;
 mod record;
 mod results;
@@ -17,6 +15,8 @@ mod tally;
 mod theirs;
 
 use sections::Task;
+use std::collections::BTreeMap;
+use std::panic::{set_hook, take_hook};
 use std::process::exit;
 use std::sync::atomic::{AtomicUsize, Ordering};
 use std::sync::Mutex;
@@ -33,8 +33,7 @@ struct Settings {
 }
 
 fn settings() -> Settings {
-    let mut settings =
-        Settings { seed: 1, scale: 1, threads: 2, only: String::new(), record: None };
+    let mut settings = Settings { seed: 1, scale: 1, threads: 2, only: String::new(), record: None };
     let mut args = env::args().skip(1);
     while let Some(arg) = args.next() {
         let value = args.next().unwrap_or_else(|| panic!("{arg} needs a value"));
@@ -51,25 +50,16 @@ fn settings() -> Settings {
     settings
 }
 
-/// Runs the tasks side by side, and returns each section's tally in the order of the tasks.
-fn run(tasks: &[Task], threads: usize) -> Vec<(&'static str, Tally)> {
-    let next = AtomicUsize::new(0);
-    let mut sections: Vec<(&'static str, Tally)> = vec![];
-    for task in tasks {
-        if sections.last().is_none_or(|(section, _)| *section != task.section) {
-            sections.push((task.section, Tally::default()));
-        }
-    }
-    let sections = Mutex::new(sections);
+/// Runs the tasks side by side, and returns the tally of each section.
+fn run(tasks: &[Task], threads: usize) -> BTreeMap<&'static str, Tally> {
+    let (next, sections) = (AtomicUsize::new(0), Mutex::new(BTreeMap::<_, Tally>::new()));
     std::thread::scope(|scope| {
         for _ in 0..threads.max(1) {
             scope.spawn(|| {
                 while let Some(task) = tasks.get(next.fetch_add(1, Ordering::Relaxed)) {
                     let mut tally = Tally::default();
                     (task.run)(&mut tally);
-                    let mut sections = sections.lock().expect("no task panics");
-                    let section = sections.iter_mut().find(|(name, _)| *name == task.section);
-                    section.expect("each section is listed").1 += tally;
+                    *sections.lock().expect("no task panics").entry(task.section).or_default() += tally;
                 }
             });
         }
@@ -77,9 +67,19 @@ fn run(tasks: &[Task], threads: usize) -> Vec<(&'static str, Tally)> {
     sections.into_inner().expect("no task panics")
 }
 
+/// From now on, the panics that are compared are not printed. Their texts begin with a description in quotes.
+fn hush() {
+    let print = take_hook();
+    set_hook(Box::new(move |panic| {
+        if !panic.payload_as_str().is_some_and(|text| text.starts_with('\'')) {
+            print(panic);
+        }
+    }));
+}
+
 fn main() {
     let settings = settings();
-    panics::hush();
+    hush();
     if let Some(path) = &settings.record {
         let text = record::lines(settings.seed).join("\n") + "\n";
         fs::write(path, &text).unwrap_or_else(|error| panic!("{path}: {error}"));
@@ -89,26 +89,16 @@ fn main() {
 
     let start = Instant::now();
     let mut tasks = sections::tasks(settings.seed, settings.scale);
-    tasks.push(source::task(settings.seed));
-    tasks.extend(integers::tasks(settings.seed));
     tasks.retain(|task| task.section.contains(&settings.only));
-    let sections = run(&tasks, settings.threads);
-
     println!("{:<32} {:>14} {:>12} {:>12}", "section", "compared", "on purpose", "unexplained");
     let mut total = Tally::default();
-    for (name, tally) in sections {
-        let (compared, on_purpose) = (tally.compared, tally.on_purpose);
-        println!("{name:<32} {compared:>14} {on_purpose:>12} {:>12}", tally.unexplained);
-        for difference in &tally.shown {
-            println!("{difference}");
-        }
+    for (name, tally) in run(&tasks, settings.threads) {
+        println!("{name:<32} {:>14} {:>12} {:>12}", tally.compared, tally.on_purpose, tally.unexplained);
+        tally.shown.iter().for_each(|difference| println!("{difference}"));
         total += tally;
     }
+    println!("{:<32} {:>14} {:>12} {:>12}", "all", total.compared, total.on_purpose, total.unexplained);
     println!("{:.1} seconds, seed {}", start.elapsed().as_secs_f64(), settings.seed);
-    println!(
-        "compared {}, different on purpose {}, unexplained {}",
-        total.compared, total.on_purpose, total.unexplained
-    );
     if total.unexplained > 0 {
         exit(1);
     }

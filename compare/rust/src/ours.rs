@@ -1,40 +1,31 @@
-//! The library's calls, of the crate in `rust/`.
+//! The calls of the library, the crate in `rust/`.
 
 use peltzivar::ascii::*;
 use peltzivar::digit::*;
 use peltzivar::edits::{
-    apply, apply_all, edit_word, edits_of, is_built, migrate, normal_form, same_format, Edit,
-    SETTERS as FLAG_SETTERS,
+    apply, apply_all, edit_word, edits_of, is_built, migrate, normal_form, same_format, Edit, SETTERS as FLAG_SETTERS,
 };
 use peltzivar::error::Error;
 use peltzivar::format::{self as known, STANDARD};
-use peltzivar::format_builder::{NumberFormatBuilder, OptionU8};
+use peltzivar::format_builder::NumberFormatBuilder;
 use peltzivar::format_flags as flags;
 use peltzivar::word::{format_error, format_is_valid, FormatView};
 
-// The library over which the example is compiled.
-use peltzivar as library;
-
 include!("calls.rs");
 
-pub fn word(word: u128) -> Word {
+pub fn word(word: u128) -> Results<19> {
     let view = FormatView::new(word);
-    Word {
-        format_error: position(format_error(word)),
-        format_is_valid: format_is_valid(word),
-        view_error: position(view.error()),
-        view_is_valid: view.is_valid(),
-        view_error_radix: position(view.error_radix()),
-        view_is_valid_radix: view.is_valid_radix(),
-        ..word_of(word, flags::format_error_impl(word), flags::radix_error_impl(word))
-    }
+    let errors = [flags::format_error_impl(word), format_error(word), view.error()];
+    let radixes = [flags::radix_error_impl(word), view.error_radix()];
+    word_of(word, errors, [format_is_valid(word), view.is_valid()], radixes, view.is_valid_radix())
 }
 
-pub fn view(word: u128) -> View {
-    with_setters!(view_of(FormatView::new(word)))
+pub fn view(word: u128) -> Results<56> {
+    let view = FormatView::new(word);
+    with_setters!(flag_getters(view_of view))
 }
 
-pub fn rebuild(word: u128) -> Fields {
+pub fn rebuild(word: u128) -> Results<37> {
     fields(&FormatView::new(word).rebuild())
 }
 
@@ -43,46 +34,44 @@ fn builders_of_views() -> [NumberFormatBuilder; 2] {
 }
 
 /// The word and the position of `Success`, or 0 and the position of the error.
-fn word_or_error(result: Result<u128, Error>) -> (u128, u32) {
-    result.map_or_else(|error| (0, position(error)), |word| (word, rules::SUCCESS))
+fn word_or_error(result: Result<u128, Error>) -> (u128, u128) {
+    result.map_or_else(|error| (0, position(error)), |word| (word, SUCCESS))
 }
 
-fn strict(builder: &NumberFormatBuilder) -> (u128, u32) {
+fn strict(builder: &NumberFormatBuilder) -> (u128, u128) {
     word_or_error(builder.build_strict())
 }
 
-fn panicking(builder: &NumberFormatBuilder) -> (u128, u32) {
+fn panicking(builder: &NumberFormatBuilder) -> (u128, u128) {
     word_or_panic(|| builder.build_or_panic())
 }
 
-/// Returns whether a byte is a digit of a word, by each of two calls.
-pub fn is_digit(word: u128, byte: u8) -> [bool; 2] {
-    [flags::is_digit(word, byte), FormatView::new(word).is_digit(byte)]
+/// Returns whether a byte is a digit of a word, by two calls. `const_view` has the result of the third if it is known.
+pub fn is_digit(word: u128, byte: u8, const_view: Option<bool>) -> Results<3> {
+    let view = FormatView::new(word).is_digit(byte);
+    results! { is_digit: flags::is_digit(word, byte), view: view, const_view: const_view.unwrap_or(view), }
 }
 
-/// The bytes that the view which has the word as a const argument takes for digits.
-pub fn const_digits<const WORD: u128>() -> Vec<u8> {
-    let format = known::NumberFormat::<WORD>::new();
-    (0..=255).filter(|byte| format.is_digit(*byte)).collect()
+/// Returns whether a byte is a digit of the view that has the word as a const argument.
+pub fn const_is_digit<const WORD: u128>(byte: u8) -> bool {
+    known::NumberFormat::<WORD>::new().is_digit(byte)
 }
 
 /// A word after each conversion between it and its views.
-pub fn converted<const WORD: u128>() -> [u128; 6] {
+pub fn converted<const WORD: u128>() -> Results<6> {
     let format = known::NumberFormat::<WORD>::new();
-    [
-        format.view().word(),
-        FormatView::from(format).word(),
-        FormatView::from(known::NumberFormat::<WORD>::default()).word(),
-        FormatView::from(WORD).word(),
-        u128::from(FormatView::from(WORD)),
-        u128::from(format.view()),
-    ]
+    results! {
+        view: format.view().word(), view_from: FormatView::from(format).word(),
+        default: FormatView::from(known::NumberFormat::<WORD>::default()).word(),
+        from_word: FormatView::from(WORD).word(), word_from: u128::from(FormatView::from(WORD)),
+        word_from_view: u128::from(format.view()),
+    }
 }
 
 fn edit(call: &SetterCall) -> Edit {
     let byte = NonZeroU8::new(call.value);
     match call.setter.checked_sub(OF_FLAGS) {
-        None => Edit::Flag(FLAG_SETTERS[call.setter as usize], call.value % 2 == 1),
+        None => Edit::Flag(FLAG_SETTERS[call.setter], call.value % 2 == 1),
         Some(0) => Edit::DigitSeparator(byte),
         Some(1) => Edit::BasePrefix(byte),
         Some(2) => Edit::BaseSuffix(byte),
@@ -93,28 +82,26 @@ fn edit(call: &SetterCall) -> Edit {
     }
 }
 
-pub fn edits(word: u128, calls: &[SetterCall]) -> Edited {
+pub fn edits(word: u128, calls: &[SetterCall]) -> Results<3> {
     let edits: Vec<Edit> = calls.iter().map(edit).collect();
     let start = NumberFormatBuilder::rebuild(word);
-    let one_by_one = edits.iter().fold(start, |builder, edit| apply(builder, *edit));
-    Edited {
-        edit_word: edit_word(word, &edits).into(),
-        apply: one_by_one.build_unchecked().into(),
-        apply_all: apply_all(start, &edits).build_unchecked().into(),
+    results! {
+        edit_word: edit_word(word, &edits),
+        apply: edits.iter().fold(start, |builder, edit| apply(builder, *edit)).build_unchecked(),
+        apply_all: apply_all(start, &edits).build_unchecked(),
     }
 }
 
-pub fn own(word: u128, other: u128) -> Own {
-    let (migrated, migrate_error) = word_or_error(migrate(word));
+/// The fields of a new builder after all edits of `edits_of`, and after those that it counts.
+pub fn listed(word: u128) -> [Results<37>; 2] {
     let (edits, count) = edits_of(word);
-    Own {
-        normal_form: normal_form(word).into(),
-        same_format: same_format(word, other),
-        is_built: is_built(word),
-        migrated: migrated.into(),
-        migrate_error,
-        edits: count,
-        after_edits: fields(&apply_all(NumberFormatBuilder::new(), &edits[..count])),
-        after_all_edits: fields(&apply_all(NumberFormatBuilder::new(), &edits)),
+    [&edits[..], &edits[..count]].map(|edits| fields(&apply_all(NumberFormatBuilder::new(), edits)))
+}
+
+pub fn own(word: u128, other: u128) -> Results<6> {
+    let (migrated, error) = word_or_error(migrate(word));
+    results! {
+        normal_form: normal_form(word), migrate: migrated, error: error, same_format: same_format(word, other),
+        is_built: is_built(word), edits_of: edits_of(word).1,
     }
 }

@@ -8,6 +8,9 @@ use crate::inputs::{single_calls, SetterCall, BASES};
 use crate::random::Random;
 use crate::rows::with_outcomes;
 use crate::{rules, theirs};
+use upstream::ascii::{is_valid_ascii, is_valid_letter};
+use upstream::digit::char_to_digit;
+use upstream::format_flags::{self as flags, FLAG_MASK};
 
 macro_rules! names {
     ($({ $($rank:literal $Error:ident $is_error:ident;)* })*) => {
@@ -16,7 +19,7 @@ macro_rules! names {
 }
 
 /// The name of the outcome at a position.
-fn name(position: u32) -> &'static str {
+fn name(position: u128) -> &'static str {
     const NAMES: [&str; 49] = with_outcomes!(names);
     NAMES[position as usize]
 }
@@ -52,26 +55,22 @@ pub fn lines(seed: u64) -> Vec<String> {
 }
 
 fn bytes() -> impl Iterator<Item = String> {
-    (0..=255).map(|c| {
-        let byte = theirs::byte(c);
-        format!("byte {c} {} {}", byte.is_valid_ascii, byte.is_valid_letter)
-    })
+    (0..=255).map(|c| format!("byte {c} {} {}", is_valid_ascii(c), is_valid_letter(c)))
 }
 
 fn digits() -> impl Iterator<Item = String> {
     const RADIXES: [u32; 8] = [0, 2, 10, 11, 16, 35, 36, 256];
     let pairs = RADIXES.into_iter().flat_map(|radix| (0..=255).map(move |c| (c, radix)));
-    pairs.map(|(c, radix)| match theirs::digit(c, radix).char_to_digit {
-        u64::MAX => format!("digit {c} {radix} none"),
-        digit => format!("digit {c} {radix} {digit}"),
+    pairs.map(|(c, radix)| match char_to_digit(c, radix) {
+        None => format!("digit {c} {radix} none"),
+        Some(digit) => format!("digit {c} {radix} {digit}"),
     })
 }
 
 fn outcomes() -> impl Iterator<Item = String> {
     const INDEXES: [usize; 3] = [0, 7, usize::MAX];
-    let pairs = (0..49).flat_map(|position| {
-        INDEXES[..if position < 19 { 3 } else { 1 }].iter().map(move |index| (position, *index))
-    });
+    let pairs = (0..49)
+        .flat_map(|position| INDEXES[..if position < 19 { 3 } else { 1 }].iter().map(move |index| (position, *index)));
     pairs.map(|(position, index)| {
         let text = theirs::display(position, index, 0);
         format!("printed {index} {} {text}", name(position))
@@ -92,24 +91,22 @@ fn reserved_bits() -> Vec<u128> {
 }
 
 fn fields(word: u128) -> String {
-    let view = theirs::view(word);
     format!(
         "fields {word:032X} {:032X} {} {} {} {} {} {}",
-        view.flags.number(),
-        view.digit_separator,
-        view.base_prefix,
-        view.base_suffix,
-        view.mantissa_radix,
-        view.exponent_base,
-        view.exponent_radix
+        word & FLAG_MASK,
+        flags::digit_separator(word),
+        flags::base_prefix(word),
+        flags::base_suffix(word),
+        flags::mantissa_radix(word),
+        flags::exponent_base(word),
+        flags::exponent_radix(word)
     )
 }
 
 fn check(word: u128) -> String {
     let theirs = theirs::word(word);
-    let ours = rules::word(word, theirs).format_error;
-    let original = original(ours, theirs.format_error, |error| name(error).to_string());
-    format!("check {word:032X} {}{original}", name(ours))
+    let (ours, theirs) = (rules::word(word, theirs).values[0], theirs.values[0]);
+    format!("check {word:032X} {}{}", name(ours), original(ours, theirs, |error| name(error).to_string()))
 }
 
 /// Returns a word and two bytes, which are often bytes of the word or their other case.
@@ -128,14 +125,14 @@ fn options(random: &mut Random) -> String {
 }
 
 fn edit(word: u128, calls: &[SetterCall]) -> String {
-    let made = theirs::edits(word, calls).edit_word.number();
+    let made = theirs::builder(Some(word), calls).build_unchecked();
     format!("edit {word:032X} {made:032X}{}", text_of(calls))
 }
 
 fn build(calls: &[SetterCall]) -> String {
-    let theirs = theirs::builder(None, calls);
-    let ours = rules::built(theirs).strict_error;
-    let original = original(ours, theirs.strict_error, |error| name(error).to_string());
-    let packed = theirs.build_unchecked.number();
+    let [theirs, _] = theirs::built(None, calls);
+    let ours = rules::strict(theirs).values[2];
+    let ([packed, ..], their_error) = (theirs.values, theirs.values[2]);
+    let original = original(ours, their_error, |error| name(error).to_string());
     format!("build {packed:032X} {}{}{original}", name(ours), text_of(calls))
 }

@@ -58,6 +58,42 @@ macro_rules! with_setters {
     };
 }
 
+/// Calls a macro with its arguments in parentheses, and four blocks of rows: getters of a view that return a `bool`, a
+/// byte, a radix and a masked word, each with its constant.
+macro_rules! with_getters {
+    ($then:ident $args:tt) => {
+        $then! {
+            $args
+            {
+                required_digits REQUIRED_DIGITS;
+                internal_digit_separator INTERNAL_DIGIT_SEPARATOR;
+                leading_digit_separator LEADING_DIGIT_SEPARATOR;
+                trailing_digit_separator TRAILING_DIGIT_SEPARATOR;
+                consecutive_digit_separator CONSECUTIVE_DIGIT_SEPARATOR;
+            }
+            {
+                digit_separator DIGIT_SEPARATOR;
+                base_prefix BASE_PREFIX;
+                base_suffix BASE_SUFFIX;
+            }
+            {
+                mantissa_radix MANTISSA_RADIX;
+                exponent_base EXPONENT_BASE;
+                exponent_radix EXPONENT_RADIX;
+            }
+            {
+                flags FLAG_MASK;
+                interface_flags INTERFACE_FLAG_MASK;
+                digit_separator_flags DIGIT_SEPARATOR_FLAG_MASK;
+                exponent_flags EXPONENT_FLAG_MASK;
+                integer_digit_separator_flags INTEGER_DIGIT_SEPARATOR_FLAG_MASK;
+                fraction_digit_separator_flags FRACTION_DIGIT_SEPARATOR_FLAG_MASK;
+                exponent_digit_separator_flags EXPONENT_DIGIT_SEPARATOR_FLAG_MASK;
+            }
+        }
+    };
+}
+
 /// Calls a macro with two blocks of rows, in the order of their ranks: the outcomes that hold an index, and the others.
 /// A row has rank, variant, test.
 macro_rules! with_outcomes {
@@ -121,4 +157,5 @@ macro_rules! with_outcomes {
     };
 }
 
-pub(crate) use {with_outcomes, with_setters};
+#[allow(unused_imports)]
+pub(crate) use {with_getters, with_outcomes, with_setters};

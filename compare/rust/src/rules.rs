@@ -4,18 +4,15 @@
 //!   exponent character likewise. Digit separator and decimal point are one byte.
 //! - A word with a reserved bit breaks a last rule.
 
-use crate::results::{Built, Own, Word};
-use upstream::format_flags::{
-    BASE_PREFIX, BASE_SUFFIX, DIGIT_SEPARATOR, EXPONENT_BASE, FLAG_MASK, RADIX_MASK,
-};
+use crate::results::Results;
+use upstream::format_flags::{BASE_PREFIX, BASE_SUFFIX, DIGIT_SEPARATOR, EXPONENT_BASE, FLAG_MASK, RADIX_MASK};
 
-const INVALID_PUNCTUATION: u32 = 27;
-const INVALID_FLAGS: u32 = 35;
-pub const SUCCESS: u32 = 48;
+const INVALID_PUNCTUATION: u128 = 27;
+const INVALID_FLAGS: u128 = 35;
+pub const SUCCESS: u128 = 48;
 
 /// The bits that hold no flag and no byte.
-pub const RESERVED: u128 =
-    !(FLAG_MASK | DIGIT_SEPARATOR | BASE_PREFIX | BASE_SUFFIX | RADIX_MASK | EXPONENT_BASE);
+pub const RESERVED: u128 = !(FLAG_MASK | DIGIT_SEPARATOR | BASE_PREFIX | BASE_SUFFIX | RADIX_MASK | EXPONENT_BASE);
 
 /// The bytes that play the role of a byte. No byte plays the role of 0.
 #[derive(Clone, Copy)]
@@ -31,11 +28,8 @@ impl Role {
     }
 
     fn meets(self, other: Role) -> bool {
-        self.byte != 0
-            && (self.byte == other.byte
-                || self.byte == other.other_case
-                || self.other_case == other.byte
-                || self.other_case == other.other_case)
+        let meets = |byte: u8| byte == other.byte || byte == other.other_case;
+        self.byte != 0 && (meets(self.byte) || meets(self.other_case))
     }
 }
 
@@ -46,11 +40,7 @@ fn flag(word: u128, bit: u32) -> bool {
 /// Separator, prefix and suffix.
 fn roles(word: u128) -> [Role; 3] {
     let byte = |shift: u32| (word >> shift) as u8;
-    [
-        Role::new(byte(64), true),
-        Role::new(byte(88), flag(word, 16)),
-        Role::new(byte(96), flag(word, 17)),
-    ]
+    [Role::new(byte(64), true), Role::new(byte(88), flag(word, 16)), Role::new(byte(96), flag(word, 17))]
 }
 
 fn roles_are_apart(word: u128) -> bool {
@@ -58,11 +48,10 @@ fn roles_are_apart(word: u128) -> bool {
     !separator.meets(prefix) && !separator.meets(suffix) && !prefix.meets(suffix)
 }
 
-/// The first broken rule, from the one that the crate names. Its rules up to that on punctuation stay
-/// as they are, and so does that one where it is broken already.
-fn error(word: u128, theirs: u32) -> u32 {
-    let before_punctuation = theirs < INVALID_PUNCTUATION;
-    if !before_punctuation && !roles_are_apart(word) {
+/// Returns the first broken rule, from the one that `lexical-util` names. Its rules up to that on punctuation stay as they
+/// are, and so does that one where it is broken already.
+fn error(word: u128, theirs: u128) -> u128 {
+    if theirs >= INVALID_PUNCTUATION && !roles_are_apart(word) {
         INVALID_PUNCTUATION
     } else if theirs == SUCCESS && word & RESERVED != 0 {
         INVALID_FLAGS
@@ -71,17 +60,14 @@ fn error(word: u128, theirs: u32) -> u32 {
     }
 }
 
-pub fn word(word: u128, theirs: Word) -> Word {
-    let error = error(word, theirs.format_error_impl);
-    Word {
-        is_valid_punctuation: theirs.is_valid_punctuation && roles_are_apart(word),
-        format_error_impl: error,
-        format_error: error,
-        format_is_valid: error == SUCCESS,
-        view_error: error,
-        view_is_valid: error == SUCCESS,
-        ..theirs
-    }
+/// The results of `calls::word`: three errors, two tests for `Success`, the rule of punctuation, and others.
+pub fn word<const N: usize>(word: u128, theirs: Results<N>) -> Results<N> {
+    let mut ours = theirs;
+    let error = error(word, theirs.values[0]);
+    ours.values[..3].fill(error);
+    ours.values[3..5].fill((error == SUCCESS).into());
+    ours.values[5] &= u128::from(roles_are_apart(word));
+    ours
 }
 
 pub fn options(word: u128, exponent: u8, decimal_point: u8, theirs: bool) -> bool {
@@ -91,20 +77,12 @@ pub fn options(word: u128, exponent: u8, decimal_point: u8, theirs: bool) -> boo
     theirs && !exponent.meets(point) && !taken(exponent) && !taken(point)
 }
 
-pub fn built(theirs: Built) -> Built {
-    let error = error(theirs.build_unchecked.number(), theirs.strict_error);
-    let strict_word = if error == SUCCESS { theirs.strict_word } else { 0.into() };
-    Built {
-        strict_word,
-        strict_error: error,
-        panicking_word: strict_word,
-        panicking_error: error,
-        ..theirs
-    }
-}
-
-pub fn own(theirs: Own) -> Own {
-    let error = error(theirs.normal_form.number(), theirs.migrate_error);
-    let migrated = if error == SUCCESS { theirs.migrated } else { 0.into() };
-    Own { migrated, migrate_error: error, ..theirs }
+/// Results that begin with a word, what a strict call makes of it, and its error; the rest stays.
+pub fn strict<const N: usize>(theirs: Results<N>) -> Results<N> {
+    let mut ours = theirs;
+    let [word, _, their_error] = theirs.values[..3] else { unreachable!("at least three results") };
+    let error = error(word, their_error);
+    ours.values[1] = if error == SUCCESS { word } else { 0 };
+    ours.values[2] = error;
+    ours
 }

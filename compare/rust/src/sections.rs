@@ -2,7 +2,8 @@
 
 use crate::inputs::{bits_turned, known_word, single_calls, SetterCall, BASES};
 use crate::random::Random;
-use crate::results::{Associated, Fields, View, Wide, Word};
+use crate::results::{results, Number, Results};
+use crate::source::expressions;
 use crate::tally::Tally;
 use crate::{ours, rules, theirs};
 
@@ -12,43 +13,39 @@ pub struct Task {
     pub run: Box<dyn Fn(&mut Tally) + Send + Sync>,
 }
 
-/// All tasks. The larger the scale, the more random inputs.
+type Section = fn(&mut Tally, &mut Random);
+
+/// Sections over random inputs: the first seed, whether the scale multiplies their seeds, and how many there are.
+const RANDOM: [(&str, Section, u64, bool, u64); 8] = [
+    ("slices", slices, 0, false, 1),
+    ("reserved bits", reserved_bits, 100, false, 8),
+    ("random words", random_words, 200, true, 8),
+    ("masked radixes", masked, 300, false, 8),
+    ("options", options, 400, false, 8),
+    ("builders", builders, 500, true, 8),
+    ("edits", edits, 600, true, 8),
+    ("printed expressions", expressions, 700, false, 1),
+];
+
+/// All tasks.
 pub fn tasks(seed: u64, scale: u64) -> Vec<Task> {
     let mut tasks = vec![];
-    let mut add = |section, run: Box<dyn Fn(&mut Tally) + Send + Sync>| {
-        tasks.push(Task { section, run });
-    };
+    let mut add = |section, run: Box<dyn Fn(&mut Tally) + Send + Sync>| tasks.push(Task { section, run });
     add("bytes and digits", Box::new(bytes_and_digits));
-    add("slices", Box::new(move |tally| slices(tally, &mut Random::new(seed))));
     add("outcomes", Box::new(outcomes));
     add("constants and standard formats", Box::new(constants));
     add("words known when compiled", Box::new(known_words));
     for base in BASES {
-        add(
-            "single bits and pairs of bits",
-            Box::new(move |tally| bits_turned(base).for_each(|word| whole_word(tally, word, base))),
-        );
-    }
-    for seed in seed + 100..seed + 108 {
-        add("reserved bits", Box::new(move |tally| reserved_bits(tally, &mut Random::new(seed))));
+        let run = move |tally: &mut Tally| bits_turned(base).for_each(|word| whole_word(tally, word, base));
+        add("single bits and pairs of bits", Box::new(run));
     }
     for radix in [2, 10, 11, 16, 24, 36] {
         add("punctuation bytes", Box::new(move |tally| punctuation(tally, radix)));
     }
-    for seed in seed + 200..seed + 200 + 8 * scale {
-        add("random words", Box::new(move |tally| random_words(tally, &mut Random::new(seed))));
-    }
-    for seed in seed + 300..seed + 308 {
-        add("masked radixes", Box::new(move |tally| masked(tally, &mut Random::new(seed))));
-    }
-    for seed in seed + 400..seed + 408 {
-        add("options", Box::new(move |tally| options(tally, &mut Random::new(seed))));
-    }
-    for seed in seed + 500..seed + 500 + 8 * scale {
-        add("builders", Box::new(move |tally| builders(tally, &mut Random::new(seed))));
-    }
-    for seed in seed + 600..seed + 600 + 8 * scale {
-        add("edits", Box::new(move |tally| edits(tally, &mut Random::new(seed))));
+    for (section, run, first, scaled, count) in RANDOM {
+        for seed in seed + first..seed + first + if scaled { count * scale } else { count } {
+            add(section, Box::new(move |tally| run(tally, &mut Random::new(seed))));
+        }
     }
     tasks
 }
@@ -89,9 +86,7 @@ fn slices(tally: &mut Tally, random: &mut Random) {
             }
         }
         // Slices that begin anywhere.
-        for start in 0..len.min(32) {
-            compare(&letters[start..]);
-        }
+        (0..len.min(32)).for_each(|start| compare(&letters[start..]));
     }
     for _ in 0..100_000 {
         let len = random.below(150) as usize;
@@ -114,8 +109,7 @@ fn outcomes(tally: &mut Tally) {
             tally.equal(("display", input, style), ours::display(position, index, style), text);
         }
         for other in all() {
-            let (ours, theirs) =
-                (ours::order((position, index), other), theirs::order((position, index), other));
+            let (ours, theirs) = (ours::order((position, index), other), theirs::order((position, index), other));
             tally.same(("outcomes", (position, index), other), ours, theirs);
         }
     }
@@ -123,100 +117,64 @@ fn outcomes(tally: &mut Tally) {
 
 fn constants(tally: &mut Tally) {
     for ((name, ours), (_, theirs)) in ours::CONSTANTS.iter().zip(theirs::CONSTANTS) {
-        tally.same(name, Wide::from(*ours), Wide::from(*theirs));
+        tally.equal(name, ours, theirs);
     }
     tally.same("no input", ours::standards(), theirs::standards());
     for radix in 0..=255 {
-        let word = |word: u128| Wide::from(word);
-        tally.same(radix, word(ours::from_radix(radix)), word(theirs::from_radix(radix)));
+        tally.same(radix, ours::from_radix(radix), theirs::from_radix(radix));
     }
 }
 
-/// The words on which the views that have their word as a const argument are asked, sixteen a row.
+/// Compares the calls that have their word as a const argument, sixteen words a row.
 macro_rules! known_words {
-    ($($row:literal)*) => {
-        |compare: &mut dyn FnMut(u128, [Known; 2], OursAlone)| {
-            $(known_words!(compare, $row, 0 1 2 3 4 5 6 7 8 9 10 11 12 13 14 15);)*
-        }
+    ($tally:ident, $($row:literal)*) => {
+        $(known_words!($tally $row, 0 1 2 3 4 5 6 7 8 9 10 11 12 13 14 15);)*
     };
-    ($compare:ident, $row:literal, $($column:literal)*) => {$({
-        const WORD: u128 = known_word(16 * $row + $column);
-        let alone = OursAlone { digits: ours::const_digits::<WORD>(), converted: ours::converted::<WORD>() };
-        $compare(WORD, [known!(ours, WORD), known!(theirs, WORD)], alone);
-    })*};
-}
-
-macro_rules! known {
-    ($side:ident, $WORD:ident) => {
-        Known {
-            word: $side::const_word::<$WORD>(),
-            view: $side::const_view::<$WORD>(),
-            rebuilt: $side::const_rebuild::<$WORD>(),
-            associated: $side::associated::<$WORD>(),
-        }
+    ($tally:ident $row:literal, $($column:literal)*) => {
+        $(known::<{ known_word(16 * $row + $column) }>($tally);)*
     };
-}
-
-/// The results of one side for a word that is known at compile time.
-struct Known {
-    word: Word,
-    view: View,
-    rebuilt: Fields,
-    associated: Associated,
-}
-
-/// The results of calls that only the library has.
-struct OursAlone {
-    digits: Vec<u8>,
-    converted: [u128; 6],
 }
 
 fn known_words(tally: &mut Tally) {
-    let all = known_words!(0 1 2 3 4 5 6 7 8 9 10 11 12 13 14 15);
-    all(&mut |word, [ours, theirs], alone| {
-        let input = ("word", Wide::from(word));
-        for our_word in [ours.word, ours::word(word)] {
-            tally.expect(input, our_word, rules::word(word, theirs.word), theirs.word);
-        }
-        for our_view in [ours.view, ours::view(word)] {
-            tally.same(input, our_view, theirs.view);
-        }
-        for our_builder in [ours.rebuilt, ours::rebuild(word)] {
-            tally.same(input, our_builder, theirs.rebuilt);
-        }
-        tally.same(input, ours.associated, theirs.associated);
-        for byte in 0..=255 {
-            let is_digit = alone.digits.contains(&byte);
-            tally.same(
-                ("word, byte", Wide::from(word), byte),
-                is_digit,
-                theirs::is_digit(word, byte),
-            );
-        }
-        for converted in alone.converted {
-            tally.same(
-                ("conversion of", Wide::from(word)),
-                Wide::from(converted),
-                Wide::from(word),
-            );
-        }
-    });
+    known_words!(tally, 0 1 2 3 4 5 6 7 8 9 10 11 12 13 14 15);
 }
 
-/// Compares the rules that depend only on a word.
+fn known<const WORD: u128>(tally: &mut Tally) {
+    let (input, theirs) = (("word", WORD), theirs::const_word::<WORD>());
+    for ours in [ours::const_word::<WORD>(), ours::word(WORD)] {
+        tally.expect(input, ours, rules::word(WORD, theirs), theirs);
+    }
+    for ours in [ours::const_view::<WORD>(), ours::view(WORD)] {
+        tally.same(input, ours, theirs::const_view::<WORD>());
+    }
+    for ours in [ours::const_rebuild::<WORD>(), ours::rebuild(WORD)] {
+        tally.same(input, ours, theirs::const_rebuild::<WORD>());
+    }
+    tally.same(input, ours::associated::<WORD>(), theirs::associated::<WORD>());
+    for byte in 0..=255 {
+        let is_digit = ours::const_is_digit::<WORD>(byte);
+        tally.same((input, byte), ours::is_digit(WORD, byte, Some(is_digit)), theirs::is_digit(WORD, byte));
+    }
+    let converted = ours::converted::<WORD>();
+    tally.same(input, converted, Results { values: [WORD; 6], ..converted });
+}
+
+/// Compares the calls that depend only on a word: its rules and fields.
 fn rules_of(tally: &mut Tally, word: u128) {
     let theirs = theirs::word(word);
-    tally.expect(("word", Wide::from(word)), ours::word(word), rules::word(word, theirs), theirs);
+    tally.expect(("word", word), ours::word(word), rules::word(word, theirs), theirs);
 }
 
 /// All calls on a word, and those on two.
 fn whole_word(tally: &mut Tally, word: u128, other: u128) {
     rules_of(tally, word);
-    tally.same(("view", Wide::from(word)), ours::view(word), theirs::view(word));
-    tally.same(("rebuilt", Wide::from(word)), ours::rebuild(word), theirs::rebuild(word));
+    tally.same(("view", word), ours::view(word), theirs::view(word));
+    tally.same(("rebuilt", word), ours::rebuild(word), theirs::rebuild(word));
     let theirs = theirs::own(word, other);
-    let input = ("words", Wide::from(word), Wide::from(other));
-    tally.expect(input, ours::own(word, other), rules::own(theirs), theirs);
+    tally.expect(("words", word, other), ours::own(word, other), rules::strict(theirs), theirs);
+    for (ours, theirs) in ours::listed(word).into_iter().zip(theirs::listed(word)) {
+        tally.same(("edits of", word), ours, theirs);
+    }
 }
 
 fn reserved_bits(tally: &mut Tally, random: &mut Random) {
@@ -262,12 +220,11 @@ fn masked(tally: &mut Tally, random: &mut Random) {
         let word = random.word();
         for (_, mask) in theirs::CONSTANTS.iter().copied().chain([("", random.bits())]) {
             for shift in 0..128 {
-                let ours = ours::radix_from_flags(word, mask, shift);
-                let theirs = theirs::radix_from_flags(word, mask, shift);
+                let input = ("word, mask, shift", word, mask, shift);
                 tally.same(
-                    ("word, mask, shift", Wide::from(word), Wide::from(mask), shift),
-                    ours,
-                    theirs,
+                    input,
+                    ours::radix_from_flags(word, mask, shift),
+                    theirs::radix_from_flags(word, mask, shift),
                 );
             }
         }
@@ -276,36 +233,31 @@ fn masked(tally: &mut Tally, random: &mut Random) {
 
 /// Compares all pairs of bytes as options of some words: bases, and random words with letters in both cases.
 fn options(tally: &mut Tally, random: &mut Random) {
-    let bases = BASES.iter().map(|base| base ^ (random.below(8) as u128) << 15);
-    let bases: Vec<u128> = bases.collect();
+    let bases: Vec<u128> = BASES.iter().map(|base| base ^ (random.below(8) as u128) << 15).collect();
     for word in bases.into_iter().chain((0..8).map(|_| random.word())) {
         for byte in 0..=255 {
-            let is_digit = theirs::is_digit(word, byte);
-            for ours in ours::is_digit(word, byte) {
-                tally.same(("word, byte", Wide::from(word), byte), ours, is_digit);
-            }
+            tally.same(("word, byte", word, byte), ours::is_digit(word, byte, None), theirs::is_digit(word, byte));
         }
-        for exponent in 0..=255 {
-            for point in 0..=255 {
-                let theirs = theirs::options(word, exponent, point);
-                let expected = rules::options(word, exponent, point, theirs);
-                let ours = ours::options(word, exponent, point);
-                tally.expect(
-                    ("word, exponent, point", Wide::from(word), exponent, point),
-                    ours,
-                    expected,
-                    theirs,
-                );
-            }
+        for (exponent, point) in (0..=255).flat_map(|exponent| (0..=255).map(move |point| (exponent, point))) {
+            let theirs = theirs::options(word, exponent, point);
+            let fits = |accepted: bool| results! { is_valid_options_punctuation: accepted, };
+            tally.expect(
+                ("word, exponent, point", word, exponent, point),
+                fits(ours::options(word, exponent, point)),
+                fits(rules::options(word, exponent, point, theirs)),
+                fits(theirs),
+            );
         }
     }
 }
 
 fn builders(tally: &mut Tally, random: &mut Random) {
     let mut compare = |start: Option<u128>, calls: &[SetterCall]| {
-        let theirs = theirs::builder(start, calls);
-        let input = ("start, calls", start.map(Wide::from), calls);
-        tally.expect(input, ours::builder(start, calls), rules::built(theirs), theirs);
+        let input = ("start, calls", start, calls);
+        tally.same(input, ours::builder_fields(start, calls), theirs::builder_fields(start, calls));
+        for (ours, theirs) in ours::built(start, calls).into_iter().zip(theirs::built(start, calls)) {
+            tally.expect(input, ours, rules::strict(theirs), theirs);
+        }
     };
     for call in single_calls(256) {
         compare(None, &[call]);
@@ -319,8 +271,7 @@ fn builders(tally: &mut Tally, random: &mut Random) {
 
 fn edits(tally: &mut Tally, random: &mut Random) {
     let mut compare = |word: u128, calls: &[SetterCall]| {
-        let input = ("word, calls", Wide::from(word), calls);
-        tally.same(input, ours::edits(word, calls), theirs::edits(word, calls));
+        tally.same(("word, calls", word, calls), ours::edits(word, calls), theirs::edits(word, calls));
     };
     for call in single_calls(256) {
         compare(random.word(), &[call]);

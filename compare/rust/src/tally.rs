@@ -10,47 +10,50 @@ const SHOWN: usize = 3;
 #[derive(Default)]
 pub struct Tally {
     /// Calls compared, each on one input.
-    pub compared: u64,
+    pub compared: usize,
     /// The number of results that have to differ, and do.
-    pub on_purpose: u64,
-    /// The number of results that differ from what is expected.
-    pub unexplained: u64,
+    pub on_purpose: usize,
+    /// The number of results that differ from the expected ones.
+    pub unexplained: usize,
     /// The first inputs of these, with both sides.
     pub shown: Vec<String>,
 }
 
 impl Tally {
     /// Compares the results of the library and of `lexical-util`.
-    pub fn same<A: Results>(&mut self, input: impl Debug, ours: A, theirs: A) {
+    pub fn same<const N: usize>(&mut self, input: impl Debug, ours: Results<N>, theirs: Results<N>) {
         self.expect(input, ours, theirs, theirs);
     }
 
-    /// Compares what the library returns with what is expected, given what the crate returns.
-    pub fn expect<A: Results>(&mut self, input: impl Debug, ours: A, expected: A, theirs: A) {
-        self.compared += A::CALLS;
-        if expected != theirs {
-            let mut changed = vec![];
-            expected.differences(&theirs, "", &mut changed);
-            self.on_purpose += changed.len() as u64;
+    /// Compares the results of the library with the expected ones, given those of `lexical-util`.
+    pub fn expect<const N: usize>(
+        &mut self,
+        input: impl Debug,
+        ours: Results<N>,
+        expected: Results<N>,
+        theirs: Results<N>,
+    ) {
+        self.compared += N;
+        if expected.values != theirs.values {
+            self.on_purpose += (0..N).filter(|&call| expected.values[call] != theirs.values[call]).count();
         }
-        if ours != expected {
-            let mut wrong = vec![];
-            ours.differences(&expected, "", &mut wrong);
-            self.unexplained += wrong.len() as u64;
-            let lines = wrong.iter().map(|difference| {
-                let call = if difference.name.is_empty() { "the call" } else { &difference.name };
-                format!("  {call} returns {}, expected {}", difference.one, difference.other)
-            });
-            self.show(format!("on {input:?}:\n{}", lines.collect::<Vec<_>>().join("\n")));
+        if ours.values != expected.values {
+            let wrong = (0..N).filter(|&call| ours.values[call] != expected.values[call]);
+            let line = |call: usize| {
+                let (one, other) = (ours.values[call], expected.values[call]);
+                format!("\n  {} returns {one:#X}, expected {other:#X}", ours.names[call])
+            };
+            self.unexplained += wrong.clone().count();
+            self.show(format!("on {input:X?}:{}", wrong.map(line).collect::<String>()));
         }
     }
 
-    /// Compares one value with what is expected.
+    /// Compares one value with the expected one.
     pub fn equal<A: PartialEq + Debug>(&mut self, input: impl Debug, ours: A, expected: A) {
         self.compared += 1;
         if ours != expected {
             self.unexplained += 1;
-            self.show(format!("on {input:?}:\n  returns {ours:?}, expected {expected:?}"));
+            self.show(format!("on {input:X?}:\n  returns {ours:?}, expected {expected:?}"));
         }
     }
 
@@ -66,7 +69,6 @@ impl AddAssign for Tally {
         self.compared += other.compared;
         self.on_purpose += other.on_purpose;
         self.unexplained += other.unexplained;
-        let room = SHOWN.saturating_sub(self.shown.len());
-        self.shown.extend(other.shown.into_iter().take(room));
+        other.shown.into_iter().for_each(|difference| self.show(difference));
     }
 }
