@@ -62,6 +62,56 @@ class Sources(unittest.TestCase):
         self.assertRegex(run("node", HERE / "test.js"), r"^\d{5} recorded results\n$")
 
 
+@unittest.skipUnless(has("node"), "no Node.js")
+class Code(unittest.TestCase):
+    """The code that the page shows for a word builds this word."""
+
+    # Words that a builder makes, with bytes that need an escape or cannot be seen, and words that none makes.
+    WORDS = [STANDARD, MIXED, "0x000002005C000027000000010000000C", "0x00000A807F0000220000000100000000",
+             "0x00000A000000005F000000000000000C", "0x01FF257862000020800017FF8003FFFF"]
+
+    def setUp(self):
+        self.folder = pathlib.Path(self.enterContext(tempfile.TemporaryDirectory()))
+        run("node", HERE / "test.js", self.folder, *self.WORDS)
+
+    def code(self, language):
+        return [(self.folder / f"{index}.{language}").read_text() for index in range(len(self.WORDS))]
+
+    def cargo(self, *arguments):
+        """Calls cargo, whose results are in the folder."""
+        variables = {"CARGO_TARGET_DIR": str(self.folder / "target"), "CARGO_NET_OFFLINE": "true"}
+        return run("cargo", *arguments, env={**os.environ, **variables}, cwd=self.folder)
+
+    @unittest.skipUnless(has("cargo"), "no cargo")
+    def test_rust(self):
+        modules = "".join(f"mod m{index} {{ {text} pub const WORD: u128 = FORMAT; }}\n"
+                          for index, text in enumerate(self.code("rust")))
+        prints = "".join(f'println!("{{:#034X}}", m{index}::WORD);' for index in range(len(self.WORDS)))
+        (self.folder / "main.rs").write_text(f"{modules}fn main() {{ {prints} }}")
+        (self.folder / "Cargo.toml").write_text(
+            '[package]\nname = "code"\nedition = "2021"\n[[bin]]\nname = "code"\npath = "main.rs"\n[workspace]\n'
+            f'[dependencies]\npeltzivar = {{ path = "{TOP / "rust"}" }}\n')
+        self.assertEqual(self.cargo("run", "--quiet").split(), self.WORDS)
+
+    @unittest.skipUnless(has("cc"), "no C compiler")
+    def test_c(self):
+        text = "".join(f"#define FORMAT F{index}\n{text}\n#undef FORMAT\n" for index, text in enumerate(self.code("c")))
+        show = r'printf("0x%016llX%016llX\n", (unsigned long long)F.high, (unsigned long long)F.low);'
+        prints = "".join(show.replace("F.", f"F{index}.") for index in range(len(self.WORDS)))
+        (self.folder / "main.c").write_text(f"{text}#include <stdio.h>\nint main(void) {{ {prints} return 0; }}\n")
+        run("cc", "-Wall", "-Wextra", "-Werror", "-I", TOP / "c", "-o", self.folder / "main", self.folder / "main.c")
+        self.assertEqual(run(self.folder / "main").split(), self.WORDS)
+
+    @unittest.skipUnless(has("cargo"), "no cargo")
+    def test_python(self):
+        self.cargo("build", "--quiet", "--release", "--manifest-path", TOP / "rust/capi/Cargo.toml")
+        library = next(it for it in (self.folder / "target/release").iterdir() if it.suffix in (".so", ".dylib"))
+        (self.folder / "main.py").write_text("".join(f"{text}print(format)\n" for text in self.code("python")))
+        variables = {"PELTZIVAR_LIBRARY": str(library), "PYTHONPATH": str(TOP / "c"), "PYTHONDONTWRITEBYTECODE": "1"}
+        printed = run(sys.executable, self.folder / "main.py", env={**os.environ, **variables})
+        self.assertEqual(printed.split(), self.WORDS)
+
+
 @unittest.skipUnless(webdriver and has("chromium", "chromedriver"), "no chromium, chromium-driver or python3-selenium")
 class Walk(unittest.TestCase):
     """One walk through the page. Each test loads the page anew."""
@@ -139,8 +189,9 @@ class Walk(unittest.TestCase):
         self.assertTrue(self.find("#no_positive_mantissa_sign").is_selected())
         self.assertEqual(self.value(), "0x00000A0000000000000000000000341C")
         self.assertEqual(self.texts("#changes code")[:2], ["no_positive_mantissa_sign=true", "no_special=true"])
-        self.click("#changes li:first-child .undo")
+        self.click("#changes li:first-child .back")
         self.assertEqual(self.value(), "0x00000A0000000000000000000000340C")
+        self.assertEqual(self.run_script("return document.activeElement.title"), "back to no_special=false")
         self.click("#standard")
         self.assertEqual(self.value(), STANDARD)
 
@@ -148,14 +199,55 @@ class Walk(unittest.TestCase):
         self.type("#base_prefix", "x")
         self.type("#mantissa_radix", "16")
         self.assertEqual(self.value(), "0x0000100078000000000000000000000C")
-        self.assertIn("exponent", self.text("#options-error"))
+        self.assertEqual(self.text("#verdict"), "Lawful, but an option does not fit")
+        self.assertIn("exponent", self.texts(".reason .link"))
         self.type("#exponent", "p")
-        self.assertEqual(self.text("#options-error"), "")
+        self.assertEqual((self.text("#verdict"), self.texts(".reason")), ("Lawful", []))
         self.type("#mantissa_radix", "256")
         self.assertIn("mantissa_radix takes a number", self.text("#mantissa_radix-problem"))
         self.assertEqual(self.value(), "0x0000100078000000000000000000000C")
         self.find("#mantissa_radix").send_keys(Keys.ESCAPE)
         self.assertEqual(self.value("#mantissa_radix"), "16")
+        for text in ("a", "'a'"):
+            self.type("#mantissa_radix", text)
+            self.assertEqual(self.value(), "0x0000100078000000000000000000000C")
+        self.type("#point", "9" + Keys.TAB)
+        self.assertEqual(self.value("#point"), "TAB")
+        self.type("#point", "lf" + Keys.TAB)
+        self.assertEqual(self.run_script("return page.state.point"), 10)
+
+    def test_changes_are_undone_and_done_again(self):
+        def state():
+            return (self.value(), self.value("#mantissa_radix"))
+
+        self.type("#mantissa_radix", "16")
+        self.click("#no_special")
+        both = ("0x0000100000000000000000000000040C", "16")
+        self.assertEqual(state(), both)
+        self.click("#undo")
+        self.wait(lambda: state() == ("0x0000100000000000000000000000000C", "16"))
+        self.find("#no_special").send_keys(Keys.CONTROL, "z")
+        self.wait(lambda: state() == (STANDARD, "10"))
+        self.assertFalse(self.find("#undo").is_enabled())
+        self.click("#redo")
+        self.wait(lambda: self.value("#mantissa_radix") == "16")
+        self.find("#no_special").send_keys(Keys.CONTROL, "y")
+        self.wait(lambda: state() == both)
+        self.assertFalse(self.find("#redo").is_enabled())
+        self.type("#word", "0xC" + Keys.ENTER)
+        self.driver.back()
+        self.wait(lambda: state() == both)
+
+    def test_fields_are_found_and_formats_compared(self):
+        self.type("#filter", "leading zeros")
+        shown = """return [...document.querySelectorAll('#controls .field label')].filter((it) => it.checkVisibility())
+            .map((it) => it.textContent)"""
+        self.assertEqual(self.run_script(shown), ["no_integer_leading_zeros", "no_float_leading_zeros"])
+        self.type("#filter", "")
+        Select(self.find("#compare")).select_by_value("TOML")
+        self.assertEqual(self.texts("#changes code")[0], "required_integer_digits=false")
+        Select(self.find("#recipe")).select_by_value("TOML")
+        self.assertEqual(self.texts("#changes code"), [])
 
     def test_groups_of_separator_flags_and_a_note(self):
         self.type("#digit_separator", "_")
@@ -168,13 +260,15 @@ class Walk(unittest.TestCase):
         self.assertEqual(self.value(), "0x00000A000000005F000000050000000C")
 
     def test_reasons_lead_to_the_controls_that_they_blame(self):
-        self.load("#word=0x000010006200000000000000000000CC")
+        self.load("#word=0x000010006200000000000000000000CC&exponent=112")
         self.assertEqual(self.text("#verdict"), "Not lawful: 1 reason")
-        self.assertEqual(self.text("#first-error"), "lexical number format error: 'invalid base prefix character'")
+        self.assertEqual(self.text("#first-error"), "the base prefix 'b' is a digit in radix 16")
+        self.click("#verdict")
+        self.assertEqual(self.focused(), "report-title")
         self.assertEqual(self.texts(".reason strong"), ["the base prefix 'b' is a digit in radix 16"])
         self.click(".reason .link", "base_prefix")
         self.assertEqual(self.focused(), "base_prefix")
-        self.load("#word=0x000010006200000000000000800000CC")
+        self.load("#word=0x000010006200000000000000800000CC&exponent=112")
         self.assertEqual(self.text("#verdict"), "Not lawful: 2 reasons")
         self.click("button", "clear the reserved bits")
         self.assertEqual(self.text("#verdict"), "Not lawful: 1 reason")
@@ -189,6 +283,36 @@ class Walk(unittest.TestCase):
             self.assertNotEqual(self.text("#word-problem"), "")
         self.find("#word").send_keys(Keys.ESCAPE)
         self.assertEqual(self.value(), "0x0000000000000000000000000000000C")
+        rows = {
+            "0XA00_0000_0000_0000_0000_0000_000c": STANDARD,
+            "12": "0x0000000000000000000000000000000C",
+            "radix=16, base_prefix='x'": "0x0000100078000000000000000000000C",
+            str(2**128 - 1): "0x" + 32 * "F",
+        }
+        for text, wanted in rows.items():
+            self.type("#word", text + Keys.ENTER + Keys.TAB)
+            self.assertEqual(self.value(), wanted)
+
+    def test_settings_are_pasted_from_the_code(self):
+        word = "0x00000A00270000200000000100000400"
+        self.load(f"#word={word}")
+        self.click("#tab-settings")
+        self.assertIn("digit_separator=32\nbase_prefix='''", self.text("#code"))
+        self.click("#copy-code")
+        self.wait(lambda: self.text("#copy-code") == "copied")
+        self.click("#standard")
+        self.type("#word", Keys.CONTROL + "v")
+        self.assertEqual(self.value("#digit_separator"), "SPACE")
+        self.find("#word").send_keys(Keys.TAB)
+        self.assertEqual(self.value(), word)
+
+    def test_a_message_moves_nothing(self):
+        place = """return ["#bits-panel", "#base_suffix", "#no_special"].map(
+            (it) => document.querySelector(it).getBoundingClientRect().top + scrollY)"""
+        before = self.run_script(place)
+        self.type("#word", "nonsense")
+        self.type("#base_prefix", "xyz")
+        self.assertEqual(self.run_script(place), before)
 
     def test_the_normal_form_is_used(self):
         self.assertEqual(self.text("#normal code"), "0x0A0A0A0000000000000000000000000C")
@@ -215,6 +339,7 @@ class Walk(unittest.TestCase):
         self.wait(lambda: self.run_script("return location.hash") == wanted)
         self.load("#word=nonsense&exponent=300&point=")
         self.assertEqual((self.value(), self.value("#exponent"), self.value("#point")), (STANDARD, "e", "."))
+        self.assertIn("This link has no format word", self.text("#word-problem"))
 
     def test_bits_and_number_are_those_of_the_word(self):
         self.load(f"#word={MIXED}&exponent=112&point=46")
