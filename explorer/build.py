@@ -17,6 +17,8 @@ HERE = pathlib.Path(__file__).resolve().parent
 TOP = HERE.parent
 PAGE = HERE / "index.html"
 FORMAT = (TOP / "docs/FORMAT.md").read_text()
+# The example that reads literals. Without it, the page has no field to try one.
+READER = TOP / "rust/examples/literal"
 SCRIPTS = ("library", "element", "number", "bits", "controls", "code", "report", "literal", "page")
 MOST_BYTES = 250_000
 TARGET = "wasm32-unknown-unknown"
@@ -104,7 +106,8 @@ def data():
 def hash_of(wasm):
     """Returns a hash of the WebAssembly and its sources. Comments and blank lines of the sources do not count."""
     whole = hashlib.sha256(json.dumps([wasm, OPTIONS]).encode())
-    for path in [HERE / "builtins.rs", HERE / "library.rs", *sorted((TOP / "rust/src").rglob("*.rs"))]:
+    sources = [*sorted((TOP / "rust/src").rglob("*.rs")), *sorted(READER.glob("r*.rs"))]
+    for path in [HERE / "builtins.rs", HERE / "library.rs", *sources]:
         lines = [line.strip() for line in path.read_text().splitlines()]
         code = [line for line in lines if line and not line.startswith("//")]
         if code:
@@ -144,6 +147,7 @@ def compiled():
         crate = ["--edition=2021", "--crate-type=rlib", "--crate-name=peltzivar", f"--out-dir={folder}"]
         output(*rustc, *crate, TOP / "rust/src/lib.rs")
         page = ["--edition=2024", "--crate-type=cdylib", "-Clto=fat", "-Ccodegen-units=1", "-Cstrip=symbols"]
+        page += ["--cfg=reader"] if READER.exists() else []
         output(*rustc, *page, "--extern=peltzivar", "-o", wasm, HERE / "library.rs")
         return wasm.read_bytes()
 

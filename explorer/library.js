@@ -1,4 +1,4 @@
-/* The library, which runs as WebAssembly: all calls of library.rs are here. A word is a BigInt, and its flags and bytes
+/* The library, which runs as WebAssembly. All calls of library.rs are here. A word is a BigInt, and its flags and bytes
  * are read and written by bit arithmetic. */
 "use strict";
 
@@ -55,8 +55,8 @@ class Library {
         return "literal" in this.calls;
     }
 
-    /* Returns {parts, wrong} of a number that is read: parts have kind, start and end, and `wrong` has the index of the
-     * first wrong byte, its error and the field that decides. */
+    /* Returns {parts} of a number that is read, each with its kind, start and end, or {error, index, setting}: the index
+     * of the first wrong byte, and a setting with which more is read. */
     literal({ word, exponent, point }, text) {
         return this.call("literal", text, word & HALF, word >> 64n, exponent, point);
     }

@@ -1,5 +1,6 @@
-//! The library for the page, as WebAssembly: three calls of the crate `peltzivar`. A call reads a text from `INPUT`,
-//! writes its answer to `OUTPUT` as JSON, and returns how many bytes the answer has. A word has two halves of 64 bits.
+//! The library for the page, as WebAssembly: calls of the crate `peltzivar` and of the example that reads literals. A
+//! call reads a text from `INPUT`, writes its answer to `OUTPUT` as JSON, and returns how many bytes the answer has. A
+//! word has two halves of 64 bits.
 #![no_std]
 
 use core::fmt::{self, Display, Write};
@@ -7,6 +8,10 @@ use core::fmt::{self, Display, Write};
 use peltzivar::edits::{apply, is_built, normal_form};
 use peltzivar::format_flags::options_error;
 use peltzivar::{Edit, Error, FormatView, NumberFormatBuilder, Rule};
+
+#[cfg(reader)]
+#[path = "../rust/examples/literal/reader.rs"]
+mod reader;
 
 const SIZE: usize = 1 << 16;
 
@@ -26,12 +31,16 @@ pub extern "C" fn output() -> *const u8 {
     (&raw const OUTPUT).cast()
 }
 
+/// Returns the text of a call.
+fn text_of(length: usize) -> &'static [u8] {
+    // SAFETY: WebAssembly has one thread, and the page writes the text only between calls.
+    unsafe { &(&*(&raw const INPUT))[..length.min(SIZE)] }
+}
+
 /// Returns the word that settings, one a line, build: `{"word"}`, or `{"error", "index"}` for the first that is none.
 #[unsafe(no_mangle)]
 pub extern "C" fn build(length: usize) -> usize {
-    // SAFETY: WebAssembly has one thread, and no other reference to the text is alive.
-    let bytes = unsafe { &*(&raw const INPUT) };
-    let text = core::str::from_utf8(&bytes[..length.min(SIZE)]).unwrap_or("");
+    let text = core::str::from_utf8(text_of(length)).unwrap_or("");
     let mut builder = NumberFormatBuilder::new();
     for (index, line) in text.split('\n').filter(|line| !line.is_empty()).enumerate() {
         match line.parse::<Edit>() {
@@ -65,6 +74,42 @@ pub extern "C" fn explain(low: u64, high: u64, exponent: u8, point: u8) -> usize
             write!(out, r#"{{"text":{},"mask":{}}}"#, Quoted(note), Word(note.mask()))
         })?;
         out.write_str("}")
+    })
+}
+
+/// The names of the parts of a literal, in the order of `reader::Token`.
+#[cfg(reader)]
+const PARTS: &str = "sign special prefix integer point fraction exponent_character exponent_sign exponent_digits suffix";
+
+/// Returns the parts of a literal, or why it is refused: the index of the first wrong byte, which is `null` if the format
+/// or an option is wrong, and the setting to blame.
+#[cfg(reader)]
+#[unsafe(no_mangle)]
+pub extern "C" fn literal(low: u64, high: u64, exponent: u8, point: u8, length: usize) -> usize {
+    let word = u128::from(high) << 64 | u128::from(low);
+    let options = reader::Options { exponent, point, specials: &[b"NaN", b"inf", b"infinity"] };
+    let read = |format| reader::read(format, Some(&options), text_of(length));
+    answer(|out| match FormatView::new(word).check().map(read) {
+        Ok(Ok(parts)) => {
+            out.write_str(r#"{"parts":"#)?;
+            let present = PARTS.split(' ').zip(parts).filter(|(_, range)| !range.is_empty());
+            list(out, present, |out, (kind, range)| {
+                write!(out, r#"{{"kind":"{kind}","start":{},"end":{}}}"#, range.start, range.end)
+            })?;
+            out.write_str("}")
+        }
+        Ok(Err(refusal)) => {
+            write!(out, r#"{{"error":{},"index":"#, Quoted(refusal.error.description()))?;
+            match refusal.error.index() {
+                Some(index) => write!(out, "{index}")?,
+                None => out.write_str("null")?,
+            }
+            if let Some(edit) = refusal.edit {
+                write!(out, r#","setting":{}"#, Quoted(edit))?;
+            }
+            out.write_str("}")
+        }
+        Err(error) => write!(out, r#"{{"error":{},"index":null}}"#, Quoted(error)),
     })
 }
 
