@@ -68,7 +68,7 @@ pub extern "C" fn explain(low: u64, high: u64, exponent: u8, point: u8) -> usize
             out.write_str("}")
         })?;
         out.write_str(r#","options":"#)?;
-        options(out, options_error(word, exponent, point))?;
+        options(out, word, exponent, point)?;
         out.write_str(r#","notes":"#)?;
         list(out, view.notes(), |out, note| {
             write!(out, r#"{{"text":{},"mask":{}}}"#, Quoted(note), Word(note.mask()))
@@ -113,12 +113,19 @@ pub extern "C" fn literal(low: u64, high: u64, exponent: u8, point: u8, length: 
     })
 }
 
-/// Writes why the exponent character and the decimal point do not fit, with the fields to blame.
-fn options(out: &mut Answer, error: Error) -> fmt::Result {
-    let fields = match error {
-        Error::Success => return out.write_str("[]"),
-        Error::InvalidExponentSymbol => r#"["exponent"]"#,
-        Error::InvalidDecimalPoint => r#"["point"]"#,
+/// Writes why the exponent character and the decimal point do not fit. An option that fits beside no other one is to
+/// blame, and otherwise both are.
+fn options(out: &mut Answer, word: u128, exponent: u8, point: u8) -> fmt::Result {
+    let error = options_error(word, exponent, point);
+    if error.is_success() {
+        return out.write_str("[]");
+    }
+    let fields = match (
+        (0..=127).any(|point| options_error(word, exponent, point).is_success()),
+        (0..=127).any(|exponent| options_error(word, exponent, point).is_success()),
+    ) {
+        (false, true) => r#"["exponent"]"#,
+        (true, false) => r#"["point"]"#,
         _ => r#"["exponent","point"]"#,
     };
     write!(out, r#"[{{"text":{},"fields":{fields}}}]"#, Quoted(error))
