@@ -73,8 +73,9 @@ class Page {
 
     /* Takes Ctrl+Z, Ctrl+Y and Ctrl+Shift+Z, except in the field for a number. */
     undo(event) {
-        const key = event.key.toLowerCase();
-        if (!(event.ctrlKey || event.metaKey) || !"zy".includes(key) || ["literal", "filter"].includes(event.target.id)) return;
+        const key = event.key?.toLowerCase();
+        const isUndo = (event.ctrlKey || event.metaKey) && ["z", "y"].includes(key);
+        if (!isUndo || ["literal", "filter"].includes(event.target.id)) return;
         event.preventDefault();
         const isRedo = key === "y" || event.shiftKey;
         if (isRedo ? this.index < this.last : this.index > 0) history.go(isRedo ? 1 : -1);

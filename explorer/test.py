@@ -71,7 +71,9 @@ class Code(unittest.TestCase):
              "0x00000A000000005F000000000000000C", "0x01FF257862000020800017FF8003FFFF"]
 
     def setUp(self):
-        self.folder = pathlib.Path(self.enterContext(tempfile.TemporaryDirectory()))
+        folder = tempfile.TemporaryDirectory()
+        self.addCleanup(folder.cleanup)
+        self.folder = pathlib.Path(folder.name)
         run("node", HERE / "test.js", self.folder, *self.WORDS)
 
     def code(self, language):
