@@ -3,12 +3,12 @@
 const ROW_BITS = 32;
 
 /* Returns the field of each bit: its name, its part of a number, and its title below the bits. */
-function fieldsOfBits(data) {
+function fieldsOfBits(library) {
     const bits = Array.from({ length: 128 }, () => ({ name: "reserved", part: "reserved", title: "reserved" }));
-    for (const { bit, name, part } of data.flags) {
+    for (const { bit, name, part } of library.flags) {
         bits[bit] = { name, part, title: bit < ROW_BITS ? "flags" : "separator flags" };
     }
-    for (const { bit, name, part } of data.bytes) {
+    for (const { bit, name, part } of library.bytes) {
         for (let index = bit; index < bit + 8; index++) bits[index] = { name, part, title: name.replace("_", " ") };
     }
     return bits;
@@ -26,8 +26,8 @@ function runs(row) {
 }
 
 /* Makes the picture. A click on the bit of a flag calls `toggle` with its name. */
-function makeBits(data, toggle) {
-    const fields = fieldsOfBits(data);
+function makeBits(library, toggle) {
+    const fields = fieldsOfBits(library);
     const cells = [];
     for (let high = 127; high > 0; high -= ROW_BITS) {
         const row = fields.slice(high - ROW_BITS + 1, high + 1).reverse();
@@ -52,11 +52,11 @@ function makeBits(data, toggle) {
 }
 
 /* Shows the bits of a word. */
-function showBits(cells, word, text) {
+function showBits(cells, word) {
     cells.forEach((cell, bit) => {
         const isSet = (word >> BigInt(bit)) & 1n;
         setText(cell, String(isSet));
         cell.classList.toggle("set", isSet === 1n);
     });
-    find("bits").setAttribute("aria-label", `The bits of ${text}`);
+    find("bits").setAttribute("aria-label", `The bits of ${wordText(word)}`);
 }

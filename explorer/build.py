@@ -16,15 +16,16 @@ import tempfile
 HERE = pathlib.Path(__file__).resolve().parent
 TOP = HERE.parent
 PAGE = HERE / "index.html"
-SCRIPTS = ("library", "element", "number", "bits", "controls", "code", "report", "page")
-MOST_BYTES = 200_000
+FORMAT = (TOP / "docs/FORMAT.md").read_text()
+# The example that reads literals. Without it, the page has no field to try one.
+READER = TOP / "rust/examples/literal"
+SCRIPTS = ("library", "element", "number", "bits", "controls", "code", "report", "literal", "page")
+MOST_BYTES = 250_000
 TARGET = "wasm32-unknown-unknown"
-PACKAGES = ["rustc-web=1.85*", "rust-web-src=1.85*", "lld"]
-DEBIAN_SOURCES = pathlib.Path("/usr/src")
-
-sys.dont_write_bytecode = True
-sys.path.append(str(TOP / "docs"))
-import check_format
+OPTIONS = [f"--target={TARGET}", "-Ctarget-feature=+bulk-memory", "-Copt-level=s", "-Cpanic=abort", "--cap-lints=allow"]
+NO_COMPILER = (
+    f"no compiler has the target {TARGET}: run `rustup target add {TARGET}`, or `apt-get install rustc-web rust-web-src lld`"
+)
 
 # The sections of flags that separate no digits: a title, the part of a number, and the names of the flags.
 SECTIONS = [
@@ -38,47 +39,35 @@ SECTIONS = [
 BYTE_PARTS = {"digit_separator": "separator", "base_prefix": "base", "base_suffix": "base", "mantissa_radix": "digits"}
 
 
-def flags():
-    """Returns the flags, each with its bit, its meaning and its section."""
-    separators = next(bits.split() for name, bits, _ in check_format.GROUPS if name == "digit_separator_flags")
-    for bit, name, meaning in check_format.FLAGS:
-        section = next(row for row in SECTIONS if re.fullmatch(row[2], name))
-        title, part = ("", "separator") if bit in separators else section[:2]
-        yield {"bit": int(bit), "name": name, "meaning": meaning, "section": title, "part": part}
-
-
-def groups():
-    """Returns the groups of flags, each with its bits."""
-    for name, bits, meaning in check_format.GROUPS:
-        yield {"name": name, "bits": [*map(int, bits.split())], "meaning": f"flags that {meaning}"}
+def rows(pattern):
+    """Returns the rows of FORMAT's tables with this pattern."""
+    return re.findall(pattern, FORMAT, re.M) or sys.exit(f"docs/FORMAT.md: no row {pattern}")
 
 
 def fields():
-    """Returns the bytes, each with its lowest bit and whether it is shown as a number."""
-    for low, _, name, meaning in check_format.BYTES:
-        part = BYTE_PARTS.get(name, "exponent")
-        is_number = name.endswith(("_base", "_radix"))
+    """Returns the flags, the groups of flags and the bytes: each with its name, its bit or bits, and its meaning."""
+    groups = [
+        {"name": name, "bits": [*map(int, bits.split())], "meaning": f"flags that {meaning}"}
+        for name, bits, meaning in rows(r"^\| `(\w+)` \| ([\d ]+) \| (.*) \|$")
+    ]
+    separators = next(group["bits"] for group in groups if group["name"] == "digit_separator_flags")
+    flags, numbers = [], []
+    for bit, name, meaning in rows(r"^\| (\d+) \| `(\w+)` \| \w+ \| (.*) \|$"):
+        title, part = next(row[:2] for row in SECTIONS if re.fullmatch(row[2], name))
+        title, part = ("", "separator") if int(bit) in separators else (title, part)
+        flags.append({"bit": int(bit), "name": name, "meaning": meaning, "section": title, "part": part})
+    for low, name, meaning in rows(r"^\| (\d+) to \d+ \| `(\w+)` \| \d+ \| (.*) \|$"):
         meaning += "; 0 means the mantissa radix" if name.startswith("exponent_") else ""
-        yield {"bit": int(low), "name": name, "meaning": meaning, "part": part, "isNumber": is_number}
-
-
-def limits():
-    """Returns the rows of the table of limits in FORMAT."""
-    table = check_format.PAGE.partition("## What a format cannot express\n")[2].partition("\n## ")[0]
-    return re.findall(r"^\| (.*) \| (.*) \|$", table, re.M)[1:] or sys.exit("docs/FORMAT.md: no table of limits")
-
-
-def texts():
-    """Returns the sentence on the bytes in the examples of the tables."""
-    found = re.search(r"In these examples, [^`]*(`.`[^`.]*)+\.", " ".join(check_format.PAGE.split()))
-    return found[0] if found else sys.exit("docs/FORMAT.md: no sentence on the examples of the tables")
+        part, is_number = BYTE_PARTS.get(name, "exponent"), name.endswith(("_base", "_radix"))
+        numbers.append({"bit": int(low), "name": name, "meaning": meaning, "part": part, "isNumber": is_number})
+    return {"flags": flags, "groups": groups, "bytes": numbers}
 
 
 def setting(call):
     """Returns a setter call of the recipes as a setting."""
     name, argument = re.fullmatch(r"\.(\w+)\((.*)\)", call).groups()
-    byte = re.fullmatch(r"NonZeroU8::new\((.*)\)", argument)
-    value = re.sub(r"^b'\\?(.)'$", r"'\1'", byte[1]) if byte else argument
+    value = re.sub(r"^NonZeroU8::new\((.*)\)$", r"\1", argument)
+    value = re.sub(r"^b'\\?(.)'$", r"'\1'", value)
     if not re.fullmatch(r"'.'|\d+|true|false", value):
         sys.exit(f"rust/examples/recipes.rs: not a value: {argument}")
     return f"{name}={value}"
@@ -100,37 +89,25 @@ def recipes():
         yield {"name": name, "about": about, "settings": settings, "exponent": exponent}
 
 
-def constants():
-    """Returns the numbers of c/peltzivar.h, and its fields to start from."""
-    header = (TOP / "c/peltzivar.h").read_text()
-    found = {name: int(number, 0) for name, number in re.findall(r"^#define PELTZIVAR_(\w+) (\d\w*)$", header, re.M)}
-    errors = re.findall(r"PELTZIVAR_(INVALID_EXPONENT_SYMBOL|INVALID_DECIMAL_POINT) = (\d+)", header)
-    found.update((name, int(number)) for name, number in errors)
-    fields_init = re.search(r"NEW_FIELDS_INIT \{UINT32_C\((\w+)\), (.*)\}", header)
-    found["NEW_FIELDS"] = [int(it, 0) for it in (fields_init[1], *fields_init[2].split(", "))]
-    return found
-
-
 def data():
     """Returns the data that the page shows."""
+    limits = FORMAT.partition("## What a format cannot express\n")[2].partition("\n## ")[0]
+    header = (TOP / "c/peltzivar.h").read_text()
     return {
-        "constants": constants(),
-        "flags": [*flags()],
-        "groups": [*groups()],
-        "bytes": [*fields()],
-        "rules": [{"demand": demand} for _, demand, *_ in check_format.RULES],
+        **fields(),
+        "rules": [demand for _, demand in rows(r"^\| (\d+) \| (.*?) \| `Invalid")],
         "recipes": [*recipes()],
-        "limits": limits(),
-        "texts": texts(),
+        "limits": re.findall(r"^\| (.*) \| (.*) \|$", limits, re.M)[1:],
+        "texts": re.search(r"In these examples, [^`]*(`.`[^`.]*)+\.", " ".join(FORMAT.split()))[0],
+        "version": re.search(r'^#define PELTZIVAR_VERSION "(.*)"$', header, re.M)[1],
     }
 
 
 def hash_of(wasm):
     """Returns a hash of the WebAssembly and its sources. Comments and blank lines of the sources do not count."""
-    files = [HERE / "shim.rs", TOP / "Cargo.toml"]
-    files += sorted((TOP / "rust/src").rglob("*.rs")) + sorted((TOP / "rust/capi/src").rglob("*.rs"))
-    whole = hashlib.sha256(json.dumps([wasm, compiler_flags()]).encode())
-    for path in files:
+    whole = hashlib.sha256(json.dumps([wasm, OPTIONS]).encode())
+    sources = [*sorted((TOP / "rust/src").rglob("*.rs")), *sorted(READER.glob("r*.rs"))]
+    for path in [HERE / "builtins.rs", HERE / "library.rs", *sources]:
         lines = [line.strip() for line in path.read_text().splitlines()]
         code = [line for line in lines if line and not line.startswith("//")]
         if code:
@@ -138,75 +115,41 @@ def hash_of(wasm):
     return whole.hexdigest()
 
 
-def compiler_flags():
-    """Returns the options of each call of the compiler."""
-    return ["--edition=2021", f"--target={TARGET}", "-Copt-level=s", "-Cpanic=abort", "--cap-lints=allow"]
-
-
-def run(command, **variables):
-    """Runs a command, and ends the program if it fails."""
-    result = subprocess.run(list(map(str, command)), env={**os.environ, **variables}, capture_output=True, text=True)
+def output(*command):
+    """Returns what a command prints, or ends the program if it fails."""
+    environment = {**os.environ, "RUSTC_BOOTSTRAP": "1"}
+    result = subprocess.run([*map(str, command)], env=environment, capture_output=True, text=True)
     if result.returncode:
         sys.exit(f"{' '.join(map(str, command))}\n{result.stdout}{result.stderr}")
     return result.stdout
 
 
-def debian_compiler():
-    """Returns Debian's compiler and the source of its `core`, or None if a package is missing."""
-    core = next(DEBIAN_SOURCES.glob("rustc-1.85.*/library/core/src/lib.rs"), None)
-    if not core or not shutil.which("/usr/bin/rustc") or not shutil.which("wasm-ld"):
-        return None
-    version = subprocess.run(["/usr/bin/rustc", "--version"], capture_output=True, text=True).stdout
-    return ("/usr/bin/rustc", core) if version.startswith("rustc 1.85.") else None
-
-
-def rustup_compiler():
-    """Returns the compiler of the PATH if it has the target, and otherwise None."""
+def compiler(folder):
+    """Returns a compiler that has the target, with its options: rustup's, or Debian's with its source of `core`."""
     rustc = shutil.which("rustc")
-    if not rustc:
-        return None
-    found = subprocess.run([rustc, "--print=target-libdir", f"--target={TARGET}"], capture_output=True, text=True)
-    has_core = found.returncode == 0 and any(pathlib.Path(found.stdout.strip()).glob("libcore-*.rlib"))
-    return rustc if has_core else None
+    if rustc and any(pathlib.Path(output(rustc, "--print=target-libdir", f"--target={TARGET}").strip()).glob("libcore-*")):
+        return [rustc, *OPTIONS, f"-L{folder}"]
+    debian = [pathlib.Path("/usr/bin/rustc"), *OPTIONS, f"-L{folder}"]
+    version = output(debian[0], "--version").split()[1] if debian[0].exists() else ""
+    core = pathlib.Path(f"/usr/src/rustc-{version}/library/core/src/lib.rs")
+    if not core.exists() or not shutil.which("wasm-ld"):
+        sys.exit(NO_COMPILER)
+    library = [*debian, "--crate-type=rlib", f"--out-dir={folder}"]
+    output(*library, "--edition=2024", "--crate-name=core", core)
+    output(*library, "--edition=2021", "--crate-name=compiler_builtins", HERE / "builtins.rs")
+    return [*debian, "-Clinker=wasm-ld", "-Clinker-flavor=wasm-ld"]
 
 
 def compiled():
-    """Returns the WebAssembly of rust/capi."""
+    """Returns the WebAssembly of library.rs with the crate."""
     with tempfile.TemporaryDirectory() as folder:
-        rustc, linker = rustup_compiler(), []
-        if not rustc:
-            rustc, core = debian_compiler() or sys.exit(missing())
-            linker = ["-Clinker=wasm-ld", "-Clinker-flavor=wasm-ld"]
-            library(rustc, folder, "core", core)
-            library(rustc, folder, "compiler_builtins", HERE / "shim.rs")
-        library(rustc, folder, "peltzivar", TOP / "rust/src/lib.rs")
-        version = re.search(r'^version = "(\d+)\.(\d+)\.(\d+)"$', (TOP / "Cargo.toml").read_text(), re.M)
-        parts = zip(("MAJOR", "MINOR", "PATCH"), version.groups())
-        names = {f"CARGO_PKG_VERSION_{name}": number for name, number in parts}
-        options = ["--crate-type=cdylib", "-Clto=fat", "-Ccodegen-units=1", "-Cstrip=symbols", "--extern=peltzivar"]
-        options += [*linker, f"-L{folder}", "--crate-name=peltzivar_c", "-o", f"{folder}/peltzivar.wasm"]
-        run([rustc, *compiler_flags(), *options, TOP / "rust/capi/src/lib.rs"], **names)
-        return pathlib.Path(folder, "peltzivar.wasm").read_bytes()
-
-
-def library(rustc, folder, name, source):
-    """Compiles a library into the folder. Debian's `core` has unstable parts."""
-    options = ["--crate-type=rlib", f"-L{folder}", f"--crate-name={name}", f"--out-dir={folder}"]
-    run([rustc, *compiler_flags(), *options, source], RUSTC_BOOTSTRAP="1")
-
-
-def missing():
-    """Returns the message for a machine without a compiler."""
-    return (
-        f"no compiler has the target {TARGET}: run `rustup target add {TARGET}`, or install these packages of Debian"
-        f" (explorer/build --install does it): {' '.join(PACKAGES)}"
-    )
-
-
-def install():
-    """Installs Debian's packages."""
-    root = [] if os.geteuid() == 0 else ["sudo"]
-    subprocess.run([*root, "apt-get", "install", "--yes", "--no-install-recommends", *PACKAGES], check=True)
+        rustc, wasm = compiler(folder), pathlib.Path(folder, "library.wasm")
+        crate = ["--edition=2021", "--crate-type=rlib", "--crate-name=peltzivar", f"--out-dir={folder}"]
+        output(*rustc, *crate, TOP / "rust/src/lib.rs")
+        page = ["--edition=2024", "--crate-type=cdylib", "-Clto=fat", "-Ccodegen-units=1", "-Cstrip=symbols"]
+        page += ["--cfg=reader"] if READER.exists() else []
+        output(*rustc, *page, "--extern=peltzivar", "-o", wasm, HERE / "library.rs")
+        return wasm.read_bytes()
 
 
 def digest(text):
@@ -228,39 +171,19 @@ def page(wasm):
         "library": wasm,
         "script": script,
     }
-    template = (HERE / "template.html").read_text()
-    return re.sub(r"@(\w+)@", lambda match: parts[match[1]], template)
-
-
-def old_page():
-    """Returns the text of the page that is there, its WebAssembly as base64, and the hash with it."""
-    text = PAGE.read_text() if PAGE.exists() else ""
-    found = re.search(r'<script id="library" [^>]*data-hash="(\w+)">([^<]*)</script>', text)
-    return (text, found[2], found[1]) if found else (text, "", "")
-
-
-def check():
-    """Returns the fault of the page that is there, or an empty text."""
-    text, wasm, found = old_page()
-    if found != hash_of(wasm):
-        return "explorer/index.html: its WebAssembly is not up to date with rust/, run explorer/build"
-    if text != page(wasm):
-        return "explorer/index.html: is not up to date with FORMAT, the recipes or explorer/, run explorer/build"
-    return ""
+    return re.sub(r"@(\w+)@", lambda match: parts[match[1]], (HERE / "template.html").read_text())
 
 
 def main(arguments):
     """Makes the page, or checks it."""
-    if arguments == ["--check"]:
-        sys.exit(check() or 0)
-    if arguments == ["--install"]:
-        install()
-    elif arguments:
-        sys.exit("usage: explorer/build [--check | --install]")
-    _, wasm, found = old_page()
-    if found != hash_of(wasm):
-        wasm = base64.b64encode(compiled()).decode()
-    text = page(wasm)
+    if arguments not in ([], ["--check"]):
+        sys.exit("usage: explorer/build [--check]")
+    old = PAGE.read_text() if PAGE.exists() else ""
+    found = re.search(r'<script id="library" [^>]*data-hash="(\w+)">([^<]*)</script>', old)
+    is_current = bool(found) and found[1] == hash_of(found[2])
+    if arguments:
+        sys.exit(0 if is_current and old == page(found[2]) else "explorer/index.html: not up to date: run explorer/build")
+    text = page(found[2] if is_current else base64.b64encode(compiled()).decode())
     if len(text.encode()) >= MOST_BYTES:
         sys.exit(f"explorer/index.html: {len(text.encode())} bytes, more than {MOST_BYTES}")
     PAGE.write_text(text)

@@ -1,52 +1,50 @@
-/* The controls: bytes, options and flags. Each calls `edit` with a list of edits, or `choose` with an option. */
+/* The controls: bytes, options and flags. Each calls `edit` with the name of a field and its new value. */
+
+const OPTIONS = [
+    { name: "exponent", title: "exponent character", meaning: "an option of the parser, such as the `e` in `1e5`" },
+    { name: "point", title: "decimal point", meaning: "an option of the parser, such as the `.` in `1.5`" },
+];
 
 /* Returns the first piece of code in a meaning. */
 function example(meaning) {
     return meaning.split("`")[1] ?? "";
 }
 
-function plain(meaning) {
-    return meaning.replaceAll("`", "");
-}
-
 class Controls {
-    constructor(library, data, { edit, choose }) {
+    constructor(library, edit) {
         this.library = library;
-        this.data = data;
         this.edit = edit;
-        this.choose = choose;
         this.boxes = new Map();
         this.inputs = new Map();
         this.asNumbers = false;
         this.makeBytes();
         this.makeFlags();
         this.makeSeparators();
+        find("filter").addEventListener("input", () => this.filter());
     }
 
-    /* Returns the check box of a flag setter or a group setter. */
+    /* Returns the check box of a flag or a group. */
     box(name, meaning) {
-        const setter = this.library.setterOf(name);
-        const change = (event) => this.edit([{ setter, value: Number(event.target.checked) }]);
-        const label = `${name}: ${plain(meaning)}`;
+        const change = (event) => this.edit(name, Number(event.target.checked));
+        const label = `${name}: ${meaning.replaceAll("`", "")}`;
         const box = element("input", { type: "checkbox", id: name, change, "aria-label": label });
         this.boxes.set(name, box);
         return box;
     }
 
     makeFlags() {
-        const titles = [...new Set(this.data.flags.map((flag) => flag.section).filter(Boolean))];
-        const group = this.data.groups.find(({ name }) => name === "required_digits");
-        for (const title of titles) {
-            const flags = this.data.flags.filter((flag) => flag.section === title);
-            const isOfGroup = flags.some(({ bit }) => group.bits.includes(bit));
-            const rows = flags.map((flag) => this.flagRow(flag, flag.meaning));
-            const meaning = `all ${group.meaning}`;
-            if (isOfGroup) rows.unshift(this.flagRow({ ...group, part: "group" }, meaning));
+        const { flags, named } = this.library;
+        const group = named.get("required_digits");
+        for (const title of new Set(flags.map((flag) => flag.section).filter(Boolean))) {
+            const ofSection = flags.filter((flag) => flag.section === title);
+            const isOfGroup = ofSection.some(({ mask }) => mask & group.mask);
+            const rows = ofSection.map((flag) => this.flagRow(flag));
+            if (isOfGroup) rows.unshift(this.flagRow({ ...group, part: "group", meaning: `all ${group.meaning}` }));
             find("flags").append(element("fieldset", {}, element("legend", {}, title), rows));
         }
     }
 
-    flagRow({ name, part }, meaning) {
+    flagRow({ name, part, meaning }) {
         const label = element("label", { for: name }, element("span", { class: `dot ${part}` }), name);
         const text = element("span", { class: "meaning" }, withCode(meaning));
         return element("div", { class: "flag-row field", "data-field": name }, this.box(name, meaning), label, text);
@@ -54,8 +52,8 @@ class Controls {
 
     /* Makes the table of separator flags: a row for each part of a number, a column for each position. */
     makeSeparators() {
-        const { groups, flags } = this.data;
-        const all = groups.find(({ name }) => name === "digit_separator_flags");
+        const { groups, flags, named } = this.library;
+        const all = named.get("digit_separator_flags");
         const rows = groups.filter(({ name }) => /.+_digit_separator_flags$/.test(name));
         const columns = groups.filter(({ name }) => /.+_digit_separator$/.test(name));
         const heads = columns.map((group) => this.groupHead(group, group.name.replace("_digit_separator", ""), "col"));
@@ -63,9 +61,9 @@ class Controls {
             element("thead", {}, element("tr", {}, this.groupHead(all, "all", "col"), heads)),
             element("tbody", {}, rows.map((row) => this.separatorRow(row, columns))),
         );
-        const shown = new Set(rows.flatMap(({ bits }) => bits));
-        const others = flags.filter(({ bit, part }) => part === "separator" && !shown.has(bit));
-        find("separators").after(...others.map((flag) => this.flagRow(flag, flag.meaning)));
+        const shown = rows.reduce((mask, row) => mask | row.mask, 0n);
+        const others = flags.filter(({ mask, part }) => part === "separator" && !(mask & shown));
+        find("separators").after(...others.map((flag) => this.flagRow(flag)));
     }
 
     groupHead({ name, meaning }, title, scope) {
@@ -75,7 +73,7 @@ class Controls {
 
     separatorRow(row, columns) {
         const cells = columns.map((column) => {
-            const flag = this.data.flags.find(({ bit }) => row.bits.includes(bit) && column.bits.includes(bit));
+            const flag = this.library.flags.find(({ mask }) => mask & row.mask & column.mask);
             const text = element("code", {}, example(flag.meaning));
             const label = element("label", {}, this.box(flag.name, flag.meaning), text);
             return element("td", { class: "field", "data-field": flag.name }, label);
@@ -83,87 +81,85 @@ class Controls {
         return element("tr", {}, this.groupHead(row, row.name.replace("_digit_separator_flags", ""), "row"), cells);
     }
 
+    /* Hides the rows in which neither a name nor a meaning has the text of the filter. */
+    filter() {
+        const wanted = find("filter").value.trim().toLowerCase().replaceAll(" ", "_");
+        const has = (node) => `${node.dataset.field ?? ""} ${node.textContent}`.toLowerCase().replaceAll(" ", "_").includes(wanted);
+        const hide = (node, rows) => (node.hidden = !rows.some((row) => !row.hidden));
+        for (const row of document.querySelectorAll("#controls .byte-row, #controls .flag-row")) row.hidden = !has(row);
+        const rows = [...document.querySelectorAll("#separators tbody tr")];
+        for (const row of rows) row.hidden = ![...row.querySelectorAll("[data-field]")].some(has);
+        hide(find("separators"), rows);
+        const groups = document.querySelectorAll("#flags fieldset, #controls > section");
+        for (const group of groups) hide(group, [...group.querySelectorAll(".byte-row, .flag-row, tbody tr")]);
+        find("no-field").hidden = [...groups].some((group) => !group.hidden);
+    }
+
     makeBytes() {
-        const rows = this.data.bytes.map(({ name, meaning, part }) => {
-            const parsed = (text) => this.parsed(name, text);
-            return this.byteRow(name, name, part, meaning, parsed, (edit) => this.edit([edit]));
-        });
-        for (const [name, label, meaning] of [
-            ["exponent", "exponent character", "an option of the parser, such as the `e` in `1e5`"],
-            ["point", "decimal point", "an option of the parser, such as the `.` in `1.5`"],
-        ]) {
-            const parsed = (text) => this.parsedOption(label, text);
-            rows.push(this.byteRow(name, label, "option", meaning, parsed, ({ value }) => this.choose(name, value)));
-        }
+        const rows = [...this.library.bytes, ...OPTIONS].map((field) => this.byteRow(field));
         find("bytes").append(...rows);
     }
 
-    byteRow(name, title, part, meaning, parsed, use) {
+    byteRow({ name, title = name, part = "option", meaning, isNumber = false }) {
         const problem = element("span", { class: "problem", id: `${name}-problem`, role: "status" });
         let before;
-        const focus = () => (before = isRefused(box) ? before : box.value);
         /* While a text is refused, the byte is the one before the text was typed. */
         const input = (event) => {
-            const { edit, message } = parsed(event.target.value);
-            setText(problem, message ?? "");
-            event.target.setAttribute("aria-invalid", String(Boolean(message)));
-            use(edit ?? parsed(before).edit);
+            const { value, error } = this.parsed(name, title, isNumber, event.target.value);
+            setText(problem, error ?? "");
+            event.target.setAttribute("aria-invalid", String(Boolean(error)));
+            this.edit(name, value ?? before, name);
         };
+        const focus = () => (before = isRefused(box) ? before : this.inputs.get(name).byte);
         const blur = () => this.show(this.shown);
         const keydown = ({ key }) => key === "Escape" && isRefused(box) && this.fill(name);
         const listeners = { input, focus, blur, keydown };
         const box = element("input", { id: name, ...listeners, autocomplete: "off", spellcheck: "false" });
         box.setAttribute("aria-describedby", `${name}-problem ${name}-meaning`);
         const other = element("span", { class: "other" });
-        this.inputs.set(name, { box, other, problem });
+        this.inputs.set(name, { box, other, problem, isNumber });
         const label = element("label", { for: name }, element("span", { class: `dot ${part}` }), title);
         const text = element("span", { class: "meaning", id: `${name}-meaning` }, withCode(meaning));
-        return element("div", { class: "byte-row field", "data-field": name }, label, box, other, text, problem);
+        return element("div", { class: "byte-row field", "data-field": name }, label, box, other, problem, text);
     }
 
-    /* Returns the edit of a typed text: the value of a setting, a character without quotes, or an empty text. */
-    parsed(name, text) {
-        const first = this.library.parseEdit(`${name}=${text || "none"}`);
-        return first.edit || [...text].length !== 1 ? first : this.library.parseEdit(`${name}='${text}'`);
+    /* Returns {value} of a typed text: a number, a character, the name of one, or an empty text; or {error}. */
+    parsed(name, title, isNumber, text) {
+        const isOption = OPTIONS.some((option) => option.name === name);
+        const setter = isOption ? "digit_separator" : name;
+        const known = Object.keys(NAMES).find((byte) => NAMES[byte] === text.toUpperCase());
+        const first = this.library.parse(setter, (!isNumber && known) || text || "none");
+        const { value, error } = !first.error || isNumber ? first : this.library.parse(setter, `'${text}'`);
+        if (error) return { error: first.error.replace(setter, `the ${title}`) };
+        return isNumber && text.startsWith("'") ? { error: `the ${title} takes a number` } : { value };
     }
 
-    parsedOption(label, text) {
-        const { edit, message } = this.parsed("digit_separator", text);
-        return { edit, message: message && message.replace("digit_separator", `the ${label}`) };
-    }
-
-    /* Shows a state: {word, exponent, point}, its bytes, where an absent one is 0, and those where it is filled. */
-    show(shown) {
-        this.shown = shown;
-        for (const [name, box] of this.boxes) box.checked = this.library.flag(shown.word, name);
-        for (const group of this.data.groups) this.showGroup(group);
-        for (const { name, isNumber } of this.data.bytes) {
-            this.showByte(name, shown.bytes[name], isNumber, shown.filled[name]);
+    /* Shows a state: a word, an exponent character and a decimal point. */
+    show(state) {
+        this.shown = state;
+        for (const [name, box] of this.boxes) {
+            const { mask } = this.library.named.get(name);
+            box.checked = (state.word & mask) === mask;
+            box.indeterminate = !box.checked && (state.word & mask) !== 0n;
         }
-        this.showByte("exponent", shown.exponent, false, shown.exponent);
-        this.showByte("point", shown.point, false, shown.point);
+        for (const { name } of this.library.bytes) {
+            this.showByte(name, this.library.get(state.word, name), this.library.effective(state.word, name));
+        }
+        for (const { name } of OPTIONS) this.showByte(name, state[name], state[name]);
     }
 
-    /* Shows whether all flags of a group are set, or only some. */
-    showGroup({ name, bits }) {
-        const box = this.boxes.get(name);
-        const names = this.data.flags.filter(({ bit }) => bits.includes(bit)).map((flag) => flag.name);
-        const isSome = box.checked;
-        box.checked = names.every((flag) => this.boxes.get(flag).checked);
-        box.indeterminate = isSome && !box.checked;
-    }
-
-    /* Shows a byte. Beside it are its numbers, or the number that an absent byte is filled with. A refused text stays
-     * until its byte changes. */
-    showByte(name, byte, isNumber, filled) {
+    /* Shows a byte. Beside it are its name and its numbers, or the number that takes the place of an absent byte. A
+     * refused text stays until its byte changes. */
+    showByte(name, byte, effective) {
         const input = this.inputs.get(name);
-        const { box, other } = input;
+        const { box, other, isNumber } = input;
         const isKept = document.activeElement === box || (isRefused(box) && input.byte === byte);
         const isAbsent = byte === 0 && name !== "mantissa_radix";
-        const numbers = `${byte} = 0x${byte.toString(16).toUpperCase().padStart(2, "0")}`;
-        setText(other, byte === filled ? (isAbsent || isNumber ? "" : numbers) : `means ${filled}`);
-        const text = byteText(byte, isNumber || this.asNumbers || (byte >= 48 && byte < 58)) || "0";
-        Object.assign(input, { byte, text: isAbsent ? "" : text });
+        const isNamed = byteText(byte) !== String(byte);
+        const numbers = [isNamed ? byteText(byte) : "", byte, `0x${byte.toString(16).toUpperCase().padStart(2, "0")}`];
+        setText(other, byte !== effective ? `means ${effective}` : isAbsent || isNumber ? "" : numbers.join(" "));
+        const asNumber = isNumber || this.asNumbers || (byte >= 48 && byte < 58);
+        Object.assign(input, { byte, text: isAbsent ? "" : asNumber ? String(byte) : byteText(byte) });
         if (!isKept) this.fill(name);
     }
 

@@ -1,5 +1,8 @@
 /* Elements of the page. Texts become text nodes, never HTML. */
 
+/* The names of bytes that cannot be seen. */
+const NAMES = { 9: "TAB", 10: "LF", 11: "VT", 12: "FF", 13: "CR", 32: "SPACE", 127: "DEL" };
+
 /* Returns an element. A function among the attributes listens to the event of its name. */
 function element(tag, attributes = {}, ...children) {
     const made = document.createElement(tag);
@@ -9,6 +12,11 @@ function element(tag, attributes = {}, ...children) {
     }
     made.append(...children.flat());
     return made;
+}
+
+/* Returns a button of a class with a text. */
+function button(kind, text, click, attributes = {}) {
+    return element("button", { type: "button", class: kind, click, ...attributes }, text);
 }
 
 /* Returns the nodes of a text in which code is between two `. */
@@ -30,8 +38,7 @@ function isRefused(box) {
     return box.getAttribute("aria-invalid") === "true";
 }
 
-/* Returns a byte as a character between two ', or as a number if it is not visible. */
-function byteText(byte, asNumber) {
-    const isVisible = byte > 32 && byte < 127;
-    return byte === 0 ? "" : isVisible && !asNumber ? String.fromCharCode(byte) : String(byte);
+/* Returns a byte as a character, its name or its number. */
+function byteText(byte) {
+    return byte > 32 && byte < 127 ? String.fromCharCode(byte) : (NAMES[byte] ?? String(byte));
 }

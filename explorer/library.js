@@ -1,270 +1,135 @@
-/* The calls of peltzivar.h, which run as WebAssembly. A word is a BigInt, and an edit {setter, value}. */
+/* The library, which runs as WebAssembly. All calls of library.rs are here. A word is a BigInt, and its flags and bytes
+ * are read and written by bit arithmetic. */
 "use strict";
 
-/* Offsets in the memory that is added for the results and the arguments of calls. */
-const AT = { result: 0, word: 64, fields: 128, edits: 256, arguments: 512, text: 1024, input: 4096 };
 const HALF = (1n << 64n) - 1n;
-const PAGE_BYTES = 65536;
+const MOST_WORD = (1n << 128n) - 1n;
+/* How many bytes a text may have. */
+const MOST_TEXT = 60000;
 
 class Library {
-    constructor(calls, constants) {
+    constructor(calls, { flags, groups, bytes }) {
         this.calls = calls;
-        this.constants = constants;
-        this.start = calls.memory.grow(1) * PAGE_BYTES;
-        /* rustc 1.85 passes the parts of a struct, and later versions its address. */
-        this.passesParts = calls.peltzivar_is_built.length === 2;
-        this.setters = this.named((setter) => this.text("setter_name", setter));
-        this.standard = this.build([]);
-        this.fields = this.editsOf(this.standard).edits.map((edit) => edit.setter).sort((a, b) => a - b);
+        this.flags = flags.map((flag) => ({ ...flag, mask: 1n << BigInt(flag.bit) }));
+        this.bytes = bytes.map((byte) => ({ ...byte, isByte: true, mask: 255n << BigInt(byte.bit) }));
+        this.groups = groups.map((group) => {
+            return { ...group, mask: group.bits.reduce((mask, bit) => mask | (1n << BigInt(bit)), 0n) };
+        });
+        /* The fields in the order of their bits, and all that has a setter by its name. */
+        this.fields = [...this.flags, ...this.bytes];
+        this.named = new Map([...this.fields, ...this.groups].map((field) => [field.name, field]));
+        this.standard = this.build([]).word;
     }
 
     /* Returns a library from the bytes of its WebAssembly. */
-    static async load(bytes, constants) {
-        const abort = () => {
-            throw new Error("the library ended");
-        };
-        const { instance } = await WebAssembly.instantiate(bytes, { env: { abort } });
-        return new Library(instance.exports, constants);
+    static async load(bytes, data) {
+        const { instance } = await WebAssembly.instantiate(bytes, {});
+        return new Library(instance.exports, data);
     }
 
-    /* Returns the texts of the indices from 0 on, up to the first that is empty. */
-    named(textOf) {
-        const names = [];
-        for (let text = textOf(0); text; text = textOf(names.length)) names.push(text);
-        return names;
+    /* Returns the answer of a call that reads this text. */
+    call(name, text, ...numbers) {
+        const { memory, input, output } = this.calls;
+        const bytes = new TextEncoder().encode(text.slice(0, MOST_TEXT)).subarray(0, MOST_TEXT);
+        new Uint8Array(memory.buffer).set(bytes, input());
+        const length = this.calls[name](...numbers, bytes.length);
+        return JSON.parse(new TextDecoder().decode(new Uint8Array(memory.buffer, output(), length)));
     }
 
-    view() {
-        return new DataView(this.calls.memory.buffer, this.start);
+    /* Returns {word} that a new builder makes of settings, or {error, index} for the first that is none. */
+    build(settings) {
+        const { word, ...fault } = this.call("build", settings.join("\n"));
+        return word ? { word: BigInt(word) } : fault;
     }
 
-    at(place) {
-        return this.start + AT[place];
+    /* Returns all about a state: whether the word is built, its error, normal form, reasons and notes, and why the
+     * options do not fit. Reasons and notes have their text, the fields that they blame, and the broken rules. */
+    explain({ word, exponent, point }) {
+        const { normal, reasons, notes, ...rest } = this.call("explain", "", word & HALF, word >> 64n, exponent, point);
+        const named = ({ mask, ...it }) => ({ ...it, mask: BigInt(mask), fields: this.namesOf(BigInt(mask)) });
+        return { ...rest, normal: BigInt(normal), reasons: reasons.map(named), notes: notes.map(named) };
     }
 
-    call(name, ...parts) {
-        return this.calls[`peltzivar_${name}`](...parts);
+    /* Whether the page has a reader of numbers. */
+    get hasReader() {
+        return "literal" in this.calls;
     }
 
-    /* Returns the arguments of these words. */
-    words(...numbers) {
-        if (this.passesParts) return numbers.flatMap((it) => [it & HALF, it >> 64n]);
-        return numbers.map((it, index) => {
-            this.view().setBigUint64(AT.arguments + 16 * index, it & HALF, true);
-            this.view().setBigUint64(AT.arguments + 16 * index + 8, it >> 64n, true);
-            return this.at("arguments") + 16 * index;
+    /* Returns {parts} of a number that is read, each with its kind, start and end, or {error, index, setting}: the index
+     * of the first wrong byte, and a setting with which more is read. */
+    literal({ word, exponent, point }, text) {
+        return this.call("literal", text, word & HALF, word >> 64n, exponent, point);
+    }
+
+    /* Returns {value}, or {error} if the setter does not take the text. A separator needs a flag that allows it. */
+    parse(name, text) {
+        const { word, error } = this.build(["digit_separator_flags=true", `${name}=${text.replace("\n", " ")}`]);
+        return error ? { error } : { value: this.get(word, name) };
+    }
+
+    /* Returns the value of a byte, or of a flag or group as a number: 1 if all its bits are set. */
+    get(word, name) {
+        const { mask, bit, isByte } = this.named.get(name);
+        return isByte ? Number((word & mask) >> BigInt(bit)) : Number((word & mask) === mask);
+    }
+
+    /* Returns the word in which only the bits of this field or group change. */
+    put(word, name, value) {
+        const { mask, bit, isByte } = this.named.get(name);
+        if (isByte) return (word & ~mask) | (BigInt(value) << BigInt(bit));
+        return value ? word | mask : word & ~mask;
+    }
+
+    /* Returns the byte, or the mantissa radix in place of an absent exponent byte. */
+    effective(word, name) {
+        return this.get(word, name) || (name.startsWith("exponent") ? this.get(word, "mantissa_radix") : 0);
+    }
+
+    /* Returns the fields in which two words differ. */
+    changes(word, other) {
+        return this.fields.filter(({ mask }) => (word & mask) !== (other & mask));
+    }
+
+    /* Returns the names of the fields with bits in a mask. All separator flags together have one name. */
+    namesOf(mask) {
+        const group = this.named.get("digit_separator_flags");
+        const hasAll = (mask & group.mask) === group.mask;
+        const rest = hasAll ? mask & ~group.mask : mask;
+        const names = this.fields.filter((field) => field.mask & rest).map(({ name }) => name);
+        const known = this.fields.reduce((all, field) => all | field.mask, 0n);
+        return [...(hasAll ? [group.name] : []), ...names, ...(mask & ~known ? ["reserved"] : [])];
+    }
+
+    /* Returns a field and its value as a setting. */
+    setting({ name, isByte, isNumber }, value) {
+        if (!isByte) return `${name}=${Boolean(value)}`;
+        if (value === 0 && name !== "mantissa_radix") return `${name}=none`;
+        return `${name}=${isNumber ? value : quoted(value, "")}`;
+    }
+
+    /* Returns {word} of a text, or {error}: hexadecimal, decimal, or settings, in which # begins a comment. */
+    read(text) {
+        const digits = text.trim().replace(/(?<=\w)_(?=\w)/g, "");
+        if (/^0x[0-9a-f]{1,32}$|^[0-9]{1,39}$/i.test(digits) && BigInt(digits) <= MOST_WORD) return { word: BigInt(digits) };
+        const settings = [];
+        const rest = text.replace(/(\w+)\s*=\s*('.'|[^\s,;#]*)|#.*|[\s,;]/g, (_, name, value) => {
+            if (name) settings.push(`${name}=${value}`);
+            return "";
         });
+        if (rest || !settings.length) return { error: "This is neither a word nor a list of settings." };
+        const { word, error, index } = this.build(settings);
+        return error ? { error: `${settings[index]}: ${error}.` } : { word };
     }
+}
 
-    /* Returns the arguments of an edit. */
-    edit({ setter, value }) {
-        if (this.passesParts) return [setter, value];
-        this.view().setUint8(AT.arguments, setter);
-        this.view().setUint8(AT.arguments + 1, value);
-        return [this.at("arguments")];
-    }
+/* Returns a word as text. */
+function wordText(word) {
+    return `0x${word.toString(16).toUpperCase().padStart(32, "0")}`;
+}
 
-    /* Returns the arguments of a list of edits. */
-    list(edits) {
-        edits.forEach(({ setter, value }, index) => {
-            this.view().setUint8(AT.edits + 2 * index, setter);
-            this.view().setUint8(AT.edits + 2 * index + 1, value);
-        });
-        return [this.at("edits"), edits.length];
-    }
-
-    /* Returns the arguments of a text. */
-    input(text) {
-        const bytes = new TextEncoder().encode(text);
-        const missing = AT.input + bytes.length - this.view().byteLength;
-        if (missing > 0) this.calls.memory.grow(Math.ceil(missing / PAGE_BYTES));
-        new Uint8Array(this.calls.memory.buffer).set(bytes, this.at("input"));
-        return [this.at("input"), bytes.length];
-    }
-
-    readWord(place) {
-        const view = this.view();
-        return (view.getBigUint64(AT[place] + 8, true) << 64n) | view.getBigUint64(AT[place], true);
-    }
-
-    readEdit(place, index = 0) {
-        const view = this.view();
-        const at = AT[place] + 2 * index;
-        return { setter: view.getUint8(at), value: view.getUint8(at + 1) };
-    }
-
-    /* Returns the word that a call returns. */
-    word(name, ...parts) {
-        this.call(name, this.at("result"), ...parts);
-        return this.readWord("result");
-    }
-
-    /* Returns the text that a call writes. */
-    text(name, ...parts) {
-        const length = this.call(name, ...parts, this.at("text"), this.constants.SOURCE_SIZE);
-        const bytes = new Uint8Array(this.calls.memory.buffer, this.at("text"), length);
-        return String.fromCharCode(...bytes);
-    }
-
-    /* Writes a new builder's fields, and returns their address. */
-    newFields() {
-        const [flags, ...bytes] = this.constants.NEW_FIELDS;
-        this.view().setUint32(AT.fields, flags, true);
-        bytes.forEach((byte, index) => this.view().setUint8(AT.fields + 4 + index, byte));
-        return this.at("fields");
-    }
-
-    /* Returns the word of a new builder after the edits. */
-    build(edits) {
-        this.call("build", this.newFields(), ...this.list(edits), this.at("word"));
-        return this.readWord("word");
-    }
-
-    editWord(word, edits) {
-        this.call("edit_word", ...this.words(word), ...this.list(edits), this.at("word"));
-        return this.readWord("word");
-    }
-
-    /* Returns the word in which only the bits of the edits change. edit_word writes these bits. It also fills absent
-     * bytes and drops a digit separator that no flag allows, so a flag that allows it comes first. */
-    write(word, edits) {
-        const allow = { setter: this.setterOf("digit_separator_flags"), value: 1 };
-        const mask = edits.reduce((all, edit) => all | this.editMask(edit), 0n);
-        return (word & ~mask) | (this.editWord(word, [allow, ...edits]) & mask);
-    }
-
-    /* Returns the word after the edits, without filled bytes where the format is the same. */
-    mended(word, edits) {
-        const [written, edited] = [this.write(word, edits), this.editWord(word, edits)];
-        return this.call("same_format", ...this.words(written, edited)) && this.isBuilt(written) ? written : edited;
-    }
-
-    /* Returns the version as text. Its number has eight bits for each part. */
-    version() {
-        const number = this.call("version");
-        return [number >> 16, (number >> 8) & 255, number & 255].join(".");
-    }
-
-    normalForm(word) {
-        return this.word("normal_form", ...this.words(word));
-    }
-
-    isBuilt(word) {
-        return Boolean(this.call("is_built", ...this.words(word)));
-    }
-
-    /* Returns the edits of all fields. In the first `count` the word differs from the standard format. */
-    editsOf(word) {
-        const count = this.call("edits_of", ...this.words(word), this.at("edits"));
-        const edits = Array.from({ length: this.fieldCount() }, (_, index) => this.readEdit("edits", index));
-        return { edits, count };
-    }
-
-    /* The constant of the header is a sum of a setter's number and the number of bytes. */
-    fieldCount() {
-        return this.setterOf("required_digits") + this.constants.NEW_FIELDS.length - 1;
-    }
-
-    setterOf(name) {
-        return this.call("setter_of_name", ...this.input(name));
-    }
-
-    flag(word, name) {
-        return Boolean(this.call("flag", ...this.words(word), this.setterOf(name)));
-    }
-
-    editMask(edit) {
-        return this.word("edit_mask", ...this.edit(edit));
-    }
-
-    editText(edit) {
-        return this.text("text_of_edit", ...this.edit(edit));
-    }
-
-    /* Returns {edit}, or {message} if the text is not a setting. */
-    parseEdit(text) {
-        if (this.call("edit_of_text", ...this.input(text), this.at("edits")) === 0) {
-            return { edit: this.readEdit("edits") };
-        }
-        return { message: this.text("setting_error", ...this.input(text)) };
-    }
-
-    /* Returns {word}, or {message} if the text is not a word. */
-    parseWord(text) {
-        const error = this.call("word_of_text", ...this.input(text), this.at("word"));
-        return error ? { message: this.description(error) } : { word: this.readWord("word") };
-    }
-
-    wordText(word) {
-        return this.text("text_of_word", ...this.words(word));
-    }
-
-    source(word) {
-        return this.text("source", ...this.words(word));
-    }
-
-    description(error) {
-        return this.text("description", error);
-    }
-
-    errorText(error) {
-        return this.text("text", error, 0);
-    }
-
-    formatError(word) {
-        return this.call("format_error", ...this.words(word));
-    }
-
-    optionsError(word, exponent, point) {
-        return this.call("options_error", ...this.words(word), exponent, point);
-    }
-
-    digit(value) {
-        return String.fromCharCode(this.call("digit_to_char", value));
-    }
-
-    /* Returns the reasons why the word is not lawful: text, mask, broken rules, and lists of edits that mend it. */
-    reasons(word) {
-        const slots = Array.from({ length: this.constants.CANDIDATE_COUNT }, (_, index) => index);
-        const found = slots.map((index) => ({ index, text: this.text("word_reason", ...this.words(word), index) }));
-        return found.filter((reason) => reason.text).map(({ index, text }) => ({
-            text,
-            mask: this.word("word_reason_mask", ...this.words(word), index),
-            rules: this.brokenRules(word, index),
-            mends: this.fields.map((_, field) => this.mend(word, index, field)).filter((edits) => edits.length),
-        }));
-    }
-
-    brokenRules(word, index) {
-        const rules = Array.from({ length: this.constants.RULE_COUNT }, (_, rule) => rule);
-        return rules.filter((rule) => this.call("word_reason_breaks", ...this.words(word), index, rule));
-    }
-
-    mend(word, index, field) {
-        const count = this.call("word_reason_mend", ...this.words(word), index, field, this.at("edits"));
-        return Array.from({ length: count }, (_, edit) => this.readEdit("edits", edit));
-    }
-
-    /* Returns the notes on the fields of the word: text and mask. */
-    notes(word) {
-        const slots = Array.from({ length: this.constants.MAX_NOTES }, (_, index) => index);
-        this.call("fields_of", this.at("fields"), ...this.words(word));
-        const found = slots.map((index) => ({
-            text: this.text("note", this.at("fields"), index),
-            mask: this.word("note_mask", this.at("fields"), index),
-        }));
-        return found.filter((note) => note.text);
-    }
-
-    /* Returns the fields of the word by their names, where an absent byte is 0. */
-    rawBytes(word) {
-        return Object.fromEntries(this.editsOf(word).edits.map(({ setter, value }) => [this.setters[setter], value]));
-    }
-
-    /* Returns the bytes of the word by their names. An absent byte is 0, but an absent exponent byte is filled. */
-    bytesOf(word, names) {
-        this.call("fields_of", this.at("fields"), ...this.words(word));
-        const bytes = names.map((name, index) => [name, this.view().getUint8(AT.fields + 4 + index)]);
-        return Object.fromEntries(bytes);
-    }
+/* Returns a byte as a character in single quotes, as in Rust or a setting, or as a number if it is not visible. */
+function quoted(byte, prefix, escape = "") {
+    if (byte <= 32 || byte >= 127) return String(byte);
+    const character = String.fromCharCode(byte);
+    return `${prefix}'${"'\\".includes(character) ? escape : ""}${character}'`;
 }

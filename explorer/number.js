@@ -3,7 +3,7 @@
 /* Returns a byte as text that can be seen. */
 function visible(byte) {
     if (byte === 32) return "\u2423";
-    return byte > 32 && byte < 127 ? String.fromCharCode(byte) : `\\x${byte.toString(16).padStart(2, "0")}`;
+    return byte > 32 && byte < 127 ? byteText(byte) : `\\x${byte.toString(16).padStart(2, "0")}`;
 }
 
 /* Returns pieces of text in which digit separators are marked: the digits, with separators where flags allow them. */
@@ -21,20 +21,21 @@ function digitFields(part) {
 }
 
 class NumberPicture {
-    constructor(library, state, bytes) {
+    constructor(library, state) {
         this.library = library;
         this.state = state;
-        this.bytes = bytes;
+        const value = ({ name }) => [name, library.effective(state.word, name)];
+        this.bytes = Object.fromEntries(library.bytes.map(value));
     }
 
     flag(name) {
-        return this.library.flag(this.state.word, name);
+        return this.library.get(this.state.word, name) === 1;
     }
 
     /* Returns digits of a radix, including its largest one, or "?" if there is no such radix. */
     digits(radix, values) {
-        if (!this.library.call("is_valid_radix", radix)) return ["?"];
-        return values.map((value) => this.library.digit((value + radix) % radix));
+        if (radix < 2 || radix > 36) return ["?"];
+        return values.map((value) => ((value + radix) % radix).toString(36).toUpperCase());
     }
 
     /* Returns the digits of a part of the number, and whether they must be there. */
@@ -128,8 +129,8 @@ function partElement(part) {
 }
 
 /* Shows the picture of a number. */
-function showNumber(library, state, bytes) {
-    const picture = new NumberPicture(library, state, bytes);
+function showNumber(library, state) {
+    const picture = new NumberPicture(library, state);
     find("number").replaceChildren(...picture.parts().map(partElement));
     find("special").replaceChildren(partElement(picture.special()));
 }

@@ -1,21 +1,16 @@
-/* The state of the page: a word, an exponent character and a decimal point, which the fragment of the URL has too. */
+/* The state of the page: a word, an exponent character and a decimal point, which the fragment of the URL has too. Each
+ * change is an entry of the browser's history, so the way back takes it back. */
 
 const LANGUAGES = ["rust", "c", "python", "settings"];
-const SAVING_DELAY = 200;
-/* The types of an input that brings a whole text. */
-const WHOLE = ["insertFromPaste", "insertFromDrop"];
-/* The exponent character e and the decimal point. */
-const OPTIONS = { exponent: 101, point: 46 };
+const STANDARD_OPTIONS = { exponent: 101, point: 46 };
 
 /* Returns the place and the meaning of each field by its name. */
 function meaningsOf({ flags, groups, bytes }) {
-    const option = "not in the word";
     return new Map([
         ...flags.map(({ name, bit, meaning }) => [name, [`bit ${bit}`, `if set, a parser ${meaning}`]]),
         ...groups.map(({ name, bits, meaning }) => [name, [`bits ${bits.join(", ")}`, meaning]]),
         ...bytes.map(({ name, bit, meaning }) => [name, [`bits ${bit} to ${bit + 7}`, meaning]]),
-        ["exponent", [option, "the exponent character, an option of the parser"]],
-        ["point", [option, "the decimal point, an option of the parser"]],
+        ...OPTIONS.map(({ name, title }) => [name, ["not in the word", `the ${title}, an option of the parser`]]),
         ["reserved", ["bits of no field", "they are 0 in a lawful word"]],
     ]);
 }
@@ -24,31 +19,37 @@ class Page {
     constructor(library, data) {
         this.library = library;
         this.data = data;
-        this.state = { word: library.standard, ...OPTIONS };
-        this.language = "rust";
-        const edit = (edits) => this.change({ word: library.write(this.state.word, edits) });
-        const choose = (name, byte) => this.change({ [name]: byte });
+        for (const recipe of data.recipes) recipe.word = library.build(recipe.settings.map(([text]) => text)).word;
+        this.last = -1;
+        const edit = (name, value, key) => this.edit(name, value, key);
         const use = (word) => {
             this.jump({ word });
             find("verdict").focus();
         };
-        this.controls = new Controls(library, data, { edit, choose });
+        this.controls = new Controls(library, edit);
         this.report = new Report(library, data, { use, edit, go: (name) => this.go(name) });
-        this.cells = makeBits(data, (name) => this.controls.boxes.get(name).click());
-        this.code = new Code(library, data);
-        this.meanings = meaningsOf(data);
-        setText(find("version"), library.version());
+        this.trial = new Trial(library, (fields) => this.report.links(fields));
+        this.cells = makeBits(library, (name) => this.controls.boxes.get(name).click());
+        this.code = new Code(library);
+        this.meanings = meaningsOf(library);
+        setText(find("version"), data.version);
+        find("bits-panel").open = matchMedia("(min-width: 1001px)").matches;
         this.listen();
-        this.makeRecipes();
+        this.listenToWord();
+        this.listenToTabs();
         this.makeTexts();
         this.read();
     }
 
     listen() {
-        addEventListener("hashchange", () => this.read());
-        find("standard").addEventListener("click", () => {
+        const click = (id, action) => find(id).addEventListener("click", action);
+        addEventListener("popstate", () => this.read());
+        click("undo", () => history.back());
+        click("redo", () => history.forward());
+        document.addEventListener("keydown", (event) => this.undo(event));
+        click("standard", () => {
             this.recipe = undefined;
-            this.jump({ word: this.library.standard, ...OPTIONS });
+            this.jump({ word: this.library.standard, ...STANDARD_OPTIONS });
         });
         find("recipe").addEventListener("change", ({ target }) => {
             this.start(this.data.recipes.find(({ name }) => name === target.value));
@@ -57,23 +58,39 @@ class Page {
             this.controls.asNumbers = event.target.checked;
             this.show();
         });
-        for (const [id, text] of [["copy-code", () => find("code").textContent], ["copy-link", () => this.link()]]) {
-            find(id).addEventListener("click", (event) => copy(event.target, text()));
-        }
-        find("to-report").addEventListener("click", () => find("report-title").focus());
+        click("copy-code", (event) => copy(event.target, find("code").textContent));
+        click("copy-link", (event) => copy(event.target, location.href));
+        click("verdict", () => find("report-title").focus());
         const marked = (node) => node.closest("[data-field]");
-        document.addEventListener("focusin", ({ target }) => this.mark(marked(target)));
+        document.addEventListener("focusin", ({ target }) => {
+            if (target.id !== this.key) this.key = "";
+            this.mark(marked(target));
+        });
         document.addEventListener("pointerover", ({ target }) => {
             this.mark(marked(target) ?? marked(document.activeElement));
         });
-        this.listenToWord();
-        this.listenToTabs();
+    }
+
+    /* Takes Ctrl+Z, Ctrl+Y and Ctrl+Shift+Z, except in the field for a number. */
+    undo(event) {
+        const key = event.key?.toLowerCase();
+        const isUndo = (event.ctrlKey || event.metaKey) && ["z", "y"].includes(key);
+        if (!isUndo || ["literal", "filter"].includes(event.target.id)) return;
+        event.preventDefault();
+        const isRedo = key === "y" || event.shiftKey;
+        if (isRedo ? this.index < this.last : this.index > 0) history.go(isRedo ? 1 : -1);
     }
 
     listenToWord() {
         const box = find("word");
-        box.addEventListener("input", ({ inputType }) => this.take(box.value, WHOLE.includes(inputType)));
+        box.addEventListener("input", () => this.take(box.value, false));
         box.addEventListener("change", () => this.take(box.value, true));
+        box.addEventListener("paste", (event) => {
+            event.preventDefault();
+            const text = event.clipboardData.getData("text");
+            box.setRangeText(text.replace(/\s+/g, " ").trim(), box.selectionStart, box.selectionEnd, "end");
+            this.take(text.includes("\n") ? text : box.value, true);
+        });
         box.addEventListener("blur", () => isRefused(box) || this.showWord());
         box.addEventListener("keydown", ({ key }) => key === "Escape" && this.showWord());
     }
@@ -87,7 +104,7 @@ class Page {
                 tab.tabIndex = other === index ? 0 : -1;
             });
             find("code").setAttribute("aria-labelledby", tabs[index].id);
-            this.showCode();
+            if (this.shown) this.showCode();
         };
         choose(0);
         tabs.forEach((tab, index) => {
@@ -102,28 +119,21 @@ class Page {
         });
     }
 
-    makeRecipes() {
-        const options = this.data.recipes.map(({ name, about }) => {
-            return element("option", { value: name }, about.replace(/[:.]? \(.*|, as .*| with .*|\.$/, ""));
-        });
-        find("recipe").append(...options);
-    }
-
     makeTexts() {
         const rows = this.data.limits.map(([limit, instead]) => {
             return element("tr", {}, element("td", {}, withCode(limit)), element("td", {}, withCode(instead)));
         });
         find("limits").append(...rows);
         find("texts").append(...withCode(this.data.texts));
+        const { recipes } = this.data;
+        find("recipe").append(...recipes.map(({ name, about }) => element("option", { value: name }, shortTitle(about))));
     }
 
     /* Shows a recipe with its comments. */
     start(recipe) {
         if (!recipe) return;
-        const edits = recipe.settings.map(([text]) => this.library.parseEdit(text).edit);
-        const word = this.library.build(edits);
-        this.recipe = { name: recipe.name, word };
-        this.jump({ word, ...OPTIONS, exponent: recipe.exponent.charCodeAt(0) });
+        this.recipe = recipe;
+        this.jump({ word: recipe.word, ...STANDARD_OPTIONS, exponent: recipe.exponent.charCodeAt(0) });
         const rows = recipe.settings.map(([text, meaning]) => {
             const comment = element("span", { class: "meaning" }, withCode(meaning));
             return element("li", {}, element("code", {}, text), " ", comment);
@@ -142,87 +152,101 @@ class Page {
 
     /* Takes a text as the word, if it is whole, or shows why it is not one. */
     take(text, isWhole) {
-        const { word, message } = this.library.parseWord(text.trim());
-        if (message) {
-            this.explain(`${message}. A word is \`0x\` (lower case) and 1 to 32 hexadecimal digits.`, true);
+        const { word, error } = this.library.read(text);
+        if (error) {
+            const forms = "A word is `0x` and up to 32 hexadecimal digits, a decimal number, or settings such as `radix=16`.";
+            this.tell(`${error} ${forms}`, true);
         } else if (isWhole || word === this.state.word) {
-            this.explain("", false);
+            this.tell("", false);
             this.change({ word });
         } else {
-            this.explain("Press Enter to take this word.", false);
+            this.tell("Press Enter to take this word.", false);
         }
     }
 
-    /* Explains why a typed text is refused or waits, which hides the verdict on the last word. */
-    explain(told, isProblem) {
-        const text = told && `${told} The rest of the page shows the last word.`;
-        find("word-problem").replaceChildren(...withCode(text).filter(Boolean));
+    /* Tells why a typed text is refused or waits. */
+    tell(text, isProblem) {
+        find("word-problem").replaceChildren(...withCode(text));
         find("word-problem").classList.toggle("waiting", !isProblem);
         find("word").setAttribute("aria-invalid", String(isProblem));
-        for (const id of ["verdict", "first-error", "options-error"]) find(id).hidden = Boolean(told);
         this.told = this.state.word;
     }
 
-    /* Changes the state, in the place of the old one. The fragment follows when no other change comes. */
-    change(part) {
+    edit(name, value, key) {
+        const isOption = OPTIONS.some((option) => option.name === name);
+        this.change(isOption ? { [name]: value } : { word: this.library.put(this.state.word, name, value) }, key);
+    }
+
+    /* Changes the state. What is typed into one control is one entry of the history. */
+    change(part, key = "") {
+        const before = this.fragment();
         this.state = { ...this.state, ...part };
-        clearTimeout(this.saving);
-        this.saving = setTimeout(() => this.save(), SAVING_DELAY);
+        if (this.fragment() !== before) {
+            const isSame = key && key === this.key;
+            this.index += isSame ? 0 : 1;
+            this.last = this.index;
+            this.key = key;
+            history[isSame ? "replaceState" : "pushState"]({ index: this.index }, "", this.fragment());
+        }
         this.show();
     }
 
-    save() {
-        clearTimeout(this.saving);
-        history.replaceState(null, "", this.fragment());
-    }
-
-    /* Changes the state, and keeps the old one for the way back. */
+    /* Changes the state, and shows it in place of refused texts. */
     jump(part) {
-        this.save();
-        this.state = { ...this.state, ...part };
-        history.pushState(null, "", this.fragment());
-        this.show();
+        this.change(part);
         this.showWord();
         this.controls.fillAll();
     }
 
-    link() {
-        this.save();
-        return location.href;
-    }
-
     fragment() {
         const { word, exponent, point } = this.state;
-        return `#word=${this.library.wordText(word)}&exponent=${exponent}&point=${point}`;
+        return `#word=${wordText(word)}&exponent=${exponent}&point=${point}`;
     }
 
-    /* Reads the state from the fragment. A part that is missing, or is not a word or a byte, has its default. */
+    /* Reads the state from the fragment. A part that is missing has its default. If one is invalid, the page says so. */
     read() {
+        const index = history.state?.index;
+        this.index = index ?? this.last + 1;
+        this.last = index === undefined ? this.index : Math.max(this.index, this.last);
+        if (index === undefined) history.replaceState({ index: this.index }, "", location.href);
         const parts = new URLSearchParams(location.hash.slice(1));
-        const { word } = this.library.parseWord(parts.get("word") ?? location.hash.slice(1));
-        const parsed = (name) => this.library.parseEdit(`digit_separator=${parts.get(name)}`).edit?.value;
-        const byte = (name) => parsed(name) ?? OPTIONS[name];
-        this.state = { word: word ?? this.library.standard, exponent: byte("exponent"), point: byte("point") };
+        const texts = { word: parts.get("word") ?? location.hash.slice(1), exponent: parts.get("exponent"), point: parts.get("point") };
+        const word = texts.word ? this.library.read(texts.word).word : this.library.standard;
+        const byte = (name) => (texts[name] === null ? STANDARD_OPTIONS[name] : this.library.parse("digit_separator", texts[name]).value);
+        const found = { word, exponent: byte("exponent"), point: byte("point") };
+        const lost = Object.keys(found).filter((name) => found[name] === undefined);
+        const usual = { word: this.library.standard, ...STANDARD_OPTIONS };
+        for (const name of lost) found[name] = usual[name];
+        this.state = found;
+        this.key = "";
         this.show();
+        this.showWord();
+        this.controls.fillAll();
+        const titles = { word: "format word", exponent: "exponent character", point: "decimal point" };
+        const all = lost.map((name) => titles[name]).join(" and no ");
+        if (lost.length) this.tell(`This link has no ${all}. The page shows the standard one instead.`, true);
     }
 
     /* Shows the word as text, in place of a typed text. */
     showWord() {
-        find("word").value = this.library.wordText(this.state.word);
-        this.explain("", false);
+        find("word").value = wordText(this.state.word);
+        this.tell("", false);
     }
 
     show() {
-        const { word, exponent, point } = this.state;
+        const { word } = this.state;
+        this.shown = this.library.explain(this.state);
         const isKept = isRefused(find("word")) && this.told === word;
         if (document.activeElement !== find("word") && !isKept) this.showWord();
+        find("undo").disabled = this.index === 0;
+        find("redo").disabled = this.index === this.last;
         this.showRecipe();
-        const blamed = this.report.show(this.state);
-        const filled = this.library.bytesOf(word, this.data.bytes.map(({ name }) => name));
-        this.controls.show({ word, exponent, point, bytes: this.library.rawBytes(word), filled });
-        showBits(this.cells, word, this.library.wordText(word));
-        showNumber(this.library, this.state, filled);
-        this.blame(new Set(blamed), new Set(this.code.edits(word).map(({ name }) => name)));
+        const blamed = this.report.show(word, this.shown);
+        this.controls.show(this.state);
+        showBits(this.cells, word);
+        showNumber(this.library, this.state);
+        this.trial.show(this.state);
+        this.blame(blamed, new Set(this.library.changes(word, this.library.standard).map(({ name }) => name)));
         this.showCode();
     }
 
@@ -237,8 +261,7 @@ class Page {
     }
 
     showCode() {
-        const text = this.library.wordText(this.state.word);
-        setText(find("code"), this.code[this.language](this.state.word, text));
+        setText(find("code"), this.code[this.language](this.state, this.shown));
     }
 
     /* Marks each element with the same field as this one, and describes the field. */
@@ -248,16 +271,15 @@ class Page {
             const isMarked = other.dataset.field.split(" ").some((name) => names.includes(name));
             other.classList.toggle("marked", isMarked);
         }
-        if (names.length) this.describe(names[0]);
+        if (!names.length) return;
+        const [where, meaning] = this.meanings.get(names[0]) ?? ["", ""];
+        find("hint").replaceChildren(element("code", {}, names[0]), ` ${where}: `, ...withCode(meaning));
     }
 
-    describe(name) {
-        const [where, meaning] = this.meanings.get(name) ?? ["", ""];
-        find("hint").replaceChildren(element("code", {}, name), ` ${where}: `, ...withCode(meaning));
-    }
-
-    /* Goes to the control of a field. Reserved bits have none. */
+    /* Goes to the control of a field, which the filter may hide. */
     go(name) {
+        find("filter").value = "";
+        this.controls.filter();
         find(name)?.focus();
     }
 }
@@ -284,8 +306,7 @@ async function copy(button, text) {
 async function main() {
     const bytes = Uint8Array.from(atob(find("library").textContent), (character) => character.charCodeAt(0));
     const data = JSON.parse(find("data").textContent);
-    const library = await Library.load(bytes, data.constants);
-    window.page = new Page(library, data);
+    window.page = new Page(await Library.load(bytes, data), data);
     document.documentElement.dataset.ready = "true";
 }
 

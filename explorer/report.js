@@ -1,11 +1,4 @@
-/* The report on a word: its reasons, notes, normal form, and differences from the standard format. */
-
-const TITLES = { exponent: "The exponent character", point: "The decimal point" };
-
-/* Returns a button of a class with a text. */
-function button(kind, text, click, attributes = {}) {
-    return element("button", { type: "button", class: kind, click, ...attributes }, text);
-}
+/* The report on a word: its reasons, notes, normal form, and differences from another format. */
 
 class Report {
     constructor(library, data, { use, edit, go }) {
@@ -14,102 +7,82 @@ class Report {
         this.use = use;
         this.edit = edit;
         this.go = go;
-        this.code = new Code(library, data);
-        this.masks = library.fields.map((setter) => {
-            return { name: library.setters[setter], mask: library.editMask({ setter, value: 1 }) };
-        });
-        this.separators = library.editMask({ setter: library.setterOf("digit_separator_flags"), value: 1 });
-        this.defaults = new Map(library.editsOf(library.standard).edits.map((edit) => [edit.setter, edit]));
+        const formats = [{ name: "", about: "the standard format" }, ...data.recipes];
+        find("compare").append(...formats.map(({ name, about }) => element("option", { value: name }, shortTitle(about))));
+        find("compare").addEventListener("change", () => this.showChanges(this.word));
     }
 
-    /* Returns the names of the fields with bits in a mask. */
-    namesOf(mask) {
-        const names = this.masks.filter((field) => field.mask & mask).map(({ name }) => name);
-        const all = this.masks.reduce((bits, field) => bits | field.mask, 0n);
-        return mask & ~all ? [...names, "reserved"] : names;
+    /* Returns buttons that lead to the controls of fields. Reserved bits have none. */
+    links(fields) {
+        return fields.map((name) => {
+            if (name === "reserved") return element("code", { "data-field": name }, "reserved bits");
+            return button("link", name, () => this.go(name), { "data-field": name });
+        });
     }
 
-    /* Returns buttons that lead to the fields of a mask. All separator flags together have one button. */
-    links(mask) {
-        const hasAll = (mask & this.separators) === this.separators;
-        const names = hasAll ? ["digit_separator_flags", ...this.namesOf(mask & ~this.separators)] : this.namesOf(mask);
-        return names.map((name) => button("link", name, () => this.go(name), { "data-field": name }));
-    }
-
-    reason(word, { text, mask, rules, mends }) {
-        const broken = rules.map((rule) => {
-            const demand = this.data.rules[rule]?.demand ?? "";
-            const error = this.library.errorText(this.library.call("rule_error", rule));
-            return element("li", {}, `breaks rule ${rule + 1}, \u201c${demand}\u201d: ${error}`);
+    /* Shows a reason why the word is not lawful, or why an option does not fit. */
+    reason(word, { text, fields, mask, rules = [] }) {
+        const broken = rules.map(({ index, error }) => {
+            return element("li", {}, `breaks rule ${index + 1}, \u201c${this.data.rules[index]}\u201d: ${error}`);
         });
-        const buttons = mends.map((edits) => {
-            const title = edits.map((edit) => this.library.editText(edit)).join(" ");
-            return button("mend", title, () => this.use(this.library.mended(word, edits)));
-        });
-        if (this.namesOf(mask).includes("reserved")) {
-            const cleared = () => this.use(this.library.editWord(word, []));
-            buttons.push(button("mend", "clear the reserved bits", cleared));
-        }
+        const isReserved = fields.includes("reserved");
+        const clear = () => this.use(word & ~mask);
         return element(
             "li",
-            { class: "reason", "data-field": this.namesOf(mask).join(" ") },
+            { class: "reason", "data-field": fields.join(" ") },
             element("strong", {}, text),
             element("ul", { class: "rules" }, broken),
-            element("p", {}, element("span", { class: "key" }, "To blame"), this.links(mask)),
-            buttons.length ? element("p", {}, element("span", { class: "key" }, "Mend by"), buttons) : "",
+            element("p", {}, element("span", { class: "key" }, "To blame"), this.links(fields)),
+            isReserved ? element("p", {}, "Any edit clears them.", button("use", "clear the reserved bits", clear)) : "",
         );
     }
 
-    /* Shows a note. If separator flags that it describes are set, only these are marked, and otherwise all of them. */
-    note(word, { text, mask }) {
-        const areSet = mask & this.separators & word;
-        const marked = areSet ? (mask & ~this.separators) | areSet : mask;
-        const fields = this.namesOf(marked).join(" ");
-        return element("li", { class: "note", "data-field": fields }, text, element("p", {}, this.links(marked)));
+    note({ text, fields }) {
+        return element("li", { class: "note", "data-field": fields.join(" ") }, text, element("p", {}, this.links(fields)));
     }
 
-    /* Returns a button for each edit that differs from the standard format, which takes it back. */
-    change(edit) {
-        const standard = this.defaults.get(edit.setter);
-        const title = `back to ${this.library.editText(standard)}`;
-        const undo = button("undo", "\u00d7", () => this.edit([standard]), { title, "aria-label": title });
-        const setting = element("code", {}, this.code.setting(edit));
-        return element("li", { class: "chip", "data-field": edit.name }, setting, undo);
+    /* Shows each field that differs from the chosen format, with a button that takes it back. */
+    showChanges(word) {
+        this.word = word;
+        const recipe = this.data.recipes.find(({ name }) => name === find("compare").value);
+        const other = recipe ? recipe.word : this.library.standard;
+        const hadFocus = [...find("changes").querySelectorAll("button")].indexOf(document.activeElement);
+        const chips = this.library.changes(word, other).map((field) => {
+            const [value, before] = [word, other].map((it) => this.library.get(it, field.name));
+            const title = `back to ${this.library.setting(field, before)}`;
+            const back = button("back", "\u00d7", () => this.edit(field.name, before), { title, "aria-label": title });
+            const setting = element("code", {}, this.library.setting(field, value));
+            const rest = field.isByte && before ? `instead of ${this.library.setting(field, before).split("=")[1]}` : "";
+            return element("li", { class: "chip", "data-field": field.name }, setting, rest, back);
+        });
+        find("changes").replaceChildren(...chips);
+        if (hadFocus < 0) return;
+        (find("changes").querySelectorAll("button")[Math.min(hadFocus, chips.length - 1)] ?? find("compare")).focus();
     }
 
-    showNormal(word) {
-        const normal = this.library.normalForm(word);
-        const text = element("code", {}, this.library.wordText(normal));
+    showNormal(word, normal) {
         const use = button("use", "use it", () => this.use(normal));
+        const text = element("code", {}, wordText(normal));
         find("normal").replaceChildren(...(normal === word ? ["The word is its own normal form."] : [text, " ", use]));
     }
 
-    /* Shows all of this for a state, and returns the names of the fields to blame. */
-    show({ word, exponent, point }) {
-        const reasons = this.library.reasons(word);
-        const error = this.library.formatError(word);
-        const count = reasons.length === 1 ? "1 reason" : `${reasons.length} reasons`;
-        setText(find("verdict"), error ? `Not lawful: ${count}` : "Lawful");
-        find("verdict").className = error ? "bad" : "good";
-        setText(find("first-error"), error ? this.library.errorText(error) : "The word satisfies all rules.");
-        find("reasons").replaceChildren(...reasons.map((reason) => this.reason(word, reason)));
-        find("notes").replaceChildren(...this.library.notes(word).map((note) => this.note(word, note)));
-        find("changes").replaceChildren(...this.code.edits(word).map((edit) => this.change(edit)));
-        this.showNormal(word);
-        const options = this.showOptions(this.library.optionsError(word, exponent, point));
-        return [...options, ...reasons.flatMap(({ mask }) => this.namesOf(mask))];
+    /* Shows all of this for a word and what explains it, and returns the names of the fields to blame. */
+    show(word, { error, reasons, options, notes, normal }) {
+        const count = (number) => (number === 1 ? "1 reason" : `${number} reasons`);
+        const verdict = error ? `Not lawful: ${count(reasons.length)}` : options.length ? "Lawful, but an option does not fit" : "Lawful";
+        setText(find("verdict"), verdict);
+        find("verdict").className = error || options.length ? "bad" : "good";
+        const all = [...reasons, ...options];
+        setText(find("first-error"), all[0]?.text ?? "The word satisfies all rules.");
+        find("reasons").replaceChildren(...all.map((reason) => this.reason(word, reason)));
+        find("notes").replaceChildren(...notes.map((note) => this.note(note)));
+        this.showChanges(word);
+        this.showNormal(word, normal);
+        return new Set(all.flatMap(({ fields }) => fields));
     }
+}
 
-    /* Shows whether the options fit, and returns the names of those that do not. */
-    showOptions(error) {
-        const text = error ? this.library.errorText(error) : "Exponent character and decimal point fit the format.";
-        setText(find("options"), text);
-        find("options").className = error ? "bad" : "good";
-        const { INVALID_EXPONENT_SYMBOL, INVALID_DECIMAL_POINT } = this.data.constants;
-        const names = { 0: [], [INVALID_EXPONENT_SYMBOL]: ["exponent"], [INVALID_DECIMAL_POINT]: ["point"] };
-        const unfit = names[error] ?? ["exponent", "point"];
-        const titles = { 0: "", 1: `${TITLES[unfit[0]]} does`, 2: "Exponent character and decimal point do" };
-        setText(find("options-error"), error ? `${titles[unfit.length]} not fit the format.` : "");
-        return unfit;
-    }
+/* Returns the first words of the comment of a recipe. */
+function shortTitle(about) {
+    return about.replace(/[:.]? \(.*|, as .*| with .*|\.$/, "");
 }

@@ -1,0 +1,60 @@
+/* The field in which a number is tried: its parts are coloured, and its first wrong byte is marked. */
+
+/* The parts of a literal, with the names of their colours. */
+const COLOURS = {
+    sign: "sign",
+    special: "special",
+    prefix: "base",
+    integer: "digits",
+    point: "option",
+    fraction: "digits",
+    exponent_character: "exponent",
+    exponent_sign: "sign",
+    exponent_digits: "exponent",
+    suffix: "base",
+};
+
+class Trial {
+    constructor(library, links) {
+        this.library = library;
+        this.links = links;
+        find("trial").hidden = !library.hasReader;
+        find("literal").addEventListener("input", () => this.show(this.state));
+    }
+
+    /* Reads the typed text in a state, and shows what was read. */
+    show(state) {
+        this.state = state;
+        if (!this.library.hasReader) return;
+        const text = find("literal").value;
+        const answer = text ? this.library.literal(state, text) : { parts: [] };
+        const bytes = new TextEncoder().encode(text);
+        find("read").replaceChildren(...this.pieces(bytes, answer));
+        find("literal").setAttribute("aria-invalid", String(!answer.parts));
+        find("read-result").replaceChildren(...this.told(bytes, answer));
+        find("read-result").className = answer.parts ? "good" : "bad";
+    }
+
+    /* Returns the parts of a text, or the text with its first wrong character marked. */
+    pieces(bytes, { parts, index }) {
+        const slice = (start, end) => new TextDecoder().decode(bytes.subarray(start, end));
+        if (parts) {
+            return parts.map(({ kind, start, end }) => {
+                return element("span", { class: COLOURS[kind], title: kind.replace("_", " ") }, slice(start, end));
+            });
+        }
+        if (index === null) return [slice(0)];
+        let end = index + 1;
+        while ((bytes[end] & 0xc0) === 0x80) end += 1;
+        return [slice(0, index), element("mark", {}, slice(index, end) || "\u00a0"), slice(end)];
+    }
+
+    /* Returns what is told of a text, with a link to the control that decides. */
+    told(bytes, { parts, error, index, setting }) {
+        if (parts) return [bytes.length ? "The format accepts it." : ""];
+        const where = index === null ? "" : index < bytes.length ? ` at byte ${index + 1}` : " at the end";
+        if (!setting) return [`${error}${where}.`];
+        const [name, value] = setting.split("=");
+        return [`${error}${where}. More of it is accepted with `, ...this.links([name]), ` = ${value}.`];
+    }
+}

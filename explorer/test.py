@@ -1,0 +1,420 @@
+"""Tests the page:
+
+    python3 explorer/test.py
+
+`build --check` compares index.html with its sources. The WebAssembly of the page returns the recorded results, in
+Node.js. One walk through the page in Chromium takes the steps of a user. The code that the page shows builds its word.
+A test is skipped by name if the machine lacks its programs.
+"""
+import base64
+import hashlib
+import os
+import pathlib
+import re
+import shutil
+import subprocess
+import sys
+import tempfile
+import unittest
+
+HERE = pathlib.Path(__file__).resolve().parent
+TOP = HERE.parent
+PAGE = HERE / "index.html"
+# Where Debian's python3-selenium is, for another python3 that is earlier in the PATH.
+sys.path.append("/usr/lib/python3/dist-packages")
+sys.dont_write_bytecode = True
+try:
+    from selenium import webdriver
+    from selenium.webdriver.chrome.options import Options
+    from selenium.webdriver.chrome.service import Service
+    from selenium.webdriver.common.by import By
+    from selenium.webdriver.common.keys import Keys
+    from selenium.webdriver.support.ui import Select, WebDriverWait
+except ImportError:
+    webdriver = None
+
+STANDARD = "0x00000A0000000000000000000000000C"
+# A word with bits in each of its bytes, and among both kinds of flags.
+MIXED = "0x0A0210687800005F00000FC70001441F"
+# How long the first paint after a load and an edit may take, in milliseconds: the least of some tries.
+MOST_PAINT, MOST_EDIT, TRIES = 100, 10, 30
+
+
+def has(*programs):
+    """Returns whether the machine has all of these programs."""
+    return all(map(shutil.which, programs))
+
+
+def run(*command, **options):
+    """Returns what a command prints. It fails the test if the command fails."""
+    done = subprocess.run([*map(str, command)], capture_output=True, text=True, **options)
+    if done.returncode:
+        raise AssertionError(f"{command}\n{done.stdout}{done.stderr}")
+    return done.stdout
+
+
+class Sources(unittest.TestCase):
+    def test_index_is_up_to_date(self):
+        run(sys.executable, HERE / "build.py", "--check")
+
+    @unittest.skipUnless(has("node"), "no Node.js")
+    def test_webassembly_returns_the_recorded_results(self):
+        self.assertRegex(run("node", HERE / "test.js"), r"^\d{5} recorded results\n$")
+
+
+@unittest.skipUnless(has("node"), "no Node.js")
+class Code(unittest.TestCase):
+    """The code that the page shows for a word builds this word."""
+
+    # Words that a builder makes, with bytes that need an escape or cannot be seen, and words that none makes.
+    WORDS = [STANDARD, MIXED, "0x000002005C000027000000010000000C", "0x00000A807F0000220000000100000000",
+             "0x00000A000000005F000000000000000C", "0x01FF257862000020800017FF8003FFFF"]
+
+    def setUp(self):
+        folder = tempfile.TemporaryDirectory()
+        self.addCleanup(folder.cleanup)
+        self.folder = pathlib.Path(folder.name)
+        run("node", HERE / "test.js", self.folder, *self.WORDS)
+
+    def code(self, language):
+        return [(self.folder / f"{index}.{language}").read_text() for index in range(len(self.WORDS))]
+
+    def cargo(self, *arguments):
+        """Calls cargo, whose results are in the folder."""
+        variables = {"CARGO_TARGET_DIR": str(self.folder / "target"), "CARGO_NET_OFFLINE": "true"}
+        return run("cargo", *arguments, env={**os.environ, **variables}, cwd=self.folder)
+
+    @unittest.skipUnless(has("cargo"), "no cargo")
+    def test_rust(self):
+        modules = "".join(f"mod m{index} {{ {text} pub const WORD: u128 = FORMAT; }}\n"
+                          for index, text in enumerate(self.code("rust")))
+        prints = "".join(f'println!("{{:#034X}}", m{index}::WORD);' for index in range(len(self.WORDS)))
+        (self.folder / "main.rs").write_text(f"{modules}fn main() {{ {prints} }}")
+        (self.folder / "Cargo.toml").write_text(
+            '[package]\nname = "code"\nedition = "2021"\n[[bin]]\nname = "code"\npath = "main.rs"\n[workspace]\n'
+            f'[dependencies]\npeltzivar = {{ path = "{TOP / "rust"}" }}\n')
+        self.assertEqual(self.cargo("run", "--quiet").split(), self.WORDS)
+
+    @unittest.skipUnless(has("cc"), "no C compiler")
+    def test_c(self):
+        text = "".join(f"#define FORMAT F{index}\n{text}\n#undef FORMAT\n" for index, text in enumerate(self.code("c")))
+        show = r'printf("0x%016llX%016llX\n", (unsigned long long)F.high, (unsigned long long)F.low);'
+        prints = "".join(show.replace("F.", f"F{index}.") for index in range(len(self.WORDS)))
+        (self.folder / "main.c").write_text(f"{text}#include <stdio.h>\nint main(void) {{ {prints} return 0; }}\n")
+        run("cc", "-Wall", "-Wextra", "-Werror", "-I", TOP / "c", "-o", self.folder / "main", self.folder / "main.c")
+        self.assertEqual(run(self.folder / "main").split(), self.WORDS)
+
+    @unittest.skipUnless(has("cargo"), "no cargo")
+    def test_python(self):
+        self.cargo("build", "--quiet", "--release", "--manifest-path", TOP / "rust/capi/Cargo.toml")
+        library = next(it for it in (self.folder / "target/release").iterdir() if it.suffix in (".so", ".dylib"))
+        (self.folder / "main.py").write_text("".join(f"{text}print(format)\n" for text in self.code("python")))
+        variables = {"PELTZIVAR_LIBRARY": str(library), "PYTHONPATH": str(TOP / "c"), "PYTHONDONTWRITEBYTECODE": "1"}
+        printed = run(sys.executable, self.folder / "main.py", env={**os.environ, **variables})
+        self.assertEqual(printed.split(), self.WORDS)
+
+
+@unittest.skipUnless(webdriver and has("chromium", "chromedriver"), "no chromium, chromium-driver or python3-selenium")
+class Walk(unittest.TestCase):
+    """One walk through the page. Each test loads the page anew."""
+
+    @classmethod
+    def setUpClass(cls):
+        options = Options()
+        for option in ("--headless=new", "--no-sandbox", "--disable-gpu", "--hide-scrollbars", "--disable-dev-shm-usage"):
+            options.add_argument(option)
+        options.set_capability("goog:loggingPrefs", {"browser": "ALL"})
+        cls.driver = webdriver.Chrome(service=Service("chromedriver"), options=options)
+        cls.driver.set_window_size(1280, 1500)
+        cls.addClassCleanup(cls.driver.quit)
+
+    def setUp(self):
+        self.load()
+
+    def tearDown(self):
+        self.assertEqual(self.driver.get_log("browser"), [])
+
+    def load(self, fragment=""):
+        """Loads the page from the disk, as from a link."""
+        self.driver.get("about:blank")
+        self.driver.get(PAGE.as_uri() + fragment)
+        self.wait(lambda: self.run_script("return document.documentElement.dataset.ready"))
+
+    def wait(self, condition):
+        WebDriverWait(self.driver, 20, 0.02).until(lambda _: condition())
+
+    def run_script(self, script, *arguments):
+        return self.driver.execute_script(script, *arguments)
+
+    def find(self, selector):
+        return self.driver.find_element(By.CSS_SELECTOR, selector)
+
+    def text(self, selector):
+        return self.find(selector).text
+
+    def texts(self, selector):
+        return [it.text for it in self.driver.find_elements(By.CSS_SELECTOR, selector)]
+
+    def value(self, selector="#word"):
+        return self.find(selector).get_property("value")
+
+    def focused(self):
+        return self.run_script("return document.activeElement.id")
+
+    def type(self, selector, text):
+        """Replaces the text of an input."""
+        self.find(selector).send_keys(Keys.CONTROL, "a")
+        self.find(selector).send_keys(text or Keys.DELETE)
+
+    def click(self, selector, text=None):
+        """Clicks the element, or the first of these with the text."""
+        found = self.driver.find_elements(By.CSS_SELECTOR, selector)
+        chosen = next(it for it in found if text is None or it.text == text)
+        self.run_script("arguments[0].scrollIntoView({block: 'center'})", chosen)
+        chosen.click()
+
+    def parts(self):
+        """Returns the parts of the picture of a number, each with its title, its text and whether it must be there."""
+        return ", ".join(" ".join(row) for row in self.run_script(
+            """return [...document.querySelectorAll(".part")].map((part) => {
+                return [".title", ".written", ".presence"].map((it) => part.querySelector(it).textContent); })"""
+        ))
+
+    def test_flags_are_set_by_box_label_key_and_bit(self):
+        self.assertEqual((self.value(), self.text("#verdict")), (STANDARD, "Lawful"))
+        self.click("#no_special")
+        self.assertEqual(self.value(), "0x00000A0000000000000000000000040C")
+        self.click("label[for=no_integer_leading_zeros]")
+        self.find("#no_float_leading_zeros").send_keys(Keys.SPACE)
+        self.assertEqual(self.value(), "0x00000A0000000000000000000000340C")
+        self.click(".bit[data-field=no_positive_mantissa_sign]")
+        self.assertTrue(self.find("#no_positive_mantissa_sign").is_selected())
+        self.assertEqual(self.value(), "0x00000A0000000000000000000000341C")
+        self.assertEqual(self.texts("#changes code")[:2], ["no_positive_mantissa_sign=true", "no_special=true"])
+        self.click("#changes li:first-child .back")
+        self.assertEqual(self.value(), "0x00000A0000000000000000000000340C")
+        self.assertEqual(self.run_script("return document.activeElement.title"), "back to no_special=false")
+        self.click("#standard")
+        self.assertEqual(self.value(), STANDARD)
+
+    def test_bytes_and_options_are_typed(self):
+        self.type("#base_prefix", "x")
+        self.type("#mantissa_radix", "16")
+        self.assertEqual(self.value(), "0x0000100078000000000000000000000C")
+        self.assertEqual(self.text("#verdict"), "Lawful, but an option does not fit")
+        self.assertEqual(self.texts(".reason .link"), ["exponent"])
+        self.type("#exponent", "p")
+        self.assertEqual((self.text("#verdict"), self.texts(".reason")), ("Lawful", []))
+        self.type("#point", "p")
+        self.assertEqual(self.texts(".reason .link"), ["exponent", "point"])
+        self.type("#point", ".")
+        self.type("#mantissa_radix", "256")
+        self.assertIn("mantissa_radix takes a number", self.text("#mantissa_radix-problem"))
+        self.assertEqual(self.value(), "0x0000100078000000000000000000000C")
+        self.find("#mantissa_radix").send_keys(Keys.ESCAPE)
+        self.assertEqual(self.value("#mantissa_radix"), "16")
+        for text in ("a", "'a'"):
+            self.type("#mantissa_radix", text)
+            self.assertEqual(self.value(), "0x0000100078000000000000000000000C")
+        self.type("#point", "9" + Keys.TAB)
+        self.assertEqual(self.value("#point"), "TAB")
+        self.type("#point", "lf" + Keys.TAB)
+        self.assertEqual(self.run_script("return page.state.point"), 10)
+
+    def test_changes_are_undone_and_done_again(self):
+        def state():
+            return (self.value(), self.value("#mantissa_radix"))
+
+        self.type("#mantissa_radix", "16")
+        self.click("#no_special")
+        both = ("0x0000100000000000000000000000040C", "16")
+        self.assertEqual(state(), both)
+        self.click("#undo")
+        self.wait(lambda: state() == ("0x0000100000000000000000000000000C", "16"))
+        self.find("#no_special").send_keys(Keys.CONTROL, "z")
+        self.wait(lambda: state() == (STANDARD, "10"))
+        self.assertFalse(self.find("#undo").is_enabled())
+        self.click("#redo")
+        self.wait(lambda: self.value("#mantissa_radix") == "16")
+        self.find("#no_special").send_keys(Keys.CONTROL, "y")
+        self.wait(lambda: state() == both)
+        self.assertFalse(self.find("#redo").is_enabled())
+        self.type("#word", "0xC" + Keys.ENTER)
+        self.driver.back()
+        self.wait(lambda: state() == both)
+
+    def test_fields_are_found_and_formats_compared(self):
+        self.type("#filter", "leading zeros")
+        shown = """return [...document.querySelectorAll('#controls .field label')].filter((it) => it.checkVisibility())
+            .map((it) => it.textContent)"""
+        self.assertEqual(self.run_script(shown), ["no_integer_leading_zeros", "no_float_leading_zeros"])
+        self.type("#filter", "")
+        Select(self.find("#compare")).select_by_value("TOML")
+        self.assertEqual(self.texts("#changes code")[0], "required_integer_digits=false")
+        Select(self.find("#recipe")).select_by_value("TOML")
+        self.assertEqual(self.texts("#changes code"), [])
+
+    def test_groups_of_separator_flags_and_a_note(self):
+        self.type("#digit_separator", "_")
+        self.assertIn("no number can have the digit separator '_'", self.text("#notes"))
+        self.click("#internal_digit_separator")
+        self.assertEqual((self.value(), self.text("#notes")), ("0x00000A000000005F000000070000000C", ""))
+        self.assertIn("integer 1_9_0", self.parts())
+        self.click("#fraction_internal_digit_separator")
+        self.assertTrue(self.find("#internal_digit_separator").get_property("indeterminate"))
+        self.assertEqual(self.value(), "0x00000A000000005F000000050000000C")
+
+    def test_reasons_lead_to_the_controls_that_they_blame(self):
+        self.load("#word=0x000010006200000000000000000000CC&exponent=112")
+        self.assertEqual(self.text("#verdict"), "Not lawful: 1 reason")
+        self.assertEqual(self.text("#first-error"), "the base prefix 'b' is a digit in radix 16")
+        self.click("#verdict")
+        self.assertEqual(self.focused(), "report-title")
+        self.assertEqual(self.texts(".reason strong"), ["the base prefix 'b' is a digit in radix 16"])
+        self.click(".reason .link", "base_prefix")
+        self.assertEqual(self.focused(), "base_prefix")
+        self.load("#word=0x000010006200000000000000800000CC&exponent=112")
+        self.assertEqual(self.text("#verdict"), "Not lawful: 2 reasons")
+        self.click("button", "clear the reserved bits")
+        self.assertEqual(self.text("#verdict"), "Not lawful: 1 reason")
+
+    def test_words_are_typed_and_refused(self):
+        self.type("#word", "0xC" + Keys.ENTER)
+        self.assertEqual(self.texts(".reason strong"), ["the mantissa radix 0 is not between 2 and 36"])
+        self.assertEqual(len(self.texts(".rules li")), 3)
+        for text in ("<img src=x onerror=alert(1)>", "0x", "0x" + 33 * "0", "\u00e9"):
+            self.type("#word", text)
+            self.assertEqual(self.find("#word").get_attribute("aria-invalid"), "true")
+            self.assertNotEqual(self.text("#word-problem"), "")
+        self.find("#word").send_keys(Keys.ESCAPE)
+        self.assertEqual(self.value(), "0x0000000000000000000000000000000C")
+        rows = {
+            "0XA00_0000_0000_0000_0000_0000_000c": STANDARD,
+            "12": "0x0000000000000000000000000000000C",
+            "radix=16, base_prefix='x'": "0x0000100078000000000000000000000C",
+            str(2**128 - 1): "0x" + 32 * "F",
+        }
+        for text, wanted in rows.items():
+            self.type("#word", text + Keys.ENTER + Keys.TAB)
+            self.assertEqual(self.value(), wanted)
+
+    def test_settings_are_pasted_from_the_code(self):
+        word = "0x00000A00270000200000000100000400"
+        self.load(f"#word={word}")
+        self.click("#tab-settings")
+        self.assertIn("digit_separator=32\nbase_prefix='''", self.text("#code"))
+        self.click("#copy-code")
+        self.wait(lambda: self.text("#copy-code") == "copied")
+        self.click("#standard")
+        self.type("#word", Keys.CONTROL + "v")
+        self.assertEqual(self.value("#digit_separator"), "SPACE")
+        self.find("#word").send_keys(Keys.TAB)
+        self.assertEqual(self.value(), word)
+
+    def test_a_message_moves_nothing(self):
+        place = """return ["#bits-panel", "#base_suffix", "#no_special"].map(
+            (it) => document.querySelector(it).getBoundingClientRect().top + scrollY)"""
+        before = self.run_script(place)
+        self.type("#word", "nonsense")
+        self.type("#base_prefix", "xyz")
+        self.assertEqual(self.run_script(place), before)
+
+    def test_the_normal_form_is_used(self):
+        self.assertEqual(self.text("#normal code"), "0x0A0A0A0000000000000000000000000C")
+        self.click("#normal .use")
+        self.assertEqual(self.value(), "0x0A0A0A0000000000000000000000000C")
+        self.assertEqual(self.value("#exponent_radix"), "10")
+
+    def test_recipes_bring_word_and_exponent_character(self):
+        Select(self.find("#recipe")).select_by_value("JSON")
+        self.assertEqual(self.value(), "0x00000A0000000000000000000000341F")
+        self.assertIn("RFC 8259", self.text("#about"))
+        Select(self.find("#recipe")).select_by_value("C_HEX_FLOAT")
+        self.assertEqual((self.value("#exponent"), self.value("#digit_separator")), ("p", "'"))
+        self.assertEqual(self.value(), "0x0A02100078000027000000070000441C")
+        self.click("#no_special")
+        self.assertEqual(self.value("#recipe"), "")
+
+    def test_links_have_the_whole_state(self):
+        self.load("#word=0x0A0A10006200005F000000070001400C&exponent=112&point=44")
+        self.assertEqual(self.value(), "0x0A0A10006200005F000000070001400C")
+        self.assertEqual((self.value("#exponent"), self.value("#point")), ("p", ","))
+        self.click("#no_special")
+        wanted = "#word=0x0A0A10006200005F000000070001440C&exponent=112&point=44"
+        self.wait(lambda: self.run_script("return location.hash") == wanted)
+        self.load("#word=nonsense&exponent=300&point=")
+        self.assertEqual((self.value(), self.value("#exponent"), self.value("#point")), (STANDARD, "e", "."))
+        self.assertIn("This link has no format word", self.text("#word-problem"))
+
+    def test_bits_and_number_are_those_of_the_word(self):
+        self.load(f"#word={MIXED}&exponent=112&point=46")
+        bits = self.run_script("return [...document.querySelectorAll('.bit')].map((it) => it.textContent).join('')")
+        self.assertEqual(int(bits, 2), int(MIXED, 16))
+        self.assertEqual(self.parts(),
+            "sign - optional, prefix 0x optional, integer 1__F__0__ required, point . optional, "
+            "fraction 0__F__ required, exponent p required, its sign + optional, its digits 1__0__ required, "
+            "suffix h optional, special NaN never")
+        self.load("#word=0x00000A0000000020000011110000012C&exponent=101&point=44")
+        self.assertEqual(self.parts(),
+            "sign + required, integer 1\u24239\u24230 or fraction, point , optional, fraction \u242309 or integer, "
+            "exponent e optional, its sign + required, its digits 10\u2423 required, special N\u2423a\u2423N optional")
+
+    @unittest.skipUnless((TOP / "rust/examples/literal/reader.rs").exists(), "no reader")
+    def test_a_number_is_tried(self):
+        self.load("#word=0x00000A000000005F000000020000000C")
+        self.type("#literal", "-0.1_2e5")
+        self.assertEqual(self.texts("#read span"), ["-", "0", ".", "1_2", "e", "5"])
+        self.type("#literal", "1_000")
+        self.assertEqual(self.text("#read mark"), "_")
+        self.click("#read-result .link", "integer_internal_digit_separator")
+        self.assertEqual(self.focused(), "integer_internal_digit_separator")
+        self.click("#integer_internal_digit_separator")
+        self.assertEqual(self.text("#read-result"), "The format accepts it.")
+        self.click("#no_special")
+        self.click("#case_sensitive_special")
+        self.assertIn("special flags set while disabling", self.text("#read-result"))
+        self.click("#no_special")
+        self.type("#literal", "1\u00e9")
+        self.assertEqual(self.text("#read mark"), "\u00e9")
+
+    def test_controls_have_names_and_texts_fit_a_phone(self):
+        self.assertEqual(self.run_script(
+            """return [...document.querySelectorAll("input, button, select")].filter((it) => !(it.labels?.length
+                || it.getAttribute("aria-label") || it.textContent.trim())).map((it) => it.outerHTML)"""
+        ), [])
+        metrics = {"width": 390, "height": 1500, "deviceScaleFactor": 1, "mobile": False}
+        self.driver.execute_cdp_cmd("Emulation.setDeviceMetricsOverride", metrics)
+        self.addCleanup(self.driver.execute_cdp_cmd, "Emulation.clearDeviceMetricsOverride", {})
+        self.load(f"#word={MIXED}")
+        self.assertEqual(self.run_script("return document.documentElement.scrollWidth"), 390)
+
+    def test_nothing_is_requested_and_the_policy_allows_the_page_alone(self):
+        requests = "return performance.getEntriesByType('resource').map((it) => it.name)"
+        self.assertEqual(self.run_script(requests), [])
+        policy = self.find("meta[http-equiv=Content-Security-Policy]").get_attribute("content")
+        self.assertTrue(policy.startswith("default-src 'none'; script-src 'sha256-"), policy)
+        script = re.findall(r"<script>(.*?)</script>", PAGE.read_text(), re.S)[0]
+        self.assertIn(base64.b64encode(hashlib.sha256(script.encode()).digest()).decode(), policy)
+        self.assertLess(PAGE.stat().st_size, 250_000)
+
+    @unittest.skipIf("CI" in os.environ or os.getloadavg()[0] > (os.cpu_count() or 1), "the machine is busy")
+    def test_loading_and_editing_are_fast(self):
+        def least(measure, most):
+            times = []
+            while not times or (min(times) >= most and len(times) < TRIES):
+                times.append(measure())
+            return min(times)
+
+        def paint():
+            self.load()
+            self.wait(lambda: self.run_script("return performance.getEntriesByName('first-contentful-paint').length"))
+            return self.run_script("return performance.getEntriesByName('first-contentful-paint')[0].startTime")
+
+        edit = """const start = performance.now(); document.getElementById("no_special").click();
+            document.body.offsetHeight; return performance.now() - start"""
+        self.assertLess(least(paint, MOST_PAINT), MOST_PAINT)
+        self.assertLess(least(lambda: self.run_script(edit), MOST_EDIT), MOST_EDIT)
+
+
+if __name__ == "__main__":
+    unittest.main()
