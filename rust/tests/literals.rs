@@ -6,7 +6,6 @@ mod reader;
 #[path = "../examples/recipes.rs"]
 mod recipes;
 
-use peltzivar::Error::*;
 use peltzivar::{Edit, FlagSetter, Format, FormatView, NumberFormatBuilder};
 use reader::{Options, Parts, Refusal};
 use recipes::RECIPES;
@@ -111,9 +110,9 @@ fn flags_accept_and_reject_what_the_page_says() {
                 "{name}=false: {text}: {opposite:?}"
             );
             for (result, flips) in [(result, false), (opposite, true)] {
-                let blamed =
-                    result.map_or_else(|refusal| refusal.edit, |_| Some(Edit::Flag(flag, flips)));
-                assert_eq!(blamed, Some(Edit::Flag(flag, flips)), "{name}: {text}");
+                if let Err(refusal) = result {
+                    assert_eq!(refusal.edit, Some(Edit::Flag(flag, flips)), "{text}");
+                }
             }
         }
     }
@@ -161,62 +160,45 @@ fn parts_are_those_of_the_picture() {
     assert!(present.map(|part| &text[part]).eq(wanted), "{text}");
 }
 
+/// Settings, a text that is read as a number or as an integer, and its error. The last rows of the numbers have a digit of
+/// the other radix, a separator of another part, a byte that equals an absent one, and an exponent character that is a
+/// digit.
+const ERRORS: &str = "\
+required_integer_digits=true | -.5 | number | EmptyInteger(1)
+required_fraction_digits=true | 1.e5 | number | EmptyFraction(2)
+required_exponent_digits=true | 1e+ | number | EmptyExponent(3)
+required_mantissa_digits=true | -. | number | EmptyMantissa(2)
+no_positive_mantissa_sign=true | +1 | number | InvalidPositiveMantissaSign(0)
+required_mantissa_sign=true | 1 | number | MissingMantissaSign(0)
+no_exponent_notation=true | 1.5e3 | number | InvalidExponent(3)
+no_positive_exponent_sign=true | 1e+3 | number | InvalidPositiveExponentSign(2)
+required_exponent_sign=true | 1e3 | number | MissingExponentSign(2)
+no_exponent_without_fraction=true | 12e3 | number | ExponentWithoutFraction(2)
+no_special=true | -inf | number | InvalidDigit(1)
+mantissa_radix=2 exponent_radix=10 | 19 | number | InvalidDigit(1)
+digit_separator=95 fraction_digit_separator_flags=true | 1_2 | number | InvalidDigit(1)
+internal_digit_separator=true | 1\0 | number | InvalidDigit(1)
+mantissa_radix=16 | 1 | number | InvalidExponentSymbol
+no_positive_mantissa_sign=true | +1 | integer | InvalidPositiveSign(0)
+required_mantissa_sign=true | 1 | integer | MissingSign(0)
+mantissa_radix=16 | 1.5 | integer | InvalidDigit(1)
+no_special=false | 1e5 | integer | InvalidDigit(1)";
+
 #[test]
-fn errors_are_those_of_the_flags() {
-    let rows = [
-        ("required_integer_digits=true", "-.5", EmptyInteger(1)),
-        ("required_fraction_digits=true", "1.e5", EmptyFraction(2)),
-        ("required_exponent_digits=true", "1e+", EmptyExponent(3)),
-        ("required_mantissa_digits=true", "-.", EmptyMantissa(2)),
-        (
-            "no_positive_mantissa_sign=true",
-            "+1",
-            InvalidPositiveMantissaSign(0),
-        ),
-        ("required_mantissa_sign=true", "1", MissingMantissaSign(0)),
-        ("no_exponent_notation=true", "1.5e3", InvalidExponent(3)),
-        (
-            "no_positive_exponent_sign=true",
-            "1e+3",
-            InvalidPositiveExponentSign(2),
-        ),
-        ("required_exponent_sign=true", "1e3", MissingExponentSign(2)),
-        (
-            "no_exponent_without_fraction=true",
-            "12e3",
-            ExponentWithoutFraction(2),
-        ),
-        ("no_special=true", "-inf", InvalidDigit(1)),
-        // A digit in the other radix, a separator of another part, and an absent byte.
-        ("mantissa_radix=2 exponent_radix=10", "19", InvalidDigit(1)),
-        (
-            "digit_separator=95 fraction_digit_separator_flags=true",
-            "1_2",
-            InvalidDigit(1),
-        ),
-        ("internal_digit_separator=true", "1\0", InvalidDigit(1)),
-        ("mantissa_radix=16", "1", InvalidExponentSymbol),
-    ];
-    for (settings, text, error) in rows {
-        let found = read(format(settings), Some(&OPTIONS), text.as_bytes());
-        assert_eq!(
-            found.map_err(|refusal| refusal.error),
-            Err(error),
-            "{settings}: {text}"
-        );
+fn errors_are_those_of_the_rows() {
+    for row in ERRORS.lines() {
+        let [settings, text, kind, error] = row.split(" | ").collect::<Vec<_>>()[..] else {
+            panic!("{row}")
+        };
+        let options = (kind == "number").then_some(&OPTIONS);
+        let refusal = read(format(settings), options, text.as_bytes()).expect_err(row);
+        assert_eq!(format!("{:?}", refusal.error), error, "{row}");
     }
-    let integer = |settings, text: &str| {
-        read(format(settings), None, text.as_bytes())
-            .unwrap_err()
-            .error
-    };
-    assert_eq!(
-        integer("no_positive_mantissa_sign=true", "+1"),
-        InvalidPositiveSign(0)
+    let exponential = format("required_exponent_notation=true");
+    assert!(
+        read(exponential, None, b"1").is_ok(),
+        "an integer has no exponent"
     );
-    assert_eq!(integer("required_mantissa_sign=true", "1"), MissingSign(0));
-    assert_eq!(integer("", "1.5"), InvalidDigit(1));
-    assert_eq!(integer("", "1e5"), InvalidDigit(1));
 }
 
 /// Returns the format of a recipe, and its options unless it is a format of integers.
@@ -236,16 +218,14 @@ fn recipe(name: &str) -> (Format, Option<Options<'static>>) {
 
 #[test]
 fn recipes_accept_and_reject_what_their_grammars_do() {
-    for row in include_str!("literals.txt").lines() {
-        let mut columns = row.split_whitespace();
-        let (Some(name), Some(mark), Some(text)) = (columns.next(), columns.next(), columns.next())
-        else {
-            continue;
-        };
+    let rows = include_str!("literals.txt").lines();
+    for row in rows.filter(|row| !row.is_empty() && !row.starts_with('#')) {
+        let [name, mark, text] =
+            [0, 1, 2].map(|column| row.split_whitespace().nth(column).expect(row));
         let wanted = match mark {
             "+" | "-!" => true,
             "-" | "+!" => false,
-            _ => continue,
+            _ => panic!("{row}"),
         };
         let (format, options) = recipe(name);
         let result = read(format, options.as_ref(), text.as_bytes());
@@ -287,13 +267,11 @@ fn exponents_of_recipes_have_the_bases_of_their_grammars() {
 fn any_bytes_are_read() {
     let bytes = b"-0x_.eph\0\xFF";
     let mut texts = vec![vec![]];
-    for length in 0..3 {
-        let longer = texts.iter().filter(|text| text.len() == length);
-        texts.extend(
-            longer
-                .flat_map(|text| bytes.map(|byte| [text.as_slice(), &[byte]].concat()))
-                .collect::<Vec<_>>(),
-        );
+    for _ in 0..3 {
+        let longer = texts
+            .iter()
+            .flat_map(|text| bytes.map(|byte| [text.as_slice(), &[byte]].concat()));
+        texts = longer.chain([vec![]]).collect();
     }
     for (name, ..) in RECIPES {
         let (format, options) = recipe(name);

@@ -238,7 +238,7 @@ impl Reader<'_> {
     fn special(&self, start: usize) -> Option<Parts> {
         let (text, options) = (&self.text[start..], self.options?);
         let is_special = |own: &&[u8]| self.letters(own).eq(self.letters(text));
-        let is_found = !text.is_empty() && options.specials.iter().any(is_special);
+        let is_found = options.specials.iter().any(is_special);
         let mut parts = Parts::default();
         parts[Token::Sign as usize] = 0..start;
         parts[Token::Special as usize] = start..self.text.len();
