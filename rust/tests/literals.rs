@@ -160,39 +160,42 @@ fn parts_are_those_of_the_picture() {
     assert!(present.map(|part| &text[part]).eq(wanted), "{text}");
 }
 
-/// Settings, a text that is read as a number or as an integer, and its error. The last rows of the numbers have a digit of
-/// the other radix, a separator of another part, a byte that equals an absent one, and an exponent character that is a
-/// digit.
+/// Settings, a text that is read as a number or as an integer, its error, and the edit that blames a flag or a radix.
+/// Among them are a digit of the other radix, a separator of another part, and a byte that equals an absent one.
 const ERRORS: &str = "\
-required_integer_digits=true | -.5 | number | EmptyInteger(1)
-required_fraction_digits=true | 1.e5 | number | EmptyFraction(2)
-required_exponent_digits=true | 1e+ | number | EmptyExponent(3)
-required_mantissa_digits=true | -. | number | EmptyMantissa(2)
-no_positive_mantissa_sign=true | +1 | number | InvalidPositiveMantissaSign(0)
-required_mantissa_sign=true | 1 | number | MissingMantissaSign(0)
-no_exponent_notation=true | 1.5e3 | number | InvalidExponent(3)
-no_positive_exponent_sign=true | 1e+3 | number | InvalidPositiveExponentSign(2)
-required_exponent_sign=true | 1e3 | number | MissingExponentSign(2)
-no_exponent_without_fraction=true | 12e3 | number | ExponentWithoutFraction(2)
-no_special=true | -inf | number | InvalidDigit(1)
-mantissa_radix=2 exponent_radix=10 | 19 | number | InvalidDigit(1)
-digit_separator=95 fraction_digit_separator_flags=true | 1_2 | number | InvalidDigit(1)
-internal_digit_separator=true | 1\0 | number | InvalidDigit(1)
-mantissa_radix=16 | 1 | number | InvalidExponentSymbol
-no_positive_mantissa_sign=true | +1 | integer | InvalidPositiveSign(0)
-required_mantissa_sign=true | 1 | integer | MissingSign(0)
-mantissa_radix=16 | 1.5 | integer | InvalidDigit(1)
-no_special=false | 1e5 | integer | InvalidDigit(1)";
+required_integer_digits=true | -.5 | number | EmptyInteger(1) | required_integer_digits=false
+required_fraction_digits=true | 1.e5 | number | EmptyFraction(2) | required_fraction_digits=false
+required_exponent_digits=true | 1e+ | number | EmptyExponent(3) | required_exponent_digits=false
+required_mantissa_digits=true | -. | number | EmptyMantissa(2) | required_mantissa_digits=false
+no_positive_mantissa_sign=true | +1 | number | InvalidPositiveMantissaSign(0) | no_positive_mantissa_sign=false
+required_mantissa_sign=true | 1 | number | MissingMantissaSign(0) | required_mantissa_sign=false
+no_exponent_notation=true | 1.5e3 | number | InvalidExponent(3) | no_exponent_notation=false
+no_positive_exponent_sign=true | 1e+3 | number | InvalidPositiveExponentSign(2) | no_positive_exponent_sign=false
+required_exponent_sign=true | 1e3 | number | MissingExponentSign(2) | required_exponent_sign=false
+no_exponent_without_fraction=true | 12e3 | number | ExponentWithoutFraction(2) | no_exponent_without_fraction=false
+no_special=true | -inf | number | InvalidDigit(1) | no_special=false
+mantissa_radix=10 | +-1 | number | InvalidDigit(1) | none
+mantissa_radix=2 exponent_radix=10 | 19 | number | InvalidDigit(1) | mantissa_radix=10
+mantissa_radix=10 exponent_radix=2 | 1e12 | number | InvalidDigit(3) | exponent_radix=3
+digit_separator=95 fraction_digit_separator_flags=true | 1_2 | number | InvalidDigit(1) | integer_internal_digit_separator=true
+internal_digit_separator=true | 1\0 | number | InvalidDigit(1) | none
+mantissa_radix=16 | 1 | number | InvalidExponentSymbol | none
+no_positive_mantissa_sign=true | +1 | integer | InvalidPositiveSign(0) | no_positive_mantissa_sign=false
+required_mantissa_sign=true | 1 | integer | MissingSign(0) | required_mantissa_sign=false
+mantissa_radix=10 | 1.5 | integer | InvalidDigit(1) | none
+mantissa_radix=10 | 1e5 | integer | InvalidDigit(1) | mantissa_radix=15";
 
 #[test]
 fn errors_are_those_of_the_rows() {
     for row in ERRORS.lines() {
-        let [settings, text, kind, error] = row.split(" | ").collect::<Vec<_>>()[..] else {
+        let [settings, text, kind, error, edit] = row.split(" | ").collect::<Vec<_>>()[..] else {
             panic!("{row}")
         };
         let options = (kind == "number").then_some(&OPTIONS);
         let refusal = read(format(settings), options, text.as_bytes()).expect_err(row);
         assert_eq!(format!("{:?}", refusal.error), error, "{row}");
+        let blamed = refusal.edit.map_or("none".into(), |edit| edit.to_string());
+        assert_eq!(blamed, edit, "{row}");
     }
     let exponential = format("required_exponent_notation=true");
     assert!(

@@ -12,7 +12,7 @@ use reader::{read, Options};
 use std::error::Error;
 
 /// The names of the parts, in the order of [`reader::Token`].
-const NAMES: &str = "sign special prefix integer point fraction exponent_character exponent_sign exponent_digits suffix";
+const NAMES: &str = "sign special prefix integer point fraction exponent sign_of_exponent digits_of_exponent suffix";
 
 fn main() -> Result<(), Box<dyn Error>> {
     let mut arguments = std::env::args().skip(1);

@@ -1,5 +1,5 @@
-//! Finds the parts of a literal, or its first wrong byte. The section "How a reader applies the flags" of docs/FORMAT.md
-//! gives a reason for each choice. The reader computes no value, allocates nothing and needs only `core`.
+//! Finds the parts of a literal, or its first wrong byte. In docs/FORMAT.md, "How a reader applies the flags" gives the
+//! reason for each choice. The reader computes no value, allocates nothing and needs only `core`.
 
 #[path = "roles.rs"]
 mod roles;
@@ -17,8 +17,8 @@ pub struct Options<'a> {
     pub specials: &'a [&'a [u8]],
 }
 
-/// A part of a literal. The parts are in the order of the text. If the special value is present, it follows the sign, and
-/// all other parts are absent.
+/// A part of a literal. The parts are in the order of the text. If there is a special value, all other parts except the
+/// sign are absent.
 #[derive(Clone, Copy, Debug, PartialEq, Eq)]
 pub enum Token {
     Sign,
@@ -41,8 +41,8 @@ pub type Parts = [Range<usize>; Token::Suffix as usize + 1];
 pub struct Refusal {
     /// The error. It holds the index of the first wrong byte, or the length of the text if a byte is missing.
     pub error: Error,
-    /// An edit of the flag or radix to blame, if there is one: in the edited format, the text is a literal, or its first
-    /// wrong byte is further on.
+    /// An edit of the flag or radix to blame, if there is one. With it, the text is a literal, or its first wrong byte is
+    /// further on.
     pub edit: Option<Edit>,
 }
 
