@@ -41,8 +41,8 @@ pub type Parts = [Range<usize>; Token::Suffix as usize + 1];
 pub struct Refusal {
     /// The error. It holds the index of the first wrong byte, or the length of the text if a byte is missing.
     pub error: Error,
-    /// An edit of the flag or radix to blame, if there is one. With it, the text is a literal, or its first wrong byte is
-    /// further on.
+    /// An edit of the flag or radix to blame, if any: after it, the text is a literal, or its first wrong byte is further
+    /// on.
     pub edit: Option<Edit>,
 }
 
