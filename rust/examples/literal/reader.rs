@@ -41,12 +41,12 @@ pub type Parts = [Range<usize>; Token::Suffix as usize + 1];
 pub struct Refusal {
     /// The error. It holds the index of the first wrong byte, or the length of the text if a byte is missing.
     pub error: Error,
-    /// An edit of the flag or radix to blame, if any. After it, the text is a literal, or its first wrong byte is later.
+    /// An edit of the flag or radix to blame, if any. After it, the text is a literal, or a later byte is wrong first.
     pub edit: Option<Edit>,
 }
 
-/// Finds the parts of `text`, which may be any bytes. Without options, only an integer is a literal. For a format that is
-/// known at compile time, pass a constant from [`Format::of`].
+/// Finds the parts of `text`, which may be any bytes. Without options, only an integer is a literal. [`Format::of`]
+/// returns a format that is known at compile time.
 pub fn read(format: Format, options: Option<&Options>, text: &[u8]) -> Result<Parts, Refusal> {
     parts(format, options, text).map_err(|error| {
         let flags = FlagSetter::ALL.iter().take(31);
