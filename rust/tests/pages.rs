@@ -64,7 +64,7 @@ fn examples_end_as_their_comments_state() {
     #[rustfmt::skip]
     let rows = [
         ("face_program", true, ""),
-        ("integers -- 0xF_F -1", true, "0xF_F: Ok(255) as i64, Ok(255) as u64\n-1: Ok(-1) as i64, Err(InvalidNegativeSign(0)) as u64\n"),
+        ("literal -- 0x000A10007800005F000000010000000C 0x1_F", true, "0x1_F: prefix `0x` integer `1_F`\n"),
         ("settings -- rust/examples/settings.txt", true, "    word: 0x000A10007800005F000000010000000C,"),
         ("settings", false, "\"\": No such file or directory (os error 2)\n"),
     ];
