@@ -61,7 +61,7 @@ fn builder_of(code: &str) -> Option<NumberFormatBuilder> {
 
 #[test]
 fn an_expression_is_read_back() {
-    let set = |setter: &Setter| [1, 16, 255].map(|byte| setter.mask() & u128::MAX / 255 * byte);
+    let set = |setter: &Setter| [1, 16, 255].map(|byte| setter.mask() & (u128::MAX / 255 * byte));
     let words = Setter::ALL.iter().flat_map(set);
     for word in words.flat_map(|word| [word, word ^ 0xC, !word]) {
         let code = BuilderExpression(word).to_string();
