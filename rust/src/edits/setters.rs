@@ -62,8 +62,8 @@ macro_rules! with_setters {
     };
 }
 
-/// A setter of [`NumberFormatBuilder`] that takes a `bool`. It sets one flag, or all flags of one of the nine flag
-/// groups. Each variant links to its setter.
+/// A setter of [`NumberFormatBuilder`][crate::format_builder::NumberFormatBuilder] that takes a `bool`. It sets one
+/// flag, or all flags of one of the nine flag groups. Each variant links to its setter.
 #[derive(Debug, Clone, Copy, PartialEq, Eq, Hash, PartialOrd, Ord)]
 #[non_exhaustive]
 pub enum FlagSetter {
@@ -202,7 +202,8 @@ pub enum FlagSetter {
     ExponentDigitSeparatorFlags,
 }
 
-/// A setter of [`NumberFormatBuilder`]. An [`Edit`] is a setter with its argument.
+/// A setter of [`NumberFormatBuilder`][crate::format_builder::NumberFormatBuilder]. An [`Edit`] is a setter
+/// with its argument.
 #[derive(Debug, Clone, Copy, PartialEq, Eq, Hash, PartialOrd, Ord)]
 pub enum Setter {
     /// A setter that takes a `bool`.
@@ -234,7 +235,8 @@ pub enum ArgumentKind {
     OptionalByte,
 }
 
-/// A call to a [`NumberFormatBuilder`] setter, stored as a value. An edit holds the setter and its argument.
+/// A call to a setter of [`NumberFormatBuilder`][crate::format_builder::NumberFormatBuilder], stored as a
+/// value. An edit holds the setter and its argument.
 #[derive(Debug, Clone, Copy, PartialEq, Eq, Hash, PartialOrd, Ord)]
 pub enum Edit {
     /// Sets a flag, or every flag of a group, to the given value.

@@ -69,8 +69,8 @@ macro_rules! with_setters {
     };
 }
 
-/// A setter of [`NumberFormatBuilder`] that takes a `bool`. It sets one flag, or all flags of one of the nine flag
-/// groups. The comment of a variant is the name of its setter.
+/// A setter of [`NumberFormatBuilder`][lexical_builder::format_builder::NumberFormatBuilder] that takes a `bool`. It
+/// sets one flag, or all flags of one of the nine flag groups. The comment of a variant is the name of its setter.
 #[derive(Debug, Clone, Copy, PartialEq, Eq, Hash)]
 pub enum FlagSetter {
     /// `required_integer_digits`
@@ -155,7 +155,8 @@ pub enum FlagSetter {
     ExponentDigitSeparatorFlags,
 }
 
-/// A setter of [`NumberFormatBuilder`]. An [`Edit`] is a setter with its argument.
+/// A setter of [`NumberFormatBuilder`][lexical_builder::format_builder::NumberFormatBuilder]. An [`Edit`] is a setter
+/// with its argument.
 #[derive(Debug, Clone, Copy, PartialEq, Eq, Hash)]
 pub enum Setter {
     /// A setter that takes a `bool`.
@@ -187,7 +188,8 @@ pub enum ArgumentKind {
     OptionalByte,
 }
 
-/// A call to a [`NumberFormatBuilder`] setter, stored as a value. An edit holds the setter and its argument.
+/// A call to a setter of [`NumberFormatBuilder`][lexical_builder::format_builder::NumberFormatBuilder], stored as a
+/// value. An edit holds the setter and its argument.
 #[derive(Debug, Clone, Copy, PartialEq, Eq, Hash)]
 pub enum Edit {
     /// Sets a flag, or every flag of a group, to the given value.
