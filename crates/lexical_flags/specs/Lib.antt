@@ -1,4 +1,5 @@
 pub mod Layout
+pub mod Parts
 pub mod Record
 pub mod Pairs
 pub mod Constants

@@ -14,9 +14,11 @@ ghost use Rattle.lexical_flags.specs.Common.{common};
 ghost use Rattle.lexical_flags.specs.Rules.{IsRadix, Lawful};
 
 mod all_rules;
+mod parts;
 mod rules;
 
 pub use crate::format_flags::all_rules::{RULES, Rule};
+pub use crate::format_flags::parts::Part;
 pub use crate::format_flags::rules::{
     check, clashes, format_error_impl, is_clean, is_digit, is_separator_allowed,
     is_valid_base_prefix, is_valid_base_suffix, is_valid_digit_separator, is_valid_exponent_flags,

@@ -92,7 +92,8 @@ pub const fn rule_facts()
 
 /// States when two sets of bytes are disjoint, and that no byte plays two roles in a lawful format with accepted
 /// options.
-pub fn role_facts()
+#[inline(always)]
+pub const fn role_facts()
     // Two sets are disjoint if and only if no byte is in both.
     ensures disjoint { (A B : ByteSet)
         → Disjoint A B ↔ ((byte : ℕ) → byte < 256 → IsTrue (A byte) → IsTrue (B byte) → ⊥) }

@@ -1,6 +1,7 @@
 mod EditLemmas
 mod NormalLemmas
 mod ViewLemmas
+mod ByteRoleLemmas
 pub mod ListingLemmas
 mod ChangeLemmas
 mod ImageLemmas

@@ -1,4 +1,5 @@
--- For `reasons`, words as text and `field_edits_of`: the definitions that only additions to `lexical-util` cite.
+-- For roles of bytes, `reasons`, words as text and `field_edits_of`: the definitions that only additions to `lexical-util` cite.
+pub mod ByteRoles
 pub mod EditMasks
 pub mod Numeral
 pub mod FieldEdits

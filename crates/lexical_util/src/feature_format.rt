@@ -4,7 +4,7 @@
 ghost use Rattle.std.specs.Prelude.{◌≡◌, ◌≢◌, ℕ, ◌↔◌, ◌%◌, ◌^◌, IsTrue};
 ghost use Rattle.lexical_flags.specs.Layout as layout;
 ghost use Rattle.lexical_flags.specs.Record.{raw, fill, effective_exponent_base, effective_exponent_radix};
-ghost use Rattle.lexical_flags.specs.Roles.{cased, digits, prefix, suffix};
+ghost use Rattle.lexical_flags.specs.Roles.{digits};
 ghost use Rattle.lexical_flags.specs.Rules.{IsRadix, Lawful, IsErrorOf, IsFirstError, radix_rules};
 ghost use Rattle.lexical_builder.specs.Writes.{new_record};
 
@@ -23,6 +23,9 @@ macro_rules! has_any {
 }
 
 mod getters;
+mod roles;
+
+pub use crate::feature_format::roles::{Role, Separators};
 
 /// A view of a format word. It reads the fields of the word, and checks the word.
 ///
@@ -258,24 +261,6 @@ impl NumberFormat {
         flags::is_digit(self.format, byte)
     }
 
-    /// Returns whether `byte` is the base prefix. A base prefix that is a letter matches both cases unless
-    /// `case_sensitive_base_prefix` is set.
-    #[inline(always)]
-    pub const fn is_base_prefix(&self, byte: u8) -> bool
-        ensures { result ≡ prefix (raw self.now) byte }
-    {
-        is_byte(self.base_prefix(), self.case_sensitive_base_prefix(), byte)
-    }
-
-    /// Returns whether `byte` is the base suffix. A base suffix that is a letter matches both cases unless
-    /// `case_sensitive_base_suffix` is set.
-    #[inline(always)]
-    pub const fn is_base_suffix(&self, byte: u8) -> bool
-        ensures { result ≡ suffix (raw self.now) byte }
-    {
-        is_byte(self.base_suffix(), self.case_sensitive_base_suffix(), byte)
-    }
-
     // BUILDERS
 
     /// Returns a new builder, which does not depend on any word.
@@ -294,14 +279,4 @@ impl NumberFormat {
     {
         NumberFormatBuilder::rebuild(self.format)
     }
-}
-
-// Returns whether `byte` is `own` or, if `case_sensitive` is false, the same letter in the other case. Returns `false`
-// if `own` is 0, which means absent.
-#[inline(always)]
-#[tactic(auto, unfolding(lexical_flags::specs::Roles::cased))]
-const fn is_byte(own: u8, case_sensitive: bool, byte: u8) -> bool
-    ensures { result ≡ cased case_sensitive own byte }
-{
-    own != 0 && (byte == own || !case_sensitive && byte.eq_ignore_ascii_case(&own))
 }
