@@ -8,9 +8,11 @@
 //! word is *lawful* if it satisfies every [`Rule`]. The reserved bits of a lawful word are 0.
 
 mod all_rules;
+mod parts;
 mod rules;
 
 pub use crate::format_flags::all_rules::{Rule, RULES};
+pub use crate::format_flags::parts::Part;
 pub use crate::format_flags::rules::{
     check, clashes, format_error_impl, is_clean, is_digit, is_separator_allowed,
     is_valid_base_prefix, is_valid_base_suffix, is_valid_digit_separator, is_valid_exponent_flags,

@@ -112,13 +112,13 @@ pub use feature_format::NumberFormat;
 #[doc(no_inline)]
 pub use format_builder::NumberFormatBuilder;
 #[doc(no_inline)]
-pub use format_flags::Rule;
+pub use format_flags::{Part, Rule};
 #[doc(inline)]
 pub use lawful::Format;
 #[doc(no_inline)]
 pub use reasons::{Note, Reason};
 #[doc(inline)]
-pub use view::FormatView;
+pub use view::{FormatView, Role, Separators};
 
 #[cfg(doctest)]
 #[doc = include_str!("../README.md")]

@@ -16,6 +16,9 @@ macro_rules! has_any {
 }
 
 mod getters;
+mod roles;
+
+pub use crate::view::roles::{Role, Separators};
 
 /// A view of a format word. It reads the fields of the word, and checks the word.
 ///
@@ -215,22 +218,6 @@ impl FormatView {
         flags::is_digit(self.format, byte)
     }
 
-    /// Returns whether `byte` is the base prefix. A base prefix that is a letter matches both cases unless
-    /// `case_sensitive_base_prefix` is set.
-    #[must_use]
-    #[inline(always)]
-    pub const fn is_base_prefix(&self, byte: u8) -> bool {
-        is_byte(self.base_prefix(), self.case_sensitive_base_prefix(), byte)
-    }
-
-    /// Returns whether `byte` is the base suffix. A base suffix that is a letter matches both cases unless
-    /// `case_sensitive_base_suffix` is set.
-    #[must_use]
-    #[inline(always)]
-    pub const fn is_base_suffix(&self, byte: u8) -> bool {
-        is_byte(self.base_suffix(), self.case_sensitive_base_suffix(), byte)
-    }
-
     // BUILDERS
 
     /// Returns a new builder, which does not depend on any word.
@@ -258,11 +245,4 @@ impl FormatView {
     pub const fn rebuild(&self) -> NumberFormatBuilder {
         NumberFormatBuilder::rebuild(self.format)
     }
-}
-
-// Returns whether `byte` is `own` or, if `case_sensitive` is false, the same letter in the other case. Returns `false`
-// if `own` is 0, which means absent.
-#[inline(always)]
-const fn is_byte(own: u8, case_sensitive: bool, byte: u8) -> bool {
-    own != 0 && (byte == own || !case_sensitive && byte.eq_ignore_ascii_case(&own))
 }

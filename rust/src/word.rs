@@ -10,7 +10,7 @@ pub use crate::format_flags::{
     format_error_impl, is_clean, is_digit, is_separator_allowed, is_valid_base_prefix,
     is_valid_base_suffix, is_valid_digit_separator, is_valid_exponent_flags,
     is_valid_options_punctuation, is_valid_punctuation, is_valid_radix, mantissa_radix,
-    options_error, radix_error_impl, radix_from_flags, Rule, BASE_PREFIX, BASE_PREFIX_SHIFT,
+    options_error, radix_error_impl, radix_from_flags, Part, Rule, BASE_PREFIX, BASE_PREFIX_SHIFT,
     BASE_SUFFIX, BASE_SUFFIX_SHIFT, CASE_SENSITIVE_BASE_PREFIX, CASE_SENSITIVE_BASE_SUFFIX,
     CASE_SENSITIVE_EXPONENT, CASE_SENSITIVE_SPECIAL, CONSECUTIVE_DIGIT_SEPARATOR, DIGIT_SEPARATOR,
     DIGIT_SEPARATOR_FLAG_MASK, DIGIT_SEPARATOR_SHIFT, EXPONENT_BASE, EXPONENT_BASE_SHIFT,
@@ -30,7 +30,7 @@ pub use crate::format_flags::{
     REQUIRED_INTEGER_DIGITS, REQUIRED_MANTISSA_DIGITS, REQUIRED_MANTISSA_SIGN, RULES,
     SPECIAL_DIGIT_SEPARATOR, TRAILING_DIGIT_SEPARATOR,
 };
-pub use crate::view::FormatView;
+pub use crate::view::{FormatView, Role, Separators};
 
 /// The standard format, which is the format word of a new builder.
 ///

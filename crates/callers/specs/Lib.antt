@@ -1,2 +1,1 @@
-pub mod ByteRoles
 pub mod Reading

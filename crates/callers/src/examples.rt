@@ -1,22 +1,9 @@
 //! Examples: for each predicate that the callers define, one case that holds and one that does not.
 
-ghost use Rattle.std.specs.Prelude.{codes, Some};
+ghost use Rattle.std.specs.Prelude.{codes};
 ghost use Rattle.lexical_util.specs.Record.{raw};
 ghost use Rattle.lexical_util.specs.declared.error.Error.TheVariants as errors;
-ghost use Rattle.callers.specs.ByteRoles.{IsRoleOf};
 ghost use Rattle.callers.specs.Reading.{IsReadTo, IsRefusal};
-ghost use Rattle.callers.specs.declared.roles.Role.TheVariants as roles;
-
-use lexical_util::laws::flags;
-
-/// States that `+` is a sign, and not a digit, in decimal numbers with the exponent character `e` and the decimal point
-/// `.`.
-pub fn role_examples()
-    ensures sign { IsRoleOf 0x0A0A0A00_00000000_00000000_0000000C 0x65 0x2E 0x2B (Some roles.Sign) }
-    ensures other_role { IsRoleOf 0x0A0A0A00_00000000_00000000_0000000C 0x65 0x2E 0x2B (Some roles.Digit) → ⊥ }
-{
-    flags::role_facts();
-}
 
 /// States that a decimal number can be read from `12a` up to the byte at index 2, but that `12` has no byte there.
 pub fn read_examples()

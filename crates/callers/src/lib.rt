@@ -1,8 +1,8 @@
 //! Callers of `lexical_util`, one for each kind of user. Each is proved from the public contracts of the library.
 //!
 //! [`digits`] is the smallest, so read it first. [`formats`] defines formats as constants and proves them lawful.
-//! [`roles`] finds the role of a byte in a number, [`keep`] replaces stored words by their normal forms, and [`read`]
-//! reads whole numbers. The page docs/CALLING.md explains these callers.
+//! [`keep`] replaces stored words by their normal forms, and [`read`] reads whole numbers. The page docs/CALLING.md
+//! explains these callers.
 #![tactic(auto)]
 
 pub mod digits;
@@ -10,4 +10,3 @@ pub mod examples;
 pub mod formats;
 pub mod keep;
 pub mod read;
-pub mod roles;

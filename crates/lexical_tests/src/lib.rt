@@ -15,6 +15,8 @@ mod example;
 #[cfg(test)]
 mod proved_callers;
 #[cfg(test)]
+mod roles;
+#[cfg(test)]
 mod rows;
 #[cfg(test)]
 mod rules;

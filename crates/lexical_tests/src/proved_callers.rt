@@ -2,7 +2,6 @@ use callers::digits::has_digits_alone;
 use callers::formats::read_decimal;
 use callers::keep::keep;
 use callers::read::read_checked;
-use callers::roles::{Role, checked_role_of};
 use lexical_util::error::Error;
 
 const DECIMAL: u128 = 0x00000A00_00000000_00000000_0000000C;
@@ -12,9 +11,6 @@ const GROUPED: u128 = 0x10101000_0000005F_00000001_0000000C;
 
 // Radix 16, `_` between integer digits, also several in a row.
 const LOOSE: u128 = 0x10101000_0000005F_00000201_0000000C;
-
-// Radix 16, `_` between digits, prefix `x`, suffix `h` only in lowercase.
-const AFFIXED: u128 = 0x10101068_7800005F_00000007_0002000C;
 
 #[test]
 fn digits_of_a_text_are_those_of_the_mantissa_and_of_the_exponent(rt: HostRuntime) {
@@ -52,36 +48,6 @@ fn a_number_is_the_sum_of_its_digits_or_the_first_byte_that_is_wrong(rt: HostRun
     }
     assert!(rt; read_decimal(b"1_000_000") == Ok(1_000_000));
     assert!(rt; read_decimal(b"1_000_") == Err(Error::InvalidDigit(5)));
-}
-
-const ROLES: [(u8, Option<Role>); 10] = [
-    (b'f', Some(Role::Digit)),
-    (b'-', Some(Role::Sign)),
-    (b'_', Some(Role::Separator)),
-    (b'X', Some(Role::Prefix)),
-    (b'h', Some(Role::Suffix)),
-    (b'H', None),
-    (b'P', Some(Role::Exponent)),
-    (b'.', Some(Role::Point)),
-    (b'g', None),
-    (0, None),
-];
-
-#[test]
-fn each_byte_has_one_role_or_none_in_a_checked_format(rt: HostRuntime) {
-    for (byte, role) in &ROLES {
-        assert!(rt;
-            checked_role_of(AFFIXED, b'p', b'.', *byte) == Ok(*role),
-            "{byte}"
-        );
-    }
-    for (format, exponent, error) in &[
-        (AFFIXED, b'e', Error::InvalidPunctuation),
-        (AFFIXED, b'X', Error::InvalidPunctuation),
-        (0xC, b'e', Error::InvalidMantissaRadix),
-    ] {
-        assert!(rt; checked_role_of(*format, *exponent, b'.', b'7') == Err(*error));
-    }
 }
 
 #[test]

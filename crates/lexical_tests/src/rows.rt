@@ -4,5 +4,6 @@ pub mod builders;
 pub mod bytes;
 pub mod edits;
 pub mod errors;
+pub mod roles;
 pub mod rules;
 pub mod views;

@@ -47,7 +47,7 @@ module _ (law : (A B : ByteSet)
       → IsTrue (role_set r e p own byte) → IsOnlyRole r e p byte (Some own)
   one_role r e p byte below pairs own plays role = (
     λ other. ap Some (at_most_one r e p byte below pairs own role (stored r e p byte own plays)
-      (stored r e p byte role other)),
+        (stored r e p byte role other)),
     λ same. let is : own ≡ role = cc in subst (λ x. IsTrue (role_set r e p x byte)) is plays,
   )
 

@@ -5,7 +5,7 @@ ghost use Rattle.std.specs.Prelude.{◌≡◌, ◌↔◌, IsTrue};
 ghost use Rattle.lexical_flags.specs.Rules.{Lawful, IsErrorOf};
 
 #[doc(inline)]
-pub use crate::feature_format::NumberFormat;
+pub use crate::feature_format::{NumberFormat, Role, Separators};
 use lexical_base::error::Error;
 #[doc(inline)]
 pub use lexical_builder::format_builder::{NonZeroU8, NumberFormatBuilder, OptionU8};
@@ -25,7 +25,7 @@ pub use lexical_flags::format_flags::{
     INTEGER_TRAILING_DIGIT_SEPARATOR, INTERFACE_FLAG_MASK, INTERNAL_DIGIT_SEPARATOR,
     LEADING_DIGIT_SEPARATOR, MANTISSA_RADIX, MANTISSA_RADIX_SHIFT, NO_EXPONENT_NOTATION,
     NO_EXPONENT_WITHOUT_FRACTION, NO_FLOAT_LEADING_ZEROS, NO_INTEGER_LEADING_ZEROS,
-    NO_POSITIVE_EXPONENT_SIGN, NO_POSITIVE_MANTISSA_SIGN, NO_SPECIAL, RADIX, RADIX_MASK,
+    NO_POSITIVE_EXPONENT_SIGN, NO_POSITIVE_MANTISSA_SIGN, NO_SPECIAL, Part, RADIX, RADIX_MASK,
     RADIX_SHIFT, REQUIRED_DIGITS, REQUIRED_EXPONENT_DIGITS, REQUIRED_EXPONENT_NOTATION,
     REQUIRED_EXPONENT_SIGN, REQUIRED_FRACTION_DIGITS, REQUIRED_INTEGER_DIGITS,
     REQUIRED_MANTISSA_DIGITS, REQUIRED_MANTISSA_SIGN, RULES, Rule, SPECIAL_DIGIT_SEPARATOR,

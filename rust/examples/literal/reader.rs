@@ -1,13 +1,9 @@
 //! Finds the parts of a literal, or its first wrong byte. In docs/FORMAT.md, "How a reader applies the flags" gives the
 //! reason for each choice. The reader computes no value, allocates nothing and needs only `core`.
 
-#[path = "roles.rs"]
-mod roles;
-
 use core::{num::NonZeroU8, ops::Range};
 use peltzivar::edits::edit_word;
-use peltzivar::{Edit, Error, Error::*, FlagSetter, Format, FormatView};
-use roles::{Part, Roles};
+use peltzivar::{Edit, Error, Error::*, FlagSetter, Format, FormatView, Part};
 
 /// The properties of numbers that a format does not define.
 pub struct Options<'a> {

@@ -47,6 +47,7 @@ mod debug;
 mod edits;
 mod errors;
 mod reasons;
+mod roles;
 mod rules;
 mod setters;
 mod settings;
@@ -60,6 +61,7 @@ mod rows {
     pub mod bytes;
     pub mod edits;
     pub mod errors;
+    pub mod roles;
     pub mod rules;
     pub mod views;
 }

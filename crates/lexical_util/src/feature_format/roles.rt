@@ -15,7 +15,7 @@ use super::NumberFormat;
 use lexical_base::digit::char_to_digit;
 use lexical_flags::format_flags as flags;
 use lexical_flags::format_flags::Part;
-use lexical_flags::laws as flags_laws;
+use lexical_flags::laws::role_facts;
 
 /// The role of a byte in a number.
 #[derive(Debug, Clone, Copy, PartialEq, Eq, Hash)]
@@ -146,7 +146,7 @@ impl NumberFormat {
         ensures only { Lawful self.now → OptionsFit self.now exponent decimal_point
             → IsOnlyRole (raw self.now) exponent decimal_point byte result }
     {
-        flags_laws::role_facts();
+        role_facts();
         if self.is_digit(byte) {
             Some(Role::Digit)
         } else if is_sign(byte) {

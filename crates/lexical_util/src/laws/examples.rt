@@ -5,12 +5,16 @@ ghost use Rattle.std.specs.Prelude.{◌≡◌, [], ◌∷◌, true, false, Some,
 ghost use Rattle.lexical_flags.specs.Layout as layout;
 ghost use Rattle.lexical_flags.specs.Record.{raw};
 ghost use Rattle.lexical_builder.specs.Writes.{write_flag, write_byte, SameWrites};
+ghost use Rattle.lexical_util.specs.Additions.ByteRoles.{IsOnlyRole};
 ghost use Rattle.lexical_util.specs.Additions.Notes.{set_flags, ReplacesFields, SameRules, SameOtherRules};
 ghost use Rattle.lexical_util.specs.Additions.Reasons.{Blames};
 ghost use Rattle.lexical_util.specs.Listing.{IsEditOf};
 ghost use Rattle.lexical_util.specs.declared.edits.setters.Edit.TheVariants as edits;
 ghost use Rattle.lexical_util.specs.declared.edits.setters.FlagSetter.TheVariants as setters;
+ghost use Rattle.lexical_util.specs.declared.feature_format.roles.Role.TheVariants as roles;
 ghost use Rattle.lexical_util.specs.declared.reasons.Reason.TheVariants as reasons;
+
+use lexical_flags::laws as flags;
 
 /// States that two lists of writes give each field the same last value, and that two other lists do not.
 pub fn write_examples()
@@ -55,3 +59,13 @@ pub fn reason_examples()
     ensures blames { Blames 0 0 (reasons.MantissaRadixOutOfRange 0 true true) }
     ensures another_radix { Blames 0 0 (reasons.MantissaRadixOutOfRange 37 true true) → ⊥ }
 {}
+
+/// States that `+` is a sign, and not a digit, in decimal numbers with the exponent character `e` and the decimal point
+/// `.`.
+pub fn role_examples()
+    ensures sign { IsOnlyRole (raw 0x0A0A0A00_00000000_00000000_0000000C) 0x65 0x2E 0x2B (Some roles.Sign) }
+    ensures other_role { IsOnlyRole
+        (raw 0x0A0A0A00_00000000_00000000_0000000C) 0x65 0x2E 0x2B (Some roles.Digit) → ⊥ }
+{
+    flags::role_facts();
+}

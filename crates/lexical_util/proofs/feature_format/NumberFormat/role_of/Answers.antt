@@ -53,12 +53,12 @@ returns-then-is_byte-clause-only c lawful fit =
 pub returns-else-is_byte-clause-only : goal.returns-else-is_byte-clause-only
 returns-else-is_byte-clause-only c lawful fit =
     no_role (raw c.args.self.now) c.args.exponent c.args.decimal_point c.args.byte in_no_set where
-  in_no_set : (role : Role)
-      → IsTrue (role_set (raw c.args.self.now) c.args.exponent c.args.decimal_point role c.args.byte) → ⊥
-  in_no_set roles.Digit plays = false≢true (sym c.if-is_digit.false ∙ c.is_digit.ensures.1 plays)
-  in_no_set roles.Sign plays = false≢true (sym c.if-is_sign.false ∙ c.is_sign.ensures ∙ plays)
-  in_no_set roles.Separator plays = false≢true (sym c.if-is_separator.false ∙ c.is_separator.ensures ∙ plays)
-  in_no_set roles.Prefix plays = false≢true (sym c.if-is_base_prefix.false ∙ c.is_base_prefix.ensures ∙ plays)
-  in_no_set roles.Suffix plays = false≢true (sym c.if-is_base_suffix.false ∙ c.is_base_suffix.ensures ∙ plays)
-  in_no_set roles.Exponent plays = false≢true (sym c.if-is_exponent_character.false ∙ c.is_exponent_character.ensures ∙ plays)
-  in_no_set roles.Point plays = false≢true (sym c.if-is_byte.false ∙ c.is_byte.ensures ∙ plays)
+      in_no_set : (role : Role)
+          → IsTrue (role_set (raw c.args.self.now) c.args.exponent c.args.decimal_point role c.args.byte) → ⊥
+      in_no_set roles.Digit plays = false≢true (sym c.if-is_digit.false ∙ c.is_digit.ensures.1 plays)
+      in_no_set roles.Sign plays = false≢true (sym c.if-is_sign.false ∙ c.is_sign.ensures ∙ plays)
+      in_no_set roles.Separator plays = false≢true (sym c.if-is_separator.false ∙ c.is_separator.ensures ∙ plays)
+      in_no_set roles.Prefix plays = false≢true (sym c.if-is_base_prefix.false ∙ c.is_base_prefix.ensures ∙ plays)
+      in_no_set roles.Suffix plays = false≢true (sym c.if-is_base_suffix.false ∙ c.is_base_suffix.ensures ∙ plays)
+      in_no_set roles.Exponent plays = false≢true (sym c.if-is_exponent_character.false ∙ c.is_exponent_character.ensures ∙ plays)
+      in_no_set roles.Point plays = false≢true (sym c.if-is_byte.false ∙ c.is_byte.ensures ∙ plays)

@@ -1,9 +1,9 @@
 use Rattle.std.proofs.Common.{◌≡◌, Some, refl, arith}
-use Rattle.lexical_util.specs.Record.{raw}
+use Rattle.lexical_flags.specs.Record.{raw}
 use Rattle.lexical_util.specs.Unfoldable.{on_literals}
-use Rattle.callers.specs.declared.roles.Role.TheVariants as roles
-use Rattle.callers.proofs.RoleLemmas.{one_role}
-use Rattle.callers.proofs.examples.role_examples.Goals as goal
+use Rattle.lexical_util.specs.declared.feature_format.roles.Role.TheVariants as roles
+use Rattle.lexical_util.proofs.ByteRoleLemmas.{one_role}
+use Rattle.lexical_util.proofs.laws.examples.role_examples.Goals as goal
 
 pub returns : goal.returns
 unfolding on_literals
