@@ -12,7 +12,8 @@
 
 use crate::error::Error;
 use crate::format_builder::NumberFormatBuilder;
-use crate::view::FormatView;
+use crate::format_flags::Part;
+use crate::view::{FormatView, Separators};
 
 /// A view of a format word that is known at compile time. It reads the fields of the word, and checks the word.
 ///
@@ -44,6 +45,34 @@ impl<const FORMAT: u128> NumberFormat<FORMAT> {
     #[inline(always)]
     pub const fn is_digit(&self, byte: u8) -> bool {
         Self::VIEW.is_digit(byte)
+    }
+
+    /// Returns the value of `byte` as a digit of the mantissa, or `None`, as [`FormatView::mantissa_digit`] does.
+    #[must_use]
+    #[inline(always)]
+    pub const fn mantissa_digit(&self, byte: u8) -> Option<u32> {
+        Self::VIEW.mantissa_digit(byte)
+    }
+
+    /// Returns the value of `byte` as a digit of the exponent, or `None`, as [`FormatView::exponent_digit`] does.
+    #[must_use]
+    #[inline(always)]
+    pub const fn exponent_digit(&self, byte: u8) -> Option<u32> {
+        Self::VIEW.exponent_digit(byte)
+    }
+
+    /// Returns whether `byte` is the digit separator, and some flag allows a digit separator.
+    #[must_use]
+    #[inline(always)]
+    pub const fn is_separator(&self, byte: u8) -> bool {
+        Self::VIEW.is_separator(byte)
+    }
+
+    /// Returns where digit separators are allowed in `part` of a number.
+    #[must_use]
+    #[inline(always)]
+    pub const fn separators(&self, part: Part) -> Separators {
+        Self::VIEW.separators(part)
     }
 
     /// Returns whether `byte` is the base prefix. A base prefix that is a letter matches both cases unless

@@ -19,17 +19,17 @@ use crate::word::STANDARD;
 /// forms][Self::normal_form].
 ///
 /// ```
-/// use peltzivar::{Error, Format, FormatView};
+/// use peltzivar::{Error, Format};
 ///
 /// fn digits(text: &str, format: impl Into<Format>) -> usize {
 ///     let format = format.into();
-///     text.bytes().filter(|byte| format.is_digit(*byte)).count()
+///     text.bytes().filter(|byte| format.mantissa_digit(*byte).is_some()).count()
 /// }
 /// assert_eq!(digits("12fg", Format::default()), 2);
 /// assert_eq!(Format::new(0), Err(Error::InvalidMantissaRadix));
 /// ```
 ///
-/// # Proved
+/// # Guarantees
 ///
 /// Every `Format` comes from [`Format::new`], which checks all [rules][crate::Rule]. So everything that is proved for
 /// [`Lawful`](crate::definitions#lawful) words holds for the word of every `Format`:

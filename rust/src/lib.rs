@@ -3,30 +3,47 @@
 //! builds, reads, checks and edits formats, and explains why a format is not lawful. It does not parse numbers.
 //!
 //! The [`u128`] is called the *format word*. It can be a const generic argument. The word is *lawful* if it satisfies
-//! every [`Rule`]: each radix is between 2 and 36, no two flags contradict each other, each character is ASCII and has
-//! only one role, and the *reserved* bits, which hold no field, are 0.
+//! every [`Rule`]: each radix is between 2 and 36, no two flags contradict each other, each character is allowed ASCII
+//! and has only one role, and the *reserved* bits, which hold no field, are 0.
 //!
 //! ```
 //! use core::num::NonZeroU8;
-//! use peltzivar::format::{NumberFormat, NumberFormatBuilder};
+//! use peltzivar::format::NumberFormatBuilder;
+//! use peltzivar::{Format, Part};
 //!
-//! /// Hexadecimal numbers such as `0x00_ff`. A format that is not lawful does not compile.
+//! /// Hexadecimal numbers such as `00_ff`. A format that is not lawful does not compile.
 //! const HEXADECIMAL: u128 = NumberFormatBuilder::new()
 //!     .mantissa_radix(16)
-//!     .base_prefix(NonZeroU8::new(b'x'))
 //!     .digit_separator(NonZeroU8::new(b'_'))
 //!     .internal_digit_separator(true)
 //!     .build_or_panic();
 //!
-//! /// Returns how many digits `text` has, or `None` if it has a byte that is neither a digit nor a separator.
-//! fn digits<const FORMAT: u128>(text: &[u8]) -> Option<usize> {
-//!     let format = NumberFormat::<FORMAT>::new();
-//!     let is_separator = |byte: u8| format.internal_digit_separator() && byte == format.digit_separator();
-//!     let digits = text.iter().filter(|byte| !is_separator(**byte));
-//!     digits.clone().all(|byte| format.is_digit(*byte)).then(|| digits.count())
+//! /// Reads an integer without a sign. One digit separator is skipped between two digits, if the format allows it there.
+//! fn integer(format: Format, text: &[u8]) -> Option<u64> {
+//!     let (mut value, mut is_after_digit) = (0u64, false);
+//!     for &byte in text {
+//!         if let Some(digit) = format.mantissa_digit(byte) {
+//!             value = value.checked_mul(format.mantissa_radix().into())?.checked_add(digit.into())?;
+//!             is_after_digit = true;
+//!         } else if is_after_digit && format.separators(Part::Integer).internal && format.is_separator(byte) {
+//!             is_after_digit = false;
+//!         } else {
+//!             return None;
+//!         }
+//!     }
+//!     is_after_digit.then_some(value)
 //! }
-//! assert_eq!(digits::<HEXADECIMAL>(b"00_ff"), Some(4));
-//! assert_eq!(digits::<HEXADECIMAL>(b"00-ff"), None);
+//! assert_eq!(integer(Format::of::<HEXADECIMAL>(), b"00_ff"), Some(255));
+//!
+//! // The exponent radix is 10, but the mantissa radix is 2. A separator is allowed only in the fraction. There is none.
+//! let [binary, fraction, plain] = [
+//!     0x0A020200_00000000_00000000_0000000C,
+//!     0x0A0A0A00_0000005F_00000002_0000000C,
+//!     0x0A0A0A00_00000000_00000000_0000000C,
+//! ].map(|word| Format::new(word).unwrap());
+//! assert_eq!(integer(binary, b"19"), None);
+//! assert_eq!(integer(fraction, b"1_2"), None);
+//! assert_eq!(integer(plain, b"1\x002"), None);
 //! ```
 //!
 //! # Where to begin
@@ -35,6 +52,7 @@
 //! |---|---|
 //! | write a format as a constant | [`NumberFormatBuilder`] and its [`build_or_panic`][NumberFormatBuilder::build_or_panic] |
 //! | take a checked format as an argument | [`Format`], or `impl Into<Format>` |
+//! | read numbers | [`FormatView::mantissa_digit`], [`is_separator`][FormatView::is_separator], [`separators`][FormatView::separators], [`role_of`][FormatView::role_of] |
 //! | read the fields of any word, lawful or not | [`FormatView`]; [`NumberFormat`] for a word that is known at compile time |
 //! | parse settings | `str::parse` for each [`Edit`], [`collect`][Iterator::collect] to turn edits into a builder, and [`build_format`][NumberFormatBuilder::build_format] to check it |
 //! | report the problems with a word | [`FormatView::reasons`], [`Reason::mask`], [`FormatView::notes`] |
