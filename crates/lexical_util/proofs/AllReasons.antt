@@ -1,5 +1,5 @@
 -- Lemmas on all reasons of a word: each broken rule has a reason, and a word is lawful if and only if it has none.
-use Rattle.std.proofs.Common.{ℕ, ◌≡◌, ◌≢◌, ◌↔◌, ◌&&◌, ◌∙◌, Bool, true, false, IsTrue, List, [], ◌∷◌}
+use Rattle.std.proofs.Common.{ℕ, ◌≡◌, ◌↔◌, ◌&&◌, ◌∙◌, Bool, true, false, IsTrue, List, [], ◌∷◌}
 use Rattle.std.proofs.Common.{suc, ◌++◌, drop, flat_map, refl, ap, sym, subst, slice_index_or, arith}
 use Rattle.std.specs.List.{AllByRecursion, IsAmong, filter_map}
 use Rattle.std.specs.Bool.{IsFalse}
@@ -10,9 +10,7 @@ use Rattle.lexical_flags.specs.contracts.format_flags.all_rules.Rule.{the_type}
 use denote.Enum.Declared.{tag_of}
 use Rattle.lexical_flags.specs.declared.format_flags.all_rules.Rule.{Rule}
 use Rattle.lexical_flags.specs.declared.format_flags.all_rules.Rule.TheVariants as rules
-use Rattle.lexical_util.specs.declared.edits.setters.Edit.TheVariants as edits
 use Rattle.lexical_util.specs.declared.reasons.Reason.{Reason}
-use Rattle.lexical_util.specs.declared.reasons.Reason.TheVariants as reasons
 use Rattle.lexical_util.specs.Additions.Reasons.{Candidate, if_applicable, candidates, candidates_of, reasons_of}
 use Rattle.lexical_util.specs.Additions.Reasons.{all_reasons, mantissa_candidate}
 use Rattle.lexical_util.specs.Additions.Reasons.{Breaks, rule_of_reason}

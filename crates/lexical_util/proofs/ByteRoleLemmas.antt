@@ -2,7 +2,7 @@
 use Rattle.std.proofs.Common.{◌≡◌, ◌<◌, ℕ, ◌↔◌, Some, None, IsTrue, refl, ap, subst}
 use Rattle.std.proofs.lemmas.Bool.{and_parts}
 use Rattle.lexical_base.specs.Ascii.{ByteSet}
-use Rattle.lexical_flags.specs.Record.{Record, raw, separator_allowed}
+use Rattle.lexical_flags.specs.Record.{Record, separator_allowed}
 use Rattle.lexical_flags.specs.Roles.{AreDisjoint, Disjoint, seven_roles, separator}
 use Rattle.lexical_util.specs.declared.feature_format.roles.Role.{Role}
 use Rattle.lexical_util.specs.declared.feature_format.roles.Role.TheVariants as roles

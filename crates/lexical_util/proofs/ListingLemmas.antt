@@ -18,8 +18,6 @@ use Rattle.lexical_util.proofs.FieldWrites.{after-changes}
 use Rattle.lexical_util.specs.Edits.{flags_of, writes_of, all_writes}
 use Rattle.lexical_util.specs.Listing.{IsEditOf, field_writes, needed_writes, other_writes}
 use Rattle.lexical_util.specs.Additions.FieldEdits.{setter_of, edit_of_write, field_edits, needed_edits, other_edits}
-use Rattle.lexical_util.specs.declared.edits.setters.FlagSetter.TheVariants as setters
-use Rattle.lexical_util.specs.declared.edits.setters.Edit.TheVariants as edits
 use Rattle.lexical_util.specs.Private.{differs_from_new}
 use Rattle.lexical_util.specs.declared.edits.setters.Edit.{Edit}
 
