@@ -260,8 +260,8 @@ PELTZIVAR_API peltzivar_word peltzivar_reason_mask(peltzivar_word format, size_t
  * 0 if there is no such reason. */
 PELTZIVAR_API uint32_t peltzivar_reason_rules(peltzivar_word format, size_t index);
 
-/* Writes a note on fields that have no effect, such as "no number can have the digit separator '_': no flag allows
- * one". A note is not an error: the fields of a lawful word may have notes. Their indices are the numbers from 0 on.
+/* Writes a note on fields that have no effect, such as "no flag allows the digit separator '_'". A note is not an
+ * error: the fields of a lawful word may have notes. Their indices are the numbers from 0 on.
  *
  * A note is omitted if the packed word breaks a rule for a reason that depends on one of the note's fields. When you
  * build a format, pass the fields before you pack them, because packing may drop the digit separator. For the notes on

@@ -256,7 +256,7 @@ class Walk(unittest.TestCase):
 
     def test_groups_of_separator_flags_and_a_note(self):
         self.type("#digit_separator", "_")
-        self.assertIn("no number can have the digit separator '_'", self.text("#notes"))
+        self.assertIn("no flag allows the digit separator '_'", self.text("#notes"))
         self.click("#internal_digit_separator")
         self.assertEqual((self.value(), self.text("#notes")), ("0x00000A000000005F000000070000000C", ""))
         self.assertIn("integer 1_9_0", self.parts())

@@ -134,7 +134,7 @@ pub use format_flags::{Part, Rule};
 #[doc(inline)]
 pub use lawful::Format;
 #[doc(no_inline)]
-pub use reasons::{Note, Reason};
+pub use reasons::{Cause, Note, Reason};
 #[doc(inline)]
 pub use view::{FormatView, Role, Separators};
 

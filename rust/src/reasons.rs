@@ -1,274 +1,466 @@
 // Made by rust/tools/erase.py from crates/lexical_util/src/reasons.rt: change that file.
 
-//! The reasons why a format word breaks rules, and notes on fields that have no effect on any number.
+//! The reasons why a format word breaks rules or does not accept options, and notes on fields that have no effect on any
+//! number.
 
 use crate::ascii::is_valid_ascii;
 use crate::digit::char_is_digit;
-use crate::edits::{Edit, FlagSetter};
-use crate::format_builder::NonZeroU8;
+use crate::edits::FlagSetter;
 use crate::format_flags as flags;
-use crate::format_flags::{raw_exponent_base, raw_exponent_radix, Rule};
+use crate::format_flags::{raw_exponent_base, raw_exponent_radix, roles_disjoint, Part, Rule};
 use crate::view::FormatView;
 
 mod mask;
 mod note;
 mod text;
 
-pub use note::{notes, notes_of_fields, Note, MAX_NOTES};
+pub use note::{notes, notes_beside_reasons, notes_of_fields, Note, MAX_NOTES};
 
-/// The maximum number of reasons why a format word can break a single rule.
+/// The number of slots in the array that [`reasons`] returns.
 #[doc(hidden)]
-pub const MAX_REASONS: usize = 3;
+pub const MAX_REASONS: usize = 18;
 
-/// The number of slots in the array that [`reasons`] returns. There is one slot for each reason that a format word can
-/// have.
+/// The number of slots in the array that [`options_reasons`] returns.
 #[doc(hidden)]
-pub const CANDIDATE_COUNT: usize = 24;
+pub const MAX_OPTIONS_REASONS: usize = 9;
 
-/// A reason why a format word breaks one or more rules. If the reason concerns a byte of the word, it holds the
-/// [`Edit`] that sets the byte to its value in the word. A reason *blames* the bits on which it depends (see
-/// [`mask`][Self::mask]).
+/// A byte of a format word, or a character that options choose.
 #[derive(Debug, Clone, Copy, PartialEq, Eq, Hash)]
 #[non_exhaustive]
-pub enum Reason {
-    /// The mantissa radix is not between 2 and 36. The first `bool` is `true` if the exponent base is absent, and the
-    /// second `bool` is `true` if the exponent radix is absent. The mantissa radix is used in place of an absent
-    /// exponent base or exponent radix, so the rule for the absent byte is broken too.
-    MantissaRadixOutOfRange(u8, bool, bool),
-    /// The exponent base or the exponent radix is present, but it is not between 2 and 36.
-    OutOfRange(Edit),
-    /// A byte is present, but it is not an allowed ASCII byte. The bytes from 9 to 13 and from 32 to 126 are allowed.
-    NotText(Edit),
+pub enum Byte {
+    /// The digit separator.
+    DigitSeparator,
+    /// The base prefix.
+    BasePrefix,
+    /// The base suffix.
+    BaseSuffix,
+    /// The mantissa radix.
+    MantissaRadix,
+    /// The exponent base.
+    ExponentBase,
+    /// The exponent radix.
+    ExponentRadix,
+    /// The exponent character, which options choose.
+    ExponentCharacter,
+    /// The decimal point, which options choose.
+    DecimalPoint,
+}
+
+/// The radixes of a format word in which a byte is a digit, with their values. An absent exponent radix follows the
+/// mantissa radix, so it is not listed.
+#[derive(Debug, Clone, Copy, PartialEq, Eq, Hash)]
+pub enum Radixes {
+    /// The byte is a digit only in the mantissa radix.
+    Mantissa(u8),
+    /// The byte is a digit only in the exponent radix.
+    Exponent(u8),
+    /// The byte is a digit in both radixes.
+    Both {
+        /// The mantissa radix.
+        mantissa: u8,
+        /// The exponent radix.
+        exponent: u8,
+    },
+}
+
+/// The cause of a [`Reason`]: the fields that are to blame, with their values.
+#[derive(Debug, Clone, Copy, PartialEq, Eq, Hash)]
+#[non_exhaustive]
+pub enum Cause {
+    /// A radix or a base is not between 2 and 36.
+    OutOfRange {
+        /// The mantissa radix, or an exponent base or exponent radix that is present.
+        byte: Byte,
+        /// The value of the byte.
+        value: u8,
+    },
+    /// A byte is not an allowed ASCII byte. The bytes from 9 to 13 and from 32 to 126 are allowed.
+    NotText {
+        /// The byte.
+        byte: Byte,
+        /// The value of the byte.
+        value: u8,
+    },
     /// A byte is a sign: `+` or `-`.
-    IsSign(Edit),
-    /// The byte of the first edit is a digit in the radix of the second edit. The second edit sets the exponent radix
-    /// if the byte is a digit only in that radix, and otherwise the mantissa radix.
-    IsDigit(Edit, Edit),
-    /// Two bytes are equal, or they are the two cases of one letter. If they are equal, the flag is `None`. Otherwise,
-    /// they clash at least until the flag is set. Setting it makes the base prefix or the base suffix case-sensitive.
-    Clash(Edit, Edit, Option<FlagSetter>),
+    IsSign {
+        /// The byte.
+        byte: Byte,
+        /// The value of the byte.
+        value: u8,
+    },
+    /// A byte is a digit.
+    IsDigit {
+        /// The byte.
+        byte: Byte,
+        /// The value of the byte.
+        value: u8,
+        /// The radixes in which it is a digit.
+        radixes: Radixes,
+    },
+    /// Two bytes are the same.
+    Same {
+        /// The first byte.
+        first: Byte,
+        /// The second byte.
+        second: Byte,
+        /// The value of both bytes.
+        value: u8,
+    },
+    /// Two bytes are the two cases of one letter, and not both are case-sensitive.
+    DifferInCase {
+        /// The first byte.
+        first: Byte,
+        /// The value of the first byte.
+        first_value: u8,
+        /// The flag that makes the first byte case-sensitive, if it is not set.
+        first_flag: Option<FlagSetter>,
+        /// The second byte.
+        second: Byte,
+        /// The value of the second byte.
+        second_value: u8,
+        /// The flag that makes the second byte case-sensitive, if it is not set.
+        second_flag: Option<FlagSetter>,
+    },
     /// Two flags are both set, but they contradict each other.
-    Contradict(FlagSetter, FlagSetter),
-    /// The flag allows consecutive digit separators in a part of the number, but no flag allows internal, leading or
+    BothSet {
+        /// The first flag.
+        first: FlagSetter,
+        /// The second flag.
+        second: FlagSetter,
+    },
+    /// A flag allows consecutive digit separators in a part of the number, but no flag allows internal, leading or
     /// trailing ones in that part.
-    NeedsPosition(FlagSetter),
-    /// These reserved bits are set, although they hold no field.
-    ReservedBits(u128),
+    NeedsPosition {
+        /// The part of the number.
+        part: Part,
+    },
+    /// Reserved bits are set, although they hold no field.
+    ReservedBits {
+        /// The reserved bits that are set.
+        bits: u128,
+    },
+}
+
+/// A reason why a format word breaks one or more rules, or why it does not accept an exponent character and a decimal
+/// point. A reason *blames* the bits on which it depends (see [`mask`][Self::mask]).
+#[derive(Debug, Clone, Copy, PartialEq, Eq, Hash)]
+pub struct Reason {
+    // The rules that a word breaks because of this reason, the first of them first.
+    rules: (Option<Rule>, Option<Rule>, Option<Rule>),
+    cause: Cause,
+}
+
+// A byte with a role: its value, whether the role is case-sensitive, and the flag that makes it so, if there is one.
+#[derive(Clone, Copy)]
+struct Character {
+    byte: Byte,
+    value: u8,
+    case_sensitive: bool,
+    flag: Option<FlagSetter>,
 }
 
 /// Returns the reasons why a format word breaks rules. Each possible reason has its own slot, which is `None` if the
 /// word does not have this reason. The slots are sorted by the rule that [`Reason::rule`] returns for each reason. All
 /// slots are `None` if and only if the word is lawful.
 ///
+/// A byte that is present but not [punctuation][Rule] has one reason: it is outside allowed ASCII, a sign, or a digit.
 /// An absent exponent base or exponent radix is never a reason itself, since the mantissa radix is used in its place.
-/// [`Reason::breaks`] returns whether a word breaks a rule because of a reason, and [`Reason::mask`] returns the
-/// bits that a reason blames.
+/// [`Reason::breaks`] returns whether a word breaks a rule because of a reason, and [`Reason::mask`] returns the bits
+/// that a reason blames.
 #[must_use]
 #[doc(hidden)]
-pub const fn reasons(format: u128) -> [Option<Reason>; CANDIDATE_COUNT] {
-    let separator = reasons_of(Rule::DigitSeparatorIsPunctuation, format);
-    let prefix = reasons_of(Rule::BasePrefixIsPunctuation, format);
-    let suffix = reasons_of(Rule::BaseSuffixIsPunctuation, format);
-    let clash = reasons_of(Rule::PunctuationDiffers, format);
+pub const fn reasons(format: u128) -> [Option<Reason>; MAX_REASONS] {
+    let separator = separator_of(format);
+    let prefix = prefix_of(format);
+    let suffix = suffix_of(format);
+    let view = FormatView::new(format);
+    macro_rules! both_set {
+        ($Rule:ident $First:ident $first:ident $Second:ident $second:ident) => {
+            both_set(
+                Rule::$Rule,
+                (FlagSetter::$First, view.$first()),
+                (FlagSetter::$Second, view.$second()),
+            )
+        };
+    }
     [
-        reasons_of(Rule::MantissaRadixInRange, format)[0],
-        reasons_of(Rule::ExponentBaseInRange, format)[1],
-        reasons_of(Rule::ExponentRadixInRange, format)[1],
-        separator[0],
-        separator[1],
-        separator[2],
-        prefix[0],
-        prefix[1],
-        prefix[2],
-        suffix[0],
-        suffix[1],
-        suffix[2],
-        clash[0],
-        clash[1],
-        clash[2],
-        reasons_of(Rule::ExponentFlagsAgree, format)[0],
-        reasons_of(Rule::MantissaSignFlagsAgree, format)[0],
-        reasons_of(Rule::ExponentSignFlagsAgree, format)[0],
-        reasons_of(Rule::SpecialCaseFlagsAgree, format)[0],
-        reasons_of(Rule::SpecialSeparatorFlagsAgree, format)[0],
-        reasons_of(Rule::IntegerConsecutiveIsAllowed, format)[0],
-        reasons_of(Rule::FractionConsecutiveIsAllowed, format)[0],
-        reasons_of(Rule::ExponentConsecutiveIsAllowed, format)[0],
-        reasons_of(Rule::ReservedBitsAreZero, format)[0],
+        mantissa_reason(format),
+        exponent_reason(
+            Rule::ExponentBaseInRange,
+            Byte::ExponentBase,
+            raw_exponent_base(format),
+        ),
+        exponent_reason(
+            Rule::ExponentRadixInRange,
+            Byte::ExponentRadix,
+            raw_exponent_radix(format),
+        ),
+        byte_reason(format, Rule::DigitSeparatorIsPunctuation, &separator),
+        byte_reason(format, Rule::BasePrefixIsPunctuation, &prefix),
+        byte_reason(format, Rule::BaseSuffixIsPunctuation, &suffix),
+        clash(Some(Rule::PunctuationDiffers), &separator, &prefix),
+        clash(Some(Rule::PunctuationDiffers), &separator, &suffix),
+        clash(Some(Rule::PunctuationDiffers), &prefix, &suffix),
+        both_set!(ExponentFlagsAgree NoExponentNotation no_exponent_notation RequiredExponentNotation required_exponent_notation),
+        both_set!(MantissaSignFlagsAgree NoPositiveMantissaSign no_positive_mantissa_sign RequiredMantissaSign required_mantissa_sign),
+        both_set!(ExponentSignFlagsAgree NoPositiveExponentSign no_positive_exponent_sign RequiredExponentSign required_exponent_sign),
+        both_set!(SpecialCaseFlagsAgree NoSpecial no_special CaseSensitiveSpecial case_sensitive_special),
+        both_set!(SpecialSeparatorFlagsAgree NoSpecial no_special SpecialDigitSeparator special_digit_separator),
+        needs_position(format, Rule::IntegerConsecutiveIsAllowed, Part::Integer),
+        needs_position(format, Rule::FractionConsecutiveIsAllowed, Part::Fraction),
+        needs_position(format, Rule::ExponentConsecutiveIsAllowed, Part::Exponent),
+        reserved_reason(format),
     ]
 }
 
-/// Returns the reasons why a format word breaks `rule`. All entries are `None` if and only if the word satisfies the
-/// rule.
+/// Returns the reasons why numbers in `format` cannot have the exponent character `exponent` and the decimal point
+/// `decimal_point`. Each possible reason has its own slot, which is `None` if it does not apply. All slots are `None` if
+/// and only if [`is_valid_options_punctuation`][flags::is_valid_options_punctuation] accepts the two.
 ///
-/// For a byte that is present but not [punctuation][Rule], there is one of three reasons: it is outside allowed ASCII,
-/// it is a sign, or it is a digit. [`Rule::PunctuationDiffers`] has one reason for each pair of bytes that clash. Every
-/// other rule has at most one reason.
+/// For such a reason, [`Reason::rule`] returns `None`, and [`Reason::mask`] has only bits of the format word.
 #[must_use]
 #[doc(hidden)]
-pub const fn reasons_of(rule: Rule, format: u128) -> [Option<Reason>; MAX_REASONS] {
-    match rule {
-        Rule::MantissaRadixInRange => [mantissa_reason(format), None, None],
-        Rule::ExponentBaseInRange => {
-            let base = raw_exponent_base(format);
-            exponent_reasons(format, base, &Edit::ExponentBase(NonZeroU8::new(base)))
-        }
-        Rule::ExponentRadixInRange => {
-            let radix = raw_exponent_radix(format);
-            exponent_reasons(format, radix, &Edit::ExponentRadix(NonZeroU8::new(radix)))
-        }
-        Rule::DigitSeparatorIsPunctuation => punctuation_reasons(
-            format,
-            flags::digit_separator(format),
-            &separator_edit(format),
-        ),
-        Rule::BasePrefixIsPunctuation => {
-            punctuation_reasons(format, flags::base_prefix(format), &prefix_edit(format))
-        }
-        Rule::BaseSuffixIsPunctuation => {
-            punctuation_reasons(format, flags::base_suffix(format), &suffix_edit(format))
-        }
-        Rule::PunctuationDiffers => clash_reasons(format),
-        Rule::ReservedBitsAreZero => {
-            let bits = format & Rule::ReservedBitsAreZero.mask();
-            [some_if(bits != 0, Reason::ReservedBits(bits)), None, None]
-        }
-        _ => [
-            some_if(!rule.is_kept(format), flag_reason(rule)),
-            None,
-            None,
-        ],
-    }
+pub const fn options_reasons(
+    format: u128,
+    exponent: u8,
+    decimal_point: u8,
+) -> [Option<Reason>; MAX_OPTIONS_REASONS] {
+    let separator = separator_of(format);
+    let prefix = prefix_of(format);
+    let suffix = suffix_of(format);
+    let exponent_character = exponent_of(format, exponent);
+    let point = point_of(decimal_point);
+    [
+        punctuation_reason(format, None, Byte::ExponentCharacter, exponent),
+        punctuation_reason(format, None, Byte::DecimalPoint, decimal_point),
+        clash(None, &exponent_character, &point),
+        clash(None, &exponent_character, &separator),
+        clash(None, &exponent_character, &prefix),
+        clash(None, &exponent_character, &suffix),
+        clash(None, &point, &separator),
+        clash(None, &point, &prefix),
+        clash(None, &point, &suffix),
+    ]
 }
 
-// Returns the reason for a mantissa radix that is not between 2 and 36, or `None` if the mantissa radix is in this
-// range.
+// Returns the reason for a mantissa radix that is not between 2 and 36, if any.
 const fn mantissa_reason(format: u128) -> Option<Reason> {
-    let radix = flags::mantissa_radix(format);
-    let base_follows = raw_exponent_base(format) == 0;
-    let exponent_follows = raw_exponent_radix(format) == 0;
-    some_if(
-        !flags::is_valid_radix(radix),
-        Reason::MantissaRadixOutOfRange(radix as u8, base_follows, exponent_follows),
-    )
+    let value = flags::mantissa_radix(format);
+    if flags::is_valid_radix(value) {
+        return None;
+    }
+    let base = some_if(raw_exponent_base(format) == 0, Rule::ExponentBaseInRange);
+    let radix = some_if(raw_exponent_radix(format) == 0, Rule::ExponentRadixInRange);
+    Some(Reason {
+        rules: (Some(Rule::MantissaRadixInRange), base, radix),
+        cause: Cause::OutOfRange {
+            byte: Byte::MantissaRadix,
+            value: value as u8,
+        },
+    })
 }
 
-// Returns the reason for an exponent byte that is not between 2 and 36. `edit` is the edit that writes the byte. If the
-// byte is absent, returns the reason for the mantissa radix instead.
-const fn exponent_reasons(format: u128, byte: u8, edit: &Edit) -> [Option<Reason>; MAX_REASONS] {
-    if byte == 0 {
-        [mantissa_reason(format), None, None]
+// Returns the reason for an exponent byte that is present but not between 2 and 36, if any.
+const fn exponent_reason(rule: Rule, byte: Byte, value: u8) -> Option<Reason> {
+    if (value != 0) & !flags::is_valid_radix(value as u32) {
+        Some(Reason::new(Some(rule), Cause::OutOfRange { byte, value }))
     } else {
-        [
-            None,
-            some_if(
-                !flags::is_valid_radix(byte as u32),
-                Reason::OutOfRange(*edit),
-            ),
-            None,
-        ]
+        None
     }
 }
 
-// Returns the reasons why a byte is present but not punctuation. `edit` is the edit that writes the byte.
-const fn punctuation_reasons(format: u128, byte: u8, edit: &Edit) -> [Option<Reason>; MAX_REASONS] {
-    [
-        some_if((byte != 0) & !is_valid_ascii(byte), Reason::NotText(*edit)),
-        some_if((byte == b'+') | (byte == b'-'), Reason::IsSign(*edit)),
-        some_if(
-            flags::is_digit(format, byte),
-            Reason::IsDigit(*edit, radix_of_digit(format, byte)),
-        ),
-    ]
-}
-
-// Returns the reasons why bytes clash.
-const fn clash_reasons(format: u128) -> [Option<Reason>; MAX_REASONS] {
-    let clashes = flags::clashes(format);
-    [
-        some_if(
-            clashes[0],
-            clash(
-                &separator_edit(format),
-                &prefix_edit(format),
-                FlagSetter::CaseSensitiveBasePrefix,
-            ),
-        ),
-        some_if(
-            clashes[1],
-            clash(
-                &separator_edit(format),
-                &suffix_edit(format),
-                FlagSetter::CaseSensitiveBaseSuffix,
-            ),
-        ),
-        some_if(
-            clashes[2],
-            clash(
-                &prefix_edit(format),
-                &suffix_edit(format),
-                case_flag(format),
-            ),
-        ),
-    ]
-}
-
-// Returns the reason for two bytes that clash. If the bytes differ, the reason contains the flag.
-const fn clash(a: &Edit, b: &Edit, flag: FlagSetter) -> Reason {
-    if b.argument_byte() == a.argument_byte() {
-        Reason::Clash(*a, *b, None)
+// Returns the reason for a character of a word that is neither absent nor punctuation, if any.
+const fn byte_reason(format: u128, rule: Rule, character: &Character) -> Option<Reason> {
+    if character.value == 0 {
+        None
     } else {
-        Reason::Clash(*a, *b, Some(flag))
+        punctuation_reason(format, Some(rule), character.byte, character.value)
     }
 }
 
-// Returns the case flag of the base prefix if it is not set, and otherwise the case flag of the base suffix.
-const fn case_flag(format: u128) -> FlagSetter {
-    if FormatView::new(format).case_sensitive_base_prefix() {
-        FlagSetter::CaseSensitiveBaseSuffix
+// Returns the reason for a byte that is not punctuation, if any.
+const fn punctuation_reason(
+    format: u128,
+    rule: Option<Rule>,
+    byte: Byte,
+    value: u8,
+) -> Option<Reason> {
+    if !is_valid_ascii(value) {
+        Some(Reason::new(rule, Cause::NotText { byte, value }))
+    } else if (value == b'+') | (value == b'-') {
+        Some(Reason::new(rule, Cause::IsSign { byte, value }))
     } else {
-        FlagSetter::CaseSensitiveBasePrefix
+        match radixes_of(format, value) {
+            Some(radixes) => Some(Reason::new(
+                rule,
+                Cause::IsDigit {
+                    byte,
+                    value,
+                    radixes,
+                },
+            )),
+            None => None,
+        }
     }
 }
 
-// Returns the reason with the flags for which a rule on flags is broken.
-const fn flag_reason(rule: Rule) -> Reason {
-    let (a, b) = match rule {
-        Rule::ExponentFlagsAgree => (
-            FlagSetter::NoExponentNotation,
-            FlagSetter::RequiredExponentNotation,
-        ),
-        Rule::MantissaSignFlagsAgree => (
-            FlagSetter::NoPositiveMantissaSign,
-            FlagSetter::RequiredMantissaSign,
-        ),
-        Rule::ExponentSignFlagsAgree => (
-            FlagSetter::NoPositiveExponentSign,
-            FlagSetter::RequiredExponentSign,
-        ),
-        Rule::SpecialCaseFlagsAgree => (FlagSetter::NoSpecial, FlagSetter::CaseSensitiveSpecial),
-        Rule::SpecialSeparatorFlagsAgree => {
-            (FlagSetter::NoSpecial, FlagSetter::SpecialDigitSeparator)
-        }
-        Rule::IntegerConsecutiveIsAllowed => {
-            return Reason::NeedsPosition(FlagSetter::IntegerConsecutiveDigitSeparator);
-        }
-        Rule::FractionConsecutiveIsAllowed => {
-            return Reason::NeedsPosition(FlagSetter::FractionConsecutiveDigitSeparator);
-        }
-        _ => return Reason::NeedsPosition(FlagSetter::ExponentConsecutiveDigitSeparator),
-    };
-    Reason::Contradict(a, b)
+// Returns the radixes of a word in which a byte is a digit, if any.
+const fn radixes_of(format: u128, value: u8) -> Option<Radixes> {
+    let mantissa = flags::mantissa_radix(format);
+    let exponent = raw_exponent_radix(format);
+    match (
+        char_is_digit(value, mantissa),
+        char_is_digit(value, exponent as u32),
+    ) {
+        (true, true) => Some(Radixes::Both {
+            mantissa: mantissa as u8,
+            exponent,
+        }),
+        (true, false) => Some(Radixes::Mantissa(mantissa as u8)),
+        (false, true) => Some(Radixes::Exponent(exponent)),
+        (false, false) => None,
+    }
 }
 
-// Returns the edit of the radix in which a byte is a digit. If the byte is a digit in both radixes, this is the edit of
-// the mantissa radix.
-const fn radix_of_digit(format: u128, byte: u8) -> Edit {
-    let radix = flags::mantissa_radix(format);
-    if char_is_digit(byte, radix) {
-        Edit::MantissaRadix(radix as u8)
+// Returns the reason for two characters that match the same byte, if any.
+const fn clash(rule: Option<Rule>, a: &Character, b: &Character) -> Option<Reason> {
+    if roles_disjoint(a.value, a.case_sensitive, b.value, b.case_sensitive) {
+        None
     } else {
-        Edit::ExponentRadix(NonZeroU8::new(raw_exponent_radix(format)))
+        Some(Reason::new(rule, clash_cause(a, b)))
+    }
+}
+
+// Returns the cause for two characters that match the same byte.
+const fn clash_cause(a: &Character, b: &Character) -> Cause {
+    if b.value == a.value {
+        Cause::Same {
+            first: a.byte,
+            second: b.byte,
+            value: a.value,
+        }
+    } else {
+        Cause::DifferInCase {
+            first: a.byte,
+            first_value: a.value,
+            first_flag: a.unset_flag(),
+            second: b.byte,
+            second_value: b.value,
+            second_flag: b.unset_flag(),
+        }
+    }
+}
+
+// Returns the reason for two flags that are both set, if they are. Each comes with its value in the word.
+const fn both_set(
+    rule: Rule,
+    first: (FlagSetter, bool),
+    second: (FlagSetter, bool),
+) -> Option<Reason> {
+    if first.1 & second.1 {
+        let cause = Cause::BothSet {
+            first: first.0,
+            second: second.0,
+        };
+        Some(Reason::new(Some(rule), cause))
+    } else {
+        None
+    }
+}
+
+// Returns the reason for consecutive digit separators in a part that has no position for one, if any.
+const fn needs_position(format: u128, rule: Rule, part: Part) -> Option<Reason> {
+    let allowed = FormatView::new(format).separators(part);
+    if allowed.consecutive & !(allowed.internal | allowed.leading | allowed.trailing) {
+        Some(Reason::new(Some(rule), Cause::NeedsPosition { part }))
+    } else {
+        None
+    }
+}
+
+// Returns the reason for the reserved bits that are set, if any.
+const fn reserved_reason(format: u128) -> Option<Reason> {
+    let bits = format & Rule::ReservedBitsAreZero.mask();
+    if bits != 0 {
+        Some(Reason::new(
+            Some(Rule::ReservedBitsAreZero),
+            Cause::ReservedBits { bits },
+        ))
+    } else {
+        None
+    }
+}
+
+impl Reason {
+    // Returns the reason with this cause, which breaks only `rule`, or no rule if that is `None`. It is not inlined, so
+    // that a slot without a reason costs no writes.
+    #[inline(never)]
+    const fn new(rule: Option<Rule>, cause: Cause) -> Reason {
+        Reason {
+            rules: (rule, None, None),
+            cause,
+        }
+    }
+}
+
+impl Character {
+    // Returns the flag that makes the character case-sensitive, if there is one and it is not set.
+    const fn unset_flag(&self) -> Option<FlagSetter> {
+        if self.case_sensitive {
+            None
+        } else {
+            self.flag
+        }
+    }
+}
+
+// Returns the digit separator of a word.
+const fn separator_of(format: u128) -> Character {
+    Character {
+        byte: Byte::DigitSeparator,
+        value: flags::digit_separator(format),
+        case_sensitive: true,
+        flag: None,
+    }
+}
+
+// Returns the base prefix of a word.
+const fn prefix_of(format: u128) -> Character {
+    Character {
+        byte: Byte::BasePrefix,
+        value: flags::base_prefix(format),
+        case_sensitive: FormatView::new(format).case_sensitive_base_prefix(),
+        flag: Some(FlagSetter::CaseSensitiveBasePrefix),
+    }
+}
+
+// Returns the base suffix of a word.
+const fn suffix_of(format: u128) -> Character {
+    Character {
+        byte: Byte::BaseSuffix,
+        value: flags::base_suffix(format),
+        case_sensitive: FormatView::new(format).case_sensitive_base_suffix(),
+        flag: Some(FlagSetter::CaseSensitiveBaseSuffix),
+    }
+}
+
+// Returns an exponent character that options choose.
+const fn exponent_of(format: u128, chosen: u8) -> Character {
+    Character {
+        byte: Byte::ExponentCharacter,
+        value: chosen,
+        case_sensitive: FormatView::new(format).case_sensitive_exponent(),
+        flag: Some(FlagSetter::CaseSensitiveExponent),
+    }
+}
+
+// Returns a decimal point that options choose.
+const fn point_of(chosen: u8) -> Character {
+    Character {
+        byte: Byte::DecimalPoint,
+        value: chosen,
+        case_sensitive: true,
+        flag: None,
     }
 }
 
@@ -279,19 +471,4 @@ const fn some_if<T: Copy>(condition: bool, value: T) -> Option<T> {
     } else {
         None
     }
-}
-
-// Returns the edit that writes the digit separator of a word.
-const fn separator_edit(format: u128) -> Edit {
-    Edit::DigitSeparator(NonZeroU8::new(flags::digit_separator(format)))
-}
-
-// Returns the edit that writes the base prefix of a word.
-const fn prefix_edit(format: u128) -> Edit {
-    Edit::BasePrefix(NonZeroU8::new(flags::base_prefix(format)))
-}
-
-// Returns the edit that writes the base suffix of a word.
-const fn suffix_edit(format: u128) -> Edit {
-    Edit::BaseSuffix(NonZeroU8::new(flags::base_suffix(format)))
 }

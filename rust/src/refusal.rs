@@ -66,11 +66,12 @@ impl Refusal {
     }
 
     const fn with_sentence(self, text: ShortText) -> Self {
-        let ShortText(first, second, third, fourth) = text;
+        let ShortText(first, second, third, fourth, fifth) = text;
         self.with_piece(first)
             .with_piece(second)
             .with_piece(third)
             .with_piece(fourth)
+            .with_piece(fifth)
     }
 
     const fn with_piece(self, piece: Piece) -> Self {

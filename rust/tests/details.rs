@@ -1,35 +1,21 @@
-//! Details that no other test covers: which radix a reason names, how a byte is printed, sinks that fail once, masks
+//! Details that no other test covers: how a byte is printed, sinks that fail once, masks
 //! and numbers of rules, and errors and panics as the standard library handles them.
 
 use peltzivar::edits::{Edit, FlagSetter};
 use peltzivar::error::Error;
-use peltzivar::format::{NumberFormatBuilder, Rule, BASE_SUFFIX_SHIFT, RULES, STANDARD};
-use peltzivar::reasons::{notes, reasons_of, Reason};
+use peltzivar::format::{
+    NumberFormatBuilder, Rule, BASE_PREFIX_SHIFT, BASE_SUFFIX_SHIFT, RULES, STANDARD,
+};
+use peltzivar::reasons::{notes, reasons};
 use peltzivar::word::FormatView;
 use std::fmt::{self, Write};
-use std::num::NonZeroU8;
 use std::panic;
 use std::sync::Mutex;
 use std::thread;
 
-const fn prefix(byte: u8) -> Edit {
-    Edit::BasePrefix(NonZeroU8::new(byte))
-}
-
-#[test]
-fn a_reason_names_the_mantissa_radix_if_the_byte_is_a_digit_of_it() {
-    #[rustfmt::skip]
-    let rows = [
-        (0x0A0A1000_35000000_00000000_00000000, b'5', Edit::MantissaRadix(16)),
-        (0x100A0A00_35000000_00000000_00000000, b'5', Edit::MantissaRadix(10)),
-        (0x0A0A1000_62000000_00000000_00000000, b'b', Edit::MantissaRadix(16)),
-        (0x100A0A00_62000000_00000000_00000000, b'b', Edit::ExponentRadix(NonZeroU8::new(16))),
-    ];
-    for (word, byte, radix) in rows {
-        let reason = Reason::IsDigit(prefix(byte), radix);
-        let reasons = reasons_of(Rule::BasePrefixIsPunctuation, word);
-        assert_eq!(reasons, [None, None, Some(reason)], "{word:#034X}");
-    }
+/// Returns the text of the first reason of a word.
+fn first_reason(word: u128) -> String {
+    reasons(word).iter().flatten().next().unwrap().to_string()
 }
 
 /// The byte 32 and the bytes from 127 on have no visible character.
@@ -41,7 +27,7 @@ fn a_byte_that_can_be_seen_is_printed_as_itself() {
         (126, "'~'"), (127, "127"), (128, "128"), (255, "255"),
     ];
     for (byte, text) in rows {
-        let reason = Reason::IsSign(prefix(byte)).to_string();
+        let reason = first_reason(STANDARD | byte << BASE_PREFIX_SHIFT | byte << BASE_SUFFIX_SHIFT);
         assert!(
             reason.starts_with(&format!("the base prefix {text} ")),
             "{byte}: {reason}"
@@ -66,26 +52,6 @@ fn a_view_prints_a_byte_that_cannot_be_seen_as_a_number() {
         };
         let wanted = format!(", base_suffix: {text}{broken} }}");
         assert!(format!("{view:?}").ends_with(&wanted), "{byte}: {view:?}");
-    }
-}
-
-#[test]
-fn each_setting_has_its_name_in_a_reason() {
-    let byte = NonZeroU8::new(1);
-    #[rustfmt::skip]
-    let rows = [
-        (Edit::Flag(FlagSetter::NoSpecial, true), "the flag 1 "),
-        (Edit::DigitSeparator(byte), "the digit separator 1 "),
-        (Edit::BasePrefix(byte), "the base prefix 1 "),
-        (Edit::BaseSuffix(byte), "the base suffix 1 "),
-        (Edit::MantissaRadix(1), "the mantissa radix 1 "),
-        (Edit::Radix(1), "the radix 1 "),
-        (Edit::ExponentBase(byte), "the exponent base 1 "),
-        (Edit::ExponentRadix(byte), "the exponent radix 1 "),
-    ];
-    for (edit, text) in rows {
-        let reason = Reason::OutOfRange(edit).to_string();
-        assert!(reason.starts_with(text), "{edit:?}: {reason}");
     }
 }
 
@@ -127,14 +93,21 @@ impl Write for FailsAt {
 
 #[test]
 fn no_text_forgets_that_its_sink_failed() {
-    let (low, high) = (prefix(1), Edit::BaseSuffix(NonZeroU8::new(b'x')));
+    let first = |word| *reasons(word).iter().flatten().next().unwrap();
+    let reasons = [
+        first(0x0000FF00_00000000_00000000_0000000C),
+        first(0x00000A00_01000000_00000000_0000000C),
+        first(0x00000A2B_00000000_00000000_0000000C),
+        first(0x00000A24_24000000_00000000_0000000C),
+        first(0x100A1000_35000000_00000000_0000000C),
+    ];
     #[rustfmt::skip]
     let rows: [(&dyn fmt::Display, usize); 7] = [
-        (&Reason::OutOfRange(Edit::Radix(255)), 6),
-        (&Reason::NotText(low), 4),
-        (&Reason::IsSign(high), 5),
-        (&Reason::Clash(low, high, None), 10),
-        (&Reason::IsDigit(high, Edit::MantissaRadix(16)), 7),
+        (&reasons[0], 6),
+        (&reasons[1], 4),
+        (&reasons[2], 5),
+        (&reasons[3], 10),
+        (&reasons[4], 12),
         (&Edit::MantissaRadix(10), 3),
         (&Error::Overflow(10), 4),
     ];

@@ -97,22 +97,23 @@ HIDDEN = {
     "error/short_text.rt": "Piece EMPTY_PIECE ShortText put_into",
     "error/sink.rt": "Sink",
     "format_flags/all_rules.rt": "RULES",
-    "format_flags/rules.rt": "clashes options_error radix_error_impl format_error_impl check",
+    "format_flags/rules.rt": "roles_disjoint options_error radix_error_impl format_error_impl check",
     "format_builder.rt": "from_parts to_parts with_flags",
     "edits/setters.rt": "FIELD_COUNT SETTERS ALL_SETTERS with_byte argument_byte field_edits_of",
     "edits/text.rt": "SettingError::* from_text byte_from_decimal",
-    "reasons.rt": "MAX_REASONS CANDIDATE_COUNT reasons reasons_of",
-    "reasons/note.rt": "MAX_NOTES notes notes_of_fields",
+    "reasons.rt": "MAX_REASONS MAX_OPTIONS_REASONS reasons options_reasons",
+    "reasons/note.rt": "MAX_NOTES notes notes_beside_reasons notes_of_fields",
     "reasons/text.rt": "text",
 }
 
 # Enums that may grow.
-GROWING = {"Error", "Class", "Rule", "Reason", "Note", "FlagSetter"}
+GROWING = {"Error", "Class", "Rule", "Byte", "Cause", "Note", "FlagSetter"}
 
 # Traits that a type also derives in plain Rust.
 DERIVED = {
     "Class": "PartialOrd, Ord, Hash",
     "Rule": "PartialOrd, Ord",
+    "Cause": "Hash",
     "Reason": "Hash",
     "Note": "Hash",
     "SettingError": "Hash",

@@ -8,8 +8,6 @@ mod ImageLemmas
 mod Distance
 mod FieldWrites
 pub mod ReasonLemmas
-mod AllReasons
-mod BlameLemmas
 mod NoteLemmas
 pub mod NumeralLemmas
 mod WordTextLemmas

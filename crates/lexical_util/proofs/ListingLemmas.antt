@@ -82,7 +82,7 @@ pub length-needed : (R : Record) → length (needed_edits R) ≡ distance new_re
 length-needed R = length-map (needed_writes R) edit_of_write ∙ distance-is new_record R
 
 -- Each flag setter writes only its flag. Each case is computed.
-setter_alone : (f : Flag) → flags_of (setter_of f) ≡ f ∷ []
+pub setter_alone : (f : Flag) → flags_of (setter_of f) ≡ f ∷ []
 setter_alone layout.required_integer_digits = refl
 setter_alone _ = refl
 

@@ -2,9 +2,10 @@
 
 //! Prints reasons and notes as sentences.
 
-use crate::edits::{Edit, FlagSetter};
+use crate::edits::FlagSetter;
 use crate::error::{Piece, ShortText, EMPTY_PIECE};
-use crate::reasons::{Note, Reason};
+use crate::format_flags::Part;
+use crate::reasons::{Byte, Cause, Note, Radixes, Reason};
 use core::fmt;
 
 impl Reason {
@@ -12,76 +13,92 @@ impl Reason {
     #[must_use]
     #[doc(hidden)]
     pub const fn text(&self) -> ShortText {
-        match self {
-            Reason::MantissaRadixOutOfRange(radix, _, _) => {
-                not_in_range(Piece::NumberedByte("mantissa radix", *radix))
+        match &self.cause {
+            Cause::OutOfRange { byte, value } => {
+                followed(byte.numbered(*value), " is not between 2 and 36")
             }
-            Reason::OutOfRange(edit) => {
-                not_in_range(Piece::NumberedByte(label(*edit), edit.argument_byte()))
+            Cause::NotText { byte, value } => {
+                followed(byte.quoted(*value), " is not an allowed ASCII character")
             }
-            Reason::NotText(edit) => {
-                followed(described(edit), " is not an allowed ASCII character")
+            Cause::IsSign { byte, value } => followed(byte.quoted(*value), " is a sign (+ or -)"),
+            Cause::IsDigit {
+                byte,
+                value,
+                radixes,
+            } => digit_text(byte.quoted(*value), *radixes),
+            Cause::Same {
+                first,
+                second,
+                value,
+            } => joined(
+                first.quoted(*value),
+                second.quoted(*value),
+                " are the same",
+                "",
+            ),
+            Cause::DifferInCase {
+                first,
+                first_value,
+                first_flag,
+                second,
+                second_value,
+                second_flag,
+            } => {
+                let (end, flag) = case_text(*first_flag, *second_flag);
+                joined(
+                    first.quoted(*first_value),
+                    second.quoted(*second_value),
+                    end,
+                    flag,
+                )
             }
-            Reason::IsSign(edit) => followed(described(edit), " is a sign (+ or -)"),
-            Reason::IsDigit(edit, radix) => ShortText(
-                EMPTY_PIECE,
-                described(edit),
-                Piece::Words(" is a digit in radix "),
-                Piece::Number(radix.argument_byte() as usize),
-            ),
-            Reason::Clash(a, b, flag) => ShortText(
-                described(a),
-                Piece::Words(" and "),
-                described(b),
-                Piece::Words(clash_text(*a, *b, *flag)),
-            ),
-            Reason::Contradict(a, b) => ShortText(
-                named(*a),
-                Piece::Words(" and "),
-                named(*b),
-                Piece::Words(" cannot both be set"),
-            ),
-            Reason::NeedsPosition(flag) => followed(
-                named(*flag),
+            Cause::BothSet { first, second } => {
+                joined(named(*first), named(*second), " cannot both be set", "")
+            }
+            Cause::NeedsPosition { part } => followed(
+                named(consecutive_flag(*part)),
                 " requires an internal, leading or trailing flag for the same part of the number",
             ),
-            Reason::ReservedBits(bits) => ShortText(
+            Cause::ReservedBits { bits } => ShortText(
                 EMPTY_PIECE,
                 EMPTY_PIECE,
                 Piece::Words("reserved bits are set: "),
                 Piece::Hexadecimal(*bits),
+                Piece::Words(", which any edit clears"),
             ),
         }
     }
 }
 
 impl Note {
-    /// Returns the note as a sentence without a full stop, such as `no number can have the digit separator '_': no flag
-    /// allows one`.
+    /// Returns the note as a sentence without a full stop, such as `no flag allows the digit separator '_'`.
     #[must_use]
     #[doc(hidden)]
     pub const fn text(&self) -> ShortText {
         match self {
-            Note::SeparatorWithoutFlag(edit) => ShortText(
+            Note::SeparatorWithoutFlag { value } => ShortText(
                 EMPTY_PIECE,
-                Piece::Words("no number can have "),
-                described(edit),
-                Piece::Words(": no flag allows one"),
+                EMPTY_PIECE,
+                EMPTY_PIECE,
+                Piece::Words("no flag allows "),
+                Byte::DigitSeparator.quoted(*value),
             ),
             Note::FlagsWithoutSeparator => followed(
                 EMPTY_PIECE,
-                "the digit separator flags allow nothing: there is no digit separator",
+                "digit separator flags are set, but there is no digit separator",
             ),
-            Note::CaseFlagWithoutByte(flag, byte) => ShortText(
+            Note::CaseFlagWithoutByte { flag, byte } => ShortText(
+                EMPTY_PIECE,
                 EMPTY_PIECE,
                 named(*flag),
-                Piece::Words(" changes nothing: there is no "),
-                Piece::Words(label(*byte)),
+                Piece::Words(" is set, but there is no "),
+                Piece::Words(byte.label()),
             ),
-            Note::CaseFlagOfNonLetter(flag, byte) => ShortText(
+            Note::CaseFlagOfNonLetter { flag, byte, value } => ShortText(
+                EMPTY_PIECE,
                 named(*flag),
-                Piece::Words(" changes nothing: "),
-                described(byte),
+                Piece::Words(" is set, but "),
+                byte.quoted(*value),
                 Piece::Words(" is not a letter"),
             ),
         }
@@ -100,19 +117,52 @@ impl fmt::Display for Note {
     }
 }
 
-// Returns the sentence for a radix or a base that is out of range.
-const fn not_in_range(piece: Piece) -> ShortText {
-    followed(piece, " is not between 2 and 36")
+impl Byte {
+    // Returns the name of the byte, as it appears in sentences.
+    const fn label(self) -> &'static str {
+        match self {
+            Byte::DigitSeparator => "digit separator",
+            Byte::BasePrefix => "base prefix",
+            Byte::BaseSuffix => "base suffix",
+            Byte::MantissaRadix => "mantissa radix",
+            Byte::ExponentBase => "exponent base",
+            Byte::ExponentRadix => "exponent radix",
+            Byte::ExponentCharacter => "exponent character",
+            Byte::DecimalPoint => "decimal point",
+        }
+    }
+
+    // Returns the name of the byte, and its value in decimal.
+    const fn numbered(self, value: u8) -> Piece {
+        Piece::NumberedByte(self.label(), value)
+    }
+
+    // Returns the name of the byte, and its value in quotes.
+    const fn quoted(self, value: u8) -> Piece {
+        Piece::QuotedByte(self.label(), value)
+    }
 }
 
 // Returns a text that has a piece and the words that follow it.
 const fn followed(piece: Piece, end: &'static str) -> ShortText {
-    ShortText(EMPTY_PIECE, EMPTY_PIECE, piece, Piece::Words(end))
+    ShortText(
+        EMPTY_PIECE,
+        EMPTY_PIECE,
+        EMPTY_PIECE,
+        piece,
+        Piece::Words(end),
+    )
 }
 
-// Returns the label of the field of an edit, and its byte.
-const fn described(edit: &Edit) -> Piece {
-    Piece::QuotedByte(label(*edit), edit.argument_byte())
+// Returns a text that has two pieces joined by `and`, and the words that follow them.
+const fn joined(first: Piece, second: Piece, end: &'static str, last: &'static str) -> ShortText {
+    ShortText(
+        first,
+        Piece::Words(" and "),
+        second,
+        Piece::Words(end),
+        Piece::Words(last),
+    )
 }
 
 // Returns the name of a flag.
@@ -120,30 +170,45 @@ const fn named(flag: FlagSetter) -> Piece {
     Piece::Words(flag.name())
 }
 
-// Returns the end of the sentence for two bytes that clash.
-const fn clash_text(a: Edit, b: Edit, flag: Option<FlagSetter>) -> &'static str {
-    match (a, b, flag) {
-        (_, _, None) => " are the same",
-        (Edit::DigitSeparator(_), Edit::BasePrefix(_), Some(_)) => {
-            " differ only in case, and the base prefix is not case-sensitive"
-        }
-        (Edit::DigitSeparator(_), _, Some(_)) => {
-            " differ only in case, and the base suffix is not case-sensitive"
-        }
-        _ => " differ only in case, and they are not both case-sensitive",
+// Returns the sentence for a byte that is a digit in these radixes.
+const fn digit_text(byte: Piece, radixes: Radixes) -> ShortText {
+    match radixes {
+        Radixes::Mantissa(radix) | Radixes::Exponent(radix) => ShortText(
+            EMPTY_PIECE,
+            EMPTY_PIECE,
+            byte,
+            Piece::Words(" is a digit in radix "),
+            Piece::Number(radix as usize),
+        ),
+        Radixes::Both { mantissa, exponent } => ShortText(
+            byte,
+            Piece::Words(" is a digit in "),
+            Byte::MantissaRadix.numbered(mantissa),
+            Piece::Words(" and "),
+            Byte::ExponentRadix.numbered(exponent),
+        ),
     }
 }
 
-// Returns the name of the field of an edit, as it appears in sentences.
-const fn label(edit: Edit) -> &'static str {
-    match edit {
-        Edit::Flag(_, _) => "flag",
-        Edit::DigitSeparator(_) => "digit separator",
-        Edit::BasePrefix(_) => "base prefix",
-        Edit::BaseSuffix(_) => "base suffix",
-        Edit::MantissaRadix(_) => "mantissa radix",
-        Edit::Radix(_) => "radix",
-        Edit::ExponentBase(_) => "exponent base",
-        Edit::ExponentRadix(_) => "exponent radix",
+// Returns the end of the sentence for two bytes that differ in case, of which these case flags are not set.
+const fn case_text(
+    first: Option<FlagSetter>,
+    second: Option<FlagSetter>,
+) -> (&'static str, &'static str) {
+    match (first, second) {
+        (Some(_), Some(_)) => (" differ only in case, and neither is case-sensitive", ""),
+        (Some(flag), None) | (None, Some(flag)) => {
+            (" differ only in case, which requires ", flag.name())
+        }
+        (None, None) => (" differ only in case", ""),
+    }
+}
+
+// Returns the flag that allows consecutive digit separators in a part of the number.
+const fn consecutive_flag(part: Part) -> FlagSetter {
+    match part {
+        Part::Integer => FlagSetter::IntegerConsecutiveDigitSeparator,
+        Part::Fraction => FlagSetter::FractionConsecutiveDigitSeparator,
+        Part::Exponent => FlagSetter::ExponentConsecutiveDigitSeparator,
     }
 }

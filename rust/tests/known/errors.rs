@@ -77,7 +77,13 @@ fn a_short_text_prints_a_number_in_hexadecimal() {
     ];
     for (number, text) in texts {
         let bits = Piece::Words("bits ");
-        let short = ShortText(EMPTY_PIECE, bits, Piece::Hexadecimal(number), EMPTY_PIECE);
+        let short = ShortText(
+            EMPTY_PIECE,
+            EMPTY_PIECE,
+            bits,
+            Piece::Hexadecimal(number),
+            EMPTY_PIECE,
+        );
         assert_eq!(format!("{short:->60}"), format!("bits {text}"));
     }
 }
