@@ -44,7 +44,7 @@ use Rattle.lexical_util.specs.declared.reasons.Character.{Character}
 use Rattle.lexical_util.specs.Additions.Reasons.{Claim, has_byte, has_exponent, has_point, has_flags, has_bits, Has, has}
 use Rattle.lexical_util.specs.Additions.Reasons.{unset, mask_of_claim, mask_from, mask_of_claims, mask_of_reason}
 use Rattle.lexical_util.specs.Additions.Reasons.{claims_of, IsTrueOf, Breaks, Blames, BlamesForOptions, reason, byte_of}
-use Rattle.lexical_util.specs.Additions.Reasons.{mantissa_slot, digit_slot, digit_radixes, radixes_of, text_slot}
+use Rattle.lexical_util.specs.Additions.Reasons.{mantissa_reason, mantissa_slot, digit_slot, digit_radixes, radixes_of, text_slot}
 use Rattle.lexical_util.specs.Additions.Reasons.{punctuation_slot, role, unset_flag, clash_cause, clash_slot}
 use Rattle.lexical_util.specs.Additions.Reasons.{separator_of, prefix_of, suffix_of, exponent_of, point_of}
 use Rattle.lexical_util.specs.Additions.Reasons.{slots_of, slots_of_rules, reason_slots, options_slots}
@@ -735,12 +735,12 @@ by_rules word rule = (
   met : (q : Rule) → NoReason (slots_of q (shape_of q) word)
       → IfSome (mantissa_slot (raw word)) (λ r. Breaks r q → ⊥) → Holds q word
   met rules.ExponentBaseInRange none fine =
-      shape_met rules.ExponentBaseInRange _ word
-      (λ zero. is_radix _ (in_range _ _ (λ r. Breaks r rules.ExponentBaseInRange → ⊥) fine
+      shape_met rules.ExponentBaseInRange (radix_in_range layout.exponent_base) word
+      (λ zero. is_radix _ (in_range _ (mantissa_reason (raw word)) (λ r. Breaks r rules.ExponentBaseInRange → ⊥) fine
       (λ h. h (inr (inl (follower _ zero)))))) none
   met rules.ExponentRadixInRange none fine =
-      shape_met rules.ExponentRadixInRange _ word
-      (λ zero. is_radix _ (in_range _ _ (λ r. Breaks r rules.ExponentRadixInRange → ⊥) fine
+      shape_met rules.ExponentRadixInRange (radix_in_range layout.exponent_radix) word
+      (λ zero. is_radix _ (in_range _ (mantissa_reason (raw word)) (λ r. Breaks r rules.ExponentRadixInRange → ⊥) fine
       (λ h. h (inr (inr (follower _ zero)))))) none
   met q none fine = shape_met q (shape_of q) word tt none
 

@@ -161,19 +161,21 @@ byte_of layout.mantissa_radix = bytes.MantissaRadix
 byte_of layout.exponent_base = bytes.ExponentBase
 byte_of layout.exponent_radix = bytes.ExponentRadix
 
--- `mantissa_slot r` is the slot for a mantissa radix of `r` that is out of range, which breaks the rules for absent
+-- `mantissa_reason r` is the reason for a mantissa radix of `r` that is out of range, which breaks the rules for absent
 -- exponent bytes too.
+abbrev pub mantissa_reason : Record → Reason
+mantissa_reason r = record {
+  rules = (
+    Some rules.MantissaRadixInRange,
+    then_some (r.byte layout.exponent_base == 0) rules.ExponentBaseInRange,
+    then_some (r.byte layout.exponent_radix == 0) rules.ExponentRadixInRange,
+  );
+  cause = causes.OutOfRange bytes.MantissaRadix (r.byte layout.mantissa_radix);
+}
+
+-- `mantissa_slot r` is the slot for this reason.
 abbrev pub mantissa_slot : Record → Option Reason
-mantissa_slot r =
-    let value = r.byte layout.mantissa_radix in
-    then_some (not (between 2 36 value)) (record {
-      rules = (
-        Some rules.MantissaRadixInRange,
-        then_some (r.byte layout.exponent_base == 0) rules.ExponentBaseInRange,
-        then_some (r.byte layout.exponent_radix == 0) rules.ExponentRadixInRange,
-      );
-      cause = causes.OutOfRange bytes.MantissaRadix value;
-    })
+mantissa_slot r = then_some (not (between 2 36 (r.byte layout.mantissa_radix))) (mantissa_reason r)
 
 -- `exponent_slot rule byte value` is the slot for an exponent byte that is present but out of range.
 abbrev pub exponent_slot : Rule → Byte → ℕ → Option Reason
