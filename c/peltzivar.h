@@ -30,7 +30,7 @@
  * No function allocates memory, retains a pointer or sets errno. Several threads may call these functions at the same
  * time, provided that no call writes memory that another call reads or writes.
  *
- * From 0.6 on, a setter, a rule or an error has the same number in every version. The SONAME of the shared library
+ * From 0.6 on, a setter, rule, role or error has the same number in every version. The SONAME of the shared library
  * contains the minor version, and changes only if a function, a structure or a result changes. */
 #ifndef PELTZIVAR_H
 #define PELTZIVAR_H
