@@ -16,7 +16,7 @@ int main(int argc, char **argv) {
     for (int i = 1; i < argc; i++) {
         const size_t len = strlen(argv[i]);
         peltzivar_edit edit;
-        if (peltzivar_parse_edit(argv[i], len, &edit) || !peltzivar_edit_fields(&fields, &edit, 1)) {
+        if (!peltzivar_parse_edit(argv[i], len, &edit) || !peltzivar_edit_fields(&fields, &edit, 1)) {
             peltzivar_setting_error_text(argv[i], len, text, sizeof text);
             fprintf(stderr, "%s: %s\n", argv[i], text);
             return 2;

@@ -19,7 +19,8 @@ COMPILERS = {"gcc": "c99 c11 c17 c2x", "clang": "c99 c11 c17 c2x", "g++": "c++11
 COMPILERS |= {"clang++": "c++11 c++14 c++17 c++20"}
 TYPES = {"peltzivar_word": "Word", "peltzivar_fields": "Fields", "peltzivar_edit": "NumberedEdit", "size_t": "usize"}
 TYPES |= {"bool": "bool", "char": "u8", "uint8_t": "u8", "uint32_t": "u32", "peltzivar_setter": "Setter"}
-TYPES |= {"peltzivar_error": "ErrorNumber", "peltzivar_setting_error": "u32"}
+TYPES |= {"peltzivar_error": "ErrorNumber", "peltzivar_part": "u8", "peltzivar_role": "Role"}
+TYPES |= {"peltzivar_separators": "Separators"}
 
 
 def run(*command, **options):
@@ -122,7 +123,7 @@ class Programs(unittest.TestCase):
 
 class Header(unittest.TestCase):
     def numbers(self, pattern):
-        return {name: int(number) for name, number in re.findall(rf"^    PELTZIVAR_{pattern} = (\d+)", HEADER, re.M)}
+        return {name: int(number) for name, number in re.findall(rf"\bPELTZIVAR_{pattern} = (\d+)", HEADER)}
 
     def test_setters_have_the_numbers_of_the_tables_of_format(self):
         page = (TOP / "docs/FORMAT.md").read_text()
@@ -132,16 +133,18 @@ class Header(unittest.TestCase):
         numbered = [(name, int(bit)) for bit, name in flags] + [(name, 128 + row) for row, name in enumerate(groups)]
         self.assertEqual(self.numbers(r"SET_(\w+)"), {name.upper(): number for name, number in numbered})
 
-    def test_rules_and_errors_have_the_order_of_the_sources(self):
+    def test_rules_roles_and_errors_have_the_order_of_the_sources(self):
         def variants(path, enum):
             body = re.search(rf"^pub enum {enum} \{{(.*?)^\}}", (TOP / "rust/src" / path).read_text(), re.M | re.S)[1]
             return [in_c(name) for name in re.findall(r"^    (\w+)", body, re.M)]
 
         rules = variants("format_flags/all_rules.rs", "Rule")
         self.assertEqual(self.numbers(r"RULE_(\w+)"), {name: number for number, name in enumerate(rules, 1)})
+        roles = ["NONE", *variants("view/roles.rs", "Role")]
+        self.assertEqual(self.numbers(r"ROLE_(\w+)"), {name: number for number, name in enumerate(roles)})
         errors = ["SUCCESS", *(it for it in variants("error.rs", "Error") if it != "SUCCESS")]
         numbered = {name: number for number, name in enumerate(errors)}
-        self.assertEqual(self.numbers(r"((?!SET_|RULE_|SETTING_)\w+)"), numbered)
+        self.assertEqual(self.numbers(r"((?!SET_|RULE_|PART_|ROLE_)\w+)"), numbered)
 
     def test_declarations_are_those_of_the_library(self):
         sources = " ".join("".join(path.read_text() for path in sorted((TOP / "rust/capi/src").glob("*.rs"))).split())
