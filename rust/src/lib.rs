@@ -135,7 +135,3 @@ pub use lawful::Format;
 pub use reasons::{Note, Reason};
 #[doc(inline)]
 pub use view::{FormatView, Role, Separators};
-
-#[cfg(doctest)]
-#[doc = include_str!("../README.md")]
-struct Readme;
