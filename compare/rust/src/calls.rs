@@ -45,7 +45,7 @@ macro_rules! outcomes {
         { $($rank:literal $Error:ident $is_error:ident;)* }
     ) => {
         /// The outcome at a position of the enum, with an index if it holds one.
-        fn error_at(position: u128, index: usize) -> Error {
+        pub fn error_at(position: u128, index: usize) -> Error {
             match position {
                 $($index_rank => Error::$Indexed(index),)*
                 $($rank => Error::$Error,)*
@@ -85,26 +85,25 @@ pub fn order(a: (u128, usize), b: (u128, usize)) -> Results<4> {
     results! { cmp: sign(a.cmp(&b)), partial_cmp: a.partial_cmp(&b).map(sign), eq: a == b, lt: a < b, }
 }
 
-pub fn description(position: u128, index: usize) -> String {
-    error_at(position, index).description().to_string()
-}
-
-pub fn display(position: u128, index: usize, style: u32) -> String {
+/// The description, and what is printed with any width and fill.
+pub fn texts(position: u128, index: usize) -> [String; 6] {
     let error = error_at(position, index);
-    match style {
-        0 => format!("{error}"),
-        1 => format!("{error:200}"),
-        2 => format!("{error:*>150}"),
-        3 => format!("{error:#<3}"),
-        _ => format!("{error:0^99}"),
-    }
+    let [wide, starred] = [format!("{error:200}"), format!("{error:*>150}")];
+    let [short, zeros] = [format!("{error:#<3}"), format!("{error:0^99}")];
+    [error.description().to_string(), error.to_string(), wide, starred, short, zeros]
 }
 
 // WORDS
 
 /// The rules and the fields of a word: first what `rules::word` changes. Of `format_error_impl`, the call `format_error`
 /// and the view the errors are given, and then of the two calls for radixes.
-fn word_of(word: u128, errors: [Error; 3], are_valid: [bool; 2], radixes: [Error; 2], is_valid_radix: bool) -> Results<19> {
+fn word_of(
+    word: u128,
+    errors: [Error; 3],
+    are_valid: [bool; 2],
+    radixes: [Error; 2],
+    is_valid_radix: bool,
+) -> Results<19> {
     let [format_error_impl, format_error, view_error] = errors.map(position);
     let [radix_error, view_radix_error] = radixes.map(position);
     results! {
