@@ -3,7 +3,7 @@
 
 use crate::inputs::{SetterCall, OF_FLAGS};
 use crate::results::{results, Number, Results};
-use crate::rows::{with_getters, with_outcomes, with_setters};
+use crate::rows::{flag_getters, with_getters, with_outcomes, with_setters};
 use crate::rules::SUCCESS;
 use std::cmp::Ordering;
 use std::num::NonZeroU8;
@@ -127,12 +127,6 @@ pub fn options(word: u128, exponent: u8, decimal_point: u8) -> bool {
 
 pub fn radix_from_flags(word: u128, mask: u128, shift: i32) -> Results<1> {
     results! { radix_from_flags: flags::radix_from_flags(word, mask, shift), }
-}
-
-macro_rules! flag_getters {
-    (($then:ident $view:ident) { $($Flag:ident $flag:ident $get:ident $CONST:ident;)* } $groups:tt) => {
-        with_getters! { $then ($view $($flag $CONST)*) }
-    };
 }
 
 /// The getters of a view, which is of another type on each side.
