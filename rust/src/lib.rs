@@ -104,13 +104,13 @@ pub mod error;
 pub mod feature_format;
 pub mod format;
 pub mod format_builder;
+mod format_error;
 pub mod format_flags;
 mod lanes;
 mod lawful;
 mod lists;
 mod numeral;
 pub mod reasons;
-mod refusal;
 pub mod source;
 mod text;
 mod view;
@@ -120,13 +120,15 @@ pub mod word;
 pub mod word_text;
 
 #[doc(no_inline)]
-pub use edits::{Edit, FlagSetter, Setter, SettingError};
+pub use edits::{Edit, FlagSetter, Setter, SettingError, SettingErrorKind};
 #[doc(no_inline)]
 pub use error::Error;
 #[doc(no_inline)]
 pub use feature_format::NumberFormat;
 #[doc(no_inline)]
 pub use format_builder::NumberFormatBuilder;
+#[doc(inline)]
+pub use format_error::FormatError;
 #[doc(no_inline)]
 pub use format_flags::{Part, Rule};
 #[doc(inline)]

@@ -62,6 +62,7 @@ pub fn few_getters(cases: &[u64]) -> u64 {
         } else {
             view.mantissa_radix()
         };
-        fold.with(radix as u64).with(view.digit_separator() as u64)
+        let separator = view.digit_separator().map_or(0, |byte| byte.get());
+        fold.with(radix as u64).with(separator as u64)
     })
 }

@@ -1,6 +1,7 @@
 //! Settings by setter, name and text.
 
-use peltzivar::edits::{byte_from_decimal, ArgumentKind, Edit, FlagSetter, Setter, SettingError};
+use peltzivar::edits::{byte_from_decimal, ArgumentKind, Edit, FlagSetter, Setter};
+use peltzivar::{SettingError, SettingErrorKind};
 use std::num::NonZeroU8;
 
 /// Flag setters and group setters come first, then byte setters.
@@ -80,7 +81,8 @@ fn an_edit_has_the_bits_that_it_writes() {
 
 #[test]
 fn settings_are_read() {
-    const BAD_FLAG: SettingError = SettingError::BadValue(Setter::Flag(FlagSetter::NoSpecial));
+    use SettingErrorKind::{BadValue, NoEquals, UnknownName};
+    const BAD_FLAG: (SettingErrorKind, Option<&str>) = (BadValue, Some("no_special"));
     #[rustfmt::skip]
     let rows = [
         ("no_special=true", Ok(Edit::Flag(FlagSetter::NoSpecial, true))),
@@ -92,21 +94,53 @@ fn settings_are_read() {
         ("exponent_base=0", Ok(Edit::ExponentBase(None))),
         ("exponent_radix=255", Ok(Edit::ExponentRadix(NonZeroU8::new(255)))),
         ("digit_separator='='", Ok(Edit::DigitSeparator(NonZeroU8::new(b'=')))),
-        ("", Err(SettingError::NoEquals)),
-        ("no_special", Err(SettingError::NoEquals)),
-        ("colour", Err(SettingError::NoEquals)),
-        ("=", Err(SettingError::UnknownName)),
-        ("no_special =true", Err(SettingError::UnknownName)),
+        ("", Err((NoEquals, None))),
+        ("no_special", Err((NoEquals, None))),
+        ("colour", Err((NoEquals, None))),
+        ("=", Err((UnknownName, None))),
+        ("no_special =true", Err((UnknownName, None))),
         ("no_special=1", Err(BAD_FLAG)),
         ("no_special=256", Err(BAD_FLAG)),
         ("no_special='1'", Err(BAD_FLAG)),
         ("no_special=true=true", Err(BAD_FLAG)),
     ];
     for (text, edit) in rows {
-        assert_eq!(Edit::from_text(text), edit, "{text}");
-        assert_eq!(text.parse(), edit, "{text}");
+        let refusal = |error: SettingError| (error.kind(), error.name());
+        assert_eq!(Edit::from_text(text).map_err(refusal), edit, "{text}");
+        assert_eq!(text.parse().map_err(refusal), edit, "{text}");
     }
     assert_eq!(Edit::from_setting("radix", "8"), Ok(Edit::Radix(8)));
+}
+
+#[test]
+fn edits_are_made_of_values() {
+    use SettingErrorKind::{BadValue, UnknownName};
+    let refusal = |error: SettingError| (error.kind(), error.name());
+    #[rustfmt::skip]
+    let rows = [
+        (Edit::flag("no_special", true), Ok(Edit::Flag(FlagSetter::NoSpecial, true))),
+        (Edit::flag("required_digits", false), Ok(Edit::Flag(FlagSetter::RequiredDigits, false))),
+        (Edit::byte("base_prefix", b'x'), Ok(Edit::BasePrefix(NonZeroU8::new(b'x')))),
+        (Edit::byte("exponent_base", 0), Ok(Edit::ExponentBase(None))),
+        (Edit::byte("radix", 0), Ok(Edit::Radix(0))),
+        (Edit::byte("mantissa_radix", 255), Ok(Edit::MantissaRadix(255))),
+        (Edit::flag("base_prefix", true), Err((BadValue, Some("base_prefix")))),
+        (Edit::byte("no_special", 1), Err((BadValue, Some("no_special")))),
+        (Edit::flag("no-special", true), Err((UnknownName, None))),
+        (Edit::byte("base_prefix ", b'x'), Err((UnknownName, None))),
+    ];
+    for (edit, wanted) in rows {
+        assert_eq!(edit.map_err(refusal), wanted);
+    }
+    for setter in FlagSetter::ALL {
+        assert_eq!(
+            Edit::flag(setter.name(), true),
+            Ok(Edit::Flag(*setter, true))
+        );
+    }
+    for setter in &Setter::ALL[40..] {
+        assert_eq!(Edit::byte(setter.name(), 9), Ok(setter.with_byte(9)));
+    }
 }
 
 /// A byte is a character between quotes, hexadecimal digits after `0x`, or decimal digits.
@@ -140,7 +174,9 @@ fn each_byte_setter_reads_the_same_values() {
                 "{setter:?} {value}"
             );
         }
-        let refused = Err(SettingError::BadValue(*setter));
+        let refused = read("x");
+        let kind = refused.map_err(|error| (error.kind(), error.name()));
+        assert_eq!(kind, Err((SettingErrorKind::BadValue, Some(setter.name()))));
         for value in bad.iter().chain(&large) {
             assert_eq!(read(value), refused, "{setter:?} {value}");
         }

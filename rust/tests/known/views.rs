@@ -6,6 +6,7 @@ use peltzivar::feature_format::NumberFormat;
 use peltzivar::format::STANDARD;
 use peltzivar::format_builder::NumberFormatBuilder;
 use peltzivar::word::{self, FormatView};
+use std::num::NonZeroU8;
 
 /// A word whose six bytes differ and have their highest bits set: 143, 152, 168, 145, 220 and 226.
 const BYTES: u128 = 0xE2DC91A8_9800008F_00000000_00000000;
@@ -111,11 +112,15 @@ fn masks_of_flags() {
 
 #[test]
 fn bytes_and_radixes() {
+    let view = NumberFormat::<BYTES>::new();
+    let bytes = [
+        view.digit_separator(),
+        view.base_prefix(),
+        view.base_suffix(),
+    ];
+    assert_eq!(bytes, [143, 152, 168]);
     both_views! {
         (BYTES, STANDARD, 0x1100 << 96)
-        digit_separator [143, 0, 0];
-        base_prefix [152, 0, 0];
-        base_suffix [168, 0, 0];
         mantissa_radix [145, 10, 17];
         radix [145, 10, 17];
         radix2 [21_025, 100, 289];
@@ -144,10 +149,11 @@ fn each_byte_is_read_from_the_word_and_from_its_view() {
             word::exponent_radix(word),
         ];
         let view = FormatView::new(word);
+        let number = |byte: Option<NonZeroU8>| byte.map_or(0, |byte| byte.get().into());
         let viewed = [
-            view.digit_separator().into(),
-            view.base_prefix().into(),
-            view.base_suffix().into(),
+            number(view.digit_separator()),
+            number(view.base_prefix()),
+            number(view.base_suffix()),
             view.mantissa_radix(),
             view.exponent_base(),
             view.exponent_radix(),
