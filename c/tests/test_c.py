@@ -13,6 +13,7 @@ C, TOP = TESTS.parent, TESTS.parent.parent
 SHARED = pathlib.Path(os.environ["PELTZIVAR_LIBRARY"]).absolute()
 ARCHIVE = SHARED.with_suffix(".a")
 HEADER = (C / "peltzivar.h").read_text()
+STANDARD = "0x00000A0000000000000000000000000C"
 STRICT = ["-Wall", "-Wextra", "-Wpedantic", "-Wconversion", "-Wshadow", "-Werror", "-I", C]
 SANITIZERS = ["-g", "-fsanitize=address,undefined", "-fno-sanitize-recover=all"]
 COMPILERS = {"gcc": "c99 c11 c17 c2x", "clang": "c99 c11 c17 c2x", "g++": "c++11 c++14 c++17 c++20"}
@@ -87,6 +88,7 @@ class Programs(unittest.TestCase):
         program = self.made("cc", *STRICT, *SANITIZERS, C / "example.c", ARCHIVE)
         rows = [
             ("radix=2 base_suffix=57", 0, "0x0000023900000000000000000000000C\nbase_suffix=57\nmantissa_radix=2\n"),
+            ("18446744073709551615 18446744073709551616 1_0 1\x80", 0, f"{STANDARD}\n18446744073709551615 is 18446744073709551615\n18446744073709551616 is not an integer\n1_0 is not an integer\n1\x80 is not an integer\n"),
             ("radix=16 base_suffix='b'", 1, "the base suffix 'b' is a digit in radix 16\n"),
             ("no_special=1", 2, "no_special=1: no_special takes `true` or `false`\n"),
         ]
@@ -110,7 +112,7 @@ class Programs(unittest.TestCase):
             ("# Hexadecimal\nradix = 16\r\n\n base_prefix='x'\ndigit_separator= 95\ninternal_digit_separator =true", 0, "0x000010007800005F000000070000000C"),
             ("required_digits=true\nbase_prefix = 98\n\nmantissa_radix=16", 1, "line 2, 4: the base prefix 'b' is a digit in radix 16"),
             ("radix\nno_special = 1\ncolour=7\n", 1, "line 1: radix: expected NAME=VALUE\nline 2: no_special=1: no_special takes `true` or `false`\nline 3: colour=7: unknown setting name"),
-            ("", 0, "0x00000A0000000000000000000000000C"),
+            ("", 0, STANDARD),
             (f"radix = {'0' * 2000}2", 2, "line 1 is too long"),
         ]
         for settings, status, printed in rows:

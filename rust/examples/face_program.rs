@@ -19,8 +19,7 @@ const HEXADECIMAL: u128 = NumberFormatBuilder::new()
 const CHECKED: Format = Format::of::<HEXADECIMAL>();
 
 /// Returns the value of a literal. Only lawful formats are accepted, so no byte of the text has two roles.
-fn value(text: &str, format: impl Into<Format>) -> Option<u64> {
-    let format: Format = format.into();
+fn value(text: &str, format: Format) -> Option<u64> {
     let digits = match format.base_prefix() {
         Some(prefix) => text
             .strip_prefix(&String::from_iter(['0', char::from(prefix.get())]))

@@ -297,7 +297,7 @@ fields! {
     SPECIAL_DIGIT_SEPARATOR special_digit_separator bool;
     /// The [mantissa radix][NumberFormatBuilder::mantissa_radix], a number from 0 to 255.
     MANTISSA_RADIX mantissa_radix u32;
-    /// The mantissa radix, which is also available as [`MANTISSA_RADIX`][Self::MANTISSA_RADIX].
+    /// The mantissa radix, which [`mantissa_radix`][Self::mantissa_radix] returns too.
     RADIX radix u32;
     /// The [exponent base][NumberFormatBuilder::exponent_base], or the mantissa radix if the exponent base byte is 0.
     EXPONENT_BASE exponent_base u32;

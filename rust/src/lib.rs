@@ -51,11 +51,11 @@
 //! | To | Use |
 //! |---|---|
 //! | write a format as a constant | [`NumberFormatBuilder`] and its [`build_or_panic`][NumberFormatBuilder::build_or_panic] |
-//! | take a checked format as an argument | [`Format`], or `impl Into<Format>` |
+//! | take a checked format as an argument | [`Format`] |
 //! | read numbers | [`FormatView::mantissa_digit`], [`is_separator`][FormatView::is_separator], [`separators`][FormatView::separators], [`role_of`][FormatView::role_of] |
 //! | read the fields of any word, lawful or not | [`FormatView`]; [`NumberFormat`] for a word that is known at compile time |
-//! | parse settings | `str::parse` for each [`Edit`], [`collect`][Iterator::collect] to turn edits into a builder, and [`build_format`][NumberFormatBuilder::build_format] to check it |
-//! | report the problems with a word | [`FormatView::reasons`], [`Reason::mask`], [`FormatView::notes`] |
+//! | parse settings | `str::parse` for each [`Edit`], or [`Edit::flag`] and [`Edit::byte`]; [`collect`][Iterator::collect] to turn edits into a builder, and [`build_format`][NumberFormatBuilder::build_format] to check it |
+//! | report the problems with a word | [`FormatError`], [`FormatView::reasons`], [`Reason::mask`], [`FormatView::notes`] |
 //! | derive a format from another | [`NumberFormatBuilder::from`], or [`edits::edit_word`] |
 //! | compare two formats | [`Format::normal_form`], [`edits::same_format`] |
 //! | store words as text | `Display` and `FromStr` of [`Format`] and [`FormatView`] |
