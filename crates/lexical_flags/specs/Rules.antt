@@ -1,23 +1,17 @@
 -- The rules, and the error of the first rule that a word breaks.
-use Rattle.std.specs.Prelude.{ℕ, Bool, false, not, ◌≡◌, ◌≤◌, ◌⊎◌, ◌&&◌, ◌||◌, IsTrue, IsFalse, List, [], ◌∷◌, ◌++◌}
+use Rattle.std.specs.Prelude.{ℕ, Bool, not, ◌≡◌, ◌≤◌, ◌⊎◌, ◌&&◌, ◌||◌, ⊤, IsTrue, IsFalse, List, [], ◌∷◌, ◌++◌}
 use Rattle.std.specs.List.{AllByRecursion}
 use Rattle.lexical_base.specs.Ascii.{allowed_ascii}
 use Rattle.lexical_base.specs.declared.error.Error.{Error}
 use Rattle.lexical_base.specs.declared.error.Error.TheVariants as errors
-use Rattle.lexical_flags.specs.Layout.{no_exponent_notation, required_exponent_notation, no_positive_mantissa_sign}
-use Rattle.lexical_flags.specs.Layout.{required_mantissa_sign, no_positive_exponent_sign, required_exponent_sign}
-use Rattle.lexical_flags.specs.Layout.{no_special, case_sensitive_special, special_digit_separator}
-use Rattle.lexical_flags.specs.Layout.{integer_consecutive_digit_separator, integer_internal_digit_separator}
-use Rattle.lexical_flags.specs.Layout.{integer_leading_digit_separator, integer_trailing_digit_separator}
-use Rattle.lexical_flags.specs.Layout.{fraction_consecutive_digit_separator, fraction_internal_digit_separator}
-use Rattle.lexical_flags.specs.Layout.{fraction_leading_digit_separator, fraction_trailing_digit_separator}
-use Rattle.lexical_flags.specs.Layout.{exponent_consecutive_digit_separator, exponent_internal_digit_separator}
-use Rattle.lexical_flags.specs.Layout.{exponent_leading_digit_separator, exponent_trailing_digit_separator}
 use Rattle.lexical_flags.specs.Layout as layout
 use Rattle.lexical_flags.specs.declared.format_flags.all_rules.Rule.{Rule}
 use Rattle.lexical_flags.specs.declared.format_flags.all_rules.Rule.TheVariants as rules
-use Rattle.lexical_flags.specs.Layout.{IsClean}
-use Rattle.lexical_flags.specs.Record.{Record, raw, effective_exponent_base, effective_exponent_radix}
+use Rattle.lexical_flags.specs.Layout.{IsClean, Flag, Byte}
+use Rattle.lexical_flags.specs.Parts.{SeparatorFlags, separator_flags}
+use Rattle.lexical_flags.specs.declared.format_flags.parts.Part.{Part}
+use Rattle.lexical_flags.specs.declared.format_flags.parts.Part.TheVariants as parts
+use Rattle.lexical_flags.specs.Record.{Record, raw, effective, effective_exponent_base, effective_exponent_radix}
 use Rattle.lexical_flags.specs.Roles.{AreDisjoint, digits, signs, format_roles, five_roles}
 
 -- `IsRadix radix` holds if `radix` is between 2 and 36, inclusive.
@@ -36,38 +30,56 @@ IsAbsentOrPunctuation r byte = (byte ≡ 0) ⊎ IsPunctuation r byte
 abbrev pub IsTextOrNone : ℕ → Type 0
 IsTextOrNone byte = (byte ≡ 0) ⊎ IsTrue (allowed_ascii byte)
 
--- `lacks_position consecutive internal leading trailing` is true if `consecutive` is true and the others are false.
-abbrev pub lacks_position : Bool → Bool → Bool → Bool → Bool
-lacks_position consecutive internal leading trailing = consecutive && not (internal || leading || trailing)
+-- `Shape` is the type of what a rule demands of the fields that are its arguments.
+pub data Shape : Type 0 where
+  radix_in_range : Byte → Shape
+  absent_or_punctuation : Byte → Shape
+  roles_differ : Shape
+  not_both : Flag → Flag → Shape
+  position_allowed : Part → Shape
+  reserved_zero : Shape
 
--- `contradict rule r` is true if the flags of `r` that `rule` reads contradict each other.
-abbrev pub contradict : Rule → Record → Bool
-contradict rules.ExponentFlagsAgree r = r.flag no_exponent_notation && r.flag required_exponent_notation
-contradict rules.MantissaSignFlagsAgree r = r.flag no_positive_mantissa_sign && r.flag required_mantissa_sign
-contradict rules.ExponentSignFlagsAgree r = r.flag no_positive_exponent_sign && r.flag required_exponent_sign
-contradict rules.SpecialCaseFlagsAgree r = r.flag no_special && r.flag case_sensitive_special
-contradict rules.SpecialSeparatorFlagsAgree r = r.flag no_special && r.flag special_digit_separator
-contradict rules.IntegerConsecutiveIsAllowed r =
-    lacks_position (r.flag integer_consecutive_digit_separator) (r.flag integer_internal_digit_separator)
-    (r.flag integer_leading_digit_separator) (r.flag integer_trailing_digit_separator)
-contradict rules.FractionConsecutiveIsAllowed r =
-    lacks_position (r.flag fraction_consecutive_digit_separator) (r.flag fraction_internal_digit_separator)
-    (r.flag fraction_leading_digit_separator) (r.flag fraction_trailing_digit_separator)
-contradict rules.ExponentConsecutiveIsAllowed r =
-    lacks_position (r.flag exponent_consecutive_digit_separator) (r.flag exponent_internal_digit_separator)
-    (r.flag exponent_leading_digit_separator) (r.flag exponent_trailing_digit_separator)
-contradict _ r = false
+-- `shape_of rule` is what `rule` demands.
+abbrev pub shape_of : Rule → Shape
+shape_of rules.MantissaRadixInRange = radix_in_range layout.mantissa_radix
+shape_of rules.ExponentBaseInRange = radix_in_range layout.exponent_base
+shape_of rules.ExponentRadixInRange = radix_in_range layout.exponent_radix
+shape_of rules.DigitSeparatorIsPunctuation = absent_or_punctuation layout.digit_separator
+shape_of rules.BasePrefixIsPunctuation = absent_or_punctuation layout.base_prefix
+shape_of rules.BaseSuffixIsPunctuation = absent_or_punctuation layout.base_suffix
+shape_of rules.PunctuationDiffers = roles_differ
+shape_of rules.ExponentFlagsAgree = not_both layout.no_exponent_notation layout.required_exponent_notation
+shape_of rules.MantissaSignFlagsAgree = not_both layout.no_positive_mantissa_sign layout.required_mantissa_sign
+shape_of rules.ExponentSignFlagsAgree = not_both layout.no_positive_exponent_sign layout.required_exponent_sign
+shape_of rules.SpecialCaseFlagsAgree = not_both layout.no_special layout.case_sensitive_special
+shape_of rules.SpecialSeparatorFlagsAgree = not_both layout.no_special layout.special_digit_separator
+shape_of rules.IntegerConsecutiveIsAllowed = position_allowed parts.Integer
+shape_of rules.FractionConsecutiveIsAllowed = position_allowed parts.Fraction
+shape_of rules.ExponentConsecutiveIsAllowed = position_allowed parts.Exponent
+shape_of rules.ReservedBitsAreZero = reserved_zero
+
+-- `radix_of r byte` is the byte of `r`, or the mantissa radix if `byte` is an exponent byte that is 0.
+abbrev pub radix_of : Record → Byte → ℕ
+radix_of r layout.mantissa_radix = r.byte layout.mantissa_radix
+radix_of r byte = effective (r.byte byte) (r.byte layout.mantissa_radix)
+
+-- `lacks_position r flags` is true if `r` sets the consecutive flag of `flags` and none of the others.
+abbrev pub lacks_position : Record → SeparatorFlags → Bool
+lacks_position r flags =
+    r.flag flags.consecutive && not (r.flag flags.internal || r.flag flags.leading || r.flag flags.trailing)
+
+-- `Meets shape r` holds if the fields of `r` are as `shape` demands. Reserved bits belong to no field.
+abbrev pub Meets : Shape → Record → Type 0
+Meets (radix_in_range byte) r = IsRadix (radix_of r byte)
+Meets (absent_or_punctuation byte) r = IsAbsentOrPunctuation r (r.byte byte)
+Meets roles_differ r = AreDisjoint (format_roles r)
+Meets (not_both a b) r = IsFalse (r.flag a && r.flag b)
+Meets (position_allowed part) r = IsFalse (lacks_position r (separator_flags part))
+Meets reserved_zero r = ⊤
 
 -- `Demands rule r` holds if the fields of `r` satisfy `rule`. Only `Holds` covers the rule for reserved bits.
 abbrev pub Demands : Rule → Record → Type 0
-Demands rules.MantissaRadixInRange r = IsRadix (r.byte layout.mantissa_radix)
-Demands rules.ExponentBaseInRange r = IsRadix (effective_exponent_base r)
-Demands rules.ExponentRadixInRange r = IsRadix (effective_exponent_radix r)
-Demands rules.DigitSeparatorIsPunctuation r = IsAbsentOrPunctuation r (r.byte layout.digit_separator)
-Demands rules.BasePrefixIsPunctuation r = IsAbsentOrPunctuation r (r.byte layout.base_prefix)
-Demands rules.BaseSuffixIsPunctuation r = IsAbsentOrPunctuation r (r.byte layout.base_suffix)
-Demands rules.PunctuationDiffers r = AreDisjoint (format_roles r)
-Demands rule r = IsFalse (contradict rule r)
+Demands rule r = Meets (shape_of rule) r
 
 -- `Holds rule word` holds if `word` satisfies `rule`.
 unfoldable pub Holds : Rule → ℕ → Type 0
