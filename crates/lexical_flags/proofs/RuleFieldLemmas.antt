@@ -1,6 +1,6 @@
 -- Lemmas that a rule depends only on the bits that it reads.
 use Rattle.std.proofs.Common.{ℕ, ◌≡◌, ◌-◌, ◌*◌, ◌/◌, ◌^◌, ◌==◌, ◌⊎◌, ◌&&◌, ◌||◌, not, true, false, IsTrue, IsFalse, Bool, List, [], ◌∷◌}
-use Rattle.std.proofs.Common.{bit_and, refl, ap, sym, subst, ◌∙◌}
+use Rattle.std.proofs.Common.{bit_and, map, refl, ap, sym, subst, ◌∙◌}
 use Rattle.std.proofs.lemmas.Nat.{and_assoc}
 use Rattle.lexical_base.specs.Ascii.{allowed_ascii}
 use Rattle.lexical_base.specs.Digits.{digits_of}
@@ -10,7 +10,7 @@ use Rattle.lexical_flags.specs.Record.{Record, raw, effective}
 use Rattle.lexical_flags.specs.Roles.{AreDisjoint, cased, signs}
 use Rattle.lexical_flags.specs.Rules.{IsRadix, IsPunctuation, Shape, radix_in_range, absent_or_punctuation}
 use Rattle.lexical_flags.specs.Rules.{roles_differ, not_both, position_allowed, reserved_zero, shape_of}
-use Rattle.lexical_flags.specs.Rules.{Meets, Demands, Holds}
+use Rattle.lexical_flags.specs.Rules.{Meets, Holds, lacks_position, separator_flags}
 use Rattle.std.specs.List.{list_all, AllByRecursion}
 use Rattle.std.proofs.lemmas.Bool.{and_parts, eqb-true}
 use Rattle.lexical_flags.specs.Additions.RuleFields.{flags_of, bytes_of, mask_read}
@@ -62,10 +62,16 @@ module _ (v w mask : ℕ) (same : bit_and v mask ≡ bit_and w mask) where
   bytes_agree (b ∷ bs) inside =
       let parts = and_parts _ _ inside in (byte b (eqb-true _ _ parts.0), bytes_agree bs parts.1)
 
+-- If two words agree in the flags of a list, then they have the same list of values.
+pub map_same : (v w : ℕ) (fs : List Flag) → AllByRecursion (SameFlag v w) fs
+    → map (raw v).flag fs ≡ map (raw w).flag fs
+map_same v w [] same = refl
+map_same v w (f ∷ fs) (first, rest) = λ i. first i ∷ map_same v w fs rest i
+
 -- If two words agree in the fields on which a shape depends, then both meet it or neither meets it.
 Meets-same : (v w : ℕ) (shape : Shape) → SameFields v w shape → Meets shape (raw v) ≡ Meets shape (raw w)
 unfolding IsPunctuation
-Meets-same v w (radix_in_range layout.mantissa_radix) (flags, (m, none)) = ap IsRadix m
+Meets-same v w (radix_in_range layout.mantissa_radix) (flags, (m, none)) = ap (λ m. IsRadix (effective m m)) m
 Meets-same v w (radix_in_range byte) (flags, (b, (m, none))) = λ i. IsRadix (effective (b i) (m i))
 Meets-same v w (absent_or_punctuation byte) (flags, (b, (m, (e, none)))) =
     λ i. (b i ≡ 0) ⊎ (IsTrue (allowed_ascii (b i))
@@ -73,13 +79,13 @@ Meets-same v w (absent_or_punctuation byte) (flags, (b, (m, (e, none)))) =
 Meets-same v w roles_differ ((p, (s, none)), (separator, (prefix, (suffix, nothing)))) =
     λ i. AreDisjoint (cased true (separator i) ∷ cased (p i) (prefix i) ∷ cased (s i) (suffix i) ∷ [])
 Meets-same v w (not_both a b) ((on, (other, none)), bytes) = λ i. IsFalse (on i && other i)
-Meets-same v w (position_allowed part) ((c, (i, (l, (t, none)))), bytes) =
-    λ k. IsFalse (c k && not (i k || l k || t k))
+Meets-same v w (position_allowed part) (flags, bytes) =
+    ap (λ values. IsFalse (lacks_position values)) (map_same v w (separator_flags part) flags)
 Meets-same v w reserved_zero same = refl
 
 -- If two words agree in the bits that a rule reads, then the demands of the rule on both are equal.
 Demands-same : (rule : Rule) (v w : ℕ) → bit_and v (mask_read rule) ≡ bit_and w (mask_read rule)
-    → Demands rule (raw v) ≡ Demands rule (raw w)
+    → Meets (shape_of rule) (raw v) ≡ Meets (shape_of rule) (raw w)
 Demands-same rules.MantissaRadixInRange v w same =
     let shape : Shape = shape_of rules.MantissaRadixInRange in
     Meets-same v w shape (flags_agree v w _ same (flags_of shape) refl, bytes_agree v w _ same (bytes_of shape) refl)

@@ -1,6 +1,6 @@
 -- Lemmas that a reason of a word is true of each word with the same bits under its mask, which also breaks its rule.
 use Rattle.std.proofs.Common.{ℕ, ◌≡◌, ◌≢◌, ◌==◌, ◌&&◌, ◌||◌, ◌⊎◌, inl, inr, ◌<◌, ◌*◌, ◌-◌, ◌^◌, bit_and, bit_or, mod-lt, Some}
-use Rattle.std.proofs.Common.{None, Bool, true, false}
+use Rattle.std.proofs.Common.{None, Bool, true, false, List, [], ◌∷◌, map}
 use Rattle.std.proofs.Common.{IsTrue, not, if◌then◌else◌, refl, ap, sym, subst, ◌∙◌, arith}
 use Rattle.std.specs.Bool.{⊤, IsFalse}
 use Rattle.std.specs.List.{AllByRecursion}
@@ -12,18 +12,18 @@ use lib.Bits.{and_self, and_zero_l}
 use Rattle.lexical_base.specs.Ascii.{ByteSet, between, allowed_ascii, letters}
 use Rattle.lexical_base.specs.Digits.{digits_of}
 use Rattle.lexical_flags.specs.Layout as layout
-use Rattle.lexical_flags.specs.Layout.{Byte, shift}
+use Rattle.lexical_flags.specs.Layout.{Byte, Flag, shift}
 use Rattle.lexical_flags.specs.Record.{Record, raw, effective, effective_exponent_radix}
 use Rattle.lexical_flags.specs.Roles.{cased, digits, signs, are_disjoint, Disjoint, other_case}
 use Rattle.lexical_flags.specs.Roles.{separator, prefix, suffix}
 use Rattle.lexical_flags.specs.Rules.{IsRadix, IsTextOrNone, IsAbsentOrPunctuation, IsPunctuation, Holds}
-use Rattle.lexical_flags.specs.Parts.{separator_flags}
+use Rattle.lexical_flags.specs.Rules.{separator_flags, lacks_position}
 use Rattle.lexical_flags.specs.Rules.{Shape, not_both, position_allowed, shape_of}
 use Rattle.lexical_flags.specs.Additions.RuleFields.{flags_of}
 use Rattle.lexical_flags.specs.Additions.Masks.{byte_mask, reserved_mask}
 use Rattle.lexical_flags.specs.declared.format_flags.all_rules.Rule.{Rule}
 use Rattle.lexical_flags.specs.declared.format_flags.all_rules.Rule.TheVariants as rules
-use Rattle.lexical_flags.proofs.RuleFieldLemmas.{byte, flag, flags_agree, SameFlag}
+use Rattle.lexical_flags.proofs.RuleFieldLemmas.{byte, flag, flags_agree, map_same, SameFlag}
 use Rattle.lexical_flags.proofs.RoleLemmas.{no_digit}
 use Rattle.lexical_flags.proofs.CaseLemmas.{cases_apart, differ_apart, same_clash}
 use Rattle.lexical_flags.proofs.ReservedBits.{reserved_bits}
@@ -50,7 +50,8 @@ of_option : (P : ℕ → Type 0) (b : ℕ) → P b → P (byte_of_option (option
 of_option P b h = subst P (sym (byte_of_option_back b)) h
 
 -- If the mantissa radix is out of range, then it is out of range in the other word too.
-mantissa_out : (m : ℕ) (k : ℕ) → k ≡ m → IsTrue (not (between 2 36 m)) → (IsRadix m → ⊥) × (IsRadix k → ⊥)
+mantissa_out : (m : ℕ) (k : ℕ) → k ≡ m → IsTrue (not (between 2 36 m))
+    → (IsRadix m → ⊥) × (IsRadix (effective k k) → ⊥)
 mantissa_out m k same out = grind (arith, nat_tests)
 
 -- If an exponent byte is present and out of range, then it is out of range in the other word too.
@@ -364,25 +365,32 @@ module _ (word other : ℕ) where
       (facts.0, λ apart. facts.1 (assumption apart))
 
 -- `HasShape shape s` holds if each flag in `shape` has its value there, as a reason with these flags states.
+abbrev HasPositions : List Flag → Record → Type 0
+HasPositions (i ∷ l ∷ t ∷ c ∷ []) s =
+    ((s.flag c ≡ true) × ⊤)
+    × (((s.flag i ≡ false) × ⊤) × (((s.flag l ≡ false) × ⊤) × (((s.flag t ≡ false) × ⊤) × ⊤)))
+HasPositions _ s = ⊥
+
 abbrev HasShape : Shape → Record → Type 0
 HasShape (not_both a b) s = ((s.flag a ≡ true) × ⊤) × ((s.flag b ≡ true) × ⊤)
-HasShape (position_allowed part) s =
-    ((s.flag (separator_flags part).consecutive ≡ true) × ⊤)
-    × (((s.flag (separator_flags part).internal ≡ false) × ⊤) × (((s.flag (separator_flags part).leading ≡ false) × ⊤)
-    × (((s.flag (separator_flags part).trailing ≡ false) × ⊤) × ⊤)))
+HasShape (position_allowed part) s = HasPositions (separator_flags part) s
 HasShape _ s = ⊥
+
+position_facts : (fs : List Flag) (s : Record) → IsTrue (lacks_position (map s.flag fs)) → HasPositions fs s
+position_facts (i ∷ l ∷ t ∷ c ∷ []) s h =
+    let parts = lacks_parts _ _ _ _ h in ((parts.0, tt), ((parts.1, tt), ((parts.2, tt), ((parts.3, tt), tt))))
+position_facts _ s h = true≢false (sym h)
 
 shape_facts : (shape : Shape) (s : Record) → IsTrue (contradict shape s) → HasShape shape s
 shape_facts (not_both a b) s h = let parts = and_parts _ _ h in ((parts.0, tt), (parts.1, tt))
-shape_facts (position_allowed part) s h =
-    let parts = lacks_parts _ _ _ _ h in ((parts.0, tt), ((parts.1, tt), ((parts.2, tt), ((parts.3, tt), tt))))
+shape_facts (position_allowed part) s h = position_facts (separator_flags part) s h
 shape_facts _ s h = true≢false (sym h)
 
 -- If two words agree in the flags of a shape, then both contradict it or neither does.
 contradict_same : (v w : ℕ) (shape : Shape) → AllByRecursion (SameFlag v w) (flags_of shape)
     → contradict shape (raw v) ≡ contradict shape (raw w)
 contradict_same v w (not_both a b) (on, (other, none)) = λ i. on i && other i
-contradict_same v w (position_allowed part) (c, (i, (l, (t, none)))) = λ k. c k && not (i k || l k || t k)
+contradict_same v w (position_allowed part) same = ap lacks_position (map_same v w (separator_flags part) same)
 contradict_same v w _ same = refl
 
 -- If the flags of a word break a rule, then the same flags of the other word break it.

@@ -5,7 +5,7 @@ use Rattle.lexical_flags.specs.Layout as layout
 use Rattle.lexical_flags.specs.Additions.Masks.{byte_mask, mask_of, reserved_mask}
 use Rattle.lexical_flags.specs.Record.{Record}
 use Rattle.lexical_flags.specs.Roles.{are_disjoint, separator, prefix, suffix}
-use Rattle.lexical_flags.specs.Parts.{separator_flags}
+use Rattle.lexical_flags.specs.Rules.{separator_flags}
 use Rattle.lexical_flags.specs.Rules.{Shape, radix_in_range, absent_or_punctuation, roles_differ, not_both}
 use Rattle.lexical_flags.specs.Rules.{position_allowed, shape_of}
 use Rattle.lexical_flags.specs.declared.format_flags.all_rules.Rule.{Rule}
@@ -15,8 +15,7 @@ use Rattle.lexical_flags.specs.declared.format_flags.all_rules.Rule.TheVariants 
 abbrev pub flags_of : Shape → List Flag
 flags_of roles_differ = layout.case_sensitive_base_prefix ∷ layout.case_sensitive_base_suffix ∷ []
 flags_of (not_both a b) = a ∷ b ∷ []
-flags_of (position_allowed part) =
-    let flags = separator_flags part in flags.consecutive ∷ flags.internal ∷ flags.leading ∷ flags.trailing ∷ []
+flags_of (position_allowed part) = separator_flags part
 flags_of _ = []
 
 -- `bytes_of shape` lists the bytes on which `shape` depends.

@@ -9,7 +9,7 @@ use Rattle.lexical_base.specs.Digits.{digits_of}
 use Rattle.lexical_flags.specs.Layout as layout
 use Rattle.lexical_flags.specs.Record.{Record, raw}
 use Rattle.lexical_flags.specs.Roles.{are_disjoint, digits, signs, separator, prefix, suffix, other_case}
-use Rattle.lexical_flags.specs.Parts.{separator_flags}
+use Rattle.lexical_flags.specs.Rules.{separator_flags}
 use Rattle.lexical_flags.specs.Rules.{Holds, IsRadix, IsTextOrNone, punctuation_rules, flag_rules}
 use Rattle.lexical_flags.specs.Rules.{Shape, not_both, position_allowed, shape_of, lacks_position}
 use Rattle.lexical_flags.specs.Additions.RuleFields.{mask_read}
@@ -215,7 +215,7 @@ flag_reason _ = reasons.NeedsPosition setters.ExponentConsecutiveDigitSeparator
 -- `contradict shape r` is true if `r` does not meet a shape of flags.
 abbrev pub contradict : Shape → Record → Bool
 contradict (not_both a b) r = r.flag a && r.flag b
-contradict (position_allowed part) r = lacks_position r (separator_flags part)
+contradict (position_allowed part) r = lacks_position (map r.flag (separator_flags part))
 contradict _ r = false
 
 -- `candidates_of rule word` lists the candidates for the reasons why `word` breaks `rule`.
