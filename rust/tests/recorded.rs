@@ -1,7 +1,7 @@
 //! Compares the plain Rust with results that `lexical-util` 1.0.7 returned. `crates/recorded/src/reading.rt` describes
 //! their lines.
 
-#[path = "rows/errors.rs"]
+#[path = "known/rows/errors.rs"]
 #[allow(dead_code)]
 mod errors;
 

@@ -1,5 +1,5 @@
 //! What a caller relies on beyond results: the view whose word is a const argument is the view at run time, the types
-//! have their traits, and a format that is not lawful stops the program with its first reason.
+//! have their traits, and a panic names its caller.
 
 use peltzivar::format::{NumberFormatBuilder, STANDARD};
 use peltzivar::{
@@ -8,8 +8,8 @@ use peltzivar::{
 use std::error::Error as StdError;
 use std::fmt::{Debug, Display};
 use std::hash::Hash;
-use std::num::NonZeroU8;
 use std::panic;
+use std::sync::atomic::{AtomicU32, Ordering};
 
 const fn is_value<T: Copy + Debug + Eq + Hash + Send + Sync + Unpin>() {}
 const fn is_shown<T: Display>() {}
@@ -132,19 +132,16 @@ fn both_views_are_the_same() {
     views_are_same::<{ u128::MAX / 0x1_0000_0000_0000_0001 }>();
 }
 
+/// A panic names the line that called `build_or_panic`.
 #[test]
-fn a_format_that_is_not_lawful_panics_with_its_first_reason() {
-    let new = NumberFormatBuilder::new();
-    let separator = new.digit_separator(NonZeroU8::new(b'5'));
-    #[rustfmt::skip]
-    let rows = [
-        (new.mantissa_radix(0), "'invalid radix for mantissa digits': the mantissa radix 0 is not between 2 and 36"),
-        (separator.internal_digit_separator(true),
-            "'invalid digit separator: must be ASCII and not a digit or a `+/-` sign': the digit separator '5' is a digit in radix 10"),
-    ];
-    for (builder, wanted) in rows {
-        let payload = panic::catch_unwind(|| builder.build_or_panic()).expect_err(wanted);
-        let text = payload.downcast_ref::<String>().map(String::as_str);
-        assert_eq!(text, Some(wanted));
-    }
+fn build_or_panic_blames_its_caller() {
+    static LINE: AtomicU32 = AtomicU32::new(0);
+    panic::set_hook(Box::new(|info| {
+        let line = info.location().map_or(0, |at| at.line());
+        LINE.store(line, Ordering::SeqCst);
+    }));
+    let builder = NumberFormatBuilder::new().mantissa_radix(1);
+    let (line, result) = (line!(), panic::catch_unwind(|| builder.build_or_panic()));
+    assert!(result.is_err());
+    assert_eq!(LINE.load(Ordering::SeqCst), line);
 }
