@@ -27,6 +27,7 @@ pub struct Data {
     /// Words that break one rule.
     pub one_broken: Vec<Case>,
     pub any: Vec<Case>,
+    pub edits: Vec<(u128, [Edit; 3])>,
     /// Settings that both sides take, and words as text.
     pub settings: Vec<String>,
     pub texts: Vec<String>,
@@ -60,6 +61,9 @@ impl Data {
             lawful: list(random, 4096, |random| (lawful(random), options(random))),
             one_broken: broken.iter().filter(breaks_one).copied().collect(),
             any: list(random, 4096, |random| (random.bits(), random.next())),
+            edits: list(random, 4096, |random| {
+                (random.bits(), [(); 3].map(|_| setting(random).parse().expect("a setting")))
+            }),
             settings: list(random, 1024, setting),
             texts: broken.iter().map(|case| format!("0x{:X}", case.0)).collect(),
             broken,

@@ -204,7 +204,7 @@ over_items! {
     build_strict: |(word, _), Case| strict(NumberFormatBuilder::rebuild(*word));
     migrate: |(word, _), Case| migrated(*word);
     normal_forms: |(word, _), Case| normal_form(*word);
-    any_edits: |(word, bits), Case| edit_word(*word, &[edit_of(*bits), edit_of(bits >> 16), edit_of(bits >> 32)]);
+    any_edits: |(word, edits), (u128, [Edit; 3])| edit_word(*word, edits);
     words_parsed: |text, String| parsed(text).unwrap_or(0);
     settings: |text, String| set(text).unwrap_or(0);
 }
@@ -253,28 +253,24 @@ pub fn few_getters(cases: &[Case]) -> u64 {
 
 // BUILDERS AND EDITS
 
-pub fn new_builders(cases: &[Case]) -> u64 {
-    over(cases, |fold, (_, bits)| {
-        let word = NumberFormatBuilder::new()
-            .digit_separator(NonZeroU8::new(b'_'))
-            .internal_digit_separator(bits % 2 == 1)
-            .required_digits(bits % 4 < 2)
-            .radix((bits >> 24) as u8)
-            .base_prefix(NonZeroU8::new((bits >> 16) as u8))
-            .build_unchecked();
-        fold.with_word(word)
-    })
-}
-
-pub fn setters(cases: &[Case]) -> u64 {
-    over(cases, |fold, (word, bits)| {
-        let word = NumberFormatBuilder::rebuild(word)
-            .no_special(bits % 2 == 1)
-            .digit_separator(NonZeroU8::new((bits >> 16) as u8))
-            .mantissa_radix((bits >> 24) as u8)
-            .build_unchecked();
-        fold.with_word(word)
-    })
+over_items! {
+    new_builders: |(_, bits), Case| NumberFormatBuilder::new()
+        .digit_separator(NonZeroU8::new(b'_'))
+        .internal_digit_separator(bits % 2 == 1)
+        .required_digits(bits % 4 < 2)
+        .radix((bits >> 24) as u8)
+        .base_prefix(NonZeroU8::new((bits >> 16) as u8))
+        .build_unchecked();
+    setters: |(word, bits), Case| NumberFormatBuilder::rebuild(*word)
+        .no_special(bits % 2 == 1)
+        .digit_separator(NonZeroU8::new((bits >> 16) as u8))
+        .mantissa_radix((bits >> 24) as u8)
+        .build_unchecked();
+    known_edits: |(word, bits), Case| edit_word(*word, &[
+        Edit::Flag(FlagSetter::NoSpecial, bits % 2 == 1),
+        Edit::DigitSeparator(NonZeroU8::new((bits >> 16) as u8)),
+        Edit::MantissaRadix((bits >> 24) as u8),
+    ]);
 }
 
 macro_rules! builder_getters {
@@ -301,29 +297,4 @@ with_setters!(builder_getters);
 pub fn same_formats(cases: &[Case]) -> u64 {
     let mut last = 0;
     over(cases, |fold, (word, _)| fold.with(same_format(std::mem::replace(&mut last, word), word) as u64))
-}
-
-pub fn known_edits(cases: &[Case]) -> u64 {
-    over(cases, |fold, (word, bits)| {
-        let edits = [
-            Edit::Flag(FlagSetter::NoSpecial, bits % 2 == 1),
-            Edit::DigitSeparator(NonZeroU8::new((bits >> 16) as u8)),
-            Edit::MantissaRadix((bits >> 24) as u8),
-        ];
-        fold.with_word(edit_word(word, &edits))
-    })
-}
-
-fn edit_of(bits: u64) -> Edit {
-    let (flag, byte) = (bits >> 7 & 1 == 1, NonZeroU8::new((bits >> 8) as u8));
-    match bits % 8 {
-        0 => Edit::Flag(FlagSetter::RequiredIntegerDigits, flag),
-        1 => Edit::Flag(FlagSetter::SpecialDigitSeparator, flag),
-        2 => Edit::Flag(FlagSetter::LeadingDigitSeparator, flag),
-        3 => Edit::Flag(FlagSetter::DigitSeparatorFlags, flag),
-        4 => Edit::DigitSeparator(byte),
-        5 => Edit::BasePrefix(byte),
-        6 => Edit::Radix((bits >> 8) as u8),
-        _ => Edit::ExponentBase(byte),
-    }
 }

@@ -94,7 +94,7 @@ fn word_rows(data: &Data) -> Vec<Row<'_>> {
         "normal_form", 1.0, normal_forms(&data.any);
         "same_format", 1.0, same_formats(&data.any);
         "edit_word, 3 known edits", 1.0, known_edits(&data.any);
-        "edit_word, 3 of any kind", 1.0, any_edits(&data.any);
+        "edit_word, 3 of any kind", 1.0, any_edits(&data.edits);
         "migrate, lawful", 1.0, migrate(&data.lawful);
         "Format::new, lawful", 1.0, formats(&data.lawful);
         "Format::new, unlawful", 1.0, formats(&data.broken);
