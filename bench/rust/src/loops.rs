@@ -1,7 +1,6 @@
 // The loops, over the library and over `lexical-util`. `ours.rs` and `theirs.rs` include them, each under its imports.
 
 use std::cmp::Ordering;
-use std::fmt::{self, Write};
 use std::num::NonZeroU8;
 
 /// A field as a number, which is 0 for an absent byte.
@@ -10,11 +9,6 @@ fn number(field: impl Number) -> u64 {
 }
 
 // BYTES AND DIGITS
-
-pub fn digit_sum(bytes: &[u8], radix: u32) -> u64 {
-    let digits = bytes.iter().filter_map(|c| char_to_digit(*c, radix));
-    digits.fold(0u64, |sum, digit| sum.wrapping_add(digit as u64))
-}
 
 /// Reads a number, and skips all bytes that are not digits.
 fn read(bytes: &[u8], radix: u32, digit: impl Fn(u8) -> Option<u32>) -> u64 {
@@ -136,26 +130,10 @@ pub fn descriptions(numbers: &[u64]) -> u64 {
     over_outcomes(numbers, TIMES, |fold, outcomes, index, _| fold.with(outcomes[index].description().len() as u64))
 }
 
-/// A text of at most 160 bytes.
-struct Page([u8; 160], usize);
-
-impl Write for Page {
-    fn write_str(&mut self, s: &str) -> fmt::Result {
-        for byte in s.as_bytes() {
-            if self.1 < 160 {
-                self.0[self.1] = *byte;
-                self.1 += 1;
-            }
-        }
-        Ok(())
-    }
-}
-
 pub fn display(numbers: &[u64]) -> u64 {
     over_outcomes(numbers, 1, |fold, outcomes, index, _| {
-        let mut page = Page([0; 160], 0);
-        let _ = write!(page, "{}", outcomes[index]);
-        fold.with(page.1 as u64).with(page.0[40] as u64)
+        let text = outcomes[index].to_string();
+        fold.with(text.len() as u64).with(text.as_bytes()[text.len() / 2] as u64)
     })
 }
 

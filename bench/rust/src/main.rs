@@ -50,7 +50,7 @@ fn byte_rows(data: &Data) -> Vec<Row<'_>> {
         "char_to_digit, read, radix 10", 1.0, digit_read(decimal, 10);
         "char_to_digit, read, radix 16", 1.0, digit_read(hexadecimal, 16);
         "char_to_digit, read, radix 36", 1.0, digit_read(alphanumeric, 36);
-        "char_to_digit, any bytes, radix 36", 1.0, digit_sum(&data.any_bytes, 36);
+        "char_to_digit, any bytes, radix 36", 1.0, digit_read(&data.any_bytes, 36);
         "char_is_digit, any bytes, radix 16", 1.0, is_digit(&data.any_bytes, 16);
         "char_to_digit_const, read, radix 10", 1.0, decimal_read(decimal);
         "mantissa_digit, read", 1.0, view_read(hexadecimal, HEXADECIMAL);

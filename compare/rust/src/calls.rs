@@ -9,8 +9,6 @@ use std::cmp::Ordering;
 use std::num::NonZeroU8;
 use std::panic::catch_unwind;
 
-// BYTES AND DIGITS
-
 pub fn byte(c: u8) -> Results<2> {
     results! { is_valid_ascii: is_valid_ascii(c), is_valid_letter: is_valid_letter(c), }
 }
@@ -36,8 +34,6 @@ pub fn digit_char(digit: u32, radix: u32) -> Results<2> {
 pub fn is_valid_radix(radix: u32) -> Results<1> {
     results! { is_valid_radix: flags::is_valid_radix(radix), }
 }
-
-// OUTCOMES
 
 macro_rules! outcomes {
     (
@@ -93,8 +89,6 @@ pub fn texts(position: u128, index: usize) -> [String; 6] {
     [error.description().to_string(), error.to_string(), wide, starred, short, zeros]
 }
 
-// WORDS
-
 /// The rules and the fields of a word: first what `rules::word` changes. Of `format_error_impl`, the call `format_error`
 /// and the view the errors are given, and then of the two calls for radixes.
 fn word_of(
@@ -144,8 +138,6 @@ macro_rules! view_of {
     };
 }
 
-// WORDS THAT ARE KNOWN WHEN THIS IS COMPILED
-
 /// The rules of a word by the calls that take it as a const argument, and the fields.
 pub fn const_word<const WORD: u128>() -> Results<19> {
     let (view, error) = (known::NumberFormat::<WORD>::new(), known::format_error::<WORD>());
@@ -180,8 +172,6 @@ macro_rules! constants_of {
 pub fn associated<const WORD: u128>() -> Results<43> {
     with_setters!(flag_getters(constants_of WORD))
 }
-
-// BUILDERS
 
 macro_rules! constants {
     ($($name:ident)*) => {

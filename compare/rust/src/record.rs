@@ -35,7 +35,7 @@ fn original<T: PartialEq>(ours: T, theirs: T, text: impl FnOnce(T) -> String) ->
 pub fn lines(seed: u64) -> Vec<String> {
     let random = &mut Random::new(seed);
     let mut lines = vec![];
-    lines.extend(bytes());
+    lines.extend((0..=255).map(|c| format!("byte {c} {} {}", is_valid_ascii(c), is_valid_letter(c))));
     lines.extend(digits());
     lines.extend(outcomes());
     lines.extend(words(random, 4000).iter().map(|word| fields(*word)));
@@ -45,10 +45,6 @@ pub fn lines(seed: u64) -> Vec<String> {
     lines.extend((0..2500).map(|_| edit(random.word(), &random.calls(6))));
     lines.extend((0..2500).map(|_| build(&random.calls(6))));
     lines
-}
-
-fn bytes() -> impl Iterator<Item = String> {
-    (0..=255).map(|c| format!("byte {c} {} {}", is_valid_ascii(c), is_valid_letter(c)))
 }
 
 fn digits() -> impl Iterator<Item = String> {
@@ -61,9 +57,8 @@ fn digits() -> impl Iterator<Item = String> {
 }
 
 fn outcomes() -> impl Iterator<Item = String> {
-    const INDEXES: [usize; 3] = [0, 7, usize::MAX];
-    let pairs = (0..49)
-        .flat_map(|position| INDEXES[..if position < 19 { 3 } else { 1 }].iter().map(move |index| (position, *index)));
+    let indexes = |position| [0, 7, usize::MAX].into_iter().take(if position < 19 { 3 } else { 1 });
+    let pairs = (0..49).flat_map(|position| indexes(position).map(move |index| (position, index)));
     pairs.map(|(position, index)| {
         let [_, text, ..] = theirs::texts(position, index);
         format!("printed {index} {} {text}", name(position))

@@ -134,7 +134,7 @@ fn known_words(tally: &mut Tally) {
 fn known<const WORD: u128>(tally: &mut Tally) {
     let (input, theirs) = (("word", WORD), theirs::const_word::<WORD>());
     for ours in [ours::const_word::<WORD>(), ours::word(WORD)] {
-        tally.expect(input, ours, rules::word(WORD, theirs), theirs);
+        tally.expect(input, [ours, rules::word(WORD, theirs), theirs]);
     }
     for ours in [ours::const_view::<WORD>(), ours::view(WORD)] {
         tally.same(input, ours, theirs::const_view::<WORD>());
@@ -152,7 +152,7 @@ fn known<const WORD: u128>(tally: &mut Tally) {
 /// Compares the calls that depend only on a word: its rules and fields.
 fn rules_of(tally: &mut Tally, word: u128) {
     let theirs = theirs::word(word);
-    tally.expect(("word", word), ours::word(word), rules::word(word, theirs), theirs);
+    tally.expect(("word", word), [ours::word(word), rules::word(word, theirs), theirs]);
 }
 
 /// All calls on a word, and those on two.
@@ -161,7 +161,7 @@ fn whole_word(tally: &mut Tally, word: u128, other: u128) {
     same!(tally, view(word));
     same!(tally, rebuild(word));
     let theirs = theirs::own(word, other);
-    tally.expect(("words", word, other), ours::own(word, other), rules::strict(theirs), theirs);
+    tally.expect(("words", word, other), [ours::own(word, other), rules::strict(theirs), theirs]);
     for (ours, theirs) in ours::listed(word).into_iter().zip(theirs::listed(word)) {
         tally.same(("edits of", word), ours, theirs);
     }
@@ -225,13 +225,9 @@ fn options(tally: &mut Tally, random: &mut Random) {
         }
         for (exponent, point) in (0..=255).flat_map(|exponent| (0..=255).map(move |point| (exponent, point))) {
             let theirs = theirs::options(word, exponent, point);
+            let sides = [ours::options(word, exponent, point), rules::options(word, exponent, point, theirs), theirs];
             let fits = |accepted: bool| results! { is_valid_options_punctuation: accepted, };
-            tally.expect(
-                ("word, exponent, point", word, exponent, point),
-                fits(ours::options(word, exponent, point)),
-                fits(rules::options(word, exponent, point, theirs)),
-                fits(theirs),
-            );
+            tally.expect(("word, exponent, point", word, exponent, point), sides.map(fits));
         }
     }
 }
@@ -241,7 +237,7 @@ fn builders(tally: &mut Tally, random: &mut Random) {
         let input = ("start, calls", start, calls);
         same!(tally, builder_fields(start, calls));
         for (ours, theirs) in ours::built(start, calls).into_iter().zip(theirs::built(start, calls)) {
-            tally.expect(input, ours, rules::strict(theirs), theirs);
+            tally.expect(input, [ours, rules::strict(theirs), theirs]);
         }
         same!(tally, edits(start.unwrap_or(BASES[2]), calls));
     };
