@@ -3,11 +3,13 @@
 
 use peltzivar::format::{NumberFormatBuilder, STANDARD};
 use peltzivar::{
-    Edit, Error, FlagSetter, Format, FormatView, Note, NumberFormat, Reason, Rule, SettingError,
+    Edit, Error, FlagSetter, Format, FormatError, FormatView, Note, NumberFormat, Part, Reason,
+    Rule, SettingError, SettingErrorKind,
 };
 use std::error::Error as StdError;
 use std::fmt::{Debug, Display};
 use std::hash::Hash;
+use std::num::NonZeroU8;
 use std::panic;
 use std::sync::atomic::{AtomicU32, Ordering};
 
@@ -21,6 +23,7 @@ const _: () = {
     is_value::<Error>();
     is_value::<FlagSetter>();
     is_value::<Format>();
+    is_value::<FormatError>();
     is_value::<FormatView>();
     is_value::<Note>();
     is_value::<NumberFormat<STANDARD>>();
@@ -28,10 +31,12 @@ const _: () = {
     is_value::<Reason>();
     is_value::<Rule>();
     is_value::<SettingError>();
+    is_value::<SettingErrorKind>();
     is_shown::<Edit>();
     is_shown::<FlagSetter>();
     is_shown::<Note>();
     is_error::<Error>();
+    is_error::<FormatError>();
     is_error::<Reason>();
     is_error::<SettingError>();
     is_ordered::<Edit>();
@@ -41,10 +46,24 @@ const _: () = {
 };
 
 macro_rules! same {
-    ($constant:ident $view:ident; $($NAME:ident $get:ident,)*; $($name:ident,)*) => {
+    ($constant:ident $view:ident; $($NAME:ident $get:ident,)*; $($name:ident,)*; $($check:ident,)*) => {
         $(assert_eq!(NumberFormat::<W>::$NAME, $view.$get(), "{} of {W:#034X}", stringify!($NAME));
         assert_eq!($constant.$get(), $view.$get(), "{} of {W:#034X}", stringify!($get));)*
         $(assert_eq!($constant.$name(), $view.$name(), "{} of {W:#034X}", stringify!($name));)*
+        $(assert_eq!($constant.$check(), $view.$check(), "{} of {W:#034X}", stringify!($check));)*
+        if let Ok(format) = Format::new(W) {
+            $(assert_eq!(format.$get(), $view.$get(), "{} of {W:#034X}", stringify!($get));)*
+            $(assert_eq!(format.$name(), $view.$name(), "{} of {W:#034X}", stringify!($name));)*
+        }
+    };
+}
+
+/// Compares the bytes of both views and of the format, if there is one. An absent byte of the constant view is 0.
+macro_rules! same_bytes {
+    ($constant:ident $view:ident; $($NAME:ident $get:ident,)*) => {
+        $(let byte = $view.$get();
+        assert_eq!([NumberFormat::<W>::$NAME, $constant.$get()], [byte.map_or(0, NonZeroU8::get); 2]);
+        assert_eq!(Format::new(W).map_or(byte, |format| format.$get()), byte);)*
     };
 }
 
@@ -55,9 +74,25 @@ fn views_are_same<const W: u128>() {
     assert_eq!((constant.view(), FormatView::from(constant), FormatView::from(W)), (view, view, view));
     assert_eq!((view.word(), u128::from(view)), (W, W));
     assert_eq!(NumberFormat::<W>::rebuild(), view.rebuild());
+    macro_rules! roles_of {
+        ($view:ident, $byte:ident) => {
+            (
+                [$view.is_digit($byte), $view.is_separator($byte), $view.is_base_prefix($byte)],
+                [$view.is_base_suffix($byte), $view.is_exponent_character(b'e', $byte)],
+                [$view.mantissa_digit($byte), $view.exponent_digit($byte)],
+                $view.role_of(b'e', b'.', $byte),
+            )
+        };
+    }
     for byte in 0..=255 {
-        let read = [constant.is_digit(byte), constant.is_base_prefix(byte), constant.is_base_suffix(byte)];
-        assert_eq!(read, [view.is_digit(byte), view.is_base_prefix(byte), view.is_base_suffix(byte)], "{byte}");
+        assert_eq!(roles_of!(constant, byte), roles_of!(view, byte), "{byte}");
+        if let Ok(format) = Format::new(W) {
+            assert_eq!(roles_of!(format, byte), roles_of!(view, byte), "{byte}");
+        }
+    }
+    for part in [Part::Integer, Part::Fraction, Part::Exponent] {
+        assert_eq!(constant.separators(part), view.separators(part));
+        assert_eq!(Format::new(W).map_or(view.separators(part), |it| it.separators(part)), view.separators(part));
     }
     same! { constant view;
         REQUIRED_INTEGER_DIGITS required_integer_digits,
@@ -96,18 +131,21 @@ fn views_are_same<const W: u128>() {
         EXPONENT_CONSECUTIVE_DIGIT_SEPARATOR exponent_consecutive_digit_separator,
         CONSECUTIVE_DIGIT_SEPARATOR consecutive_digit_separator,
         SPECIAL_DIGIT_SEPARATOR special_digit_separator,
-        DIGIT_SEPARATOR digit_separator,
-        BASE_PREFIX base_prefix,
-        BASE_SUFFIX base_suffix,
         MANTISSA_RADIX mantissa_radix,
         RADIX radix,
         EXPONENT_BASE exponent_base,
         EXPONENT_RADIX exponent_radix,
         ;
-        is_valid, error, is_valid_radix, error_radix, has_digit_separator, has_base_prefix,
-        has_base_suffix, radix2, radix4, radix8, flags, interface_flags, digit_separator_flags,
-        exponent_flags, integer_digit_separator_flags, fraction_digit_separator_flags,
-        exponent_digit_separator_flags,
+        has_digit_separator, has_base_prefix, has_base_suffix, radix2, radix4, radix8, flags,
+        interface_flags, digit_separator_flags, exponent_flags, integer_digit_separator_flags,
+        fraction_digit_separator_flags, exponent_digit_separator_flags,
+        ;
+        is_valid, error, is_valid_radix, error_radix,
+    }
+    same_bytes! { constant view;
+        DIGIT_SEPARATOR digit_separator,
+        BASE_PREFIX base_prefix,
+        BASE_SUFFIX base_suffix,
     }
 }
 

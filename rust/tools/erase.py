@@ -40,9 +40,9 @@ PLACES = {
     "numfmt": ("numfmt/src", "peltzivar", "std"),
 }
 
-# Files without a counterpart in plain Rust: roots, which are written by hand, tests, laws, examples, and a type that core
-# has.
-WRITTEN_ANEW = ("format_builder/non_zero.rt", "tests.rt", "tests/rows.rt")
+# Files without a counterpart in plain Rust: roots and getters of bytes, which are written by hand, tests, laws, examples,
+# and a type that core has.
+WRITTEN_ANEW = ("feature_format/bytes.rt", "format_builder/non_zero.rt", "tests.rt", "tests/rows.rt")
 LEFT_OUT = re.compile(rf"(lib|main|laws|examples)\.rt|{'|'.join(WRITTEN_ANEW)}|laws/.*")
 
 # In plain Rust `format` and `feature_format` are written by hand and take the word as a const argument, as in
@@ -114,14 +114,14 @@ HIDDEN = {
     "format_flags/rules.rt": "clashes options_error radix_error_impl format_error_impl check",
     "format_builder.rt": "from_parts to_parts with_flags",
     "edits/setters.rt": "FIELD_COUNT SETTERS ALL_SETTERS with_byte argument_byte field_edits_of",
-    "edits/text.rt": "SettingError::* from_text byte_from_decimal",
+    "edits/text.rt": "from_text byte_from_decimal",
     "reasons.rt": "MAX_REASONS CANDIDATE_COUNT reasons reasons_of",
     "reasons/note.rt": "MAX_NOTES notes notes_of_fields",
     "reasons/text.rt": "text",
 }
 
 # Enums that may grow.
-GROWING = {"Error", "Class", "Rule", "Reason", "Note", "FlagSetter"}
+GROWING = {"Error", "Class", "Rule", "Reason", "Note", "FlagSetter", "SettingErrorKind"}
 
 # Traits that a type also derives in plain Rust.
 DERIVED = {
@@ -129,7 +129,6 @@ DERIVED = {
     "Rule": "PartialOrd, Ord",
     "Reason": "Hash",
     "Note": "Hash",
-    "SettingError": "Hash",
     "FlagSetter": "PartialOrd, Ord",
     "Edit": "PartialOrd, Ord",
     "Setter": "PartialOrd, Ord",
