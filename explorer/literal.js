@@ -67,9 +67,10 @@ class Trial {
         const { value } = this.library.parse(name, text);
         const set = () => {
             this.edit(name, value);
-            find("literal").focus();
+            (find("read").querySelector(".use") ?? find("literal")).focus();
         };
         const shown = this.library.setting(this.library.named.get(name), value).replace(`${name}=`, " = ");
-        return [`${what}. More is accepted with `, ...this.links([name]), `${shown} `, button("use", "set it", set)];
+        const use = button("use", "set it", set, { "aria-label": `set it: ${name}${shown}` });
+        return [`${what}. More is accepted with `, ...this.links([name]), `${shown} `, use];
     }
 }

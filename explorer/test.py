@@ -377,10 +377,10 @@ class Walk(unittest.TestCase):
 
     def test_a_format_is_found_by_trying_numbers(self):
         self.type("#literal", "1_0.\n0x1_0\n1__0\n10m")
-        for _ in range(5):
-            self.click("#read .use")
-            self.assertEqual(self.focused(), "literal")
-        self.assertEqual(self.texts("#read .bad"), [])
+        self.find("#read .use").send_keys(Keys.ENTER)
+        for _ in range(4):
+            self.driver.switch_to.active_element.send_keys(Keys.ENTER)
+        self.assertEqual((self.focused(), self.texts("#read .bad")), ("literal", []))
         self.assertEqual(self.value(), "0x00000A6D7800005F000002010000000C")
 
     def test_controls_have_names_and_texts_fit_a_phone(self):
