@@ -58,7 +58,6 @@ macro_rules! over_bytes {
 over_bytes! {
     roles: |byte, word: u128| role(FormatView::new(word), byte);
     digits_to_char: |byte| digit_to_char((byte % 36) as u32);
-    from_radix: |byte| NumberFormatBuilder::from_radix(byte);
 }
 
 /// Loops that count the items for which a test returns `true`.

@@ -50,7 +50,6 @@ fn byte_rows(data: &Data) -> Vec<Row<'_>> {
         "char_to_digit, read, radix 10", 1.0, digit_read(decimal, 10);
         "char_to_digit, read, radix 16", 1.0, digit_read(hexadecimal, 16);
         "char_to_digit, read, radix 36", 1.0, digit_read(alphanumeric, 36);
-        "char_to_digit, any bytes, radix 36", 1.0, digit_read(&data.any_bytes, 36);
         "char_is_digit, any bytes, radix 16", 1.0, is_digit(&data.any_bytes, 16);
         "char_to_digit_const, read, radix 10", 1.0, decimal_read(decimal);
         "mantissa_digit, read", 1.0, view_read(hexadecimal, HEXADECIMAL);
@@ -58,7 +57,6 @@ fn byte_rows(data: &Data) -> Vec<Row<'_>> {
         "role_of, over a text", 1.0, roles(&data.numbers, HEXADECIMAL);
         "digit_to_char", 1.0, digits_to_char(&data.any_bytes);
         "is_valid_ascii", 1.0, ascii(&data.any_bytes);
-        "from_radix", 1.0, from_radix(&data.any_bytes);
         "is_valid_ascii_slice, 16 B", 1.0 / 16.0, ascii_slices(&text[..1 << 14], 16);
         "is_valid_letter_slice, 16 B", 1.0 / 16.0, letter_slices(&letters[..1 << 14], 16);
         "is_valid_ascii_slice, 1 KiB", 1.0 / 1024.0, ascii_slices(&text[..1 << 14], 1 << 10);
