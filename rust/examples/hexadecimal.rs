@@ -13,6 +13,6 @@ const HEXADECIMAL: u128 = NumberFormatBuilder::new()
 
 fn main() {
     let format = NumberFormat::<HEXADECIMAL>::new();
-    assert!(format.is_digit(b'F') && format.digit_separator() == b'_');
+    assert!(format.mantissa_digit(b'F') == Some(15) && format.is_separator(b'_'));
     println!("{format:?}");
 }

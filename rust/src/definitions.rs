@@ -36,44 +36,6 @@
 //! allowed_ascii byte = between 9 13 byte || between 32 126 byte
 //! ```
 //!
-//! # Digit characters and their values
-//!
-//! ## `digit_characters`
-//!
-//! `digit_characters` lists the 36 digit characters, each at the index that equals its value.
-//!
-//! ```text
-//! digit_characters : List ℕ
-//! digit_characters = codes "0123456789ABCDEFGHIJKLMNOPQRSTUVWXYZ"
-//! ```
-//!
-//! ## `uppercase`
-//!
-//! `uppercase byte` is the uppercase form of `byte` if `byte` is a lowercase letter, and `byte` otherwise.
-//!
-//! ```text
-//! uppercase : ℕ → ℕ
-//! uppercase byte = if between 97 122 byte then byte - 32 else byte
-//! ```
-//!
-//! ## `byte_value`
-//!
-//! `byte_value byte` is the index of `uppercase byte` in `digit_characters`, or 255 if it is not in that list.
-//!
-//! ```text
-//! byte_value : ℕ → ℕ
-//! byte_value byte = unwrap_or (position (λ character. character == uppercase byte) digit_characters) 255
-//! ```
-//!
-//! ## `digits_of`
-//!
-//! `digits_of radix` is the set of the digits of `radix`. A radix above 36 has the same digits as radix 36.
-//!
-//! ```text
-//! digits_of : ℕ → ByteSet
-//! digits_of radix byte = nat_lt (byte_value byte) (min radix 36)
-//! ```
-//!
 //! # The flags and bytes of a format word, and their bits
 //!
 //! ## `part`
@@ -430,138 +392,42 @@
 //!   each : (b : Byte) → r.byte b < 256
 //! ```
 //!
-//! # The record of a new builder, and the record of a builder with a given radix
+//! # Digit characters and their values
 //!
-//! ## `new_record`
+//! ## `digit_characters`
 //!
-//! `new_record` is the record of a new builder: it has radix 10 and requires mantissa and exponent digits.
+//! `digit_characters` lists the 36 digit characters, each at the index that equals its value.
 //!
 //! ```text
-//! new_record : Record
-//! new_record = record {
-//!   flag = λ f. bit f == bit layout.required_exponent_digits || bit f == bit layout.required_mantissa_digits;
-//!   byte = λ b. if shift b == shift layout.mantissa_radix then 10 else 0;
-//! }
+//! digit_characters : List ℕ
+//! digit_characters = codes "0123456789ABCDEFGHIJKLMNOPQRSTUVWXYZ"
 //! ```
 //!
-//! # A byte that may be absent, as an option and as a number
+//! ## `uppercase`
 //!
-//! ## `byte_of_option`
-//!
-//! `byte_of_option byte` is the byte in the option `byte`, or 0 if `byte` is `None`.
+//! `uppercase byte` is the uppercase form of `byte` if `byte` is a lowercase letter, and `byte` otherwise.
 //!
 //! ```text
-//! byte_of_option : Option ℕ → ℕ
-//! byte_of_option None = 0
-//! byte_of_option (Some byte) = byte
+//! uppercase : ℕ → ℕ
+//! uppercase byte = if between 97 122 byte then byte - 32 else byte
 //! ```
 //!
-//! ## `option_of_byte`
+//! ## `byte_value`
 //!
-//! `option_of_byte byte` is `byte` as an option, which is `None` if `byte` is 0.
+//! `byte_value byte` is the index of `uppercase byte` in `digit_characters`, or 255 if it is not in that list.
 //!
 //! ```text
-//! option_of_byte : ℕ → Option ℕ
-//! option_of_byte byte = if byte == 0 then None else Some byte
+//! byte_value : ℕ → ℕ
+//! byte_value byte = unwrap_or (position (λ character. character == uppercase byte) digit_characters) 255
 //! ```
 //!
-//! # Writes of fields, and the record after them
+//! ## `digits_of`
 //!
-//! ## `Write`
-//!
-//! `Write` is the type of writes. A write has a field and the new value of the field.
+//! `digits_of radix` is the set of the digits of `radix`. A radix above 36 has the same digits as radix 36.
 //!
 //! ```text
-//! data Write : Type 0 where
-//!   write_flag : Flag → Bool → Write
-//!   write_byte : Byte → ℕ → Write
-//! ```
-//!
-//! ## `IsLegal`
-//!
-//! `IsLegal write` holds if the value of `write` fits its field: the value of a byte is between 0 and 255.
-//!
-//! ```text
-//! IsLegal : Write → Type 0
-//! IsLegal (write_flag f value) = ⊤
-//! IsLegal (write_byte b value) = value < 256
-//! ```
-//!
-//! ## `write_flags`
-//!
-//! `write_flags fs value` lists the writes of `value` to each of the flags `fs`.
-//!
-//! ```text
-//! write_flags : List Flag → Bool → List Write
-//! write_flags fs value = map (λ f. write_flag f value) fs
-//! ```
-//!
-//! ## `flag_written`
-//!
-//! `flag_written write f` is `Some value` if `write` writes `value` to the flag `f`, and `None` otherwise.
-//!
-//! ```text
-//! flag_written : Write → Flag → Option Bool
-//! flag_written (write_flag g value) f = if bit g == bit f then Some value else None
-//! flag_written (write_byte b value) f = None
-//! ```
-//!
-//! ## `byte_written`
-//!
-//! `byte_written write b` is `Some value` if `write` writes `value` to the byte `b`, and `None` otherwise.
-//!
-//! ```text
-//! byte_written : Write → Byte → Option ℕ
-//! byte_written (write_flag f value) b = None
-//! byte_written (write_byte c value) b = if shift c == shift b then Some value else None
-//! ```
-//!
-//! ## `last_flag`
-//!
-//! `last_flag writes f` is the last value written to the flag `f` by `writes`, or `None` if `f` is not written.
-//!
-//! ```text
-//! last_flag : List Write → Flag → Option Bool
-//! last_flag writes f = last_or None (filter_map (λ x. flag_written x f) writes)
-//! ```
-//!
-//! ## `last_byte`
-//!
-//! `last_byte writes b` is the last value written to the byte `b` by `writes`, or `None` if `b` is not written.
-//!
-//! ```text
-//! last_byte : List Write → Byte → Option ℕ
-//! last_byte writes b = last_or None (filter_map (λ x. byte_written x b) writes)
-//! ```
-//!
-//! ## `after`
-//!
-//! `after r writes` is `r` after `writes`: each field that is written has the last value written to it.
-//!
-//! ```text
-//! after : Record → List Write → Record
-//! after r writes =
-//!     record { flag = λ f. unwrap_or (last_flag writes f) (r.flag f); byte = λ b. unwrap_or (last_byte writes b) (r.byte b) }
-//! ```
-//!
-//! ## `changes`
-//!
-//! `changes r write` is true if the value of `write` differs from the value of its field in `r`.
-//!
-//! ```text
-//! changes : Record → Write → Bool
-//! changes r (write_flag f value) = not (beq (r.flag f) value)
-//! changes r (write_byte b value) = not (r.byte b == value)
-//! ```
-//!
-//! ## `SameWrites`
-//!
-//! `SameWrites writes others` holds if `writes` and `others` write the same fields, each with the same last value.
-//!
-//! ```text
-//! record SameWrites (writes others : List Write) : Type 0 where
-//!   same_flags : (f : Flag) → last_flag writes f ≡ last_flag others f
-//!   same_bytes : (b : Byte) → last_byte writes b ≡ last_byte others b
+//! digits_of : ℕ → ByteSet
+//! digits_of radix byte = nat_lt (byte_value byte) (min radix 36)
 //! ```
 //!
 //! # Lists in which each element is related to every later one
@@ -711,6 +577,140 @@
 //! ```text
 //! seven_roles : Record → ℕ → ℕ → List ByteSet
 //! seven_roles r exponent_byte point_byte = exponent r exponent_byte ∷ point point_byte ∷ five_roles r
+//! ```
+//!
+//! # The record of a new builder, and the record of a builder with a given radix
+//!
+//! ## `new_record`
+//!
+//! `new_record` is the record of a new builder: it has radix 10 and requires mantissa and exponent digits.
+//!
+//! ```text
+//! new_record : Record
+//! new_record = record {
+//!   flag = λ f. bit f == bit layout.required_exponent_digits || bit f == bit layout.required_mantissa_digits;
+//!   byte = λ b. if shift b == shift layout.mantissa_radix then 10 else 0;
+//! }
+//! ```
+//!
+//! # A byte that may be absent, as an option and as a number
+//!
+//! ## `byte_of_option`
+//!
+//! `byte_of_option byte` is the byte in the option `byte`, or 0 if `byte` is `None`.
+//!
+//! ```text
+//! byte_of_option : Option ℕ → ℕ
+//! byte_of_option None = 0
+//! byte_of_option (Some byte) = byte
+//! ```
+//!
+//! ## `option_of_byte`
+//!
+//! `option_of_byte byte` is `byte` as an option, which is `None` if `byte` is 0.
+//!
+//! ```text
+//! option_of_byte : ℕ → Option ℕ
+//! option_of_byte byte = if byte == 0 then None else Some byte
+//! ```
+//!
+//! # Writes of fields, and the record after them
+//!
+//! ## `Write`
+//!
+//! `Write` is the type of writes. A write has a field and the new value of the field.
+//!
+//! ```text
+//! data Write : Type 0 where
+//!   write_flag : Flag → Bool → Write
+//!   write_byte : Byte → ℕ → Write
+//! ```
+//!
+//! ## `IsLegal`
+//!
+//! `IsLegal write` holds if the value of `write` fits its field: the value of a byte is between 0 and 255.
+//!
+//! ```text
+//! IsLegal : Write → Type 0
+//! IsLegal (write_flag f value) = ⊤
+//! IsLegal (write_byte b value) = value < 256
+//! ```
+//!
+//! ## `write_flags`
+//!
+//! `write_flags fs value` lists the writes of `value` to each of the flags `fs`.
+//!
+//! ```text
+//! write_flags : List Flag → Bool → List Write
+//! write_flags fs value = map (λ f. write_flag f value) fs
+//! ```
+//!
+//! ## `flag_written`
+//!
+//! `flag_written write f` is `Some value` if `write` writes `value` to the flag `f`, and `None` otherwise.
+//!
+//! ```text
+//! flag_written : Write → Flag → Option Bool
+//! flag_written (write_flag g value) f = if bit g == bit f then Some value else None
+//! flag_written (write_byte b value) f = None
+//! ```
+//!
+//! ## `byte_written`
+//!
+//! `byte_written write b` is `Some value` if `write` writes `value` to the byte `b`, and `None` otherwise.
+//!
+//! ```text
+//! byte_written : Write → Byte → Option ℕ
+//! byte_written (write_flag f value) b = None
+//! byte_written (write_byte c value) b = if shift c == shift b then Some value else None
+//! ```
+//!
+//! ## `last_flag`
+//!
+//! `last_flag writes f` is the last value written to the flag `f` by `writes`, or `None` if `f` is not written.
+//!
+//! ```text
+//! last_flag : List Write → Flag → Option Bool
+//! last_flag writes f = last_or None (filter_map (λ x. flag_written x f) writes)
+//! ```
+//!
+//! ## `last_byte`
+//!
+//! `last_byte writes b` is the last value written to the byte `b` by `writes`, or `None` if `b` is not written.
+//!
+//! ```text
+//! last_byte : List Write → Byte → Option ℕ
+//! last_byte writes b = last_or None (filter_map (λ x. byte_written x b) writes)
+//! ```
+//!
+//! ## `after`
+//!
+//! `after r writes` is `r` after `writes`: each field that is written has the last value written to it.
+//!
+//! ```text
+//! after : Record → List Write → Record
+//! after r writes =
+//!     record { flag = λ f. unwrap_or (last_flag writes f) (r.flag f); byte = λ b. unwrap_or (last_byte writes b) (r.byte b) }
+//! ```
+//!
+//! ## `changes`
+//!
+//! `changes r write` is true if the value of `write` differs from the value of its field in `r`.
+//!
+//! ```text
+//! changes : Record → Write → Bool
+//! changes r (write_flag f value) = not (beq (r.flag f) value)
+//! changes r (write_byte b value) = not (r.byte b == value)
+//! ```
+//!
+//! ## `SameWrites`
+//!
+//! `SameWrites writes others` holds if `writes` and `others` write the same fields, each with the same last value.
+//!
+//! ```text
+//! record SameWrites (writes others : List Write) : Type 0 where
+//!   same_flags : (f : Flag) → last_flag writes f ≡ last_flag others f
+//!   same_bytes : (b : Byte) → last_byte writes b ≡ last_byte others b
 //! ```
 //!
 //! # The rules, and the error of the first rule that a word breaks

@@ -7,7 +7,7 @@
 //!
 //! type Standard = NumberFormat<STANDARD>;
 //! const _: () = assert!(Standard::RADIX == 10 && Standard::REQUIRED_MANTISSA_DIGITS);
-//! assert!(Standard::new().is_valid() && !Standard::new().is_digit(b'a'));
+//! assert!(Standard::new().is_valid() && Standard::new().mantissa_digit(b'a').is_none());
 //! ```
 
 use crate::error::Error;
@@ -37,14 +37,6 @@ impl<const FORMAT: u128> NumberFormat<FORMAT> {
     #[inline(always)]
     pub const fn view(&self) -> FormatView {
         Self::VIEW
-    }
-
-    /// Returns whether `byte` is a digit in the mantissa radix or in the exponent radix. The case of a letter does not
-    /// matter.
-    #[must_use]
-    #[inline(always)]
-    pub const fn is_digit(&self, byte: u8) -> bool {
-        Self::VIEW.is_digit(byte)
     }
 
     /// Returns the value of `byte` as a digit of the mantissa, or `None`, as [`FormatView::mantissa_digit`] does.

@@ -56,8 +56,10 @@ fn views_are_same<const W: u128>() {
     assert_eq!((view.word(), u128::from(view)), (W, W));
     assert_eq!(NumberFormat::<W>::rebuild(), view.rebuild());
     for byte in 0..=255 {
-        let read = [constant.is_digit(byte), constant.is_base_prefix(byte), constant.is_base_suffix(byte)];
-        assert_eq!(read, [view.is_digit(byte), view.is_base_prefix(byte), view.is_base_suffix(byte)], "{byte}");
+        let read = [constant.is_separator(byte), constant.is_base_prefix(byte), constant.is_base_suffix(byte)];
+        assert_eq!(read, [view.is_separator(byte), view.is_base_prefix(byte), view.is_base_suffix(byte)], "{byte}");
+        let digits = [constant.mantissa_digit(byte), constant.exponent_digit(byte)];
+        assert_eq!(digits, [view.mantissa_digit(byte), view.exponent_digit(byte)], "{byte}");
     }
     same! { constant view;
         REQUIRED_INTEGER_DIGITS required_integer_digits,
