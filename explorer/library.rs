@@ -9,7 +9,6 @@ use peltzivar::edits::{apply, is_built, normal_form};
 use peltzivar::format_flags::options_error;
 use peltzivar::{Edit, Error, FormatView, NumberFormatBuilder, Rule};
 
-#[cfg(reader)]
 #[path = "../rust/examples/literal/reader.rs"]
 mod reader;
 
@@ -78,28 +77,27 @@ pub extern "C" fn explain(low: u64, high: u64, exponent: u8, point: u8) -> usize
 }
 
 /// The names of the parts of a literal, in the order of `reader::Token`.
-#[cfg(reader)]
 const PARTS: &str = "sign special prefix integer point fraction exponent_character exponent_sign exponent_digits suffix";
 
-/// Returns the parts of a literal, or why it is refused: the index of the first wrong byte, which is `null` if the format
-/// or an option is wrong, and the setting to blame.
-#[cfg(reader)]
+/// Returns the parts of a literal. If it is refused, also returns the error, the index of the first wrong byte, which is
+/// `null` if the format or an option is wrong, and the setting to blame.
 #[unsafe(no_mangle)]
 pub extern "C" fn literal(low: u64, high: u64, exponent: u8, point: u8, length: usize) -> usize {
     let word = u128::from(high) << 64 | u128::from(low);
     let options = reader::Options { exponent, point, specials: &[b"NaN", b"inf", b"infinity"] };
-    let read = |format| reader::read(format, Some(&options), text_of(length));
-    answer(|out| match FormatView::new(word).check().map(read) {
-        Ok(Ok(parts)) => {
-            out.write_str(r#"{"parts":"#)?;
-            let present = PARTS.split(' ').zip(parts).filter(|(_, range)| !range.is_empty());
-            list(out, present, |out, (kind, range)| {
-                write!(out, r#"{{"kind":"{kind}","start":{},"end":{}}}"#, range.start, range.end)
-            })?;
-            out.write_str("}")
-        }
-        Ok(Err(refusal)) => {
-            write!(out, r#"{{"error":{},"index":"#, Quoted(refusal.error.description()))?;
+    answer(|out| {
+        let format = match FormatView::new(word).check() {
+            Ok(format) => format,
+            Err(error) => return write!(out, r#"{{"parts":[],"error":{},"index":null}}"#, Quoted(error)),
+        };
+        let (parts, _) = reader::scan(format, Some(&options), text_of(length));
+        out.write_str(r#"{"parts":"#)?;
+        let present = PARTS.split(' ').zip(parts).filter(|(_, range)| !range.is_empty());
+        list(out, present, |out, (kind, range)| {
+            write!(out, r#"{{"kind":"{kind}","start":{},"end":{}}}"#, range.start, range.end)
+        })?;
+        if let Err(refusal) = reader::read(format, Some(&options), text_of(length)) {
+            write!(out, r#","error":{},"index":"#, Quoted(refusal.error.description()))?;
             match refusal.error.index() {
                 Some(index) => write!(out, "{index}")?,
                 None => out.write_str("null")?,
@@ -107,9 +105,8 @@ pub extern "C" fn literal(low: u64, high: u64, exponent: u8, point: u8, length: 
             if let Some(edit) = refusal.edit {
                 write!(out, r#","setting":{}"#, Quoted(edit))?;
             }
-            out.write_str("}")
         }
-        Err(error) => write!(out, r#"{{"error":{},"index":null}}"#, Quoted(error)),
+        out.write_str("}")
     })
 }
 

@@ -18,40 +18,38 @@ class Trial {
     constructor(library, links) {
         this.library = library;
         this.links = links;
-        find("trial").hidden = !library.hasReader;
         find("literal").addEventListener("input", () => this.show(this.state));
     }
 
     /* Reads the typed text in a state, and shows what was read. */
     show(state) {
         this.state = state;
-        if (!this.library.hasReader) return;
         const text = find("literal").value;
         const answer = text ? this.library.literal(state, text) : { parts: [] };
         const bytes = new TextEncoder().encode(text);
         find("read").replaceChildren(...this.pieces(bytes, answer));
-        find("literal").setAttribute("aria-invalid", String(!answer.parts));
+        find("literal").setAttribute("aria-invalid", String(Boolean(answer.error)));
         find("read-result").replaceChildren(...this.told(bytes, answer));
-        find("read-result").className = answer.parts ? "good" : "bad";
+        find("read-result").className = answer.error ? "bad" : "good";
     }
 
-    /* Returns the parts of a text, or the text with its first wrong character marked. */
-    pieces(bytes, { parts, index }) {
+    /* Returns the parts of a text, and after them its first wrong character, which is marked, and the rest. */
+    pieces(bytes, { parts, index = bytes.length, error }) {
         const slice = (start, end) => new TextDecoder().decode(bytes.subarray(start, end));
-        if (parts) {
-            return parts.map(({ kind, start, end }) => {
-                return element("span", { class: COLOURS[kind], title: kind.replace("_", " ") }, slice(start, end));
-            });
-        }
-        if (index === null) return [slice(0)];
+        const read = parts.filter(({ start }) => start < index).map((part) => ({ ...part, end: Math.min(part.end, index) }));
+        const pieces = read.map(({ kind, start, end }) => {
+            return element("span", { class: COLOURS[kind], title: kind.replace("_", " ") }, slice(start, end));
+        });
+        const rest = read.at(-1)?.end ?? 0;
+        if (!error || index === null) return [...pieces, slice(rest)];
         let end = index + 1;
         while ((bytes[end] & 0xc0) === 0x80) end += 1;
-        return [slice(0, index), element("mark", {}, slice(index, end) || "\u00a0"), slice(end)];
+        return [...pieces, slice(rest, index), element("mark", {}, slice(index, end) || "\u00a0"), slice(end)];
     }
 
     /* Returns what is told of a text, with a link to the control that decides. */
-    told(bytes, { parts, error, index, setting }) {
-        if (parts) return [bytes.length ? "The format accepts it." : ""];
+    told(bytes, { error, index, setting }) {
+        if (!error) return [bytes.length ? "The format accepts it." : ""];
         const where = index === null ? "" : index < bytes.length ? ` at byte ${index + 1}` : " at the end";
         if (!setting) return [`${error}${where}.`];
         const [name, value] = setting.split("=");

@@ -359,13 +359,12 @@ class Walk(unittest.TestCase):
             "sign + required, integer 1\u24239\u24230 or fraction, point , optional, fraction \u242309 or integer, "
             "exponent e optional, its sign + required, its digits 10\u2423 required, special N\u2423a\u2423N optional")
 
-    @unittest.skipUnless((TOP / "rust/examples/literal/reader.rs").exists(), "no reader")
     def test_a_number_is_tried(self):
         self.load("#word=0x00000A000000005F000000020000000C")
         self.type("#literal", "-0.1_2e5")
         self.assertEqual(self.texts("#read span"), ["-", "0", ".", "1_2", "e", "5"])
-        self.type("#literal", "1_000")
-        self.assertEqual(self.text("#read mark"), "_")
+        self.type("#literal", "-1_000")
+        self.assertEqual((self.texts("#read span"), self.text("#read mark"), self.text("#read")), (["-", "1"], "_", "-1_000"))
         self.click("#read-result .link", "integer_internal_digit_separator")
         self.assertEqual(self.focused(), "integer_internal_digit_separator")
         self.click("#integer_internal_digit_separator")

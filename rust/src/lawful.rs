@@ -32,14 +32,13 @@ use crate::word::STANDARD;
 /// # Guarantees
 ///
 /// Every `Format` comes from [`Format::new`], which checks all [rules][crate::Rule]. So everything that is proved for
-/// [`Lawful`](crate::definitions#lawful) words holds for the word of every `Format`:
+/// lawful words holds for the word of every `Format`:
 ///
 /// - The mantissa radix, the exponent base and the exponent radix are between 2 and 36.
 /// - The digit separator, the base prefix and the base suffix are absent or [punctuation][crate::Rule]. No byte plays
 ///   two of these roles: digit, sign, separator, prefix, suffix.
 /// - If [`check_options`][Self::check_options] accepts an exponent character and a decimal point, each of them plays
-///   only one role too. For every format, it accepts at least one such pair
-///   ([`SomeOptionsFit`](crate::definitions#someoptionsfit)).
+///   only one role too. For every format, it accepts at least one such pair.
 /// - No two flags contradict each other, and all reserved bits are 0.
 /// - The [normal form][Self::normal_form] is a `Format` too.
 #[derive(Clone, Copy, PartialEq, Eq, PartialOrd, Ord, Hash)]

@@ -79,7 +79,7 @@
 //!
 //! The library is written in Rattle, which is Rust with contracts. A prover verified that every function meets its
 //! contract. From this code, a program in the repository generated the files that begin with `Made by`. In the
-//! documentation, the sections named `Proved` state contracts, and [`definitions`] defines their terms.
+//! documentation, the sections named `Proved` state contracts. `specs/` in the repository defines their terms.
 //!
 //! The following parts are written by hand: [`Format`], [`NumberFormat`], the iterators and conversions,
 //! `Display`, `FromStr` and `Debug` of words, `build_or_panic`, and the private modules `decimal`, `lanes` and
@@ -92,8 +92,6 @@ pub mod ascii;
 mod chunks;
 mod debug;
 mod decimal;
-#[cfg(doc)]
-pub mod definitions;
 #[allow(clippy::redundant_pattern_matching, reason = "as it is proved")]
 pub mod digit;
 #[allow(
@@ -137,7 +135,3 @@ pub use lawful::Format;
 pub use reasons::{Note, Reason};
 #[doc(inline)]
 pub use view::{FormatView, Role, Separators};
-
-#[cfg(doctest)]
-#[doc = include_str!("../README.md")]
-struct Readme;

@@ -73,10 +73,9 @@ impl FormatView {
     ///
     /// For all arguments:
     ///
-    /// - The result is the error of the first rule that the word breaks, or `Success`
-    ///   ([`IsErrorOf`](crate::definitions#iserrorof)).
-    /// - The result is `Success` if and only if the word is [`Lawful`](crate::definitions#lawful).
-    /// - No other error satisfies [`IsErrorOf`](crate::definitions#iserrorof).
+    /// - The result is the error of the first rule that the word breaks, or `Success` (`IsErrorOf`).
+    /// - The result is `Success` if and only if the word is `Lawful`.
+    /// - No other error satisfies `IsErrorOf`.
     ///
     /// ```text
     /// ensures first { IsErrorOf self.now result }
@@ -224,8 +223,8 @@ impl FormatView {
     ///
     /// For all arguments:
     ///
-    /// - The fields of the result are those of the word ([`raw`](crate::definitions#raw)), with absent exponent bytes
-    ///   replaced by the mantissa radix ([`fill`](crate::definitions#fill)).
+    /// - The fields of the result are those of the word (`raw`), with absent exponent bytes replaced by the mantissa
+    ///   radix (`fill`).
     ///
     /// ```text
     /// ensures { result ≡ fill (raw self.now) }

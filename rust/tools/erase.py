@@ -441,8 +441,6 @@ def made_files():
             raise Refused(f"no source has this text of EVERYWHERE: {old}")
     if unused := attributes.unused() + comments.unused():
         raise Refused(f"rows of tables that stand for nothing: {', '.join(unused)}")
-    head = f"{MADE} from crates/*/specs: change those files.\n\n"
-    files[RUST / "src/definitions.rs"] = laid_out(head + documentation.definitions())
     return files
 
 

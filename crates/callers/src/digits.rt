@@ -11,8 +11,10 @@ use lexical_util::format::NumberFormat;
 /// Returns whether every byte of `text` is a digit in the mantissa radix of `format`, which may be any word. If `text`
 /// is empty, the result is `true`.
 pub fn has_digits_alone(format: u128, text: &[u8]) -> bool
-    ensures { IsTrue result ↔ AllPass (λ byte. is_some (digit_of byte ((raw format).byte layout.mantissa_radix))) text.now }
+    ensures { IsTrue result
+        ↔ AllPass (λ byte. is_some (digit_of byte ((raw format).byte layout.mantissa_radix))) text.now }
 {
     let format = NumberFormat::new(format);
-    text.iter().all(|byte| format.mantissa_digit(*byte).is_some())
+    text.iter()
+        .all(|byte| format.mantissa_digit(*byte).is_some())
 }

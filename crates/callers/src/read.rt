@@ -1,9 +1,9 @@
 //! Functions that read a whole number in any lawful format into a `u64`.
 
-ghost use Rattle.std.specs.Prelude.{◌≡◌, ℕ, ◌+◌, ◌*◌, ◌<◌, ◌^◌, ⊥, IfErr, IsTrue, is_some, length, not};
-ghost use Rattle.std.specs.List.{position_or_len};
+ghost use Rattle.std.specs.Prelude.{◌≡◌, ℕ, ◌+◌, ◌*◌, ◌<◌, ◌^◌, IfErr, IsErr, IsTrue, is_some, length, not, position};
 ghost use Rattle.std.specs.Option.{SomeIff};
 ghost use Rattle.lexical_util.specs.Additions.ByteRoles.{first_role, used_separator};
+ghost use Rattle.lexical_util.specs.Digits.{byte_value};
 ghost use Rattle.lexical_util.specs.Layout as layout;
 ghost use Rattle.lexical_util.specs.Record.{raw};
 ghost use Rattle.lexical_util.specs.Rules.{Lawful, IsErrorOf};
@@ -31,10 +31,10 @@ pub fn read_digits(format: u128, text: &[u8]) -> Result<u64, Error>
     ensures apart { (byte : ℕ) → byte < 256 → IsTrue (is_mantissa_digit (raw format) byte)
         → IsTrue (used_separator (raw format) byte) → ⊥ }
 {
-    role_facts();
+    separator_facts(format);
     let mut number: u64 = 0;
     for (index, byte) in text.iter().enumerate() {
-        if let Some(digit) = NumberFormat::new(format).mantissa_digit(*byte) {
+        if let Some(digit) = digit_value(format, *byte) {
             let Some(longer) = push(format, number, digit) else {
                 return Err(Error::Overflow(index));
             };
@@ -62,6 +62,22 @@ pub fn read_checked(format: u128, text: &[u8]) -> Result<u64, Error>
 {
     check(format)?;
     read_digits(format, text)
+}
+
+// States that no byte is both a digit and the separator.
+fn separator_facts(format: u128)
+    requires { Lawful format }
+    ensures { (byte : ℕ) → byte < 256 → IsTrue (is_mantissa_digit (raw format) byte)
+        → IsTrue (used_separator (raw format) byte) → ⊥ }
+{
+    role_facts();
+}
+
+// Returns the value of `byte` as a digit of the mantissa, or `None` if it is not such a digit.
+fn digit_value(format: u128, byte: u8) -> Option<u32>
+    ensures { SomeIff result (IsTrue (is_mantissa_digit (raw format) byte)) (byte_value byte) }
+{
+    NumberFormat::new(format).mantissa_digit(byte)
 }
 
 // Returns `number` with `digit` appended, or `None` if the result exceeds 64 bits.
@@ -95,20 +111,19 @@ fn is_neighbour(format: u128, text: &[u8], index: usize) -> bool
     let view = NumberFormat::new(format);
     match text.get(index) {
         Some(byte) => {
-            view.mantissa_digit(*byte).is_some()
+            digit_value(format, *byte).is_some()
                 || view.separators(Part::Integer).consecutive && view.is_separator(*byte)
         }
         None => false,
     }
 }
 
-/// Returns the number of bytes at the start of `text` that play a role in numbers of `format`, with these options. A
-/// tokenizer can end a number there.
-pub fn number_len(format: u128, exponent: u8, decimal_point: u8, text: &[u8]) -> usize
-    ensures { result ≡ position_or_len
+/// Returns the index of the first byte of `text` that plays no role in numbers of `format` with these options, or `None`
+/// if each byte plays one. A tokenizer can end a number there.
+pub fn other_byte(format: u128, exponent: u8, decimal_point: u8, text: &[u8]) -> Option<usize>
+    ensures { result ≡ position
         (λ byte. not (is_some (first_role (raw format) exponent decimal_point byte))) text.now }
 {
     let view = NumberFormat::new(format);
-    let other = |byte: &u8| view.role_of(exponent, decimal_point, *byte).is_none();
-    text.iter().position(other).unwrap_or(text.len())
+    text.iter().position(|byte| view.role_of(exponent, decimal_point, *byte).is_none())
 }

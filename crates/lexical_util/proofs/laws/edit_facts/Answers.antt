@@ -1,4 +1,4 @@
-use Rattle.std.proofs.Common.{ap, subst, cond, IsTrue, ◌∙◌}
+use Rattle.std.proofs.Common.{ap, subst, IsTrue, ◌∙◌}
 use Rattle.std.proofs.lemmas.Bool.{cond-true}
 use Rattle.lexical_flags.specs.Layout as layout
 use Rattle.lexical_flags.specs.Record.{Record, separator_allowed}
