@@ -51,7 +51,8 @@ class Library {
     }
 
     /* Returns {parts} of a number, each with its kind, start and end. If the number is refused, these are the parts that
-     * were read, and {error, index, setting} has the index of the first wrong byte and a setting with which more is read. */
+     * were read, and {error, index, setting} has the index of the first wrong byte and a setting with which more is read. The index
+     * is null if no number is read, since the word is not lawful or an option does not fit. */
     literal({ word, exponent, point }, text) {
         return this.call("literal", text, word & HALF, word >> 64n, exponent, point);
     }

@@ -4,10 +4,11 @@
 #![no_std]
 
 use core::fmt::{self, Display, Write};
+use core::num::NonZeroU8;
 
-use peltzivar::edits::{apply, is_built, normal_form};
+use peltzivar::edits::{apply, edit_word, is_built, normal_form};
 use peltzivar::format_flags::options_error;
-use peltzivar::{Edit, Error, FormatView, NumberFormatBuilder, Rule};
+use peltzivar::{Edit, Error, FlagSetter, Format, FormatView, NumberFormatBuilder, Rule};
 
 #[path = "../rust/examples/literal/reader.rs"]
 mod reader;
@@ -86,9 +87,8 @@ pub extern "C" fn literal(low: u64, high: u64, exponent: u8, point: u8, length: 
     let word = u128::from(high) << 64 | u128::from(low);
     let options = reader::Options { exponent, point, specials: &[b"NaN", b"inf", b"infinity"] };
     answer(|out| {
-        let format = match FormatView::new(word).check() {
-            Ok(format) => format,
-            Err(error) => return write!(out, r#"{{"parts":[],"error":{},"index":null}}"#, Quoted(error)),
+        let Ok(format) = FormatView::new(word).check() else {
+            return out.write_str(r#"{"parts":[],"error":"not lawful","index":null}"#);
         };
         let (parts, _) = reader::scan(format, Some(&options), text_of(length));
         out.write_str(r#"{"parts":"#)?;
@@ -102,12 +102,29 @@ pub extern "C" fn literal(low: u64, high: u64, exponent: u8, point: u8, length: 
                 Some(index) => write!(out, "{index}")?,
                 None => out.write_str("null")?,
             }
-            if let Some(edit) = refusal.edit {
+            let byte = || byte_to_set(format, &options, text_of(length), *refusal.error.index()?);
+            if let Some(edit) = refusal.edit.or_else(byte) {
                 write!(out, r#","setting":{}"#, Quoted(edit))?;
             }
         }
         out.write_str("}")
     })
+}
+
+/// Returns an edit that takes the byte at which a text is refused: as the base suffix or prefix if it is a letter, and
+/// otherwise as the digit separator. After it and flags that allow separators, more of the text is accepted.
+fn byte_to_set(format: Format, options: &reader::Options, text: &[u8], index: usize) -> Option<Edit> {
+    let byte = NonZeroU8::new(*text.get(index)?);
+    let edits = match text[index].is_ascii_alphabetic() {
+        true if index + 1 == text.len() => [Edit::BaseSuffix(byte); 2],
+        true => [Edit::BasePrefix(byte); 2],
+        false => [Edit::DigitSeparator(byte), Edit::Flag(FlagSetter::DigitSeparatorFlags, true)],
+    };
+    let edited = Format::new(edit_word(format.word(), &edits)).ok()?;
+    match reader::scan(edited, Some(options), text).1 {
+        Err(error) if error.index() <= Some(&index) => None,
+        _ => Some(edits[0]),
+    }
 }
 
 /// Writes why the exponent character and the decimal point do not fit. An option that fits beside no other one is to

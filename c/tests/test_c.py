@@ -70,8 +70,9 @@ class Programs(unittest.TestCase):
         on = {f"CARGO_PROFILE_RELEASE_{it}": "true" for it in ("DEBUG_ASSERTIONS", "OVERFLOW_CHECKS")}
         command = ["make", "-s", "--no-print-directory", "-C", C, f"BUILD={build}", "build"]
         self.assertEqual(run(*command, env={**os.environ, **on}), ("", 0))
-        program = self.made("cc", *STRICT, *SANITIZERS, TESTS / "calls.c", build / "release" / ARCHIVE.name)
-        self.assertEqual(run(program), ("", 0))
+        for name, *arguments in (["calls"], ["fuzz", "20000"]):
+            program = self.made("cc", *STRICT, *SANITIZERS, TESTS / f"{name}.c", build / "release" / ARCHIVE.name)
+            self.assertEqual(run(program, *arguments), ("", 0))
 
     @unittest.skipUnless(shutil.which("valgrind"), "valgrind")
     def test_valgrind_finds_nothing(self):

@@ -4,7 +4,7 @@
 
 use core::num::NonZeroU8;
 use peltzivar::format::{NumberFormat, NumberFormatBuilder, STANDARD};
-use peltzivar::{Edit, Error, FlagSetter, Format, FormatView, Rule, SettingError};
+use peltzivar::{Edit, Error, FlagSetter, Format, FormatError, FormatView, Rule, SettingError};
 use std::collections::BTreeSet;
 
 /// Hexadecimal numbers such as `0x00_ff`. A format that is not lawful does not compile.
@@ -19,17 +19,15 @@ const HEXADECIMAL: u128 = NumberFormatBuilder::new()
 const CHECKED: Format = Format::of::<HEXADECIMAL>();
 
 /// Returns the value of a literal. Only lawful formats are accepted, so no byte of the text has two roles.
-fn value(text: &str, format: impl Into<Format>) -> Option<u64> {
-    let format: Format = format.into();
-    let prefix = ['0', char::from(format.base_prefix())];
-    let digits = match format.has_base_prefix() {
-        true => text
-            .strip_prefix(&String::from_iter(prefix))
+fn value(text: &str, format: Format) -> Option<u64> {
+    let digits = match format.base_prefix() {
+        Some(prefix) => text
+            .strip_prefix(&String::from_iter(['0', char::from(prefix.get())]))
             .unwrap_or(text),
-        false => text,
+        None => text,
     };
     let is_separator =
-        |byte: u8| format.integer_internal_digit_separator() && byte == format.digit_separator();
+        |byte: u8| format.integer_internal_digit_separator() && format.is_separator(byte);
     let mut value: u64 = 0;
     for byte in digits.bytes().filter(|byte| !is_separator(*byte)) {
         let digit = char::from(byte).to_digit(format.radix())?;
@@ -87,7 +85,7 @@ fn read(settings: &str) -> Result<Format, Vec<String>> {
 }
 
 /// Returns the format in another radix. An absent exponent base or exponent radix follows the new radix.
-fn in_radix(format: Format, radix: u8) -> Result<Format, Error> {
+fn in_radix(format: Format, radix: u8) -> Result<Format, FormatError> {
     NumberFormatBuilder::from(format)
         .mantissa_radix(radix)
         .build_format()
@@ -95,10 +93,7 @@ fn in_radix(format: Format, radix: u8) -> Result<Format, Error> {
 
 fn main() -> Result<(), Box<dyn std::error::Error>> {
     // A format that is known at compile time, as a type, as a value and as a word.
-    assert_eq!(
-        value("0xff_ff", NumberFormat::<HEXADECIMAL>::new()),
-        Some(0xFFFF)
-    );
+    assert_eq!(value("0xff_ff", Format::of::<HEXADECIMAL>()), Some(0xFFFF));
     assert_eq!(value("ff", CHECKED), Some(0xFF));
     let fractions = NumberFormatBuilder::from(CHECKED)
         .integer_internal_digit_separator(false)
@@ -159,7 +154,8 @@ fn main() -> Result<(), Box<dyn std::error::Error>> {
         Format::new(NumberFormatBuilder::octal())?
     );
     assert_eq!(octal.edits().collect::<NumberFormatBuilder>(), octal.into());
-    assert_eq!(in_radix(CHECKED, 37), Err(Error::InvalidMantissaRadix));
+    let refused = in_radix(CHECKED, 37).map_err(Error::from);
+    assert_eq!(refused, Err(Error::InvalidMantissaRadix));
 
     // A word from another source, and all its problems.
     let view: FormatView = "0x00000A2B00000000000000008000003C".parse()?;
@@ -195,7 +191,10 @@ fn main() -> Result<(), Box<dyn std::error::Error>> {
         format!("{HEXADECIMAL:#x} {HEXADECIMAL:X}")
     );
     assert_eq!("0x12 4".parse::<FormatView>(), Err(Error::InvalidDigit(4)));
-    assert_eq!("0x0".parse::<Format>(), Err(Error::InvalidMantissaRadix));
+    assert_eq!(
+        "0x0".parse::<Format>().map_err(Error::from),
+        Err(Error::InvalidMantissaRadix)
+    );
     let saved: Vec<String> = octal.edits().map(|edit| edit.to_string()).collect();
     assert_eq!(
         saved.join("\n"),
@@ -206,7 +205,7 @@ fn main() -> Result<(), Box<dyn std::error::Error>> {
     // The exponent character and the decimal point of the parser that will use the format.
     CHECKED.check_options(b'p', b'.')?;
     assert_eq!(
-        CHECKED.check_options(b'e', b'.'),
+        CHECKED.check_options(b'e', b'.').map_err(Error::from),
         Err(Error::InvalidExponentSymbol)
     );
     println!("{CHECKED:#?}");

@@ -3,7 +3,7 @@
 
 use core::{num::NonZeroU8, ops::Range};
 use peltzivar::edits::edit_word;
-use peltzivar::{Edit, Error, Error::*, FlagSetter, Format, FormatView, Part};
+use peltzivar::{Edit, Error, Error::*, FlagSetter, Format, Part};
 
 /// The properties of numbers that a format does not define.
 pub struct Options<'a> {
@@ -71,19 +71,19 @@ type Scan = (Parts, Result<(), Error>);
 /// Finds the parts of `text`. If it is not a literal, returns the parts that were read before the error, and the error.
 pub fn scan(format: Format, options: Option<&Options>, text: &[u8]) -> Scan {
     let mut reader = Reader {
-        format: format.view(),
+        format,
         options,
         text,
         at: 0,
         parts: Parts::default(),
     };
     let fit = options.map_or(Ok(()), |it| format.check_options(it.exponent, it.point));
-    let result = fit.and_then(|()| reader.literal());
+    let result = fit.map_err(Error::from).and_then(|()| reader.literal());
     (reader.parts, result)
 }
 
 struct Reader<'a> {
-    format: FormatView,
+    format: Format,
     options: Option<&'a Options<'a>>,
     text: &'a [u8],
     /// The index of the next byte.
