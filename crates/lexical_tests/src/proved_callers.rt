@@ -73,7 +73,9 @@ fn a_byte_without_a_role_ends_a_number(rt: HostRuntime) {
 
 #[test]
 fn an_edit_fills_exponent_bytes_and_keeps_other_fields(rt: HostRuntime) {
-    let word = NonZeroU8::new(b'x')
-        .map(|prefix| with_prefix(0x00001068_00000000_00000000_0000000C, prefix));
+    let word = NonZeroU8::new(b'x').map(|prefix| with_prefix(
+        0x00001068_00000000_00000000_0000000C,
+        prefix,
+    ));
     assert!(rt; word == Some(0x10101068_78000000_00000000_0001000C));
 }
