@@ -38,11 +38,13 @@ fn value(text: &str, format: Format) -> Option<u64> {
     Some(value)
 }
 
-/// Returns the number of digits in a text. The view may have any word, lawful or not, known at compile time or at run
+/// Returns the number of mantissa digits in a text. The view may have any word, lawful or not, known at compile time or at run
 /// time.
 fn digits(text: &str, view: impl Into<FormatView>) -> usize {
     let view = view.into();
-    text.bytes().filter(|byte| view.is_digit(*byte)).count()
+    text.bytes()
+        .filter(|byte| view.mantissa_digit(*byte).is_some())
+        .count()
 }
 
 /// Returns the format that settings describe, or their problems, each with the numbers of the lines that cause it.

@@ -77,7 +77,7 @@ fn views_are_same<const W: u128>() {
     macro_rules! roles_of {
         ($view:ident, $byte:ident) => {
             (
-                [$view.is_digit($byte), $view.is_separator($byte), $view.is_base_prefix($byte)],
+                [$view.is_separator($byte), $view.is_base_prefix($byte)],
                 [$view.is_base_suffix($byte), $view.is_exponent_character(b'e', $byte)],
                 [$view.mantissa_digit($byte), $view.exponent_digit($byte)],
                 $view.role_of(b'e', b'.', $byte),
