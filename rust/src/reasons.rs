@@ -63,100 +63,66 @@ pub enum Radixes {
     },
 }
 
+/// A byte with its value.
+#[derive(Debug, Clone, Copy, PartialEq, Eq, Hash)]
+pub struct NamedByte {
+    /// Which byte this is.
+    pub name: Byte,
+    /// The value of the byte.
+    pub value: u8,
+}
+
 /// The cause of a [`Reason`]: the fields that are to blame, with their values.
 #[derive(Debug, Clone, Copy, PartialEq, Eq, Hash)]
 #[non_exhaustive]
 pub enum Cause {
-    /// A radix or a base is not between 2 and 36.
-    OutOfRange {
-        /// The mantissa radix, or an exponent base or exponent radix that is present.
-        byte: Byte,
-        /// The value of the byte.
-        value: u8,
-    },
+    /// The mantissa radix, or an exponent base or exponent radix that is present, is not between 2 and 36.
+    OutOfRange(NamedByte),
     /// A byte is not an allowed ASCII byte. The bytes from 9 to 13 and from 32 to 126 are allowed.
-    NotText {
-        /// The byte.
-        byte: Byte,
-        /// The value of the byte.
-        value: u8,
-    },
+    NotText(NamedByte),
     /// A byte is a sign: `+` or `-`.
-    IsSign {
-        /// The byte.
-        byte: Byte,
-        /// The value of the byte.
-        value: u8,
-    },
-    /// A byte is a digit.
-    IsDigit {
-        /// The byte.
-        byte: Byte,
-        /// The value of the byte.
-        value: u8,
-        /// The radixes in which it is a digit.
-        radixes: Radixes,
-    },
+    IsSign(NamedByte),
+    /// A byte is a digit in these radixes.
+    IsDigit(NamedByte, Radixes),
     /// Two bytes are the same.
-    Same {
-        /// The first byte.
-        first: Byte,
-        /// The second byte.
-        second: Byte,
-        /// The value of both bytes.
-        value: u8,
-    },
+    Same(NamedByte, NamedByte),
     /// Two bytes are the two cases of one letter, and not both are case-sensitive.
     DifferInCase {
         /// The first byte.
-        first: Byte,
-        /// The value of the first byte.
-        first_value: u8,
+        first: NamedByte,
         /// The flag that makes the first byte case-sensitive, if it is not set.
         first_flag: Option<FlagSetter>,
         /// The second byte.
-        second: Byte,
-        /// The value of the second byte.
-        second_value: u8,
+        second: NamedByte,
         /// The flag that makes the second byte case-sensitive, if it is not set.
         second_flag: Option<FlagSetter>,
     },
     /// Two flags are both set, but they contradict each other.
-    BothSet {
-        /// The first flag.
-        first: FlagSetter,
-        /// The second flag.
-        second: FlagSetter,
-    },
+    BothSet(FlagSetter, FlagSetter),
     /// A flag allows consecutive digit separators in a part of the number, but no flag allows internal, leading or
     /// trailing ones in that part.
-    NeedsPosition {
-        /// The part of the number.
-        part: Part,
-    },
-    /// Reserved bits are set, although they hold no field.
-    ReservedBits {
-        /// The reserved bits that are set.
-        bits: u128,
-    },
+    NeedsPosition(Part),
+    /// These reserved bits are set, although they hold no field.
+    ReservedBits(u128),
 }
 
 /// A reason why a format word breaks one or more rules, or why it does not accept an exponent character and a decimal
 /// point. A reason *blames* the bits on which it depends (see [`mask`][Self::mask]).
 #[derive(Debug, Clone, Copy, PartialEq, Eq, Hash)]
 pub struct Reason {
-    // The rules that a word breaks because of this reason, the first of them first.
-    rules: (Option<Rule>, Option<Rule>, Option<Rule>),
+    // The first rule that a word breaks because of this reason.
+    rule: Option<Rule>,
+    // The rules of absent exponent bytes that the word breaks too.
+    followers: (Option<Rule>, Option<Rule>),
     cause: Cause,
 }
 
-// A byte with a role: its value, whether the role is case-sensitive, and the flag that makes it so, if there is one.
+// A format word, with an exponent character and a decimal point that options choose.
 #[derive(Clone, Copy)]
-struct Character {
-    byte: Byte,
-    value: u8,
-    case_sensitive: bool,
-    flag: Option<FlagSetter>,
+struct Characters {
+    format: u128,
+    exponent: u8,
+    point: u8,
 }
 
 /// Returns the reasons why a format word breaks rules. Each possible reason has its own slot, which is `None` if the
@@ -170,47 +136,36 @@ struct Character {
 #[must_use]
 #[doc(hidden)]
 pub const fn reasons(format: u128) -> [Option<Reason>; MAX_REASONS] {
-    let separator = separator_of(format);
-    let prefix = prefix_of(format);
-    let suffix = suffix_of(format);
-    let view = FormatView::new(format);
-    macro_rules! both_set {
-        ($Rule:ident $First:ident $first:ident $Second:ident $second:ident) => {
-            both_set(
-                Rule::$Rule,
-                (FlagSetter::$First, view.$first()),
-                (FlagSetter::$Second, view.$second()),
-            )
+    let word = Characters {
+        format,
+        exponent: 0,
+        point: 0,
+    };
+    macro_rules! slots {
+        ($($Rule:ident $reason:ident($($argument:expr),*);)*) => {
+            [$(word.$reason(Some(Rule::$Rule), $($argument),*)),*]
         };
     }
-    [
-        mantissa_reason(format),
-        exponent_reason(
-            Rule::ExponentBaseInRange,
-            Byte::ExponentBase,
-            raw_exponent_base(format),
-        ),
-        exponent_reason(
-            Rule::ExponentRadixInRange,
-            Byte::ExponentRadix,
-            raw_exponent_radix(format),
-        ),
-        byte_reason(format, Rule::DigitSeparatorIsPunctuation, &separator),
-        byte_reason(format, Rule::BasePrefixIsPunctuation, &prefix),
-        byte_reason(format, Rule::BaseSuffixIsPunctuation, &suffix),
-        clash(Some(Rule::PunctuationDiffers), &separator, &prefix),
-        clash(Some(Rule::PunctuationDiffers), &separator, &suffix),
-        clash(Some(Rule::PunctuationDiffers), &prefix, &suffix),
-        both_set!(ExponentFlagsAgree NoExponentNotation no_exponent_notation RequiredExponentNotation required_exponent_notation),
-        both_set!(MantissaSignFlagsAgree NoPositiveMantissaSign no_positive_mantissa_sign RequiredMantissaSign required_mantissa_sign),
-        both_set!(ExponentSignFlagsAgree NoPositiveExponentSign no_positive_exponent_sign RequiredExponentSign required_exponent_sign),
-        both_set!(SpecialCaseFlagsAgree NoSpecial no_special CaseSensitiveSpecial case_sensitive_special),
-        both_set!(SpecialSeparatorFlagsAgree NoSpecial no_special SpecialDigitSeparator special_digit_separator),
-        needs_position(format, Rule::IntegerConsecutiveIsAllowed, Part::Integer),
-        needs_position(format, Rule::FractionConsecutiveIsAllowed, Part::Fraction),
-        needs_position(format, Rule::ExponentConsecutiveIsAllowed, Part::Exponent),
-        reserved_reason(format),
-    ]
+    slots! {
+        MantissaRadixInRange radix_reason(Byte::MantissaRadix);
+        ExponentBaseInRange exponent_reason(Byte::ExponentBase);
+        ExponentRadixInRange exponent_reason(Byte::ExponentRadix);
+        DigitSeparatorIsPunctuation present_reason(Byte::DigitSeparator);
+        BasePrefixIsPunctuation present_reason(Byte::BasePrefix);
+        BaseSuffixIsPunctuation present_reason(Byte::BaseSuffix);
+        PunctuationDiffers clash(Byte::DigitSeparator, Byte::BasePrefix);
+        PunctuationDiffers clash(Byte::DigitSeparator, Byte::BaseSuffix);
+        PunctuationDiffers clash(Byte::BasePrefix, Byte::BaseSuffix);
+        ExponentFlagsAgree both_set(FlagSetter::NoExponentNotation, FlagSetter::RequiredExponentNotation);
+        MantissaSignFlagsAgree both_set(FlagSetter::NoPositiveMantissaSign, FlagSetter::RequiredMantissaSign);
+        ExponentSignFlagsAgree both_set(FlagSetter::NoPositiveExponentSign, FlagSetter::RequiredExponentSign);
+        SpecialCaseFlagsAgree both_set(FlagSetter::NoSpecial, FlagSetter::CaseSensitiveSpecial);
+        SpecialSeparatorFlagsAgree both_set(FlagSetter::NoSpecial, FlagSetter::SpecialDigitSeparator);
+        IntegerConsecutiveIsAllowed needs_position(Part::Integer);
+        FractionConsecutiveIsAllowed needs_position(Part::Fraction);
+        ExponentConsecutiveIsAllowed needs_position(Part::Exponent);
+        ReservedBitsAreZero reserved_bits();
+    }
 }
 
 /// Returns the reasons why numbers in `format` cannot have the exponent character `exponent` and the decimal point
@@ -225,243 +180,219 @@ pub const fn options_reasons(
     exponent: u8,
     decimal_point: u8,
 ) -> [Option<Reason>; MAX_OPTIONS_REASONS] {
-    let separator = separator_of(format);
-    let prefix = prefix_of(format);
-    let suffix = suffix_of(format);
-    let exponent_character = exponent_of(format, exponent);
-    let point = point_of(decimal_point);
+    let options = Characters {
+        format,
+        exponent,
+        point: decimal_point,
+    };
     [
-        punctuation_reason(format, None, Byte::ExponentCharacter, exponent),
-        punctuation_reason(format, None, Byte::DecimalPoint, decimal_point),
-        clash(None, &exponent_character, &point),
-        clash(None, &exponent_character, &separator),
-        clash(None, &exponent_character, &prefix),
-        clash(None, &exponent_character, &suffix),
-        clash(None, &point, &separator),
-        clash(None, &point, &prefix),
-        clash(None, &point, &suffix),
+        options.byte_reason(None, Byte::ExponentCharacter),
+        options.byte_reason(None, Byte::DecimalPoint),
+        options.clash(None, Byte::ExponentCharacter, Byte::DecimalPoint),
+        options.clash(None, Byte::ExponentCharacter, Byte::DigitSeparator),
+        options.clash(None, Byte::ExponentCharacter, Byte::BasePrefix),
+        options.clash(None, Byte::ExponentCharacter, Byte::BaseSuffix),
+        options.clash(None, Byte::DecimalPoint, Byte::DigitSeparator),
+        options.clash(None, Byte::DecimalPoint, Byte::BasePrefix),
+        options.clash(None, Byte::DecimalPoint, Byte::BaseSuffix),
     ]
 }
 
-// Returns the reason for a mantissa radix that is not between 2 and 36, if any.
-const fn mantissa_reason(format: u128) -> Option<Reason> {
-    let value = flags::mantissa_radix(format);
-    if flags::is_valid_radix(value) {
-        return None;
-    }
-    let base = some_if(raw_exponent_base(format) == 0, Rule::ExponentBaseInRange);
-    let radix = some_if(raw_exponent_radix(format) == 0, Rule::ExponentRadixInRange);
-    Some(Reason {
-        rules: (Some(Rule::MantissaRadixInRange), base, radix),
-        cause: Cause::OutOfRange {
-            byte: Byte::MantissaRadix,
-            value: value as u8,
-        },
-    })
-}
-
-// Returns the reason for an exponent byte that is present but not between 2 and 36, if any.
-const fn exponent_reason(rule: Rule, byte: Byte, value: u8) -> Option<Reason> {
-    if (value != 0) & !flags::is_valid_radix(value as u32) {
-        Some(Reason::new(Some(rule), Cause::OutOfRange { byte, value }))
-    } else {
-        None
-    }
-}
-
-// Returns the reason for a character of a word that is neither absent nor punctuation, if any.
-const fn byte_reason(format: u128, rule: Rule, character: &Character) -> Option<Reason> {
-    if character.value == 0 {
-        None
-    } else {
-        punctuation_reason(format, Some(rule), character.byte, character.value)
-    }
-}
-
-// Returns the reason for a byte that is not punctuation, if any.
-const fn punctuation_reason(
-    format: u128,
-    rule: Option<Rule>,
-    byte: Byte,
-    value: u8,
-) -> Option<Reason> {
-    if !is_valid_ascii(value) {
-        Some(Reason::new(rule, Cause::NotText { byte, value }))
-    } else if (value == b'+') | (value == b'-') {
-        Some(Reason::new(rule, Cause::IsSign { byte, value }))
-    } else {
-        match radixes_of(format, value) {
-            Some(radixes) => Some(Reason::new(
-                rule,
-                Cause::IsDigit {
-                    byte,
-                    value,
-                    radixes,
-                },
-            )),
-            None => None,
-        }
-    }
-}
-
-// Returns the radixes of a word in which a byte is a digit, if any.
-const fn radixes_of(format: u128, value: u8) -> Option<Radixes> {
-    let mantissa = flags::mantissa_radix(format);
-    let exponent = raw_exponent_radix(format);
-    match (
-        char_is_digit(value, mantissa),
-        char_is_digit(value, exponent as u32),
-    ) {
-        (true, true) => Some(Radixes::Both {
-            mantissa: mantissa as u8,
-            exponent,
-        }),
-        (true, false) => Some(Radixes::Mantissa(mantissa as u8)),
-        (false, true) => Some(Radixes::Exponent(exponent)),
-        (false, false) => None,
-    }
-}
-
-// Returns the reason for two characters that match the same byte, if any.
-const fn clash(rule: Option<Rule>, a: &Character, b: &Character) -> Option<Reason> {
-    if roles_disjoint(a.value, a.case_sensitive, b.value, b.case_sensitive) {
-        None
-    } else {
-        Some(Reason::new(rule, clash_cause(a, b)))
-    }
-}
-
-// Returns the cause for two characters that match the same byte.
-const fn clash_cause(a: &Character, b: &Character) -> Cause {
-    if b.value == a.value {
-        Cause::Same {
-            first: a.byte,
-            second: b.byte,
-            value: a.value,
-        }
-    } else {
-        Cause::DifferInCase {
-            first: a.byte,
-            first_value: a.value,
-            first_flag: a.unset_flag(),
-            second: b.byte,
-            second_value: b.value,
-            second_flag: b.unset_flag(),
-        }
-    }
-}
-
-// Returns the reason for two flags that are both set, if they are. Each comes with its value in the word.
-const fn both_set(
-    rule: Rule,
-    first: (FlagSetter, bool),
-    second: (FlagSetter, bool),
-) -> Option<Reason> {
-    if first.1 & second.1 {
-        let cause = Cause::BothSet {
-            first: first.0,
-            second: second.0,
-        };
-        Some(Reason::new(Some(rule), cause))
-    } else {
-        None
-    }
-}
-
-// Returns the reason for consecutive digit separators in a part that has no position for one, if any.
-const fn needs_position(format: u128, rule: Rule, part: Part) -> Option<Reason> {
-    let allowed = FormatView::new(format).separators(part);
-    if allowed.consecutive & !(allowed.internal | allowed.leading | allowed.trailing) {
-        Some(Reason::new(Some(rule), Cause::NeedsPosition { part }))
-    } else {
-        None
-    }
-}
-
-// Returns the reason for the reserved bits that are set, if any.
-const fn reserved_reason(format: u128) -> Option<Reason> {
-    let bits = format & Rule::ReservedBitsAreZero.mask();
-    if bits != 0 {
-        Some(Reason::new(
-            Some(Rule::ReservedBitsAreZero),
-            Cause::ReservedBits { bits },
-        ))
-    } else {
-        None
-    }
-}
-
 impl Reason {
-    // Returns the reason with this cause, which breaks only `rule`, or no rule if that is `None`. It is not inlined, so
-    // that a slot without a reason costs no writes.
+    // Returns the reason why a word breaks `rule`, or why options do not fit if it is `None`. The function is not inlined,
+    // so that a slot without a reason costs few instructions.
     #[inline(never)]
-    const fn new(rule: Option<Rule>, cause: Cause) -> Reason {
+    const fn new(format: u128, rule: Option<Rule>, cause: Cause) -> Reason {
+        let followers = match rule {
+            Some(Rule::MantissaRadixInRange) => (
+                some_if(raw_exponent_base(format) == 0, Rule::ExponentBaseInRange),
+                some_if(raw_exponent_radix(format) == 0, Rule::ExponentRadixInRange),
+            ),
+            _ => (None, None),
+        };
         Reason {
-            rules: (rule, None, None),
+            rule,
+            followers,
             cause,
         }
     }
 }
 
-impl Character {
-    // Returns the flag that makes the character case-sensitive, if there is one and it is not set.
-    const fn unset_flag(&self) -> Option<FlagSetter> {
-        if self.case_sensitive {
+impl Characters {
+    // Returns a byte with its value.
+    #[inline(always)]
+    const fn named(&self, name: Byte) -> NamedByte {
+        let value = match name {
+            Byte::DigitSeparator => flags::digit_separator(self.format),
+            Byte::BasePrefix => flags::base_prefix(self.format),
+            Byte::BaseSuffix => flags::base_suffix(self.format),
+            Byte::MantissaRadix => flags::mantissa_radix(self.format) as u8,
+            Byte::ExponentBase => raw_exponent_base(self.format),
+            Byte::ExponentRadix => raw_exponent_radix(self.format),
+            Byte::ExponentCharacter => self.exponent,
+            Byte::DecimalPoint => self.point,
+        };
+        NamedByte { name, value }
+    }
+
+    // Returns whether a byte matches only itself. Otherwise, a letter matches both cases.
+    #[inline(always)]
+    const fn is_cased(&self, name: Byte) -> bool {
+        match name {
+            Byte::BasePrefix => FormatView::new(self.format).case_sensitive_base_prefix(),
+            Byte::BaseSuffix => FormatView::new(self.format).case_sensitive_base_suffix(),
+            Byte::ExponentCharacter => FormatView::new(self.format).case_sensitive_exponent(),
+            _ => true,
+        }
+    }
+
+    // Returns the case flag of a byte if it is not set.
+    #[inline(always)]
+    const fn unset_flag(&self, name: Byte) -> Option<FlagSetter> {
+        if self.is_cased(name) {
             None
         } else {
-            self.flag
+            case_flag(name)
+        }
+    }
+
+    // Returns the reason for a radix that is not between 2 and 36, if it is not.
+    #[inline(always)]
+    const fn radix_reason(&self, rule: Option<Rule>, name: Byte) -> Option<Reason> {
+        let byte = self.named(name);
+        if flags::is_valid_radix(byte.value as u32) {
+            None
+        } else {
+            Some(Reason::new(self.format, rule, Cause::OutOfRange(byte)))
+        }
+    }
+
+    // Returns the reason for an exponent byte that is present but not between 2 and 36, if it is.
+    #[inline(always)]
+    const fn exponent_reason(&self, rule: Option<Rule>, name: Byte) -> Option<Reason> {
+        if self.named(name).value == 0 {
+            None
+        } else {
+            self.radix_reason(rule, name)
+        }
+    }
+
+    // Returns the reason for a byte that is neither absent nor punctuation, if it is not.
+    #[inline(always)]
+    const fn present_reason(&self, rule: Option<Rule>, name: Byte) -> Option<Reason> {
+        if self.named(name).value == 0 {
+            None
+        } else {
+            self.byte_reason(rule, name)
+        }
+    }
+
+    // Returns the reason for a byte that is not punctuation, if it is not.
+    const fn byte_reason(&self, rule: Option<Rule>, name: Byte) -> Option<Reason> {
+        let byte = self.named(name);
+        let cause = if !is_valid_ascii(byte.value) {
+            Some(Cause::NotText(byte))
+        } else if (byte.value == b'+') | (byte.value == b'-') {
+            Some(Cause::IsSign(byte))
+        } else {
+            digit_cause(self.format, byte)
+        };
+        match cause {
+            Some(cause) => Some(Reason::new(self.format, rule, cause)),
+            None => None,
+        }
+    }
+
+    // Returns the reason for two bytes that match the same byte, if they do.
+    #[inline(always)]
+    const fn clash(&self, rule: Option<Rule>, first: Byte, second: Byte) -> Option<Reason> {
+        let (a, b) = (self.named(first), self.named(second));
+        if roles_disjoint(
+            a.value,
+            self.is_cased(first),
+            b.value,
+            self.is_cased(second),
+        ) {
+            None
+        } else {
+            Some(Reason::new(self.format, rule, self.clash_cause(a, b)))
+        }
+    }
+
+    // Returns the cause for two bytes that match the same byte.
+    const fn clash_cause(&self, first: NamedByte, second: NamedByte) -> Cause {
+        if second.value == first.value {
+            Cause::Same(first, second)
+        } else {
+            Cause::DifferInCase {
+                first,
+                first_flag: self.unset_flag(first.name),
+                second,
+                second_flag: self.unset_flag(second.name),
+            }
+        }
+    }
+
+    // Returns the reason for two flags that are both set, if they are.
+    #[inline(always)]
+    const fn both_set(&self, rule: Option<Rule>, a: FlagSetter, b: FlagSetter) -> Option<Reason> {
+        if a.is_set(self.format) & b.is_set(self.format) {
+            Some(Reason::new(self.format, rule, Cause::BothSet(a, b)))
+        } else {
+            None
+        }
+    }
+
+    // Returns the reason for consecutive digit separators in a part that has no position for one, if there is none.
+    #[inline(always)]
+    const fn needs_position(&self, rule: Option<Rule>, part: Part) -> Option<Reason> {
+        let allowed = FormatView::new(self.format).separators(part);
+        if allowed.consecutive & !(allowed.internal | allowed.leading | allowed.trailing) {
+            Some(Reason::new(self.format, rule, Cause::NeedsPosition(part)))
+        } else {
+            None
+        }
+    }
+
+    // Returns the reason for reserved bits that are set, if any.
+    #[inline(always)]
+    const fn reserved_bits(&self, rule: Option<Rule>) -> Option<Reason> {
+        let bits = self.format & Rule::ReservedBitsAreZero.mask();
+        if bits == 0 {
+            None
+        } else {
+            Some(Reason::new(self.format, rule, Cause::ReservedBits(bits)))
         }
     }
 }
 
-// Returns the digit separator of a word.
-const fn separator_of(format: u128) -> Character {
-    Character {
-        byte: Byte::DigitSeparator,
-        value: flags::digit_separator(format),
-        case_sensitive: true,
-        flag: None,
+// Returns the flag that makes a byte case-sensitive, if there is one.
+const fn case_flag(byte: Byte) -> Option<FlagSetter> {
+    match byte {
+        Byte::BasePrefix => Some(FlagSetter::CaseSensitiveBasePrefix),
+        Byte::BaseSuffix => Some(FlagSetter::CaseSensitiveBaseSuffix),
+        Byte::ExponentCharacter => Some(FlagSetter::CaseSensitiveExponent),
+        _ => None,
     }
 }
 
-// Returns the base prefix of a word.
-const fn prefix_of(format: u128) -> Character {
-    Character {
-        byte: Byte::BasePrefix,
-        value: flags::base_prefix(format),
-        case_sensitive: FormatView::new(format).case_sensitive_base_prefix(),
-        flag: Some(FlagSetter::CaseSensitiveBasePrefix),
-    }
-}
-
-// Returns the base suffix of a word.
-const fn suffix_of(format: u128) -> Character {
-    Character {
-        byte: Byte::BaseSuffix,
-        value: flags::base_suffix(format),
-        case_sensitive: FormatView::new(format).case_sensitive_base_suffix(),
-        flag: Some(FlagSetter::CaseSensitiveBaseSuffix),
-    }
-}
-
-// Returns an exponent character that options choose.
-const fn exponent_of(format: u128, chosen: u8) -> Character {
-    Character {
-        byte: Byte::ExponentCharacter,
-        value: chosen,
-        case_sensitive: FormatView::new(format).case_sensitive_exponent(),
-        flag: Some(FlagSetter::CaseSensitiveExponent),
-    }
-}
-
-// Returns a decimal point that options choose.
-const fn point_of(chosen: u8) -> Character {
-    Character {
-        byte: Byte::DecimalPoint,
-        value: chosen,
-        case_sensitive: true,
-        flag: None,
-    }
+// Returns the cause for a byte that is a digit, if it is.
+const fn digit_cause(format: u128, byte: NamedByte) -> Option<Cause> {
+    let mantissa = flags::mantissa_radix(format);
+    let exponent = raw_exponent_radix(format);
+    let radixes = match (
+        char_is_digit(byte.value, mantissa),
+        char_is_digit(byte.value, exponent as u32),
+    ) {
+        (true, true) => Radixes::Both {
+            mantissa: mantissa as u8,
+            exponent,
+        },
+        (true, false) => Radixes::Mantissa(mantissa as u8),
+        (false, true) => Radixes::Exponent(exponent),
+        (false, false) => return None,
+    };
+    Some(Cause::IsDigit(byte, radixes))
 }
 
 // Returns `Some(value)` if `condition` is true, and `None` if it is false.

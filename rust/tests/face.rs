@@ -2,12 +2,12 @@
 //! calls on many words, and with known texts on a few.
 
 use peltzivar::edits::{apply_all, edits_of, same_format};
-use peltzivar::format::{format_error, options_error, NumberFormatBuilder};
+use peltzivar::format::{options_error, NumberFormatBuilder};
 use peltzivar::format::{BASE_PREFIX_SHIFT, BASE_SUFFIX_SHIFT, STANDARD};
 use peltzivar::reasons::{notes, reasons};
-use peltzivar::{Edit, Error, FlagSetter, Format, FormatView, NumberFormat, Rule};
+use peltzivar::{Edit, Error, FlagSetter, Format, FormatView, Rule};
 use std::fmt::{Debug, Display, LowerHex, UpperHex};
-use std::hash::{DefaultHasher, Hash, Hasher};
+use std::hash::Hash;
 use std::num::NonZeroU8;
 use std::panic;
 use std::str::FromStr;
@@ -17,7 +17,7 @@ const _: () = {
     const fn is_word<T>()
     where
         T: Copy + Default + Ord + Hash + Debug + Display + LowerHex + UpperHex,
-        T: FromStr + From<NumberFormat<STANDARD>> + Into<u128> + Send + Sync,
+        T: FromStr + Into<u128> + Send + Sync,
     {
     }
     is_word::<FormatView>();
@@ -31,28 +31,9 @@ const _: () = {
     );
     assert!(
         FORMAT.check_options(b'e', b'.').is_ok()
-            && matches!(Format::new(0), Err(Error::InvalidMantissaRadix))
+            && matches!(Format::new(0), Err(error) if matches!(error.code(), Error::InvalidMantissaRadix))
     );
 };
-
-/// The iterators can be cloned.
-#[test]
-fn iterators_are_clone() {
-    fn count(iterator: impl Iterator + Clone) -> usize {
-        iterator.clone().count()
-    }
-    let view = FormatView::new(0);
-    let counts = [
-        count(view.reasons()),
-        count(view.notes()),
-        count(view.edits()),
-        count(view.broken_rules()),
-    ];
-    assert_eq!(counts, [1, 0, 3, 3]);
-    let builder = NumberFormatBuilder::new();
-    let separated = builder.digit_separator(NonZeroU8::new(b'_'));
-    assert_eq!([count(builder.notes()), count(separated.notes())], [0, 1]);
-}
 
 /// Random words, random words with lawful radixes, and words near the standard format.
 fn words() -> impl Iterator<Item = u128> {
@@ -83,43 +64,23 @@ fn a_format_is_a_word_without_error() {
         } else {
             Err(error)
         };
-        assert_eq!(Format::new(word).map(u128::from), wanted, "{word:#034X}");
+        let format = Format::new(word);
+        assert_eq!(
+            format.map_err(Error::from).map(u128::from),
+            wanted,
+            "{word:#034X}"
+        );
         assert_eq!(view.check().map(|format| format.word()), wanted);
-        assert_eq!(Format::try_from(word), view.check());
-        assert_eq!(format!("{view}").parse(), view.check());
+        assert_eq!(Format::try_from(word), format);
+        assert_eq!(format!("{view}").parse(), format);
     }
-    assert_eq!(
-        Format::from(NumberFormat::<STANDARD>::new()),
-        Format::default()
-    );
+    assert_eq!(Format::of::<STANDARD>(), Format::default());
     assert_eq!(Format::default().word(), STANDARD);
     const HEXADECIMAL: u128 = 0x00001000_00000000_00000000_0000000C;
-    let format = Format::from(NumberFormat::<HEXADECIMAL>::new());
+    let format = Format::of::<HEXADECIMAL>();
     assert_eq!(format.word(), HEXADECIMAL);
     let built = NumberFormatBuilder::from_word(HEXADECIMAL).build_format();
     assert_eq!(built, Ok(format));
-}
-
-/// Formats and views are ordered and hashed by their words.
-#[test]
-fn a_format_is_compared_by_its_word() {
-    let formats: Vec<Format> = words().filter_map(|word| Format::new(word).ok()).collect();
-    for pair in formats.windows(2) {
-        let [a, b] = [pair[0], pair[1]];
-        let order = a.word().cmp(&b.word());
-        assert_eq!((a.cmp(&b), a.view().cmp(&b.view())), (order, order));
-        assert_eq!(
-            (hash_of(a), hash_of(a.view())),
-            (hash_of(a.word()), hash_of(a.word()))
-        );
-    }
-    assert!(formats.len() > 10);
-}
-
-fn hash_of(value: impl Hash) -> u64 {
-    let mut hasher = DefaultHasher::new();
-    value.hash(&mut hasher);
-    hasher.finish()
 }
 
 #[test]
@@ -128,10 +89,11 @@ fn a_format_has_a_normal_form_that_is_one_too() {
         let normal = format.normal_form();
         assert_eq!(Format::new(normal.word()), Ok(normal));
         assert!(same_format(normal.word(), format.word()) && normal.normal_form() == normal);
-        assert_eq!(
-            (FormatView::from(format), *format),
-            (format.view(), format.view())
+        assert_eq!(FormatView::from(format), format.view());
+        assert!(
+            format.notes().eq(format.view().notes()) && format.edits().eq(format.view().edits())
         );
+        assert_eq!(format.rebuild(), format.view().rebuild());
         assert_eq!(format.to_string(), format.view().to_string());
         let builder = NumberFormatBuilder::from(format);
         assert_eq!(builder, NumberFormatBuilder::from_word(format.word()));
@@ -149,41 +111,25 @@ fn a_format_has_a_normal_form_that_is_one_too() {
                 Error::Success => Ok(()),
                 error => Err(error),
             };
-            assert_eq!(format.check_options(exponent, point), wanted);
+            let checked = format.check_options(exponent, point);
+            assert_eq!(checked.map_err(Error::from), wanted);
         }
     }
 }
 
-/// Each reason is for a broken rule, and within the bits of that rule. The first reason is for the first broken rule.
+/// The iterators have the entries of the arrays of the proved calls.
 #[test]
-fn reasons_are_of_broken_rules() {
+fn iterators_have_what_arrays_have() {
     for word in words() {
         let view = FormatView::new(word);
-        let rules: Vec<Rule> = view.broken_rules().collect();
-        let all = Rule::ALL.iter().filter(|rule| !rule.is_kept(word));
-        assert!(all.eq(&rules));
+        let broken = Rule::ALL.iter().filter(|rule| !rule.is_kept(word));
+        assert!(view.broken_rules().eq(broken.copied()), "{word:#034X}");
         assert!(view.notes().eq(notes(word).into_iter().flatten()));
         assert!(view.reasons().eq(reasons(word).into_iter().flatten()));
-        assert!(rules.windows(2).all(|pair| pair[0] < pair[1]) && Rule::ALL.len() == 16);
-        for reason in view.reasons() {
-            let rule = reason.rule().unwrap();
-            assert!(rules.contains(&rule), "{word:#034X} {reason:?}");
-            assert!(reason.mask() != 0 && reason.mask() & !rule.mask() == 0);
-        }
-        let first = view.reasons().next().and_then(|reason| reason.rule());
-        assert_eq!(first, rules.first().copied(), "{word:#034X}");
-        let first = first.map_or(Error::Success, |rule| rule.error());
-        assert_eq!(first, peltzivar::word::format_error(word));
+        let rules = view.reasons().filter_map(|reason| reason.rule());
+        assert_eq!(rules.clone().next(), view.broken_rules().next());
+        assert!(rules.is_sorted(), "{word:#034X}");
     }
-    assert_eq!(format_error::<0>(), Error::InvalidMantissaRadix);
-}
-
-/// A word that breaks each rule has up to 18 reasons: each byte is a sign, and each two bytes clash.
-#[test]
-fn a_word_has_all_its_reasons() {
-    let view = FormatView::new(0x2525252B_2B00002B_00001E00_80004DF0);
-    assert!(view.broken_rules().eq(Rule::ALL.iter().copied()));
-    assert_eq!(view.reasons().count(), 18);
 }
 
 #[test]
@@ -205,9 +151,6 @@ fn edits_make_the_fields_of_their_word() {
             (other, other.view().word()),
             (builder, builder.build_unchecked())
         );
-        for edit in edits {
-            assert_eq!(edit.to_string().parse(), Ok(edit));
-        }
     }
     // A list may be longer than the list of fields.
     let many: Vec<Edit> = (0..=255).map(Edit::Radix).collect();
@@ -235,6 +178,87 @@ fn an_unlawful_constant_stops_with_its_reason() {
     }
 }
 
+/// An error displays the first reason, or its code if there is no reason.
+#[test]
+fn an_error_states_its_cause() {
+    let new = NumberFormatBuilder::new();
+    let separator = new
+        .digit_separator(NonZeroU8::new(b'_'))
+        .internal_digit_separator(true);
+    let format = Format::default();
+    #[rustfmt::skip]
+    let rows = [
+        (new.mantissa_radix(37).build_format().err(), Error::InvalidMantissaRadix, 1,
+            "the mantissa radix 37 is not between 2 and 36"),
+        (Format::new(0x00000A2B_00000000_00000000_8000003C).err(), Error::InvalidBaseSuffix, 3,
+            "the base suffix '+' is a sign (+ or -)"),
+        (separator.base_prefix(NonZeroU8::new(b'_')).build_format().err(), Error::InvalidPunctuation, 1,
+            "the digit separator '_' and the base prefix '_' are the same"),
+        ("0x0".parse::<Format>().err(), Error::InvalidMantissaRadix, 1,
+            "the mantissa radix 0 is not between 2 and 36"),
+        ("0x1 2".parse::<Format>().err(), Error::InvalidDigit(3), 0, "lexical parse error: 'invalid digit found' at index 3"),
+        ("".parse::<Format>().err(), Error::Empty(0), 0, "lexical parse error: 'the string to parse was empty' at index 0"),
+        (format.check_options(b'e', b'e').err(), Error::InvalidPunctuation, 1,
+            "the exponent character 'e' and the decimal point 'e' are the same"),
+    ];
+    for (error, code, count, printed) in rows {
+        let error = error.expect(printed);
+        assert_eq!(
+            (error.code(), error.reasons().count()),
+            (code, count),
+            "{printed}"
+        );
+        assert_eq!(
+            (error.to_string(), Error::from(error)),
+            (printed.into(), code)
+        );
+        assert_eq!(
+            format!("{error:?}"),
+            format!("FormatError {{ code: {code:?}, message: \"{printed}\" }}")
+        );
+    }
+    let word = FormatView::new(0x2525252B_2B00002B_00001E00_80004DF0);
+    let error = Format::new(word.word()).unwrap_err();
+    assert!(error.reasons().eq(word.reasons()) && error == Format::new(word.word()).unwrap_err());
+    assert_ne!(error, Format::new(0).unwrap_err());
+}
+
+/// Absent bytes of a format are `None`.
+#[test]
+fn absent_bytes_are_none() {
+    let byte = NonZeroU8::new;
+    let builder = NumberFormatBuilder::new()
+        .base_prefix(byte(b'x'))
+        .base_suffix(byte(b'h'));
+    let separated = builder
+        .digit_separator(byte(b'_'))
+        .internal_digit_separator(true);
+    for (builder, bytes) in [
+        (NumberFormatBuilder::new(), [None; 3]),
+        (builder, [None, byte(b'x'), byte(b'h')]),
+        (separated, [byte(b'_'), byte(b'x'), byte(b'h')]),
+    ] {
+        let format = builder.build_format().expect("a lawful format");
+        assert_eq!(
+            [
+                format.digit_separator(),
+                format.base_prefix(),
+                format.base_suffix()
+            ],
+            bytes
+        );
+        let view = builder.view();
+        assert_eq!(
+            [
+                view.digit_separator(),
+                view.base_prefix(),
+                view.base_suffix()
+            ],
+            bytes
+        );
+    }
+}
+
 #[test]
 fn words_are_parsed() {
     #[rustfmt::skip]
@@ -251,10 +275,27 @@ fn words_are_parsed() {
         (" 0xC", Err(Error::InvalidDigit(0))),
         ("0xC\n", Err(Error::InvalidDigit(3))),
         ("0x1g", Err(Error::InvalidDigit(3))),
+        ("0x00000A00_00000000_00000000_0000000C", Ok(STANDARD)),
+        ("0x0_0_C", Ok(0xC)),
+        ("0x_C", Err(Error::InvalidDigit(2))),
+        ("0xC_", Err(Error::InvalidDigit(3))),
+        ("0xC__C", Err(Error::InvalidDigit(3))),
+        ("0xC_g", Err(Error::InvalidDigit(3))),
+        ("0xC_Cg", Err(Error::InvalidDigit(5))),
+        ("0_xC", Err(Error::InvalidDigit(1))),
+        ("_0xC", Err(Error::InvalidDigit(0))),
+        ("0x00000000_00000000_00000000_00000000_0", Err(Error::Overflow(38))),
+        ("0x00000000_00000000_00000000_00000000_", Err(Error::InvalidDigit(37))),
+        ("0xC_\u{E9}", Err(Error::InvalidDigit(3))),
     ];
     for (text, word) in rows {
         assert_eq!(text.parse::<FormatView>().map(u128::from), word, "{text}");
-        assert_eq!(text.parse(), word.and_then(Format::new), "{text}");
+        let format = text.parse::<Format>().map_err(Error::from);
+        assert_eq!(
+            format,
+            word.and_then(|word| FormatView::new(word).check()),
+            "{text}"
+        );
     }
     let view = FormatView::new(0xAB);
     assert_eq!(
@@ -269,40 +310,7 @@ fn words_are_parsed() {
 }
 
 #[test]
-fn settings_are_parsed() {
-    #[rustfmt::skip]
-    let rows = [
-        ("base_prefix='x'", "base_prefix=120"),
-        ("digit_separator='''", "digit_separator=39"),
-        ("digit_separator='='", "digit_separator=61"),
-        ("base_suffix=none", "base_suffix=none"),
-        ("radix=08", "radix=8"),
-        ("digit_separator=0x5F", "digit_separator=95"),
-    ];
-    for (text, printed) in rows {
-        assert_eq!(
-            text.parse::<Edit>().map(|edit| edit.to_string()),
-            Ok(printed.into())
-        );
-    }
-    #[rustfmt::skip]
-    let refused = [
-        ("no_special=1", Some("no_special"), "no_special takes `true` or `false`"),
-        ("base_prefix=''", Some("base_prefix"),
-            "base_prefix takes a character such as '_', a number from 0 to 255, or `none`"),
-        ("mantissa_radix=none", Some("mantissa_radix"), "mantissa_radix takes a number, 2 to 36 in a lawful format"),
-        ("no-special=true", None, "unknown setting name"),
-        ("no_special", None, "expected NAME=VALUE"),
-        (" radix=8", None, "unknown setting name"),
-        ("radix=8 ", Some("radix"), "radix takes a number, 2 to 36 in a lawful format"),
-    ];
-    for (text, name, printed) in refused {
-        let error = text
-            .parse::<Edit>()
-            .map_err(|error| (error.name(), error.to_string()));
-        assert_eq!(error, Err((name, printed.into())), "{text}");
-    }
-    assert_eq!((Edit::NAMES.len(), FlagSetter::ALL.len()), (47, 40));
+fn setters_of_flags_are_parsed() {
     for setter in FlagSetter::ALL {
         assert_eq!(setter.to_string().parse(), Ok(*setter));
     }

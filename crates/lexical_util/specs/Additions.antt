@@ -3,7 +3,6 @@ pub mod ByteRoles
 pub mod EditMasks
 pub mod Numeral
 pub mod FieldEdits
-pub mod Shapes
 pub mod Reasons
 pub mod Notes
 pub mod WordText

@@ -4,7 +4,6 @@
 ghost use Rattle.std.specs.Prelude.{◌≡◌, ◌≢◌, ℕ, ◌↔◌, ◌%◌, ◌^◌, IsTrue};
 ghost use Rattle.lexical_flags.specs.Layout as layout;
 ghost use Rattle.lexical_flags.specs.Record.{raw, fill, effective_exponent_base, effective_exponent_radix};
-ghost use Rattle.lexical_flags.specs.Roles.{digits};
 ghost use Rattle.lexical_flags.specs.Rules.{IsRadix, Lawful, IsErrorOf, IsFirstError, radix_rules};
 ghost use Rattle.lexical_builder.specs.Writes.{new_record};
 
@@ -22,6 +21,7 @@ macro_rules! has_any {
     };
 }
 
+mod bytes;
 mod getters;
 mod roles;
 
@@ -132,15 +132,6 @@ impl NumberFormat {
 
     // BYTES
 
-    /// Returns the [digit separator][NumberFormatBuilder::digit_separator], or 0 if it is absent. The byte is returned
-    /// even if no flag allows digit separators.
-    #[inline(always)]
-    pub const fn digit_separator(&self) -> u8
-        ensures { result ≡ (raw self.now).byte layout.digit_separator }
-    {
-        flags::digit_separator(self.format)
-    }
-
     /// Returns whether the digit separator byte is not 0.
     #[inline(always)]
     pub const fn has_digit_separator(&self) -> bool
@@ -149,28 +140,12 @@ impl NumberFormat {
         has_any!(self, DIGIT_SEPARATOR)
     }
 
-    /// Returns the [base prefix][NumberFormatBuilder::base_prefix], or 0 if it is absent.
-    #[inline(always)]
-    pub const fn base_prefix(&self) -> u8
-        ensures { result ≡ (raw self.now).byte layout.base_prefix }
-    {
-        flags::base_prefix(self.format)
-    }
-
     /// Returns whether the base prefix byte is not 0.
     #[inline(always)]
     pub const fn has_base_prefix(&self) -> bool
         ensures { IsTrue result ↔ ((raw self.now).byte layout.base_prefix ≢ 0) }
     {
         has_any!(self, BASE_PREFIX)
-    }
-
-    /// Returns the [base suffix][NumberFormatBuilder::base_suffix], or 0 if it is absent.
-    #[inline(always)]
-    pub const fn base_suffix(&self) -> u8
-        ensures { result ≡ (raw self.now).byte layout.base_suffix }
-    {
-        flags::base_suffix(self.format)
     }
 
     /// Returns whether the base suffix byte is not 0.
@@ -248,17 +223,6 @@ impl NumberFormat {
         ensures lawful { Lawful self.now → IsRadix result }
     {
         flags::exponent_radix(self.format)
-    }
-
-    // ROLES OF BYTES
-
-    /// Returns whether `byte` is a digit in the mantissa radix or in the exponent radix. The case of a letter does not
-    /// matter.
-    #[inline(always)]
-    pub const fn is_digit(&self, byte: u8) -> bool
-        ensures { IsTrue result ↔ IsTrue (digits (raw self.now) byte) }
-    {
-        flags::is_digit(self.format, byte)
     }
 
     // BUILDERS

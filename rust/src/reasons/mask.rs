@@ -30,7 +30,7 @@ impl Reason {
     /// [`options_reasons`]: crate::reasons::options_reasons
     #[must_use]
     pub const fn rule(&self) -> Option<Rule> {
-        self.rules.0
+        self.rule
     }
 
     /// Returns the cause: the fields that are to blame, with their values.
@@ -44,7 +44,9 @@ impl Reason {
     /// explains at most one broken rule.
     #[must_use]
     pub const fn breaks(&self, rule: Rule) -> bool {
-        is_rule(self.rules.0, rule) || is_rule(self.rules.1, rule) || is_rule(self.rules.2, rule)
+        is_rule(self.rule, rule)
+            || is_rule(self.followers.0, rule)
+            || is_rule(self.followers.1, rule)
     }
 
     /// Returns the mask of the bits that the reason blames: the bits on which it depends. The reason applies to every
@@ -64,35 +66,29 @@ impl Cause {
     // Returns the mask of the bits on which the cause depends.
     const fn mask(&self) -> u128 {
         match self {
-            Cause::OutOfRange { byte, .. }
-            | Cause::NotText { byte, .. }
-            | Cause::IsSign { byte, .. } => byte.mask(),
-            Cause::IsDigit {
-                byte,
-                radixes: Radixes::Mantissa(_),
-                ..
-            } => byte.mask() | flags::MANTISSA_RADIX,
-            Cause::IsDigit {
-                byte,
-                radixes: Radixes::Exponent(_),
-                ..
-            } => byte.mask() | flags::EXPONENT_RADIX,
-            Cause::IsDigit {
-                byte,
-                radixes: Radixes::Both { .. },
-                ..
-            } => byte.mask() | flags::MANTISSA_RADIX | flags::EXPONENT_RADIX,
-            Cause::Same { first, second, .. } => first.mask() | second.mask(),
+            Cause::OutOfRange(byte) | Cause::NotText(byte) | Cause::IsSign(byte) => {
+                byte.name.mask()
+            }
+            Cause::IsDigit(byte, Radixes::Mantissa(_)) => byte.name.mask() | flags::MANTISSA_RADIX,
+            Cause::IsDigit(byte, Radixes::Exponent(_)) => byte.name.mask() | flags::EXPONENT_RADIX,
+            Cause::IsDigit(byte, Radixes::Both { .. }) => {
+                byte.name.mask() | flags::MANTISSA_RADIX | flags::EXPONENT_RADIX
+            }
+            Cause::Same(first, second) => first.name.mask() | second.name.mask(),
             Cause::DifferInCase {
                 first,
                 first_flag,
                 second,
                 second_flag,
-                ..
-            } => first.mask() | second.mask() | unset_mask(*first_flag) | unset_mask(*second_flag),
-            Cause::BothSet { first, second } => mask_of(*first) as u128 | mask_of(*second) as u128,
-            Cause::NeedsPosition { part } => position_mask(*part),
-            Cause::ReservedBits { bits } => *bits,
+            } => {
+                first.name.mask()
+                    | second.name.mask()
+                    | unset_mask(*first_flag)
+                    | unset_mask(*second_flag)
+            }
+            Cause::BothSet(first, second) => mask_of(*first) as u128 | mask_of(*second) as u128,
+            Cause::NeedsPosition(part) => position_mask(*part),
+            Cause::ReservedBits(bits) => *bits,
         }
     }
 }

@@ -5,7 +5,7 @@
 use crate::edits::{mask_of, FlagSetter};
 use crate::format_builder::NumberFormatBuilder;
 use crate::format_flags as flags;
-use crate::reasons::{prefix_of, reasons, some_if, suffix_of, Byte, Character, Reason};
+use crate::reasons::{reasons, some_if, Byte, Characters, NamedByte, Reason};
 
 /// The maximum number of notes on a format word.
 #[doc(hidden)]
@@ -20,28 +20,13 @@ pub const MAX_NOTES: usize = 3;
 pub enum Note {
     /// The digit separator is set, but no flag allows one. Packing the fields of a builder drops the separator, and the
     /// normal form has none. Options still cannot use the same byte.
-    SeparatorWithoutFlag {
-        /// The digit separator.
-        value: u8,
-    },
+    SeparatorWithoutFlag(NamedByte),
     /// One or more flags allow digit separators, but the digit separator is absent.
     FlagsWithoutSeparator,
     /// A case-sensitivity flag is set, but the base prefix or base suffix to which it applies is absent.
-    CaseFlagWithoutByte {
-        /// The flag.
-        flag: FlagSetter,
-        /// The byte to which the flag applies.
-        byte: Byte,
-    },
+    CaseFlagWithoutByte(FlagSetter, Byte),
     /// A case-sensitivity flag is set, but the base prefix or base suffix to which it applies is not a letter.
-    CaseFlagOfNonLetter {
-        /// The flag.
-        flag: FlagSetter,
-        /// The byte to which the flag applies.
-        byte: Byte,
-        /// The value of the byte.
-        value: u8,
-    },
+    CaseFlagOfNonLetter(FlagSetter, NamedByte),
 }
 
 impl Note {
@@ -49,11 +34,11 @@ impl Note {
     #[must_use]
     pub const fn mask(&self) -> u128 {
         match self {
-            Note::SeparatorWithoutFlag { .. } | Note::FlagsWithoutSeparator => {
+            Note::SeparatorWithoutFlag(_) | Note::FlagsWithoutSeparator => {
                 flags::DIGIT_SEPARATOR_FLAG_MASK | flags::DIGIT_SEPARATOR
             }
-            Note::CaseFlagWithoutByte { flag, byte }
-            | Note::CaseFlagOfNonLetter { flag, byte, .. } => mask_of(*flag) as u128 | byte.mask(),
+            Note::CaseFlagWithoutByte(flag, byte) => mask_of(*flag) as u128 | byte.mask(),
+            Note::CaseFlagOfNonLetter(flag, byte) => mask_of(*flag) as u128 | byte.name.mask(),
         }
     }
 }
@@ -93,8 +78,16 @@ pub const fn notes_of_fields(builder: &NumberFormatBuilder) -> [Option<Note>; MA
 
 // Returns the notes on a word in which the digit separator is replaced by `separator`, except those on `blamed` bits.
 const fn notes_beside(blamed: u128, format: u128, separator: u8) -> [Option<Note>; MAX_NOTES] {
-    let prefix = case_note(FlagSetter::CaseSensitiveBasePrefix, &prefix_of(format));
-    let suffix = case_note(FlagSetter::CaseSensitiveBaseSuffix, &suffix_of(format));
+    let prefix = case_note(
+        format,
+        FlagSetter::CaseSensitiveBasePrefix,
+        Byte::BasePrefix,
+    );
+    let suffix = case_note(
+        format,
+        FlagSetter::CaseSensitiveBaseSuffix,
+        Byte::BaseSuffix,
+    );
     [
         unless_blamed(blamed, separator_note(format, separator)),
         unless_blamed(blamed, prefix),
@@ -104,25 +97,31 @@ const fn notes_beside(blamed: u128, format: u128, separator: u8) -> [Option<Note
 
 // Returns the note on a digit separator and its flags, if any.
 const fn separator_note(format: u128, separator: u8) -> Option<Note> {
+    let byte = NamedByte {
+        name: Byte::DigitSeparator,
+        value: separator,
+    };
     if flags::is_separator_allowed(format) {
         some_if(separator == 0, Note::FlagsWithoutSeparator)
     } else {
-        some_if(
-            separator != 0,
-            Note::SeparatorWithoutFlag { value: separator },
-        )
+        some_if(separator != 0, Note::SeparatorWithoutFlag(byte))
     }
 }
 
-// Returns the note on the case flag of a character, if any.
-const fn case_note(flag: FlagSetter, character: &Character) -> Option<Note> {
-    let (byte, value) = (character.byte, character.value);
-    let note = if value == 0 {
-        Note::CaseFlagWithoutByte { flag, byte }
-    } else {
-        Note::CaseFlagOfNonLetter { flag, byte, value }
+// Returns the note on the case flag of a byte, if any.
+const fn case_note(format: u128, flag: FlagSetter, byte: Byte) -> Option<Note> {
+    let word = Characters {
+        format,
+        exponent: 0,
+        point: 0,
     };
-    some_if(character.case_sensitive & has_no_case(value), note)
+    let named = word.named(byte);
+    let note = if named.value == 0 {
+        Note::CaseFlagWithoutByte(flag, byte)
+    } else {
+        Note::CaseFlagOfNonLetter(flag, named)
+    };
+    some_if(word.is_cased(byte) & has_no_case(named.value), note)
 }
 
 // Returns whether a byte is the same in both cases.

@@ -5,7 +5,7 @@
 use crate::edits::FlagSetter;
 use crate::error::{Piece, ShortText, EMPTY_PIECE};
 use crate::format_flags::Part;
-use crate::reasons::{Byte, Cause, Note, Radixes, Reason};
+use crate::reasons::{Byte, Cause, NamedByte, Note, Radixes, Reason};
 use core::fmt;
 
 impl Reason {
@@ -14,57 +14,38 @@ impl Reason {
     #[doc(hidden)]
     pub const fn text(&self) -> ShortText {
         match &self.cause {
-            Cause::OutOfRange { byte, value } => {
-                followed(byte.numbered(*value), " is not between 2 and 36")
+            Cause::OutOfRange(byte) => followed(byte.numbered(), " is not between 2 and 36"),
+            Cause::NotText(byte) => followed(byte.quoted(), " is not an allowed ASCII character"),
+            Cause::IsSign(byte) => followed(byte.quoted(), " is a sign (+ or -)"),
+            Cause::IsDigit(byte, radixes) => digit_text(byte.quoted(), *radixes),
+            Cause::Same(first, second) => {
+                joined(first.quoted(), second.quoted(), " are the same", "")
             }
-            Cause::NotText { byte, value } => {
-                followed(byte.quoted(*value), " is not an allowed ASCII character")
-            }
-            Cause::IsSign { byte, value } => followed(byte.quoted(*value), " is a sign (+ or -)"),
-            Cause::IsDigit {
-                byte,
-                value,
-                radixes,
-            } => digit_text(byte.quoted(*value), *radixes),
-            Cause::Same {
-                first,
-                second,
-                value,
-            } => joined(
-                first.quoted(*value),
-                second.quoted(*value),
-                " are the same",
-                "",
-            ),
             Cause::DifferInCase {
                 first,
-                first_value,
                 first_flag,
                 second,
-                second_value,
                 second_flag,
             } => {
                 let (end, flag) = case_text(*first_flag, *second_flag);
-                joined(
-                    first.quoted(*first_value),
-                    second.quoted(*second_value),
-                    end,
-                    flag,
-                )
+                joined(first.quoted(), second.quoted(), end, flag)
             }
-            Cause::BothSet { first, second } => {
-                joined(named(*first), named(*second), " cannot both be set", "")
-            }
-            Cause::NeedsPosition { part } => followed(
-                named(consecutive_flag(*part)),
+            Cause::BothSet(first, second) => joined(
+                words(first.name()),
+                words(second.name()),
+                " cannot both be set",
+                "",
+            ),
+            Cause::NeedsPosition(part) => followed(
+                words(consecutive_flag(*part).name()),
                 " requires an internal, leading or trailing flag for the same part of the number",
             ),
-            Cause::ReservedBits { bits } => ShortText(
+            Cause::ReservedBits(bits) => ShortText(
                 EMPTY_PIECE,
                 EMPTY_PIECE,
-                Piece::Words("reserved bits are set: "),
+                words("reserved bits are set: "),
                 Piece::Hexadecimal(*bits),
-                Piece::Words(", which any edit clears"),
+                words(", which any edit clears"),
             ),
         }
     }
@@ -76,30 +57,22 @@ impl Note {
     #[doc(hidden)]
     pub const fn text(&self) -> ShortText {
         match self {
-            Note::SeparatorWithoutFlag { value } => ShortText(
-                EMPTY_PIECE,
-                EMPTY_PIECE,
-                EMPTY_PIECE,
-                Piece::Words("no flag allows "),
-                Byte::DigitSeparator.quoted(*value),
-            ),
+            Note::SeparatorWithoutFlag(byte) => between("", "no flag allows ", byte.quoted(), ""),
             Note::FlagsWithoutSeparator => followed(
                 EMPTY_PIECE,
                 "digit separator flags are set, but there is no digit separator",
             ),
-            Note::CaseFlagWithoutByte { flag, byte } => ShortText(
-                EMPTY_PIECE,
-                EMPTY_PIECE,
-                named(*flag),
-                Piece::Words(" is set, but there is no "),
-                Piece::Words(byte.label()),
+            Note::CaseFlagWithoutByte(flag, byte) => between(
+                flag.name(),
+                " is set, but there is no ",
+                words(byte.label()),
+                "",
             ),
-            Note::CaseFlagOfNonLetter { flag, byte, value } => ShortText(
-                EMPTY_PIECE,
-                named(*flag),
-                Piece::Words(" is set, but "),
-                byte.quoted(*value),
-                Piece::Words(" is not a letter"),
+            Note::CaseFlagOfNonLetter(flag, byte) => between(
+                flag.name(),
+                " is set, but ",
+                byte.quoted(),
+                " is not a letter",
             ),
         }
     }
@@ -131,15 +104,17 @@ impl Byte {
             Byte::DecimalPoint => "decimal point",
         }
     }
+}
 
+impl NamedByte {
     // Returns the name of the byte, and its value in decimal.
-    const fn numbered(self, value: u8) -> Piece {
-        Piece::NumberedByte(self.label(), value)
+    const fn numbered(&self) -> Piece {
+        Piece::NumberedByte(self.name.label(), self.value)
     }
 
     // Returns the name of the byte, and its value in quotes.
-    const fn quoted(self, value: u8) -> Piece {
-        Piece::QuotedByte(self.label(), value)
+    const fn quoted(&self) -> Piece {
+        Piece::QuotedByte(self.name.label(), self.value)
     }
 }
 
@@ -165,9 +140,19 @@ const fn joined(first: Piece, second: Piece, end: &'static str, last: &'static s
     )
 }
 
-// Returns the name of a flag.
-const fn named(flag: FlagSetter) -> Piece {
-    Piece::Words(flag.name())
+// Returns a text that has a piece between words.
+const fn between(
+    name: &'static str,
+    start: &'static str,
+    piece: Piece,
+    end: &'static str,
+) -> ShortText {
+    ShortText(EMPTY_PIECE, words(name), words(start), piece, words(end))
+}
+
+// Returns a piece of words.
+const fn words(words: &'static str) -> Piece {
+    Piece::Words(words)
 }
 
 // Returns the sentence for a byte that is a digit in these radixes.
@@ -182,10 +167,10 @@ const fn digit_text(byte: Piece, radixes: Radixes) -> ShortText {
         ),
         Radixes::Both { mantissa, exponent } => ShortText(
             byte,
-            Piece::Words(" is a digit in "),
-            Byte::MantissaRadix.numbered(mantissa),
-            Piece::Words(" and "),
-            Byte::ExponentRadix.numbered(exponent),
+            words(" is a digit in "),
+            Piece::NumberedByte("mantissa radix", mantissa),
+            words(" and "),
+            Piece::NumberedByte("exponent radix", exponent),
         ),
     }
 }

@@ -62,7 +62,8 @@ impl FormatView {
     #[must_use]
     #[inline(always)]
     pub const fn is_separator(&self, byte: u8) -> bool {
-        flags::is_separator_allowed(self.format) && is_byte(self.digit_separator(), true, byte)
+        let own = flags::digit_separator(self.format);
+        flags::is_separator_allowed(self.format) && is_byte(own, true, byte)
     }
 
     /// Returns whether `byte` is the base prefix. A base prefix that is a letter matches both cases unless
@@ -70,7 +71,8 @@ impl FormatView {
     #[must_use]
     #[inline(always)]
     pub const fn is_base_prefix(&self, byte: u8) -> bool {
-        is_byte(self.base_prefix(), self.case_sensitive_base_prefix(), byte)
+        let own = flags::base_prefix(self.format);
+        is_byte(own, self.case_sensitive_base_prefix(), byte)
     }
 
     /// Returns whether `byte` is the base suffix. A base suffix that is a letter matches both cases unless
@@ -78,7 +80,8 @@ impl FormatView {
     #[must_use]
     #[inline(always)]
     pub const fn is_base_suffix(&self, byte: u8) -> bool {
-        is_byte(self.base_suffix(), self.case_sensitive_base_suffix(), byte)
+        let own = flags::base_suffix(self.format);
+        is_byte(own, self.case_sensitive_base_suffix(), byte)
     }
 
     /// Returns whether `byte` is the exponent character `exponent`, which options choose. An exponent character that is
@@ -123,7 +126,12 @@ impl FormatView {
     /// word or options, the result is the first role that `byte` plays, in the order of the variants of [`Role`].
     #[must_use]
     pub const fn role_of(&self, exponent: u8, decimal_point: u8, byte: u8) -> Option<Role> {
-        if self.is_digit(byte) {
+        self.first_role(exponent, decimal_point, byte)
+    }
+
+    // Returns the first role that `byte` plays, in the order of the variants of `Role`.
+    const fn first_role(&self, exponent: u8, decimal_point: u8, byte: u8) -> Option<Role> {
+        if flags::is_digit_of_either_radix(self.word(), byte) {
             Some(Role::Digit)
         } else if is_sign(byte) {
             Some(Role::Sign)

@@ -12,33 +12,37 @@ use Rattle.lexical_flags.specs.Options.{OptionsFit}
 use Rattle.lexical_flags.specs.Additions.Masks.{byte_mask, mask_of}
 use Rattle.lexical_flags.specs.Additions.RuleFields.{mask_read}
 use Rattle.lexical_flags.specs.declared.format_flags.all_rules.Rule.{Rule}
-use Rattle.lexical_util.specs.Additions.Reasons.{mask_of_reason, mask_of_claim, has, prefix_of, suffix_of}
+use Rattle.lexical_util.specs.Additions.Reasons.{mask_of_reason, mask_of_byte, named, is_cased}
 use Rattle.lexical_util.specs.Additions.EditMasks.{mask_of_setter}
 use Rattle.lexical_util.specs.declared.edits.setters.FlagSetter.{FlagSetter}
 use Rattle.lexical_util.specs.declared.edits.setters.FlagSetter.TheVariants as setters
-use Rattle.lexical_util.specs.declared.reasons.Character.{Character}
+use Rattle.lexical_util.specs.declared.reasons.Byte.{Byte}
+use Rattle.lexical_util.specs.declared.reasons.Byte.TheVariants as bytes
 use Rattle.lexical_util.specs.declared.reasons.Reason.{Reason}
 use Rattle.lexical_util.specs.declared.reasons.note.Note.{Note}
 use Rattle.lexical_util.specs.declared.reasons.note.Note.TheVariants as notes
 
 -- `mask_of_note note` is the number with 1 in the bits that `note` describes.
 abbrev pub mask_of_note : Note → ℕ
-mask_of_note (notes.SeparatorWithoutFlag value) = bit_or (mask_of digit_separator_flags) (byte_mask layout.digit_separator)
+mask_of_note (notes.SeparatorWithoutFlag byte) = bit_or (mask_of digit_separator_flags) (byte_mask layout.digit_separator)
 mask_of_note notes.FlagsWithoutSeparator = bit_or (mask_of digit_separator_flags) (byte_mask layout.digit_separator)
-mask_of_note (notes.CaseFlagWithoutByte flag byte) = bit_or (mask_of_setter flag) (mask_of_claim (has byte 0))
-mask_of_note (notes.CaseFlagOfNonLetter flag byte value) = bit_or (mask_of_setter flag) (mask_of_claim (has byte value))
+mask_of_note (notes.CaseFlagWithoutByte flag byte) = bit_or (mask_of_setter flag) (mask_of_byte byte)
+mask_of_note (notes.CaseFlagOfNonLetter flag byte) = bit_or (mask_of_setter flag) (mask_of_byte byte.name)
 
 -- `separator_note r` is the note on a separator that no flag allows, or on flags that allow an absent one.
 abbrev pub separator_note : Record → Option Note
 separator_note r =
-    let value = r.byte layout.digit_separator in
-    if separator_allowed r then then_some (value == 0) notes.FlagsWithoutSeparator
-    else then_some (not (value == 0)) (notes.SeparatorWithoutFlag value)
+    let byte = named r 0 0 bytes.DigitSeparator in
+    if separator_allowed r then then_some (byte.value == 0) notes.FlagsWithoutSeparator
+    else then_some (not (byte.value == 0)) (notes.SeparatorWithoutFlag byte)
 
--- `case_note flag c` is the note on `flag`, the case flag of `c`, if it is set and `c` is absent or not a letter.
-abbrev pub case_note : FlagSetter → Character → Option Note
-case_note flag c = then_some (c.case_sensitive && (other_case c.value == c.value))
-    (if c.value == 0 then notes.CaseFlagWithoutByte flag c.byte else notes.CaseFlagOfNonLetter flag c.byte c.value)
+-- `case_note r flag name` is the note on `flag`, the case flag of the byte `name`, if it is set and the byte is absent or
+-- not a letter.
+abbrev pub case_note : Record → FlagSetter → Byte → Option Note
+case_note r flag name =
+    let byte = named r 0 0 name in
+    then_some (is_cased r name && (other_case byte.value == byte.value))
+    (if byte.value == 0 then notes.CaseFlagWithoutByte flag name else notes.CaseFlagOfNonLetter flag byte)
 
 -- `blamed slots` is the number with 1 in the bits that the reasons in `slots` blame.
 abbrev pub blamed : List (Option Reason) → ℕ
@@ -55,8 +59,8 @@ unless_blamed mask (Some note) = then_some (bit_and mask (mask_of_note note) == 
 abbrev pub notes_beside : ℕ → Record → List (Option Note)
 notes_beside mask r =
     unless_blamed mask (separator_note r)
-    ∷ unless_blamed mask (case_note setters.CaseSensitiveBasePrefix (prefix_of r))
-    ∷ unless_blamed mask (case_note setters.CaseSensitiveBaseSuffix (suffix_of r))
+    ∷ unless_blamed mask (case_note r setters.CaseSensitiveBasePrefix bytes.BasePrefix)
+    ∷ unless_blamed mask (case_note r setters.CaseSensitiveBaseSuffix bytes.BaseSuffix)
     ∷ []
 
 -- `without_separator r` is `r` with an absent digit separator.

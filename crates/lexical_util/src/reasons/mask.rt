@@ -1,9 +1,9 @@
 //! The rules that a word breaks because of a reason, and the bits that the reason blames.
 
-ghost use Rattle.std.specs.Prelude.{◌≡◌, ◌↔◌, IsTrue, ℕ, Some};
+ghost use Rattle.std.specs.Prelude.{◌≡◌, ◌↔◌, IsTrue, Some};
 ghost use Rattle.lexical_flags.specs.declared.format_flags.parts.Part.{Part};
 ghost use Rattle.lexical_util.specs.Additions.Reasons.{Breaks, mask_of_reason, mask_of_claim, mask_of_claims};
-ghost use Rattle.lexical_util.specs.Additions.Reasons.{has, unset, claims_of};
+ghost use Rattle.lexical_util.specs.Additions.Reasons.{mask_of_byte, unset, claims_of};
 ghost use Rattle.lexical_util.specs.declared.reasons.Cause.TheVariants as causes;
 
 use crate::edits::{FlagSetter, mask_of};
@@ -14,7 +14,7 @@ use lexical_flags::format_flags::{Part, Rule};
 impl Byte {
     /// Returns the mask of the byte in a format word. The mask of a character that options choose is 0.
     pub const fn mask(self) -> u128
-        ensures { (value : ℕ) → mask_of_claim (has self value) ≡ result }
+        ensures { result ≡ mask_of_byte self }
     {
         match self {
             Byte::DigitSeparator => flags::DIGIT_SEPARATOR,
@@ -34,9 +34,9 @@ impl Reason {
     ///
     /// [`options_reasons`]: crate::reasons::options_reasons
     pub const fn rule(&self) -> Option<Rule>
-        ensures { result ≡ self.now.rules.0 }
+        ensures { result ≡ self.now.rule }
     {
-        self.rules.0
+        self.rule
     }
 
     /// Returns the cause: the fields that are to blame, with their values.
@@ -52,7 +52,9 @@ impl Reason {
     pub const fn breaks(&self, rule: Rule) -> bool
         ensures { IsTrue result ↔ Breaks self.now rule }
     {
-        is_rule(self.rules.0, rule) || is_rule(self.rules.1, rule) || is_rule(self.rules.2, rule)
+        is_rule(self.rule, rule)
+            || is_rule(self.followers.0, rule)
+            || is_rule(self.followers.1, rule)
     }
 
     /// Returns the mask of the bits that the reason blames: the bits on which it depends. The reason applies to every
@@ -75,37 +77,29 @@ impl Cause {
         ensures { result ≡ mask_of_claims (claims_of self.now) }
     {
         match self {
-            Cause::OutOfRange { byte, .. }
-            | Cause::NotText { byte, .. }
-            | Cause::IsSign { byte, .. } => byte.mask(),
-            Cause::IsDigit {
-                byte,
-                radixes: Radixes::Mantissa(_),
-                ..
-            } => byte.mask() | flags::MANTISSA_RADIX,
-            Cause::IsDigit {
-                byte,
-                radixes: Radixes::Exponent(_),
-                ..
-            } => byte.mask() | flags::EXPONENT_RADIX,
-            Cause::IsDigit {
-                byte,
-                radixes: Radixes::Both { .. },
-                ..
-            } => { byte.mask() | flags::MANTISSA_RADIX | flags::EXPONENT_RADIX }
-            Cause::Same { first, second, .. } => first.mask() | second.mask(),
+            Cause::OutOfRange(byte) | Cause::NotText(byte) | Cause::IsSign(byte) => byte
+                .name
+                .mask(),
+            Cause::IsDigit(byte, Radixes::Mantissa(_)) => byte.name.mask() | flags::MANTISSA_RADIX,
+            Cause::IsDigit(byte, Radixes::Exponent(_)) => byte.name.mask() | flags::EXPONENT_RADIX,
+            Cause::IsDigit(byte, Radixes::Both { .. }) => {
+                byte.name.mask() | flags::MANTISSA_RADIX | flags::EXPONENT_RADIX
+            }
+            Cause::Same(first, second) => first.name.mask() | second.name.mask(),
             Cause::DifferInCase {
                 first,
                 first_flag,
                 second,
                 second_flag,
-                ..
             } => {
-                first.mask() | second.mask() | unset_mask(*first_flag) | unset_mask(*second_flag)
+                first.name.mask()
+                    | second.name.mask()
+                    | unset_mask(*first_flag)
+                    | unset_mask(*second_flag)
             }
-            Cause::BothSet { first, second } => mask_of(*first) as u128 | mask_of(*second) as u128,
-            Cause::NeedsPosition { part } => position_mask(*part),
-            Cause::ReservedBits { bits } => *bits,
+            Cause::BothSet(first, second) => mask_of(*first) as u128 | mask_of(*second) as u128,
+            Cause::NeedsPosition(part) => position_mask(*part),
+            Cause::ReservedBits(bits) => *bits,
         }
     }
 }

@@ -13,7 +13,7 @@ ghost use Rattle.lexical_util.specs.Additions.Notes.{SameOtherRules};
 ghost use Rattle.lexical_util.specs.NormalForm.{normal_form_of};
 
 use crate::edits::{FlagSetter, mask_of};
-use crate::reasons::{Byte, Character, Reason, prefix_of, reasons, some_if, suffix_of};
+use crate::reasons::{Byte, Characters, NamedByte, Reason, reasons, some_if};
 use lexical_builder::format_builder::NumberFormatBuilder;
 use lexical_flags::format_flags as flags;
 
@@ -28,28 +28,13 @@ pub const MAX_NOTES: usize = 3;
 pub enum Note {
     /// The digit separator is set, but no flag allows one. Packing the fields of a builder drops the separator, and the
     /// normal form has none. Options still cannot use the same byte.
-    SeparatorWithoutFlag {
-        /// The digit separator.
-        value: u8,
-    },
+    SeparatorWithoutFlag(NamedByte),
     /// One or more flags allow digit separators, but the digit separator is absent.
     FlagsWithoutSeparator,
     /// A case-sensitivity flag is set, but the base prefix or base suffix to which it applies is absent.
-    CaseFlagWithoutByte {
-        /// The flag.
-        flag: FlagSetter,
-        /// The byte to which the flag applies.
-        byte: Byte,
-    },
+    CaseFlagWithoutByte(FlagSetter, Byte),
     /// A case-sensitivity flag is set, but the base prefix or base suffix to which it applies is not a letter.
-    CaseFlagOfNonLetter {
-        /// The flag.
-        flag: FlagSetter,
-        /// The byte to which the flag applies.
-        byte: Byte,
-        /// The value of the byte.
-        value: u8,
-    },
+    CaseFlagOfNonLetter(FlagSetter, NamedByte),
 }
 
 impl Note {
@@ -58,13 +43,11 @@ impl Note {
         ensures { result ≡ mask_of_note self.now }
     {
         match self {
-            Note::SeparatorWithoutFlag { .. } | Note::FlagsWithoutSeparator => {
+            Note::SeparatorWithoutFlag(_) | Note::FlagsWithoutSeparator => {
                 flags::DIGIT_SEPARATOR_FLAG_MASK | flags::DIGIT_SEPARATOR
             }
-            Note::CaseFlagWithoutByte { flag, byte }
-            | Note::CaseFlagOfNonLetter { flag, byte, .. } => {
-                mask_of(*flag) as u128 | byte.mask()
-            }
+            Note::CaseFlagWithoutByte(flag, byte) => mask_of(*flag) as u128 | byte.mask(),
+            Note::CaseFlagOfNonLetter(flag, byte) => mask_of(*flag) as u128 | byte.name.mask(),
         }
     }
 }
@@ -127,8 +110,16 @@ pub const fn notes_of_fields(builder: &NumberFormatBuilder) -> [Option<Note>; MA
 const fn notes_beside(blamed: u128, format: u128, separator: u8) -> [Option<Note>; MAX_NOTES]
     ensures { result ≡ notes_beside blamed (set_byte (raw format) layout.digit_separator separator) }
 {
-    let prefix = case_note(FlagSetter::CaseSensitiveBasePrefix, &prefix_of(format));
-    let suffix = case_note(FlagSetter::CaseSensitiveBaseSuffix, &suffix_of(format));
+    let prefix = case_note(
+        format,
+        FlagSetter::CaseSensitiveBasePrefix,
+        Byte::BasePrefix,
+    );
+    let suffix = case_note(
+        format,
+        FlagSetter::CaseSensitiveBaseSuffix,
+        Byte::BaseSuffix,
+    );
     [
         unless_blamed(blamed, separator_note(format, separator)),
         unless_blamed(blamed, prefix),
@@ -140,27 +131,33 @@ const fn notes_beside(blamed: u128, format: u128, separator: u8) -> [Option<Note
 const fn separator_note(format: u128, separator: u8) -> Option<Note>
     ensures { result ≡ separator_note (set_byte (raw format) layout.digit_separator separator) }
 {
+    let byte = NamedByte {
+        name: Byte::DigitSeparator,
+        value: separator,
+    };
     if flags::is_separator_allowed(format) {
         some_if(separator == 0, Note::FlagsWithoutSeparator)
     } else {
-        some_if(
-            separator != 0,
-            Note::SeparatorWithoutFlag { value: separator },
-        )
+        some_if(separator != 0, Note::SeparatorWithoutFlag(byte))
     }
 }
 
-// Returns the note on the case flag of a character, if any.
-const fn case_note(flag: FlagSetter, character: &Character) -> Option<Note>
-    ensures { result ≡ case_note flag character.now }
+// Returns the note on the case flag of a byte, if any.
+const fn case_note(format: u128, flag: FlagSetter, byte: Byte) -> Option<Note>
+    ensures { result ≡ case_note (raw format) flag byte }
 {
-    let (byte, value) = (character.byte, character.value);
-    let note = if value == 0 {
-        Note::CaseFlagWithoutByte { flag, byte }
-    } else {
-        Note::CaseFlagOfNonLetter { flag, byte, value }
+    let word = Characters {
+        format,
+        exponent: 0,
+        point: 0,
     };
-    some_if(character.case_sensitive & has_no_case(value), note)
+    let named = word.named(byte);
+    let note = if named.value == 0 {
+        Note::CaseFlagWithoutByte(flag, byte)
+    } else {
+        Note::CaseFlagOfNonLetter(flag, named)
+    };
+    some_if(word.is_cased(byte) & has_no_case(named.value), note)
 }
 
 // Returns whether a byte is the same in both cases.
