@@ -158,7 +158,7 @@ def wanted_words(path, place):
     return with_attributes(words, str(path).rpartition("/src/")[2]) if is_library else words
 
 
-IMPORT = re.compile(r"(?:# \[ [^\]]* \] )*(?:pub (?:\( \w+ \) )?)?(?:use [^;]*|mod \w+) ;")
+IMPORT = re.compile(r"(?:# \[ [^\]]* \] )*(?:pub (?:\( \w+ \) )?)?\b(?:use [^;]*|mod \w+) ;")
 
 
 def import_of(text):

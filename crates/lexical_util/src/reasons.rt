@@ -213,8 +213,8 @@ pub const fn options_reasons(
         point: decimal_point,
     };
     [
-        options.byte_reason(None, Byte::ExponentCharacter),
-        options.byte_reason(None, Byte::DecimalPoint),
+        byte_reason(format, None, options.named(Byte::ExponentCharacter)),
+        byte_reason(format, None, options.named(Byte::DecimalPoint)),
         options.clash(None, Byte::ExponentCharacter, Byte::DecimalPoint),
         options.clash(None, Byte::ExponentCharacter, Byte::DigitSeparator),
         options.clash(None, Byte::ExponentCharacter, Byte::BasePrefix),
@@ -326,29 +326,11 @@ impl Characters {
             let byte = named r self.now.exponent self.now.point name in
             result ≡ slot r rule (if_present byte (byte_cause r byte)) }
     {
-        if self.named(name).value == 0 {
+        let byte = self.named(name);
+        if byte.value == 0 {
             None
         } else {
-            self.byte_reason(rule, name)
-        }
-    }
-
-    // Returns the reason for a byte that is not punctuation, if it is not.
-    const fn byte_reason(&self, rule: Option<Rule>, name: Byte) -> Option<Reason>
-        ensures { let r = raw self.now.format in
-            result ≡ slot r rule (byte_cause r (named r self.now.exponent self.now.point name)) }
-    {
-        let byte = self.named(name);
-        let cause = if !is_valid_ascii(byte.value) {
-            Some(Cause::NotText(byte))
-        } else if (byte.value == b'+') | (byte.value == b'-') {
-            Some(Cause::IsSign(byte))
-        } else {
-            digit_cause(self.format, byte)
-        };
-        match cause {
-            Some(cause) => Some(Reason::new(self.format, rule, cause)),
-            None => None,
+            byte_reason(self.format, rule, byte)
         }
     }
 
@@ -438,6 +420,23 @@ const fn case_flag(byte: Byte) -> Option<FlagSetter>
         Byte::BaseSuffix => Some(FlagSetter::CaseSensitiveBaseSuffix),
         Byte::ExponentCharacter => Some(FlagSetter::CaseSensitiveExponent),
         _ => None,
+    }
+}
+
+// Returns the reason for a byte that is not punctuation, if it is not.
+const fn byte_reason(format: u128, rule: Option<Rule>, byte: NamedByte) -> Option<Reason>
+    ensures { result ≡ slot (raw format) rule (byte_cause (raw format) byte) }
+{
+    let cause = if !is_valid_ascii(byte.value) {
+        Some(Cause::NotText(byte))
+    } else if (byte.value == b'+') | (byte.value == b'-') {
+        Some(Cause::IsSign(byte))
+    } else {
+        digit_cause(format, byte)
+    };
+    match cause {
+        Some(cause) => Some(Reason::new(format, rule, cause)),
+        None => None,
     }
 }
 

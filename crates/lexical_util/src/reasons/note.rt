@@ -143,6 +143,7 @@ const fn separator_note(format: u128, separator: u8) -> Option<Note>
 }
 
 // Returns the note on the case flag of a byte, if any.
+#[inline(always)]
 const fn case_note(format: u128, flag: FlagSetter, byte: Byte) -> Option<Note>
     ensures { result ≡ case_note (raw format) flag byte }
 {
