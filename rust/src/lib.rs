@@ -89,7 +89,6 @@
 #![forbid(unsafe_code)]
 
 pub mod ascii;
-mod chunks;
 mod debug;
 mod decimal;
 #[allow(clippy::redundant_pattern_matching, reason = "as it is proved")]
@@ -105,7 +104,6 @@ pub mod feature_format;
 pub mod format;
 pub mod format_builder;
 pub mod format_flags;
-mod lanes;
 mod lawful;
 mod lists;
 mod numeral;
