@@ -90,7 +90,6 @@
 
 pub mod ascii;
 mod debug;
-mod decimal;
 #[allow(clippy::redundant_pattern_matching, reason = "as it is proved")]
 pub mod digit;
 #[allow(

@@ -22,11 +22,10 @@ pub use crate::view::roles::{Role, Separators};
 
 /// A view of a format word. It reads the fields of the word, and checks the word.
 ///
-/// Every method works on any word, whether or not the word is [lawful][flags::Rule]. The word may be known only at run
-/// time. For a word that is known at compile time, [`NumberFormat`][crate::feature_format::NumberFormat] also has each
-/// field as a constant. Views are compared, ordered and hashed by their words.
-/// [`same_format`][crate::edits::same_format] returns whether two words are equivalent.
-#[derive(Clone, Copy, PartialEq, Eq, Hash, PartialOrd, Ord)]
+/// Every method works on any word, whether or not the word is [lawful][flags::Rule]. The word is a value, which may be
+/// known only at run time. In `lexical-util`, the word is a const generic argument of the type instead, and each field
+/// is also an associated constant.
+#[derive(Clone, Copy, PartialEq, Eq, PartialOrd, Ord, Hash)]
 pub struct FormatView {
     format: u128,
 }
@@ -43,14 +42,12 @@ impl FormatView {
     // CONSTRUCTORS
 
     /// Returns a view of `format`, which may be any word.
-    #[must_use]
     #[inline(always)]
     pub const fn new(format: u128) -> Self {
         FormatView { format }
     }
 
-    /// Returns the format word.
-    #[must_use]
+    /// Returns the format word. `lexical-util` has no such function, since its word is part of the type.
     #[inline(always)]
     pub const fn word(&self) -> u128 {
         self.format
@@ -60,29 +57,13 @@ impl FormatView {
 
     /// Returns whether the word is lawful, that is, whether it satisfies all the rules that [`error`][Self::error]
     /// checks.
-    #[must_use]
     #[inline(always)]
     pub const fn is_valid(&self) -> bool {
         self.error().is_success()
     }
 
-    /// Returns the error of the first rule that the word breaks, in the order of the variants of
-    /// [`Rule`][crate::format_flags::Rule], or `Success` if the word is lawful.
-    ///
-    /// # Proved
-    ///
-    /// For all arguments:
-    ///
-    /// - The result is the error of the first rule that the word breaks, or `Success` (`IsErrorOf`).
-    /// - The result is `Success` if and only if the word is `Lawful`.
-    /// - No other error satisfies `IsErrorOf`.
-    ///
-    /// ```text
-    /// ensures first { IsErrorOf self.now result }
-    /// ensures lawful { (result ≡ Error.Success) ↔ Lawful self.now }
-    /// ensures unique { (other : Error) → IsErrorOf self.now other → other ≡ result }
-    /// ```
-    #[must_use]
+    /// Returns the error of the first rule that the word breaks, in the order of [`format_error_impl`], or `Success` if
+    /// the word is lawful.
     #[inline(always)]
     pub const fn error(&self) -> Error {
         format_error_impl(self.format)
@@ -90,7 +71,6 @@ impl FormatView {
 
     /// Returns whether the mantissa radix, the exponent base and the exponent radix are all between 2 and 36. An
     /// exponent base or exponent radix of 0 means the mantissa radix.
-    #[must_use]
     #[inline(always)]
     pub const fn is_valid_radix(&self) -> bool {
         self.error_radix().is_success()
@@ -98,7 +78,6 @@ impl FormatView {
 
     /// Checks, in this order, whether the mantissa radix, the exponent base and the exponent radix are between 2 and
     /// 36. Returns the error of the first one that is not, or `Success`.
-    #[must_use]
     #[inline(always)]
     pub const fn error_radix(&self) -> Error {
         radix_error_impl(self.format)
@@ -108,42 +87,36 @@ impl FormatView {
 
     /// Returns the [digit separator][NumberFormatBuilder::digit_separator], or 0 if it is absent. The byte is returned
     /// even if no flag allows digit separators.
-    #[must_use]
     #[inline(always)]
     pub const fn digit_separator(&self) -> u8 {
         flags::digit_separator(self.format)
     }
 
     /// Returns whether the digit separator byte is not 0.
-    #[must_use]
     #[inline(always)]
     pub const fn has_digit_separator(&self) -> bool {
         has_any!(self, DIGIT_SEPARATOR)
     }
 
     /// Returns the [base prefix][NumberFormatBuilder::base_prefix], or 0 if it is absent.
-    #[must_use]
     #[inline(always)]
     pub const fn base_prefix(&self) -> u8 {
         flags::base_prefix(self.format)
     }
 
     /// Returns whether the base prefix byte is not 0.
-    #[must_use]
     #[inline(always)]
     pub const fn has_base_prefix(&self) -> bool {
         has_any!(self, BASE_PREFIX)
     }
 
     /// Returns the [base suffix][NumberFormatBuilder::base_suffix], or 0 if it is absent.
-    #[must_use]
     #[inline(always)]
     pub const fn base_suffix(&self) -> u8 {
         flags::base_suffix(self.format)
     }
 
     /// Returns whether the base suffix byte is not 0.
-    #[must_use]
     #[inline(always)]
     pub const fn has_base_suffix(&self) -> bool {
         has_any!(self, BASE_SUFFIX)
@@ -153,21 +126,18 @@ impl FormatView {
 
     /// Returns the [mantissa radix][NumberFormatBuilder::mantissa_radix], a number from 0 to 255. In a
     /// [lawful][flags::Rule] word, it is between 2 and 36.
-    #[must_use]
     #[inline(always)]
     pub const fn mantissa_radix(&self) -> u32 {
         flags::mantissa_radix(self.format)
     }
 
     /// Returns the mantissa radix, as [`mantissa_radix`][Self::mantissa_radix] does.
-    #[must_use]
     #[inline(always)]
     pub const fn radix(&self) -> u32 {
         self.mantissa_radix()
     }
 
     /// Returns the square of the mantissa radix.
-    #[must_use]
     #[inline(always)]
     pub const fn radix2(&self) -> u32 {
         let radix = self.mantissa_radix();
@@ -175,7 +145,6 @@ impl FormatView {
     }
 
     /// Returns the fourth power of the mantissa radix.
-    #[must_use]
     #[inline(always)]
     pub const fn radix4(&self) -> u32 {
         let square = self.radix2();
@@ -184,7 +153,6 @@ impl FormatView {
 
     /// Returns the eighth power of the mantissa radix modulo 2^32. The result is exact up to radix 15, and it is 0 for
     /// radix 16.
-    #[must_use]
     #[inline(always)]
     pub const fn radix8(&self) -> u32 {
         let fourth = self.radix4();
@@ -193,7 +161,6 @@ impl FormatView {
 
     /// Returns the [exponent base][NumberFormatBuilder::exponent_base], or the mantissa radix if the exponent base byte
     /// is 0. In a [lawful][flags::Rule] word, the result is between 2 and 36.
-    #[must_use]
     #[inline(always)]
     pub const fn exponent_base(&self) -> u32 {
         flags::exponent_base(self.format)
@@ -201,7 +168,6 @@ impl FormatView {
 
     /// Returns the [exponent radix][NumberFormatBuilder::exponent_radix], or the mantissa radix if the exponent radix
     /// byte is 0. In a [lawful][flags::Rule] word, the result is between 2 and 36.
-    #[must_use]
     #[inline(always)]
     pub const fn exponent_radix(&self) -> u32 {
         flags::exponent_radix(self.format)
@@ -211,7 +177,6 @@ impl FormatView {
 
     /// Returns whether `byte` is a digit in the mantissa radix or in the exponent radix. The case of a letter does not
     /// matter.
-    #[must_use]
     #[inline(always)]
     pub const fn is_digit(&self, byte: u8) -> bool {
         flags::is_digit(self.format, byte)
@@ -220,7 +185,6 @@ impl FormatView {
     // BUILDERS
 
     /// Returns a new builder, which does not depend on any word.
-    #[must_use]
     #[inline(always)]
     pub const fn builder() -> NumberFormatBuilder {
         NumberFormatBuilder::new()
@@ -228,18 +192,6 @@ impl FormatView {
 
     /// Returns a builder with the fields of the word. An exponent base or exponent radix of 0 becomes the mantissa
     /// radix.
-    ///
-    /// # Proved
-    ///
-    /// For all arguments:
-    ///
-    /// - The fields of the result are those of the word (`raw`), with absent exponent bytes replaced by the mantissa
-    ///   radix (`fill`).
-    ///
-    /// ```text
-    /// ensures { result ≡ fill (raw self.now) }
-    /// ```
-    #[must_use]
     #[inline(always)]
     pub const fn rebuild(&self) -> NumberFormatBuilder {
         NumberFormatBuilder::rebuild(self.format)

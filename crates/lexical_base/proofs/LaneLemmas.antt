@@ -66,9 +66,12 @@ lanes_tested : (first second : ℕ × ℕ) (bytes : List ℕ)
     → in_ranges first second (length bytes) bytes ≡ map (in_two_ranges first second) bytes
 lanes_tested first second [] = refl
 lanes_tested first second (byte ∷ bytes) =
-    rw (and_lanes (leb first.0 byte) (leb byte first.1), and_lanes (leb second.0 byte) (leb byte second.1),
-    top_of_lanes (leb first.0 byte && leb byte first.1) (leb second.0 byte && leb byte second.1),
-    lanes_tested first second bytes) refl
+    rw (
+      and_lanes (leb first.0 byte) (leb byte first.1),
+      and_lanes (leb second.0 byte) (leb byte second.1),
+      top_of_lanes (leb first.0 byte && leb byte first.1) (leb second.0 byte && leb byte second.1),
+      lanes_tested first second bytes,
+    ) refl
 
 -- A mask has all its bits if and only if every lane passes.
 full_mask : (p : ℕ → Bool) (bytes : List ℕ) → eqb (mask_l (map p bytes)) (2 ^ length bytes - 1) ≡ list_all p bytes

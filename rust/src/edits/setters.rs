@@ -62,149 +62,95 @@ macro_rules! with_setters {
     };
 }
 
-/// A setter of [`NumberFormatBuilder`][crate::format_builder::NumberFormatBuilder] that takes a `bool`. It sets one
-/// flag, or all flags of one of the nine flag groups. Each variant links to its setter.
-#[derive(Debug, Clone, Copy, PartialEq, Eq, Hash, PartialOrd, Ord)]
-#[non_exhaustive]
+/// A setter of [`NumberFormatBuilder`][crate::format_builder::NumberFormatBuilder] that takes a `bool`. It
+/// sets one flag, or all flags of one of the nine flag groups. The comment of a variant is the name of its setter.
+#[derive(Debug, Clone, Copy, PartialEq, Eq, Hash)]
 pub enum FlagSetter {
-    /// Sets whether the format requires digits before the decimal point. If so, a parser rejects `.5`. See
-    /// [`required_integer_digits`][crate::format_builder::NumberFormatBuilder::required_integer_digits].
+    /// `required_integer_digits`
     RequiredIntegerDigits,
-    /// Sets whether the format requires digits after a decimal point. If so, a parser rejects `1.` but accepts `1`.
-    /// See [`required_fraction_digits`][crate::format_builder::NumberFormatBuilder::required_fraction_digits].
+    /// `required_fraction_digits`
     RequiredFractionDigits,
-    /// Sets whether the format requires digits after an exponent character. If so, a parser rejects `1e`. See
-    /// [`required_exponent_digits`][crate::format_builder::NumberFormatBuilder::required_exponent_digits].
+    /// `required_exponent_digits`
     RequiredExponentDigits,
-    /// Sets whether the format requires a digit in the mantissa of a float. If so, a parser rejects `.`. See
-    /// [`required_mantissa_digits`][crate::format_builder::NumberFormatBuilder::required_mantissa_digits].
+    /// `required_mantissa_digits`
     RequiredMantissaDigits,
-    /// Sets whether the format forbids a `+` before an integer or a float. If so, a parser rejects `+1` but accepts
-    /// `-1`. See [`no_positive_mantissa_sign`][crate::format_builder::NumberFormatBuilder::no_positive_mantissa_sign].
+    /// `no_positive_mantissa_sign`
     NoPositiveMantissaSign,
-    /// Sets whether the format requires a sign before an integer or a float. If so, a parser rejects `1`, and a writer
-    /// writes `+1`. See
-    /// [`required_mantissa_sign`][crate::format_builder::NumberFormatBuilder::required_mantissa_sign].
+    /// `required_mantissa_sign`
     RequiredMantissaSign,
-    /// Sets whether the format forbids an exponent in a float. If so, a parser rejects `1e5`, and a writer writes out
-    /// all digits. See [`no_exponent_notation`][crate::format_builder::NumberFormatBuilder::no_exponent_notation].
+    /// `no_exponent_notation`
     NoExponentNotation,
-    /// Sets whether the format forbids a `+` in the exponent. If so, a parser rejects `1e+5` but accepts `1e5` and
-    /// `1e-5`. See
-    /// [`no_positive_exponent_sign`][crate::format_builder::NumberFormatBuilder::no_positive_exponent_sign].
+    /// `no_positive_exponent_sign`
     NoPositiveExponentSign,
-    /// Sets whether the format requires a sign in the exponent. If so, a parser rejects `1e5`, and a writer writes
-    /// `1e+5`. See [`required_exponent_sign`][crate::format_builder::NumberFormatBuilder::required_exponent_sign].
+    /// `required_exponent_sign`
     RequiredExponentSign,
-    /// Sets whether the format requires a decimal point before an exponent. If so, a parser rejects `1e5` but accepts
-    /// `1.0e5`. See
-    /// [`no_exponent_without_fraction`][crate::format_builder::NumberFormatBuilder::no_exponent_without_fraction].
+    /// `no_exponent_without_fraction`
     NoExponentWithoutFraction,
-    /// Sets whether the format forbids all special values. If so, a parser rejects `NaN` and `inf`. See
-    /// [`no_special`][crate::format_builder::NumberFormatBuilder::no_special].
+    /// `no_special`
     NoSpecial,
-    /// Sets whether special values are case-sensitive. If so, a parser rejects `nan` when the spelling of NaN is
-    /// `NaN`. See [`case_sensitive_special`][crate::format_builder::NumberFormatBuilder::case_sensitive_special].
+    /// `case_sensitive_special`
     CaseSensitiveSpecial,
-    /// Sets whether the format forbids leading zeros in an integer. If so, a parser rejects the integer `01` but
-    /// accepts `0`. See
-    /// [`no_integer_leading_zeros`][crate::format_builder::NumberFormatBuilder::no_integer_leading_zeros].
+    /// `no_integer_leading_zeros`
     NoIntegerLeadingZeros,
-    /// Sets whether the format forbids leading zeros in a float. If so, a parser rejects `01.0` but accepts `0.1`. See
-    /// [`no_float_leading_zeros`][crate::format_builder::NumberFormatBuilder::no_float_leading_zeros].
+    /// `no_float_leading_zeros`
     NoFloatLeadingZeros,
-    /// Sets whether the format requires an exponent in a float. If so, a parser rejects `1.0`, and a writer writes
-    /// every float with an exponent. See
-    /// [`required_exponent_notation`][crate::format_builder::NumberFormatBuilder::required_exponent_notation].
+    /// `required_exponent_notation`
     RequiredExponentNotation,
-    /// Sets whether the exponent character is case-sensitive. If so, a parser rejects `1E5` when the exponent
-    /// character is `e`. See
-    /// [`case_sensitive_exponent`][crate::format_builder::NumberFormatBuilder::case_sensitive_exponent].
+    /// `case_sensitive_exponent`
     CaseSensitiveExponent,
-    /// Sets whether the base prefix is case-sensitive. If so, a parser rejects `0X1F` when the base prefix is `x`. See
-    /// [`case_sensitive_base_prefix`][crate::format_builder::NumberFormatBuilder::case_sensitive_base_prefix].
+    /// `case_sensitive_base_prefix`
     CaseSensitiveBasePrefix,
-    /// Sets whether the base suffix is case-sensitive. If so, a parser rejects `1FH` when the base suffix is `h`. See
-    /// [`case_sensitive_base_suffix`][crate::format_builder::NumberFormatBuilder::case_sensitive_base_suffix].
+    /// `case_sensitive_base_suffix`
     CaseSensitiveBaseSuffix,
-    /// Sets whether the format allows a digit separator between integer digits. If so, a parser accepts `1_2`. See
-    /// [`integer_internal_digit_separator`][crate::format_builder::NumberFormatBuilder::integer_internal_digit_separator].
+    /// `integer_internal_digit_separator`
     IntegerInternalDigitSeparator,
-    /// Sets whether the format allows a digit separator between fraction digits. If so, a parser accepts `0.1_2`. See
-    /// [`fraction_internal_digit_separator`][crate::format_builder::NumberFormatBuilder::fraction_internal_digit_separator].
+    /// `fraction_internal_digit_separator`
     FractionInternalDigitSeparator,
-    /// Sets whether the format allows a digit separator between exponent digits. If so, a parser accepts `1e1_2`. See
-    /// [`exponent_internal_digit_separator`][crate::format_builder::NumberFormatBuilder::exponent_internal_digit_separator].
+    /// `exponent_internal_digit_separator`
     ExponentInternalDigitSeparator,
-    /// Sets whether the format allows a digit separator before the integer digits. If so, a parser accepts `_12`. See
-    /// [`integer_leading_digit_separator`][crate::format_builder::NumberFormatBuilder::integer_leading_digit_separator].
+    /// `integer_leading_digit_separator`
     IntegerLeadingDigitSeparator,
-    /// Sets whether the format allows a digit separator before the fraction digits. If so, a parser accepts `0._12`.
-    /// See
-    /// [`fraction_leading_digit_separator`][crate::format_builder::NumberFormatBuilder::fraction_leading_digit_separator].
+    /// `fraction_leading_digit_separator`
     FractionLeadingDigitSeparator,
-    /// Sets whether the format allows a digit separator before the exponent digits. If so, a parser accepts `1e_12`.
-    /// See
-    /// [`exponent_leading_digit_separator`][crate::format_builder::NumberFormatBuilder::exponent_leading_digit_separator].
+    /// `exponent_leading_digit_separator`
     ExponentLeadingDigitSeparator,
-    /// Sets whether the format allows a digit separator after the integer digits. If so, a parser accepts `12_`. See
-    /// [`integer_trailing_digit_separator`][crate::format_builder::NumberFormatBuilder::integer_trailing_digit_separator].
+    /// `integer_trailing_digit_separator`
     IntegerTrailingDigitSeparator,
-    /// Sets whether the format allows a digit separator after the fraction digits. If so, a parser accepts `0.12_`.
-    /// See
-    /// [`fraction_trailing_digit_separator`][crate::format_builder::NumberFormatBuilder::fraction_trailing_digit_separator].
+    /// `fraction_trailing_digit_separator`
     FractionTrailingDigitSeparator,
-    /// Sets whether the format allows a digit separator after the exponent digits. If so, a parser accepts `1e12_`.
-    /// See
-    /// [`exponent_trailing_digit_separator`][crate::format_builder::NumberFormatBuilder::exponent_trailing_digit_separator].
+    /// `exponent_trailing_digit_separator`
     ExponentTrailingDigitSeparator,
-    /// Sets whether the format allows consecutive digit separators in the integer part. If so, a parser accepts
-    /// several separators in a row wherever it accepts a single one: `1__2`, `__12`, `12__`. See
-    /// [`integer_consecutive_digit_separator`][crate::format_builder::NumberFormatBuilder::integer_consecutive_digit_separator].
+    /// `integer_consecutive_digit_separator`
     IntegerConsecutiveDigitSeparator,
-    /// Sets whether the format allows consecutive digit separators in the fraction. If so, a parser accepts several
-    /// separators in a row wherever it accepts a single one: `0.1__2`, `0.__12`, `0.12__`. See
-    /// [`fraction_consecutive_digit_separator`][crate::format_builder::NumberFormatBuilder::fraction_consecutive_digit_separator].
+    /// `fraction_consecutive_digit_separator`
     FractionConsecutiveDigitSeparator,
-    /// Sets whether the format allows consecutive digit separators in the exponent. If so, a parser accepts several
-    /// separators in a row wherever it accepts a single one: `1e1__2`, `1e__12`, `1e12__`. See
-    /// [`exponent_consecutive_digit_separator`][crate::format_builder::NumberFormatBuilder::exponent_consecutive_digit_separator].
+    /// `exponent_consecutive_digit_separator`
     ExponentConsecutiveDigitSeparator,
-    /// Sets whether the format allows digit separators in special values. If so, a parser accepts `N__a_N_` as `NaN`.
-    /// See [`special_digit_separator`][crate::format_builder::NumberFormatBuilder::special_digit_separator].
+    /// `special_digit_separator`
     SpecialDigitSeparator,
-    /// Sets or clears all flags that require digits. See
-    /// [`required_digits`][crate::format_builder::NumberFormatBuilder::required_digits].
+    /// `required_digits`
     RequiredDigits,
-    /// Sets or clears all flags that allow a digit separator between digits. See
-    /// [`internal_digit_separator`][crate::format_builder::NumberFormatBuilder::internal_digit_separator].
+    /// `internal_digit_separator`
     InternalDigitSeparator,
-    /// Sets or clears all flags that allow a digit separator before digits. See
-    /// [`leading_digit_separator`][crate::format_builder::NumberFormatBuilder::leading_digit_separator].
+    /// `leading_digit_separator`
     LeadingDigitSeparator,
-    /// Sets or clears all flags that allow a digit separator after digits. See
-    /// [`trailing_digit_separator`][crate::format_builder::NumberFormatBuilder::trailing_digit_separator].
+    /// `trailing_digit_separator`
     TrailingDigitSeparator,
-    /// Sets or clears all flags that allow consecutive digit separators. See
-    /// [`consecutive_digit_separator`][crate::format_builder::NumberFormatBuilder::consecutive_digit_separator].
+    /// `consecutive_digit_separator`
     ConsecutiveDigitSeparator,
-    /// Sets or clears all flags that allow digit separators, including the flag that allows them in special values.
-    /// See [`digit_separator_flags`][crate::format_builder::NumberFormatBuilder::digit_separator_flags].
+    /// `digit_separator_flags`
     DigitSeparatorFlags,
-    /// Sets or clears all flags that allow digit separators in the integer part. See
-    /// [`integer_digit_separator_flags`][crate::format_builder::NumberFormatBuilder::integer_digit_separator_flags].
+    /// `integer_digit_separator_flags`
     IntegerDigitSeparatorFlags,
-    /// Sets or clears all flags that allow digit separators in the fraction. See
-    /// [`fraction_digit_separator_flags`][crate::format_builder::NumberFormatBuilder::fraction_digit_separator_flags].
+    /// `fraction_digit_separator_flags`
     FractionDigitSeparatorFlags,
-    /// Sets or clears all flags that allow digit separators in the exponent. See
-    /// [`exponent_digit_separator_flags`][crate::format_builder::NumberFormatBuilder::exponent_digit_separator_flags].
+    /// `exponent_digit_separator_flags`
     ExponentDigitSeparatorFlags,
 }
 
 /// A setter of [`NumberFormatBuilder`][crate::format_builder::NumberFormatBuilder]. An [`Edit`] is a setter
 /// with its argument.
-#[derive(Debug, Clone, Copy, PartialEq, Eq, Hash, PartialOrd, Ord)]
+#[derive(Debug, Clone, Copy, PartialEq, Eq, Hash)]
 pub enum Setter {
     /// A setter that takes a `bool`.
     Flag(FlagSetter),
@@ -237,7 +183,7 @@ pub enum ArgumentKind {
 
 /// A call to a setter of [`NumberFormatBuilder`][crate::format_builder::NumberFormatBuilder], stored as a
 /// value. An edit holds the setter and its argument.
-#[derive(Debug, Clone, Copy, PartialEq, Eq, Hash, PartialOrd, Ord)]
+#[derive(Debug, Clone, Copy, PartialEq, Eq, Hash)]
 pub enum Edit {
     /// Sets a flag, or every flag of a group, to the given value.
     Flag(FlagSetter, bool),
@@ -269,12 +215,10 @@ macro_rules! variants {
 const FLAGS: usize = u128::count_ones(FLAG_MASK) as usize;
 
 /// The number of fields in a format word: 31 flags and six bytes.
-#[doc(hidden)]
 pub const FIELD_COUNT: usize = FLAGS + 6;
 
 /// All setters that take a `bool`, in the order of the variants of [`FlagSetter`]: first the flag setters, then the
 /// nine group setters.
-#[doc(hidden)]
 pub const SETTERS: [FlagSetter; FLAGS + 9] = with_setters!(variants());
 
 // Makes an array of all setters: the flag setters, the group setters, then the byte setters.
@@ -295,7 +239,6 @@ macro_rules! all_setters {
 }
 
 /// All setters: first those in [`SETTERS`], in the same order, then the seven byte setters.
-#[doc(hidden)]
 pub const ALL_SETTERS: [Setter; SETTERS.len() + 7] = with_setters!(all_setters());
 
 // Returns the mask of the flags that a setter writes. The mask is a `u64`, since all flags are in the lower 64 bits of
@@ -316,7 +259,6 @@ pub(crate) const fn mask_of(setter: FlagSetter) -> u64 {
 
 impl FlagSetter {
     /// Returns the name of the setter, which is the name of the variant in snake case.
-    #[must_use]
     pub const fn name(self) -> &'static str {
         macro_rules! names {
             (($setter:ident)
@@ -332,7 +274,6 @@ impl FlagSetter {
 
     /// Returns whether the flag of this setter is set in `format`. For a group setter, returns whether any flag of the
     /// group is set.
-    #[must_use]
     pub const fn is_set(self, format: u128) -> bool {
         format & mask_of(self) as u128 != 0
     }
@@ -340,7 +281,6 @@ impl FlagSetter {
 
 impl Setter {
     /// Returns the setter with the given name, or `None` if there is no such setter.
-    #[must_use]
     pub fn from_name(name: &str) -> Option<Setter> {
         macro_rules! setters {
             (($name:ident)
@@ -363,7 +303,6 @@ impl Setter {
     }
 
     /// Returns the name of the setter.
-    #[must_use]
     pub const fn name(self) -> &'static str {
         match self {
             Setter::Flag(setter) => setter.name(),
@@ -378,7 +317,6 @@ impl Setter {
     }
 
     /// Returns the kind of argument that the setter takes.
-    #[must_use]
     pub const fn kind(self) -> ArgumentKind {
         match self {
             Setter::Flag(_) => ArgumentKind::Flag,
@@ -392,15 +330,12 @@ impl Setter {
     }
 
     /// Returns the mask of the bits that the setter writes in a format word.
-    #[must_use]
     pub const fn mask(self) -> u128 {
         self.with_byte(0).mask()
     }
 
     /// Returns the edit that calls the setter with the argument that `byte` represents. For a flag, any byte except 0
     /// means `true`. For a byte that may be absent, 0 means absent.
-    #[must_use]
-    #[doc(hidden)]
     pub const fn with_byte(self, byte: u8) -> Edit {
         match self {
             Setter::Flag(setter) => Edit::Flag(setter, byte != 0),
@@ -417,7 +352,6 @@ impl Setter {
 
 impl Edit {
     /// Returns the setter that the edit calls.
-    #[must_use]
     pub const fn setter(self) -> Setter {
         match self {
             Edit::Flag(setter, _) => Setter::Flag(setter),
@@ -432,15 +366,12 @@ impl Edit {
     }
 
     /// Returns the name of the setter that the edit calls.
-    #[must_use]
     pub const fn name(self) -> &'static str {
         self.setter().name()
     }
 
     /// Returns the argument of the edit as a byte. This is 1 for `true`, 0 for `false` or an absent byte, and otherwise
     /// the byte itself.
-    #[must_use]
-    #[doc(hidden)]
     pub const fn argument_byte(self) -> u8 {
         match self {
             Edit::Flag(_, flag) => flag as u8,
@@ -457,7 +388,6 @@ impl Edit {
     }
 
     /// Returns the mask of the bits that the edit writes in a format word.
-    #[must_use]
     pub const fn mask(self) -> u128 {
         match self {
             Edit::Flag(setter, _) => mask_of(setter) as u128,
@@ -473,8 +403,6 @@ impl Edit {
 
 /// Returns one edit for each field. The edit sets the field to its value in `format`. The edits are in the order of the
 /// bits that they write.
-#[must_use]
-#[doc(hidden)]
 pub const fn field_edits_of(format: u128) -> [Edit; FIELD_COUNT] {
     macro_rules! edits_of_fields {
         (($view:ident, $base:ident, $radix:ident)

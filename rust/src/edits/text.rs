@@ -10,23 +10,19 @@ use core::fmt;
 /// setter and `VALUE` is a value that the setter takes.
 ///
 /// The error message never repeats any part of the string, since the string may come from an untrusted file.
-#[derive(Debug, Clone, Copy, PartialEq, Eq, Hash)]
+#[derive(Debug, Clone, Copy, PartialEq, Eq)]
 pub enum SettingError {
     /// The string has no `=`.
-    #[doc(hidden)]
     NoEquals,
     /// No setter has the name before the `=`.
-    #[doc(hidden)]
     UnknownName,
     /// The setter does not take the value.
-    #[doc(hidden)]
     BadValue(Setter),
 }
 
 impl SettingError {
     /// Returns the name of the setter that does not take the value. Returns `None` if the string has no `=`, or if no
     /// setter has the name.
-    #[must_use]
     pub const fn name(&self) -> Option<&'static str> {
         match self {
             SettingError::NoEquals | SettingError::UnknownName => None,
@@ -112,7 +108,6 @@ impl Edit {
     ///
     /// Returns a [`SettingError`] if `text` has no `=`, if no setter has the name, or if the setter does not take the
     /// value.
-    #[doc(hidden)]
     pub fn from_text(text: &str) -> Result<Edit, SettingError> {
         match text.split_once('=') {
             Some((name, value)) => Edit::from_setting(name, value),
@@ -144,8 +139,6 @@ fn byte_from_text(text: &str) -> Option<u8> {
 }
 
 /// Parses one to three decimal digits as a number of at most 255. Returns `None` for any other string.
-#[must_use]
-#[doc(hidden)]
 pub fn byte_from_decimal(text: &str) -> Option<u8> {
     byte_from_digits(text.as_bytes(), 10, 3)
 }

@@ -37,9 +37,7 @@ fn all_in_ranges(bytes: &[u8], first: (u8, u8), second: (u8, u8)) -> bool
 fn chunks_in_ranges(chunks: &[[u8; 32]], first: (u8, u8), second: (u8, u8)) -> bool
     ensures { result ≡ list_all (list_all (in_two_ranges first second)) chunks.now }
 {
-    chunks
-        .iter()
-        .all(|chunk| lanes_in_ranges(u8x32::from_array(*chunk), first, second))
+    chunks.iter().all(|chunk| lanes_in_ranges(u8x32::from_array(*chunk), first, second))
 }
 
 // Returns whether all 32 bytes of `lanes` are in one of two ranges.
