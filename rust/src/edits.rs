@@ -15,7 +15,8 @@ pub(crate) use setters::mask_of;
 pub use setters::{
     field_edits_of, ArgumentKind, Edit, FlagSetter, Setter, ALL_SETTERS, FIELD_COUNT, SETTERS,
 };
-pub use text::{byte_from_decimal, SettingError};
+pub(crate) use text::Fault;
+pub use text::{byte_from_decimal, SettingError, SettingErrorKind};
 
 /// Calls the setter of `edit` on `builder`, and returns the new builder.
 #[inline(always)]

@@ -37,19 +37,36 @@ PLACES = {
 }
 
 # Files whose counterpart is written by hand, because plain Rust does the same in another way: by loops that the compiler
-# turns into vectors, by one piece for all digits of a number, by derives, and by a type of core. Tests are also anew.
-BY_HAND = ("ascii/slices.rt", "error/decimal.rt", "error/traits.rt", "format_builder/non_zero.rt", "tests.rt")
+# turns into vectors, by one piece for all digits of a number, by derives, by absent bytes that are `None`, and by a type
+# of core.
+BY_HAND = {"ascii/slices.rt", "error/decimal.rt", "error/traits.rt", "feature_format/bytes.rt", "format_builder/non_zero.rt"}
 
-# Roots, which are written by hand too, and files without a counterpart.
+# Roots, which are written by hand too, files without a counterpart, and tests.
 LEFT_OUT = re.compile(r"(lib|main|laws|examples)\.rt|laws/.*")
+TESTS = re.compile(r"tests(/.*)?\.rt")
 
 # In plain Rust `format` and `feature_format` are written by hand and take the word as a const argument, as in
 # `lexical-util`. The modules and the view that take it as a value have other names.
 MODULES = {"format": "word", "feature_format": "view"}
 VIEW = ("NumberFormat", "FormatView")
 
-# Tables of tests that plain Rust copies, and the folder of the copies.
-COPIED = {"lexical_tests/src/rows/*.rt": "tests/rows"}
+# Tests and their tables that plain Rust copies, and the folder of the copies. The other tests are only for Rattle.
+COPIED = {
+    "lexical_tests/src/rows/*.rt": "tests/known/rows",
+    "lexical_tests/src/*.rt": "tests/known",
+    "numfmt/src/tests/rows.rt": "numfmt/tests/program",
+}
+NOT_COPIED = {"lib.rt", "example.rt", "proved_callers.rt", "values.rt"}
+
+# The forms of tests in Rattle, and in plain Rust.
+TEST_FORMS = [
+    ("rattlefmt::skip", "rustfmt::skip"),
+    ("(rt: HostRuntime)", "()"),
+    (" -> Result<(), Fail>", ""),
+    ("    Ok(())\n", ""),
+    ("use std::test::Fail;\n", ""),
+    ("assert!(rt;", "assert!("),
+]
 
 # Texts that plain Rust replaces: the file, the text, and the replacement.
 REPLACED = [
@@ -63,7 +80,6 @@ REPLACED = [
 # Texts that plain Rust replaces in every file, wherever they occur.
 EVERYWHERE = [
     ("fn fmt<W: fmt::Write>(&self, f: &mut fmt::Formatter<W>)", "fn fmt(&self, f: &mut fmt::Formatter<'_>)"),
-    ("#[rattlefmt::skip]", "#[rustfmt::skip]"),
 ]
 
 # Attributes that plain Rust has in place of those of the source: the file, and both texts.
@@ -289,7 +305,7 @@ def modules_of(folder):
     """Returns the modules of the sources that a root of plain Rust has, and the modules without counterpart."""
     text = "".join(path.read_text() for path in RUST.joinpath(folder).glob("*.rs") if path.stem in ("lib", "main"))
     sources = {made: name for name, made in MODULES.items()} if folder == LIBRARY[0] else {}
-    return {sources.get(name, name) for name in re.findall(r"^(?:pub )?mod (\w+);", text, re.M)} | {"laws", "examples"}
+    return {sources.get(name, name) for name in re.findall(r"^(?:pub )?mod (\w+);", text, re.M)} | {"laws", "examples", "tests"}
 
 
 def made_files():
@@ -301,7 +317,7 @@ def made_files():
             name = path.relative_to(top)
             if LEFT_OUT.fullmatch(str(name)):
                 Source(path, path.read_text()).check_left_out(modules_of(folder))
-            elif str(name) not in BY_HAND:
+            elif str(name) not in BY_HAND and not TESTS.fullmatch(str(name)):
                 stem, *others = name.with_suffix("").parts
                 stem = MODULES.get(stem, stem) if crate == "lexical_util" else stem
                 sources += path.read_text()
@@ -310,10 +326,12 @@ def made_files():
                 text = head + renamed(source_of(path).erase(), root, std)
                 files[RUST.joinpath(folder, stem, *others).with_suffix(".rs")] = laid_out(text)
     for pattern, folder in COPIED.items():
-        for path in sorted(CRATES.glob(pattern)):
+        for path in sorted(it for it in CRATES.glob(pattern) if it.name not in NOT_COPIED):
             text = f"{MADE} from crates/{path.relative_to(CRATES)}: change that file.\n\n{path.read_text()}"
-            text = renamed(text.replace("rattlefmt::skip", "rustfmt::skip"), "peltzivar", "std")
-            files[RUST.joinpath(folder, path.stem).with_suffix(".rs")] = laid_out(text)
+            for old, new in TEST_FORMS:
+                text = text.replace(old, new)
+            text = re.sub(r"format!\(in rt\.alloc\(\); ([^)]*)\)\?", r"format!(\1)", text)
+            files[RUST.joinpath(folder, path.stem).with_suffix(".rs")] = laid_out(renamed(text, "peltzivar", "std"))
     unused = [old for file, old, _ in REPLACED + ATTRIBUTES if file not in names]
     unused += [old for old, _ in EVERYWHERE if old not in sources]
     if unused:

@@ -1,13 +1,12 @@
 //! The roles of bytes in the numbers of a format.
 #![tactic(auto)]
 
-ghost use Rattle.std.specs.Prelude.{◌≡◌};
+ghost use Rattle.std.specs.Prelude.{◌≡◌, [], ◌∷◌, map};
 ghost use Rattle.lexical_base.specs.Digits.{digit_of};
 ghost use Rattle.lexical_flags.specs.Layout as layout;
-ghost use Rattle.lexical_flags.specs.Parts.{separator_flags};
 ghost use Rattle.lexical_flags.specs.Record.{raw, effective_exponent_radix};
 ghost use Rattle.lexical_flags.specs.Roles.{cased, exponent as exponent_set, point, prefix, signs, suffix};
-ghost use Rattle.lexical_flags.specs.Rules.{Lawful};
+ghost use Rattle.lexical_flags.specs.Rules.{Lawful, separator_flags};
 ghost use Rattle.lexical_flags.specs.Options.{OptionsFit};
 ghost use Rattle.lexical_util.specs.Additions.ByteRoles.{used_separator, first_role, IsOnlyRole};
 
@@ -75,7 +74,8 @@ impl NumberFormat {
     pub const fn is_separator(&self, byte: u8) -> bool
         ensures { result ≡ used_separator (raw self.now) byte }
     {
-        flags::is_separator_allowed(self.format) && is_byte(self.digit_separator(), true, byte)
+        let own = flags::digit_separator(self.format);
+        flags::is_separator_allowed(self.format) && is_byte(own, true, byte)
     }
 
     /// Returns whether `byte` is the base prefix. A base prefix that is a letter matches both cases unless
@@ -84,7 +84,8 @@ impl NumberFormat {
     pub const fn is_base_prefix(&self, byte: u8) -> bool
         ensures { result ≡ prefix (raw self.now) byte }
     {
-        is_byte(self.base_prefix(), self.case_sensitive_base_prefix(), byte)
+        let own = flags::base_prefix(self.format);
+        is_byte(own, self.case_sensitive_base_prefix(), byte)
     }
 
     /// Returns whether `byte` is the base suffix. A base suffix that is a letter matches both cases unless
@@ -93,7 +94,8 @@ impl NumberFormat {
     pub const fn is_base_suffix(&self, byte: u8) -> bool
         ensures { result ≡ suffix (raw self.now) byte }
     {
-        is_byte(self.base_suffix(), self.case_sensitive_base_suffix(), byte)
+        let own = flags::base_suffix(self.format);
+        is_byte(own, self.case_sensitive_base_suffix(), byte)
     }
 
     /// Returns whether `byte` is the exponent character `exponent`, which options choose. An exponent character that is
@@ -108,10 +110,8 @@ impl NumberFormat {
     /// Returns where digit separators are allowed in `part` of a number.
     #[inline(always)]
     pub const fn separators(&self, part: Part) -> Separators
-        ensures internal { result.internal ≡ (raw self.now).flag (separator_flags part).internal }
-        ensures leading { result.leading ≡ (raw self.now).flag (separator_flags part).leading }
-        ensures trailing { result.trailing ≡ (raw self.now).flag (separator_flags part).trailing }
-        ensures consecutive { result.consecutive ≡ (raw self.now).flag (separator_flags part).consecutive }
+        ensures { map (raw self.now).flag (separator_flags part)
+            ≡ result.internal ∷ result.leading ∷ result.trailing ∷ result.consecutive ∷ [] }
     {
         match part {
             Part::Integer => Separators {
