@@ -23,9 +23,8 @@ pub use crate::view::roles::{Role, Separators};
 
 /// A view of a format word. It reads the fields of the word, and checks the word.
 ///
-/// Every method works on any word, whether or not the word is [lawful][flags::Rule]. The word is a value, which may be
-/// known only at run time. In `lexical-util`, the word is a const generic argument of the type instead, and each field
-/// is also an associated constant.
+/// Every method works on any word, whether or not the word is [lawful][flags::Rule]. The word may be known only at run
+/// time.
 #[derive(Clone, Copy, PartialEq, Eq, PartialOrd, Ord, Hash)]
 pub struct FormatView {
     format: u128,
@@ -48,7 +47,8 @@ impl FormatView {
         FormatView { format }
     }
 
-    /// Returns the format word. `lexical-util` has no such function, since its word is part of the type.
+    /// Returns the format word.
+    #[must_use]
     #[inline(always)]
     pub const fn word(&self) -> u128 {
         self.format
@@ -58,13 +58,20 @@ impl FormatView {
 
     /// Returns whether the word is lawful, that is, whether it satisfies all the rules that [`error`][Self::error]
     /// checks.
+    #[must_use]
     #[inline(always)]
     pub const fn is_valid(&self) -> bool {
         self.error().is_success()
     }
 
-    /// Returns the error of the first rule that the word breaks, in the order of [`format_error_impl`], or `Success` if
-    /// the word is lawful.
+    /// Returns the error of the first rule that the word breaks, in the order of the variants of [`Rule`][flags::Rule], or
+    /// `Success` if the word is lawful.
+    ///
+    /// # Proved of the source
+    ///
+    /// - The result is `Success` if and only if the word satisfies every rule.
+    /// - No other error is that of the first broken rule.
+    #[must_use]
     #[inline(always)]
     pub const fn error(&self) -> Error {
         format_error_impl(self.format)
@@ -72,6 +79,7 @@ impl FormatView {
 
     /// Returns whether the mantissa radix, the exponent base and the exponent radix are all between 2 and 36. An
     /// exponent base or exponent radix of 0 means the mantissa radix.
+    #[must_use]
     #[inline(always)]
     pub const fn is_valid_radix(&self) -> bool {
         self.error_radix().is_success()
@@ -79,6 +87,7 @@ impl FormatView {
 
     /// Checks, in this order, whether the mantissa radix, the exponent base and the exponent radix are between 2 and
     /// 36. Returns the error of the first one that is not, or `Success`.
+    #[must_use]
     #[inline(always)]
     pub const fn error_radix(&self) -> Error {
         radix_error_impl(self.format)
@@ -87,18 +96,21 @@ impl FormatView {
     // BYTES
 
     /// Returns whether the digit separator byte is not 0.
+    #[must_use]
     #[inline(always)]
     pub const fn has_digit_separator(&self) -> bool {
         has_any!(self, DIGIT_SEPARATOR)
     }
 
     /// Returns whether the base prefix byte is not 0.
+    #[must_use]
     #[inline(always)]
     pub const fn has_base_prefix(&self) -> bool {
         has_any!(self, BASE_PREFIX)
     }
 
     /// Returns whether the base suffix byte is not 0.
+    #[must_use]
     #[inline(always)]
     pub const fn has_base_suffix(&self) -> bool {
         has_any!(self, BASE_SUFFIX)
@@ -108,18 +120,21 @@ impl FormatView {
 
     /// Returns the [mantissa radix][NumberFormatBuilder::mantissa_radix], a number from 0 to 255. In a
     /// [lawful][flags::Rule] word, it is between 2 and 36.
+    #[must_use]
     #[inline(always)]
     pub const fn mantissa_radix(&self) -> u32 {
         flags::mantissa_radix(self.format)
     }
 
     /// Returns the mantissa radix, as [`mantissa_radix`][Self::mantissa_radix] does.
+    #[must_use]
     #[inline(always)]
     pub const fn radix(&self) -> u32 {
         self.mantissa_radix()
     }
 
     /// Returns the square of the mantissa radix.
+    #[must_use]
     #[inline(always)]
     pub const fn radix2(&self) -> u32 {
         let radix = self.mantissa_radix();
@@ -127,6 +142,7 @@ impl FormatView {
     }
 
     /// Returns the fourth power of the mantissa radix.
+    #[must_use]
     #[inline(always)]
     pub const fn radix4(&self) -> u32 {
         let square = self.radix2();
@@ -135,6 +151,7 @@ impl FormatView {
 
     /// Returns the eighth power of the mantissa radix modulo 2^32. The result is exact up to radix 15, and it is 0 for
     /// radix 16.
+    #[must_use]
     #[inline(always)]
     pub const fn radix8(&self) -> u32 {
         let fourth = self.radix4();
@@ -143,6 +160,7 @@ impl FormatView {
 
     /// Returns the [exponent base][NumberFormatBuilder::exponent_base], or the mantissa radix if the exponent base byte
     /// is 0. In a [lawful][flags::Rule] word, the result is between 2 and 36.
+    #[must_use]
     #[inline(always)]
     pub const fn exponent_base(&self) -> u32 {
         flags::exponent_base(self.format)
@@ -150,6 +168,7 @@ impl FormatView {
 
     /// Returns the [exponent radix][NumberFormatBuilder::exponent_radix], or the mantissa radix if the exponent radix
     /// byte is 0. In a [lawful][flags::Rule] word, the result is between 2 and 36.
+    #[must_use]
     #[inline(always)]
     pub const fn exponent_radix(&self) -> u32 {
         flags::exponent_radix(self.format)
@@ -159,6 +178,7 @@ impl FormatView {
 
     /// Returns whether `byte` is a digit in the mantissa radix or in the exponent radix. The case of a letter does not
     /// matter.
+    #[must_use]
     #[inline(always)]
     pub const fn is_digit(&self, byte: u8) -> bool {
         flags::is_digit(self.format, byte)

@@ -7,6 +7,11 @@ use crate::format_flags as flags;
 
 /// Returns whether a builder can build `format`. This is possible if and only if all reserved bits are 0, and the digit
 /// separator is absent or allowed by a flag.
+///
+/// # Proved of the source
+///
+/// - The result is true if and only if setter calls on a new builder can build `format`.
+#[must_use]
 pub const fn is_built(format: u128) -> bool {
     flags::is_clean(format) && is_separator_allowed_or_absent(format)
 }
@@ -26,8 +31,6 @@ const fn is_separator_allowed_or_absent(format: u128) -> bool {
 /// edits are applied. If [`is_built`] returns `true` for `format`, this builder packs its fields into `format`, and a
 /// shorter list of edits builds `format` only if it contains an edit of a flag group.
 ///
-/// In plain Rust:
-///
 /// ```
 /// use peltzivar::edits::{edits_of, Edit, FlagSetter};
 ///
@@ -36,6 +39,7 @@ const fn is_separator_allowed_or_absent(format: u128) -> bool {
 /// let needed = [Edit::Flag(FlagSetter::RequiredExponentDigits, false), Edit::MantissaRadix(16)];
 /// assert_eq!(edits[..count], needed);
 /// ```
+#[must_use]
 pub fn edits_of(format: u128) -> ([Edit; FIELD_COUNT], usize) {
     // In the first array, the needed edits are moved to the front. The other edits are copied from the second array.
     let mut edits = field_edits_of(format);

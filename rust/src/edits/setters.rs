@@ -63,8 +63,9 @@ macro_rules! with_setters {
 }
 
 /// A setter of [`NumberFormatBuilder`][crate::format_builder::NumberFormatBuilder] that takes a `bool`. It
-/// sets one flag, or all flags of one of the nine flag groups. The comment of a variant is the name of its setter.
-#[derive(Debug, Clone, Copy, PartialEq, Eq, Hash)]
+/// sets one flag, or all flags of one of the nine flag groups. Each variant has the name of its setter.
+#[derive(Debug, Clone, Copy, PartialEq, Eq, Hash, PartialOrd, Ord)]
+#[non_exhaustive]
 pub enum FlagSetter {
     /// `required_integer_digits`
     RequiredIntegerDigits,
@@ -150,7 +151,7 @@ pub enum FlagSetter {
 
 /// A setter of [`NumberFormatBuilder`][crate::format_builder::NumberFormatBuilder]. An [`Edit`] is a setter
 /// with its argument.
-#[derive(Debug, Clone, Copy, PartialEq, Eq, Hash)]
+#[derive(Debug, Clone, Copy, PartialEq, Eq, Hash, PartialOrd, Ord)]
 pub enum Setter {
     /// A setter that takes a `bool`.
     Flag(FlagSetter),
@@ -183,7 +184,7 @@ pub enum ArgumentKind {
 
 /// A call to a setter of [`NumberFormatBuilder`][crate::format_builder::NumberFormatBuilder], stored as a
 /// value. An edit holds the setter and its argument.
-#[derive(Debug, Clone, Copy, PartialEq, Eq, Hash)]
+#[derive(Debug, Clone, Copy, PartialEq, Eq, Hash, PartialOrd, Ord)]
 pub enum Edit {
     /// Sets a flag, or every flag of a group, to the given value.
     Flag(FlagSetter, bool),
@@ -215,10 +216,12 @@ macro_rules! variants {
 const FLAGS: usize = u128::count_ones(FLAG_MASK) as usize;
 
 /// The number of fields in a format word: 31 flags and six bytes.
+#[doc(hidden)]
 pub const FIELD_COUNT: usize = FLAGS + 6;
 
 /// All setters that take a `bool`, in the order of the variants of [`FlagSetter`]: first the flag setters, then the
 /// nine group setters.
+#[doc(hidden)]
 pub const SETTERS: [FlagSetter; FLAGS + 9] = with_setters!(variants());
 
 // Makes an array of all setters: the flag setters, the group setters, then the byte setters.
@@ -239,6 +242,7 @@ macro_rules! all_setters {
 }
 
 /// All setters: first those in [`SETTERS`], in the same order, then the seven byte setters.
+#[doc(hidden)]
 pub const ALL_SETTERS: [Setter; SETTERS.len() + 7] = with_setters!(all_setters());
 
 // Returns the mask of the flags that a setter writes. The mask is a `u64`, since all flags are in the lower 64 bits of
@@ -259,6 +263,7 @@ pub(crate) const fn mask_of(setter: FlagSetter) -> u64 {
 
 impl FlagSetter {
     /// Returns the name of the setter, which is the name of the variant in snake case.
+    #[must_use]
     pub const fn name(self) -> &'static str {
         macro_rules! names {
             (($setter:ident)
@@ -274,6 +279,7 @@ impl FlagSetter {
 
     /// Returns whether the flag of this setter is set in `format`. For a group setter, returns whether any flag of the
     /// group is set.
+    #[must_use]
     pub const fn is_set(self, format: u128) -> bool {
         format & mask_of(self) as u128 != 0
     }
@@ -281,6 +287,7 @@ impl FlagSetter {
 
 impl Setter {
     /// Returns the setter with the given name, or `None` if there is no such setter.
+    #[must_use]
     pub fn from_name(name: &str) -> Option<Setter> {
         macro_rules! setters {
             (($name:ident)
@@ -303,6 +310,7 @@ impl Setter {
     }
 
     /// Returns the name of the setter.
+    #[must_use]
     pub const fn name(self) -> &'static str {
         match self {
             Setter::Flag(setter) => setter.name(),
@@ -317,6 +325,7 @@ impl Setter {
     }
 
     /// Returns the kind of argument that the setter takes.
+    #[must_use]
     pub const fn kind(self) -> ArgumentKind {
         match self {
             Setter::Flag(_) => ArgumentKind::Flag,
@@ -330,12 +339,15 @@ impl Setter {
     }
 
     /// Returns the mask of the bits that the setter writes in a format word.
+    #[must_use]
     pub const fn mask(self) -> u128 {
         self.with_byte(0).mask()
     }
 
     /// Returns the edit that calls the setter with the argument that `byte` represents. For a flag, any byte except 0
     /// means `true`. For a byte that may be absent, 0 means absent.
+    #[must_use]
+    #[doc(hidden)]
     pub const fn with_byte(self, byte: u8) -> Edit {
         match self {
             Setter::Flag(setter) => Edit::Flag(setter, byte != 0),
@@ -352,6 +364,7 @@ impl Setter {
 
 impl Edit {
     /// Returns the setter that the edit calls.
+    #[must_use]
     pub const fn setter(self) -> Setter {
         match self {
             Edit::Flag(setter, _) => Setter::Flag(setter),
@@ -366,12 +379,15 @@ impl Edit {
     }
 
     /// Returns the name of the setter that the edit calls.
+    #[must_use]
     pub const fn name(self) -> &'static str {
         self.setter().name()
     }
 
     /// Returns the argument of the edit as a byte. This is 1 for `true`, 0 for `false` or an absent byte, and otherwise
     /// the byte itself.
+    #[must_use]
+    #[doc(hidden)]
     pub const fn argument_byte(self) -> u8 {
         match self {
             Edit::Flag(_, flag) => flag as u8,
@@ -388,6 +404,7 @@ impl Edit {
     }
 
     /// Returns the mask of the bits that the edit writes in a format word.
+    #[must_use]
     pub const fn mask(self) -> u128 {
         match self {
             Edit::Flag(setter, _) => mask_of(setter) as u128,
@@ -403,6 +420,8 @@ impl Edit {
 
 /// Returns one edit for each field. The edit sets the field to its value in `format`. The edits are in the order of the
 /// bits that they write.
+#[must_use]
+#[doc(hidden)]
 pub const fn field_edits_of(format: u128) -> [Edit; FIELD_COUNT] {
     macro_rules! edits_of_fields {
         (($view:ident, $format:ident)

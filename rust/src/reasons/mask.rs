@@ -9,6 +9,7 @@ use crate::reasons::Reason;
 
 impl Reason {
     /// Returns the first rule that a word breaks because of this reason.
+    #[must_use]
     pub const fn rule(&self) -> Rule {
         match self {
             Reason::MantissaRadixOutOfRange(_, _, _) => Rule::MantissaRadixInRange,
@@ -26,6 +27,7 @@ impl Reason {
     /// Returns whether a word breaks `rule` because of this reason. If the mantissa radix is out of range and the
     /// exponent base or the exponent radix is absent, the rule for the absent byte is broken too. Every other reason
     /// explains only one broken rule.
+    #[must_use]
     pub const fn breaks(&self, rule: Rule) -> bool {
         match self {
             Reason::MantissaRadixOutOfRange(_, base_follows, exponent_follows) => match rule {
@@ -50,6 +52,7 @@ impl Reason {
     /// The mask has the bits of every byte and every flag in the variant. For [`Reason::NeedsPosition`], it has the
     /// bits of all flags that allow digit separators in the same part of the number. In a word that was built from
     /// settings, a setting is to blame if its [`Edit::mask`] and this mask share a bit that no later setting overrides.
+    #[must_use]
     pub const fn mask(&self) -> u128 {
         match self {
             Reason::MantissaRadixOutOfRange(_, _, _) => flags::MANTISSA_RADIX,

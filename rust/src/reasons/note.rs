@@ -9,13 +9,15 @@ use crate::reasons::{prefix_edit, reasons, suffix_edit, Reason};
 use crate::view::FormatView;
 
 /// The maximum number of notes on a format word.
+#[doc(hidden)]
 pub const MAX_NOTES: usize = 3;
 
 /// A note on a field that is set but has no effect on any number. The rules may still read the field.
 ///
 /// Only the fields that the variants name can have a note. For example, an exponent flag has no note, even if the
 /// format forbids exponents.
-#[derive(Debug, Clone, Copy, PartialEq, Eq)]
+#[derive(Debug, Clone, Copy, PartialEq, Eq, Hash)]
+#[non_exhaustive]
 pub enum Note {
     /// The digit separator is set, but no flag allows one. Packing the fields of a builder drops the separator, and the
     /// normal form has none.
@@ -30,6 +32,7 @@ pub enum Note {
 
 impl Note {
     /// Returns the mask of the bits of a format word that the note describes.
+    #[must_use]
     pub const fn mask(&self) -> u128 {
         match self {
             Note::SeparatorWithoutFlag(edit) => flags::DIGIT_SEPARATOR_FLAG_MASK | edit.mask(),
@@ -46,6 +49,8 @@ impl Note {
 /// Returns the notes on a format word, each in its own slot. A slot without a note is `None`.
 ///
 /// A note is not an error, so a lawful word may have notes. A field that a reason [blames][Reason] has no note.
+#[must_use]
+#[doc(hidden)]
 pub const fn notes(format: u128) -> [Option<Note>; MAX_NOTES] {
     notes_beside(format, flags::digit_separator(format))
 }
@@ -53,6 +58,8 @@ pub const fn notes(format: u128) -> [Option<Note>; MAX_NOTES] {
 /// Returns the notes on the fields of a builder, as [`notes`] does for a format word.
 ///
 /// A digit separator that no flag allows has a note, although the builder does not pack it.
+#[must_use]
+#[doc(hidden)]
 pub const fn notes_of_fields(builder: &NumberFormatBuilder) -> [Option<Note>; MAX_NOTES] {
     let separator = match builder.get_digit_separator() {
         Some(byte) => byte.get(),

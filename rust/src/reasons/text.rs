@@ -9,6 +9,8 @@ use core::fmt;
 
 impl Reason {
     /// Returns the reason as a sentence without a full stop, such as `the base prefix 'b' is a digit in radix 16`.
+    #[must_use]
+    #[doc(hidden)]
     pub const fn text(&self) -> ShortText {
         match self {
             Reason::MantissaRadixOutOfRange(radix, _, _) => {
@@ -56,6 +58,8 @@ impl Reason {
 impl Note {
     /// Returns the note as a sentence without a full stop, such as `no number can have the digit separator '_': no flag
     /// allows one`.
+    #[must_use]
+    #[doc(hidden)]
     pub const fn text(&self) -> ShortText {
         match self {
             Note::SeparatorWithoutFlag(edit) => ShortText(

@@ -9,72 +9,84 @@ impl FormatView {
     // FLAGS OTHER THAN DIGIT SEPARATOR FLAGS
 
     /// Returns whether this [flag][super::NumberFormatBuilder::required_integer_digits] is set.
+    #[must_use]
     #[inline(always)]
     pub const fn required_integer_digits(&self) -> bool {
         has_any!(self, REQUIRED_INTEGER_DIGITS)
     }
 
     /// Returns whether this [flag][super::NumberFormatBuilder::required_fraction_digits] is set.
+    #[must_use]
     #[inline(always)]
     pub const fn required_fraction_digits(&self) -> bool {
         has_any!(self, REQUIRED_FRACTION_DIGITS)
     }
 
     /// Returns whether this [flag][super::NumberFormatBuilder::required_exponent_digits] is set.
+    #[must_use]
     #[inline(always)]
     pub const fn required_exponent_digits(&self) -> bool {
         has_any!(self, REQUIRED_EXPONENT_DIGITS)
     }
 
     /// Returns whether this [flag][super::NumberFormatBuilder::required_mantissa_digits] is set.
+    #[must_use]
     #[inline(always)]
     pub const fn required_mantissa_digits(&self) -> bool {
         has_any!(self, REQUIRED_MANTISSA_DIGITS)
     }
 
     /// Returns whether any flag of this [group][super::NumberFormatBuilder::required_digits] is set.
+    #[must_use]
     #[inline(always)]
     pub const fn required_digits(&self) -> bool {
         has_any!(self, REQUIRED_DIGITS)
     }
 
     /// Returns whether this [flag][super::NumberFormatBuilder::no_positive_mantissa_sign] is set.
+    #[must_use]
     #[inline(always)]
     pub const fn no_positive_mantissa_sign(&self) -> bool {
         has_any!(self, NO_POSITIVE_MANTISSA_SIGN)
     }
 
     /// Returns whether this [flag][super::NumberFormatBuilder::required_mantissa_sign] is set.
+    #[must_use]
     #[inline(always)]
     pub const fn required_mantissa_sign(&self) -> bool {
         has_any!(self, REQUIRED_MANTISSA_SIGN)
     }
 
     /// Returns whether this [flag][super::NumberFormatBuilder::no_exponent_notation] is set.
+    #[must_use]
     #[inline(always)]
     pub const fn no_exponent_notation(&self) -> bool {
         has_any!(self, NO_EXPONENT_NOTATION)
     }
 
     /// Returns whether this [flag][super::NumberFormatBuilder::no_positive_exponent_sign] is set.
+    #[must_use]
     #[inline(always)]
     pub const fn no_positive_exponent_sign(&self) -> bool {
         has_any!(self, NO_POSITIVE_EXPONENT_SIGN)
     }
 
     /// Returns whether this [flag][super::NumberFormatBuilder::required_exponent_sign] is set.
+    #[must_use]
     #[inline(always)]
     pub const fn required_exponent_sign(&self) -> bool {
         has_any!(self, REQUIRED_EXPONENT_SIGN)
     }
 
     /// Returns whether this [flag][super::NumberFormatBuilder::no_exponent_without_fraction] is set.
+    #[must_use]
     #[inline(always)]
     pub const fn no_exponent_without_fraction(&self) -> bool {
         has_any!(self, NO_EXPONENT_WITHOUT_FRACTION)
     }
 
     /// Returns whether this [flag][super::NumberFormatBuilder::no_special] is set.
+    #[must_use]
     #[inline(always)]
     pub const fn no_special(&self) -> bool {
         has_any!(self, NO_SPECIAL)
@@ -82,42 +94,49 @@ impl FormatView {
 
     /// Returns whether this [flag][super::NumberFormatBuilder::case_sensitive_special] is set. If so, `NaN` and `nan` are
     /// different.
+    #[must_use]
     #[inline(always)]
     pub const fn case_sensitive_special(&self) -> bool {
         has_any!(self, CASE_SENSITIVE_SPECIAL)
     }
 
     /// Returns whether this [flag][super::NumberFormatBuilder::no_integer_leading_zeros] is set.
+    #[must_use]
     #[inline(always)]
     pub const fn no_integer_leading_zeros(&self) -> bool {
         has_any!(self, NO_INTEGER_LEADING_ZEROS)
     }
 
     /// Returns whether this [flag][super::NumberFormatBuilder::no_float_leading_zeros] is set.
+    #[must_use]
     #[inline(always)]
     pub const fn no_float_leading_zeros(&self) -> bool {
         has_any!(self, NO_FLOAT_LEADING_ZEROS)
     }
 
     /// Returns whether this [flag][super::NumberFormatBuilder::required_exponent_notation] is set.
+    #[must_use]
     #[inline(always)]
     pub const fn required_exponent_notation(&self) -> bool {
         has_any!(self, REQUIRED_EXPONENT_NOTATION)
     }
 
     /// Returns whether this [flag][super::NumberFormatBuilder::case_sensitive_exponent] is set.
+    #[must_use]
     #[inline(always)]
     pub const fn case_sensitive_exponent(&self) -> bool {
         has_any!(self, CASE_SENSITIVE_EXPONENT)
     }
 
     /// Returns whether this [flag][super::NumberFormatBuilder::case_sensitive_base_prefix] is set.
+    #[must_use]
     #[inline(always)]
     pub const fn case_sensitive_base_prefix(&self) -> bool {
         has_any!(self, CASE_SENSITIVE_BASE_PREFIX)
     }
 
     /// Returns whether this [flag][super::NumberFormatBuilder::case_sensitive_base_suffix] is set.
+    #[must_use]
     #[inline(always)]
     pub const fn case_sensitive_base_suffix(&self) -> bool {
         has_any!(self, CASE_SENSITIVE_BASE_SUFFIX)
@@ -126,24 +145,28 @@ impl FormatView {
     // DIGIT SEPARATOR FLAGS
 
     /// Returns whether this [flag][super::NumberFormatBuilder::integer_internal_digit_separator] is set.
+    #[must_use]
     #[inline(always)]
     pub const fn integer_internal_digit_separator(&self) -> bool {
         has_any!(self, INTEGER_INTERNAL_DIGIT_SEPARATOR)
     }
 
     /// Returns whether this [flag][super::NumberFormatBuilder::fraction_internal_digit_separator] is set.
+    #[must_use]
     #[inline(always)]
     pub const fn fraction_internal_digit_separator(&self) -> bool {
         has_any!(self, FRACTION_INTERNAL_DIGIT_SEPARATOR)
     }
 
     /// Returns whether this [flag][super::NumberFormatBuilder::exponent_internal_digit_separator] is set.
+    #[must_use]
     #[inline(always)]
     pub const fn exponent_internal_digit_separator(&self) -> bool {
         has_any!(self, EXPONENT_INTERNAL_DIGIT_SEPARATOR)
     }
 
     /// Returns whether this [flag][super::NumberFormatBuilder::integer_leading_digit_separator] is set.
+    #[must_use]
     #[inline(always)]
     pub const fn integer_leading_digit_separator(&self) -> bool {
         has_any!(self, INTEGER_LEADING_DIGIT_SEPARATOR)
@@ -151,78 +174,91 @@ impl FormatView {
 
     /// Returns whether this [flag][super::NumberFormatBuilder::fraction_leading_digit_separator] is set. If so, a digit
     /// separator is allowed before the fraction digits.
+    #[must_use]
     #[inline(always)]
     pub const fn fraction_leading_digit_separator(&self) -> bool {
         has_any!(self, FRACTION_LEADING_DIGIT_SEPARATOR)
     }
 
     /// Returns whether this [flag][super::NumberFormatBuilder::exponent_leading_digit_separator] is set.
+    #[must_use]
     #[inline(always)]
     pub const fn exponent_leading_digit_separator(&self) -> bool {
         has_any!(self, EXPONENT_LEADING_DIGIT_SEPARATOR)
     }
 
     /// Returns whether this [flag][super::NumberFormatBuilder::integer_trailing_digit_separator] is set.
+    #[must_use]
     #[inline(always)]
     pub const fn integer_trailing_digit_separator(&self) -> bool {
         has_any!(self, INTEGER_TRAILING_DIGIT_SEPARATOR)
     }
 
     /// Returns whether this [flag][super::NumberFormatBuilder::fraction_trailing_digit_separator] is set.
+    #[must_use]
     #[inline(always)]
     pub const fn fraction_trailing_digit_separator(&self) -> bool {
         has_any!(self, FRACTION_TRAILING_DIGIT_SEPARATOR)
     }
 
     /// Returns whether this [flag][super::NumberFormatBuilder::exponent_trailing_digit_separator] is set.
+    #[must_use]
     #[inline(always)]
     pub const fn exponent_trailing_digit_separator(&self) -> bool {
         has_any!(self, EXPONENT_TRAILING_DIGIT_SEPARATOR)
     }
 
     /// Returns whether this [flag][super::NumberFormatBuilder::integer_consecutive_digit_separator] is set.
+    #[must_use]
     #[inline(always)]
     pub const fn integer_consecutive_digit_separator(&self) -> bool {
         has_any!(self, INTEGER_CONSECUTIVE_DIGIT_SEPARATOR)
     }
 
     /// Returns whether this [flag][super::NumberFormatBuilder::fraction_consecutive_digit_separator] is set.
+    #[must_use]
     #[inline(always)]
     pub const fn fraction_consecutive_digit_separator(&self) -> bool {
         has_any!(self, FRACTION_CONSECUTIVE_DIGIT_SEPARATOR)
     }
 
     /// Returns whether this [flag][super::NumberFormatBuilder::exponent_consecutive_digit_separator] is set.
+    #[must_use]
     #[inline(always)]
     pub const fn exponent_consecutive_digit_separator(&self) -> bool {
         has_any!(self, EXPONENT_CONSECUTIVE_DIGIT_SEPARATOR)
     }
 
     /// Returns whether any flag of this [group][super::NumberFormatBuilder::internal_digit_separator] is set.
+    #[must_use]
     #[inline(always)]
     pub const fn internal_digit_separator(&self) -> bool {
         has_any!(self, INTERNAL_DIGIT_SEPARATOR)
     }
 
     /// Returns whether any flag of this [group][super::NumberFormatBuilder::leading_digit_separator] is set.
+    #[must_use]
     #[inline(always)]
     pub const fn leading_digit_separator(&self) -> bool {
         has_any!(self, LEADING_DIGIT_SEPARATOR)
     }
 
     /// Returns whether any flag of this [group][super::NumberFormatBuilder::trailing_digit_separator] is set.
+    #[must_use]
     #[inline(always)]
     pub const fn trailing_digit_separator(&self) -> bool {
         has_any!(self, TRAILING_DIGIT_SEPARATOR)
     }
 
     /// Returns whether any flag of this [group][super::NumberFormatBuilder::consecutive_digit_separator] is set.
+    #[must_use]
     #[inline(always)]
     pub const fn consecutive_digit_separator(&self) -> bool {
         has_any!(self, CONSECUTIVE_DIGIT_SEPARATOR)
     }
 
     /// Returns whether this [flag][super::NumberFormatBuilder::special_digit_separator] is set.
+    #[must_use]
     #[inline(always)]
     pub const fn special_digit_separator(&self) -> bool {
         has_any!(self, SPECIAL_DIGIT_SEPARATOR)
@@ -231,18 +267,21 @@ impl FormatView {
     // FLAG GROUPS
 
     /// Returns the flags of the word. All other bits of the result are 0.
+    #[must_use]
     #[inline(always)]
     pub const fn flags(&self) -> u128 {
         self.format & flags::FLAG_MASK
     }
 
     /// Returns the bitwise AND of the word and [`INTERFACE_FLAG_MASK`][flags::INTERFACE_FLAG_MASK].
+    #[must_use]
     #[inline(always)]
     pub const fn interface_flags(&self) -> u128 {
         self.format & flags::INTERFACE_FLAG_MASK
     }
 
     /// Returns the digit separator flags of the word. All other bits of the result are 0.
+    #[must_use]
     #[inline(always)]
     pub const fn digit_separator_flags(&self) -> u128 {
         self.format & flags::DIGIT_SEPARATOR_FLAG_MASK
@@ -250,24 +289,28 @@ impl FormatView {
 
     /// Returns the bitwise AND of the word and [`EXPONENT_FLAG_MASK`][flags::EXPONENT_FLAG_MASK], which does not contain
     /// the flag `case_sensitive_exponent`.
+    #[must_use]
     #[inline(always)]
     pub const fn exponent_flags(&self) -> u128 {
         self.format & flags::EXPONENT_FLAG_MASK
     }
 
     /// Returns the flags that allow digit separators in the integer part. All other bits of the result are 0.
+    #[must_use]
     #[inline(always)]
     pub const fn integer_digit_separator_flags(&self) -> u128 {
         self.format & flags::INTEGER_DIGIT_SEPARATOR_FLAG_MASK
     }
 
     /// Returns the flags that allow digit separators in the fraction. All other bits of the result are 0.
+    #[must_use]
     #[inline(always)]
     pub const fn fraction_digit_separator_flags(&self) -> u128 {
         self.format & flags::FRACTION_DIGIT_SEPARATOR_FLAG_MASK
     }
 
     /// Returns the flags that allow digit separators in the exponent. All other bits of the result are 0.
+    #[must_use]
     #[inline(always)]
     pub const fn exponent_digit_separator_flags(&self) -> u128 {
         self.format & flags::EXPONENT_DIGIT_SEPARATOR_FLAG_MASK

@@ -42,6 +42,7 @@ pub struct Separators {
 impl FormatView {
     /// Returns the value of `byte` as a digit of the mantissa, or `None` if `byte` is not a digit in the mantissa radix.
     /// The case of a letter does not matter. The value is at most 35, and below the mantissa radix.
+    #[must_use]
     #[inline(always)]
     pub const fn mantissa_digit(&self, byte: u8) -> Option<u32> {
         char_to_digit(byte, self.mantissa_radix())
@@ -50,6 +51,7 @@ impl FormatView {
     /// Returns the value of `byte` as a digit of the exponent, or `None` if `byte` is not a digit in the exponent radix,
     /// which is the mantissa radix if the exponent radix byte is 0. The case of a letter does not matter. The value is
     /// at most 35, and below the exponent radix.
+    #[must_use]
     #[inline(always)]
     pub const fn exponent_digit(&self, byte: u8) -> Option<u32> {
         char_to_digit(byte, self.exponent_radix())
@@ -57,6 +59,7 @@ impl FormatView {
 
     /// Returns whether `byte` is the digit separator, and some flag allows a digit separator. [`Self::separators`]
     /// returns where one is allowed.
+    #[must_use]
     #[inline(always)]
     pub const fn is_separator(&self, byte: u8) -> bool {
         let own = flags::digit_separator(self.format);
@@ -65,6 +68,7 @@ impl FormatView {
 
     /// Returns whether `byte` is the base prefix. A base prefix that is a letter matches both cases unless
     /// `case_sensitive_base_prefix` is set. Without a base prefix, the result is `false`.
+    #[must_use]
     #[inline(always)]
     pub const fn is_base_prefix(&self, byte: u8) -> bool {
         let own = flags::base_prefix(self.format);
@@ -73,6 +77,7 @@ impl FormatView {
 
     /// Returns whether `byte` is the base suffix. A base suffix that is a letter matches both cases unless
     /// `case_sensitive_base_suffix` is set. Without a base suffix, the result is `false`.
+    #[must_use]
     #[inline(always)]
     pub const fn is_base_suffix(&self, byte: u8) -> bool {
         let own = flags::base_suffix(self.format);
@@ -81,12 +86,14 @@ impl FormatView {
 
     /// Returns whether `byte` is the exponent character `exponent`, which options choose. An exponent character that is
     /// a letter matches both cases unless `case_sensitive_exponent` is set. If `exponent` is 0, the result is `false`.
+    #[must_use]
     #[inline(always)]
     pub const fn is_exponent_character(&self, exponent: u8, byte: u8) -> bool {
         is_byte(exponent, self.case_sensitive_exponent(), byte)
     }
 
     /// Returns where digit separators are allowed in `part` of a number.
+    #[must_use]
     #[inline(always)]
     pub const fn separators(&self, part: Part) -> Separators {
         match part {
@@ -117,6 +124,11 @@ impl FormatView {
     /// If the word is [lawful][flags::Rule] and accepts these options
     /// ([`is_valid_options_punctuation`][flags::is_valid_options_punctuation]), no byte plays two roles. For any other
     /// word or options, the result is the first role that `byte` plays, in the order of the variants of [`Role`].
+    ///
+    /// # Proved of the source
+    ///
+    /// - If the word is lawful and accepts these options, `byte` plays the returned role and no other.
+    #[must_use]
     pub const fn role_of(&self, exponent: u8, decimal_point: u8, byte: u8) -> Option<Role> {
         if self.is_digit(byte) {
             Some(Role::Digit)

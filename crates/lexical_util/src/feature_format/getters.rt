@@ -16,6 +16,7 @@ impl NumberFormat {
     // FLAGS OTHER THAN DIGIT SEPARATOR FLAGS
 
     /// Returns whether this [flag][super::NumberFormatBuilder::required_integer_digits] is set.
+    #[must_use]
     #[inline(always)]
     pub const fn required_integer_digits(&self) -> bool
         ensures { result ≡ (raw self.now).flag layout.required_integer_digits }
@@ -24,6 +25,7 @@ impl NumberFormat {
     }
 
     /// Returns whether this [flag][super::NumberFormatBuilder::required_fraction_digits] is set.
+    #[must_use]
     #[inline(always)]
     pub const fn required_fraction_digits(&self) -> bool
         ensures { result ≡ (raw self.now).flag layout.required_fraction_digits }
@@ -32,6 +34,7 @@ impl NumberFormat {
     }
 
     /// Returns whether this [flag][super::NumberFormatBuilder::required_exponent_digits] is set.
+    #[must_use]
     #[inline(always)]
     pub const fn required_exponent_digits(&self) -> bool
         ensures { result ≡ (raw self.now).flag layout.required_exponent_digits }
@@ -40,6 +43,7 @@ impl NumberFormat {
     }
 
     /// Returns whether this [flag][super::NumberFormatBuilder::required_mantissa_digits] is set.
+    #[must_use]
     #[inline(always)]
     pub const fn required_mantissa_digits(&self) -> bool
         ensures { result ≡ (raw self.now).flag layout.required_mantissa_digits }
@@ -48,6 +52,7 @@ impl NumberFormat {
     }
 
     /// Returns whether any flag of this [group][super::NumberFormatBuilder::required_digits] is set.
+    #[must_use]
     #[inline(always)]
     pub const fn required_digits(&self) -> bool
         ensures any { result ≡ any_flag self.now layout.required_digits }
@@ -57,6 +62,7 @@ impl NumberFormat {
     }
 
     /// Returns whether this [flag][super::NumberFormatBuilder::no_positive_mantissa_sign] is set.
+    #[must_use]
     #[inline(always)]
     pub const fn no_positive_mantissa_sign(&self) -> bool
         ensures { result ≡ (raw self.now).flag layout.no_positive_mantissa_sign }
@@ -65,6 +71,7 @@ impl NumberFormat {
     }
 
     /// Returns whether this [flag][super::NumberFormatBuilder::required_mantissa_sign] is set.
+    #[must_use]
     #[inline(always)]
     pub const fn required_mantissa_sign(&self) -> bool
         ensures { result ≡ (raw self.now).flag layout.required_mantissa_sign }
@@ -73,6 +80,7 @@ impl NumberFormat {
     }
 
     /// Returns whether this [flag][super::NumberFormatBuilder::no_exponent_notation] is set.
+    #[must_use]
     #[inline(always)]
     pub const fn no_exponent_notation(&self) -> bool
         ensures { result ≡ (raw self.now).flag layout.no_exponent_notation }
@@ -81,6 +89,7 @@ impl NumberFormat {
     }
 
     /// Returns whether this [flag][super::NumberFormatBuilder::no_positive_exponent_sign] is set.
+    #[must_use]
     #[inline(always)]
     pub const fn no_positive_exponent_sign(&self) -> bool
         ensures { result ≡ (raw self.now).flag layout.no_positive_exponent_sign }
@@ -89,6 +98,7 @@ impl NumberFormat {
     }
 
     /// Returns whether this [flag][super::NumberFormatBuilder::required_exponent_sign] is set.
+    #[must_use]
     #[inline(always)]
     pub const fn required_exponent_sign(&self) -> bool
         ensures { result ≡ (raw self.now).flag layout.required_exponent_sign }
@@ -97,6 +107,7 @@ impl NumberFormat {
     }
 
     /// Returns whether this [flag][super::NumberFormatBuilder::no_exponent_without_fraction] is set.
+    #[must_use]
     #[inline(always)]
     pub const fn no_exponent_without_fraction(&self) -> bool
         ensures { result ≡ (raw self.now).flag layout.no_exponent_without_fraction }
@@ -105,6 +116,7 @@ impl NumberFormat {
     }
 
     /// Returns whether this [flag][super::NumberFormatBuilder::no_special] is set.
+    #[must_use]
     #[inline(always)]
     pub const fn no_special(&self) -> bool
         ensures { result ≡ (raw self.now).flag layout.no_special }
@@ -114,6 +126,7 @@ impl NumberFormat {
 
     /// Returns whether this [flag][super::NumberFormatBuilder::case_sensitive_special] is set. If so, `NaN` and `nan` are
     /// different.
+    #[must_use]
     #[inline(always)]
     pub const fn case_sensitive_special(&self) -> bool
         ensures { result ≡ (raw self.now).flag layout.case_sensitive_special }
@@ -122,6 +135,7 @@ impl NumberFormat {
     }
 
     /// Returns whether this [flag][super::NumberFormatBuilder::no_integer_leading_zeros] is set.
+    #[must_use]
     #[inline(always)]
     pub const fn no_integer_leading_zeros(&self) -> bool
         ensures { result ≡ (raw self.now).flag layout.no_integer_leading_zeros }
@@ -130,6 +144,7 @@ impl NumberFormat {
     }
 
     /// Returns whether this [flag][super::NumberFormatBuilder::no_float_leading_zeros] is set.
+    #[must_use]
     #[inline(always)]
     pub const fn no_float_leading_zeros(&self) -> bool
         ensures { result ≡ (raw self.now).flag layout.no_float_leading_zeros }
@@ -138,6 +153,7 @@ impl NumberFormat {
     }
 
     /// Returns whether this [flag][super::NumberFormatBuilder::required_exponent_notation] is set.
+    #[must_use]
     #[inline(always)]
     pub const fn required_exponent_notation(&self) -> bool
         ensures { result ≡ (raw self.now).flag layout.required_exponent_notation }
@@ -146,6 +162,7 @@ impl NumberFormat {
     }
 
     /// Returns whether this [flag][super::NumberFormatBuilder::case_sensitive_exponent] is set.
+    #[must_use]
     #[inline(always)]
     pub const fn case_sensitive_exponent(&self) -> bool
         ensures { result ≡ (raw self.now).flag layout.case_sensitive_exponent }
@@ -154,6 +171,7 @@ impl NumberFormat {
     }
 
     /// Returns whether this [flag][super::NumberFormatBuilder::case_sensitive_base_prefix] is set.
+    #[must_use]
     #[inline(always)]
     pub const fn case_sensitive_base_prefix(&self) -> bool
         ensures { result ≡ (raw self.now).flag layout.case_sensitive_base_prefix }
@@ -162,6 +180,7 @@ impl NumberFormat {
     }
 
     /// Returns whether this [flag][super::NumberFormatBuilder::case_sensitive_base_suffix] is set.
+    #[must_use]
     #[inline(always)]
     pub const fn case_sensitive_base_suffix(&self) -> bool
         ensures { result ≡ (raw self.now).flag layout.case_sensitive_base_suffix }
@@ -172,6 +191,7 @@ impl NumberFormat {
     // DIGIT SEPARATOR FLAGS
 
     /// Returns whether this [flag][super::NumberFormatBuilder::integer_internal_digit_separator] is set.
+    #[must_use]
     #[inline(always)]
     pub const fn integer_internal_digit_separator(&self) -> bool
         ensures { result ≡ (raw self.now).flag layout.integer_internal_digit_separator }
@@ -180,6 +200,7 @@ impl NumberFormat {
     }
 
     /// Returns whether this [flag][super::NumberFormatBuilder::fraction_internal_digit_separator] is set.
+    #[must_use]
     #[inline(always)]
     pub const fn fraction_internal_digit_separator(&self) -> bool
         ensures { result ≡ (raw self.now).flag layout.fraction_internal_digit_separator }
@@ -188,6 +209,7 @@ impl NumberFormat {
     }
 
     /// Returns whether this [flag][super::NumberFormatBuilder::exponent_internal_digit_separator] is set.
+    #[must_use]
     #[inline(always)]
     pub const fn exponent_internal_digit_separator(&self) -> bool
         ensures { result ≡ (raw self.now).flag layout.exponent_internal_digit_separator }
@@ -196,6 +218,7 @@ impl NumberFormat {
     }
 
     /// Returns whether this [flag][super::NumberFormatBuilder::integer_leading_digit_separator] is set.
+    #[must_use]
     #[inline(always)]
     pub const fn integer_leading_digit_separator(&self) -> bool
         ensures { result ≡ (raw self.now).flag layout.integer_leading_digit_separator }
@@ -205,6 +228,7 @@ impl NumberFormat {
 
     /// Returns whether this [flag][super::NumberFormatBuilder::fraction_leading_digit_separator] is set. If so, a digit
     /// separator is allowed before the fraction digits.
+    #[must_use]
     #[inline(always)]
     pub const fn fraction_leading_digit_separator(&self) -> bool
         ensures { result ≡ (raw self.now).flag layout.fraction_leading_digit_separator }
@@ -213,6 +237,7 @@ impl NumberFormat {
     }
 
     /// Returns whether this [flag][super::NumberFormatBuilder::exponent_leading_digit_separator] is set.
+    #[must_use]
     #[inline(always)]
     pub const fn exponent_leading_digit_separator(&self) -> bool
         ensures { result ≡ (raw self.now).flag layout.exponent_leading_digit_separator }
@@ -221,6 +246,7 @@ impl NumberFormat {
     }
 
     /// Returns whether this [flag][super::NumberFormatBuilder::integer_trailing_digit_separator] is set.
+    #[must_use]
     #[inline(always)]
     pub const fn integer_trailing_digit_separator(&self) -> bool
         ensures { result ≡ (raw self.now).flag layout.integer_trailing_digit_separator }
@@ -229,6 +255,7 @@ impl NumberFormat {
     }
 
     /// Returns whether this [flag][super::NumberFormatBuilder::fraction_trailing_digit_separator] is set.
+    #[must_use]
     #[inline(always)]
     pub const fn fraction_trailing_digit_separator(&self) -> bool
         ensures { result ≡ (raw self.now).flag layout.fraction_trailing_digit_separator }
@@ -237,6 +264,7 @@ impl NumberFormat {
     }
 
     /// Returns whether this [flag][super::NumberFormatBuilder::exponent_trailing_digit_separator] is set.
+    #[must_use]
     #[inline(always)]
     pub const fn exponent_trailing_digit_separator(&self) -> bool
         ensures { result ≡ (raw self.now).flag layout.exponent_trailing_digit_separator }
@@ -245,6 +273,7 @@ impl NumberFormat {
     }
 
     /// Returns whether this [flag][super::NumberFormatBuilder::integer_consecutive_digit_separator] is set.
+    #[must_use]
     #[inline(always)]
     pub const fn integer_consecutive_digit_separator(&self) -> bool
         ensures { result ≡ (raw self.now).flag layout.integer_consecutive_digit_separator }
@@ -253,6 +282,7 @@ impl NumberFormat {
     }
 
     /// Returns whether this [flag][super::NumberFormatBuilder::fraction_consecutive_digit_separator] is set.
+    #[must_use]
     #[inline(always)]
     pub const fn fraction_consecutive_digit_separator(&self) -> bool
         ensures { result ≡ (raw self.now).flag layout.fraction_consecutive_digit_separator }
@@ -261,6 +291,7 @@ impl NumberFormat {
     }
 
     /// Returns whether this [flag][super::NumberFormatBuilder::exponent_consecutive_digit_separator] is set.
+    #[must_use]
     #[inline(always)]
     pub const fn exponent_consecutive_digit_separator(&self) -> bool
         ensures { result ≡ (raw self.now).flag layout.exponent_consecutive_digit_separator }
@@ -269,6 +300,7 @@ impl NumberFormat {
     }
 
     /// Returns whether any flag of this [group][super::NumberFormatBuilder::internal_digit_separator] is set.
+    #[must_use]
     #[inline(always)]
     pub const fn internal_digit_separator(&self) -> bool
         ensures any { result ≡ any_flag self.now layout.internal_digit_separator }
@@ -278,6 +310,7 @@ impl NumberFormat {
     }
 
     /// Returns whether any flag of this [group][super::NumberFormatBuilder::leading_digit_separator] is set.
+    #[must_use]
     #[inline(always)]
     pub const fn leading_digit_separator(&self) -> bool
         ensures any { result ≡ any_flag self.now layout.leading_digit_separator }
@@ -287,6 +320,7 @@ impl NumberFormat {
     }
 
     /// Returns whether any flag of this [group][super::NumberFormatBuilder::trailing_digit_separator] is set.
+    #[must_use]
     #[inline(always)]
     pub const fn trailing_digit_separator(&self) -> bool
         ensures any { result ≡ any_flag self.now layout.trailing_digit_separator }
@@ -296,6 +330,7 @@ impl NumberFormat {
     }
 
     /// Returns whether any flag of this [group][super::NumberFormatBuilder::consecutive_digit_separator] is set.
+    #[must_use]
     #[inline(always)]
     pub const fn consecutive_digit_separator(&self) -> bool
         ensures any { result ≡ any_flag self.now layout.consecutive_digit_separator }
@@ -305,6 +340,7 @@ impl NumberFormat {
     }
 
     /// Returns whether this [flag][super::NumberFormatBuilder::special_digit_separator] is set.
+    #[must_use]
     #[inline(always)]
     pub const fn special_digit_separator(&self) -> bool
         ensures { result ≡ (raw self.now).flag layout.special_digit_separator }
@@ -315,6 +351,7 @@ impl NumberFormat {
     // FLAG GROUPS
 
     /// Returns the flags of the word. All other bits of the result are 0.
+    #[must_use]
     #[inline(always)]
     pub const fn flags(&self) -> u128
         ensures bits { result ≡ bits_of self.now layout.flags }
@@ -324,6 +361,7 @@ impl NumberFormat {
     }
 
     /// Returns the bitwise AND of the word and [`INTERFACE_FLAG_MASK`][flags::INTERFACE_FLAG_MASK].
+    #[must_use]
     #[inline(always)]
     pub const fn interface_flags(&self) -> u128
         ensures bits { result ≡ bits_of self.now masks.interface_flags }
@@ -333,6 +371,7 @@ impl NumberFormat {
     }
 
     /// Returns the digit separator flags of the word. All other bits of the result are 0.
+    #[must_use]
     #[inline(always)]
     pub const fn digit_separator_flags(&self) -> u128
         ensures bits { result ≡ bits_of self.now layout.digit_separator_flags }
@@ -343,6 +382,7 @@ impl NumberFormat {
 
     /// Returns the bitwise AND of the word and [`EXPONENT_FLAG_MASK`][flags::EXPONENT_FLAG_MASK], which does not contain
     /// the flag `case_sensitive_exponent`.
+    #[must_use]
     #[inline(always)]
     pub const fn exponent_flags(&self) -> u128
         ensures bits { result ≡ bits_of self.now masks.exponent_flags }
@@ -352,6 +392,7 @@ impl NumberFormat {
     }
 
     /// Returns the flags that allow digit separators in the integer part. All other bits of the result are 0.
+    #[must_use]
     #[inline(always)]
     pub const fn integer_digit_separator_flags(&self) -> u128
         ensures bits { result ≡ bits_of self.now layout.integer_digit_separator_flags }
@@ -361,6 +402,7 @@ impl NumberFormat {
     }
 
     /// Returns the flags that allow digit separators in the fraction. All other bits of the result are 0.
+    #[must_use]
     #[inline(always)]
     pub const fn fraction_digit_separator_flags(&self) -> u128
         ensures bits { result ≡ bits_of self.now layout.fraction_digit_separator_flags }
@@ -370,6 +412,7 @@ impl NumberFormat {
     }
 
     /// Returns the flags that allow digit separators in the exponent. All other bits of the result are 0.
+    #[must_use]
     #[inline(always)]
     pub const fn exponent_digit_separator_flags(&self) -> u128
         ensures bits { result ≡ bits_of self.now layout.exponent_digit_separator_flags }
