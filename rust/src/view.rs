@@ -42,6 +42,7 @@ impl FormatView {
     // CONSTRUCTORS
 
     /// Returns a view of `format`, which may be any word.
+    #[must_use]
     #[inline(always)]
     pub const fn new(format: u128) -> Self {
         FormatView { format }

@@ -10,10 +10,8 @@ calls. All other words, attributes and documentation stay in their order, except
 - the tables REPLACED and ATTRIBUTES, each row of which has to apply exactly once, and EVERYWHERE;
 - the paths of the crates, and of the two modules in MODULES with the type of the view.
 
-rustfmt does the layout. These are refused with their file and line, and then no file is changed: a word of GHOST that is
-left, a clause without braces, an item of a file without counterpart that plain Rust would lose, and a call with a
-precondition in a public module and without a part `# Panics`. `erase_test.py` compares the words of each file with its
-source.
+rustfmt does the layout. A word of GHOST that is left, and a clause without braces, are refused with their file and line,
+and then no file is changed. `erase_test.py` compares the words of each file with its source.
 """
 import pathlib
 import re
@@ -41,9 +39,8 @@ PLACES = {
 # of core.
 BY_HAND = {"ascii/slices.rt", "error/decimal.rt", "error/traits.rt", "feature_format/bytes.rt", "format_builder/non_zero.rt"}
 
-# Roots, which are written by hand too, files without a counterpart, and tests.
-LEFT_OUT = re.compile(r"(lib|main|laws|examples)\.rt|laws/.*")
-TESTS = re.compile(r"tests(/.*)?\.rt")
+# Roots and tests, which are written by hand too, laws and examples.
+LEFT_OUT = re.compile(r"(lib|main)\.rt|(laws|examples|tests)(\.rt|/.*)")
 
 # In plain Rust `format` and `feature_format` are written by hand and take the word as a const argument, as in
 # `lexical-util`. The modules and the view that take it as a value have other names.
@@ -91,9 +88,6 @@ ATTRIBUTES = [
     ("format_builder.rt", "pub const fn build(&self)", f"{DEPRECATED} pub const fn build(&self)"),
     ("feature_format.rt", "#[derive(Clone, Copy)]", f"#[derive({COMPARED})]"),
 ]
-
-# Words that begin an item that plain Rust would lose if a file without counterpart had it.
-ITEM_WORDS = {"impl", "struct", "enum", "union", "trait", "static", "type", "macro_rules", "extern"}
 
 # Words that plain Rust must not contain. If one is left, a ghost form was not removed.
 GHOST = {
@@ -203,54 +197,9 @@ class Source:
             body = self.behind(opening)
         if self.words[body] not in ("{", ";"):
             self.refuse(body, "no clause is known that begins so")
-        start = self.tokens[end - 1].end()
         if body > at:
-            self.changes.append((start, self.tokens[body].start(), " "))
-        self.check_panics(index, self.text[start : self.tokens[body].start()])
+            self.changes.append((self.tokens[end - 1].end(), self.tokens[body].start(), " "))
         return body
-
-    def check_panics(self, index, clauses):
-        """Refuses a call with a precondition in a public module if its documentation does not state when it panics."""
-        start = index
-        while self.words[start - 1] in ("const", "pub"):
-            start -= 1
-        above = start
-        while self.words[above - 1] == "]":
-            above = max(at for at in range(above) if self.words[at] == "#")
-        comment = above
-        while self.words[comment - 1].startswith("///"):
-            comment -= 1
-        is_asked = self.words[start] == "pub" and re.search(r"^ *requires\b", clauses, re.M)
-        if is_asked and not self.is_private() and "# Panics" not in " ".join(self.words[comment:above]):
-            self.refuse(index, "a public call has a premise, and its documentation has no part `# Panics`")
-
-    def is_private(self):
-        """Returns whether the file is a private module of plain Rust, and the root re-exports none of its names."""
-        root = (RUST / "src/lib.rs").read_text()
-        is_named = f"\npub use {self.path.stem}::" in root
-        return f"\nmod {self.path.stem};\n" in root and not is_named
-
-    def check_left_out(self, modules):
-        """Refuses an item in a file without counterpart if plain Rust would lose it. `modules` has the names of the
-        modules of plain Rust."""
-        index, root = 0, {"lib": ITEM_WORDS | {"fn"}, "main": ITEM_WORDS | {"pub"}}.get(self.path.stem)
-        while index < len(self.tokens):
-            word, next_word = self.words[index : index + 2]
-            if (end := self.ghost_item(index)) > index:
-                index = end
-            elif word == "mod" and (next_word not in modules or self.words[index + 2] != ";"):
-                self.refuse(index, "plain Rust has no such module")
-            elif word == "pub" and next_word in ("mod", "use"):
-                index += 1
-            elif word in (root or ITEM_WORDS) or (word == "const" and next_word != "fn"):
-                self.refuse(index, "plain Rust would lose this item")
-            elif word == "fn" and not root:
-                body = self.function(index)
-                index = self.behind(body)
-                if not re.fullmatch(r"\{([\w:]+\(\);)*\}", "".join(self.words[body:index])):
-                    self.refuse(body, "this function is not a law, and plain Rust would lose it")
-            else:
-                index = self.behind(index) if word == "{" else index + 1
 
     def erase(self):
         """Returns the plain Rust, before renaming and layout."""
@@ -301,13 +250,6 @@ def laid_out(text):
     return subprocess.run(["rustfmt", "--config-path", RUST], input=text, stdout=subprocess.PIPE, text=True, check=True).stdout
 
 
-def modules_of(folder):
-    """Returns the modules of the sources that a root of plain Rust has, and the modules without counterpart."""
-    text = "".join(path.read_text() for path in RUST.joinpath(folder).glob("*.rs") if path.stem in ("lib", "main"))
-    sources = {made: name for name, made in MODULES.items()} if folder == LIBRARY[0] else {}
-    return {sources.get(name, name) for name in re.findall(r"^(?:pub )?mod (\w+);", text, re.M)} | {"laws", "examples", "tests"}
-
-
 def made_files():
     """Returns each generated file with its text."""
     files, sources, names = {}, "", set()
@@ -315,9 +257,7 @@ def made_files():
         top = CRATES / crate / "src"
         for path in sorted(top.rglob("*.rt")):
             name = path.relative_to(top)
-            if LEFT_OUT.fullmatch(str(name)):
-                Source(path, path.read_text()).check_left_out(modules_of(folder))
-            elif str(name) not in BY_HAND and not TESTS.fullmatch(str(name)):
+            if not LEFT_OUT.fullmatch(str(name)) and str(name) not in BY_HAND:
                 stem, *others = name.with_suffix("").parts
                 stem = MODULES.get(stem, stem) if crate == "lexical_util" else stem
                 sources += path.read_text()

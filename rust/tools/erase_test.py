@@ -175,8 +175,7 @@ def pairs():
         top = erase.CRATES / crate / "src"
         for path in sorted(top.rglob("*.rt")):
             name = path.relative_to(top)
-            left_out = erase.LEFT_OUT.fullmatch(str(name)) or erase.TESTS.fullmatch(str(name))
-            if not left_out and str(name) not in erase.BY_HAND:
+            if not erase.LEFT_OUT.fullmatch(str(name)) and str(name) not in erase.BY_HAND:
                 first, *rest = name.with_suffix(".rs").parts
                 if crate == "lexical_util":
                     first = erase.MODULES.get(first.removesuffix(".rs"), first.removesuffix(".rs")) + first[-3:] * first.endswith(".rs")

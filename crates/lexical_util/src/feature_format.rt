@@ -74,6 +74,7 @@ impl NumberFormat {
     // CONSTRUCTORS
 
     /// Returns a view of `format`, which may be any word.
+    #[must_use]
     #[inline(always)]
     pub const fn new(format: u128) -> Self
         ensures { result ≡ format }
