@@ -1,4 +1,4 @@
-//! The tests of slices, in blocks of 32 bytes that the compiler turns into vectors.
+//! The tests of slices. The compiler turns the test of a block of 32 or 16 bytes into vector instructions.
 
 use super::{is_valid_ascii, is_valid_letter};
 
@@ -16,7 +16,7 @@ pub const fn is_valid_letter_slice(slc: &[u8]) -> bool {
     all_pass::<true>(slc)
 }
 
-/// Returns whether every byte is a letter, or allowed ASCII.
+/// Returns whether every byte is a letter, or allowed ASCII if `LETTERS` is false. Stops after a block that fails.
 #[inline(always)]
 const fn all_pass<const LETTERS: bool>(bytes: &[u8]) -> bool {
     let mut rest = bytes;
@@ -26,16 +26,23 @@ const fn all_pass<const LETTERS: bool>(bytes: &[u8]) -> bool {
         }
         rest = others;
     }
-    few_pass::<LETTERS>(rest)
+    match rest.split_first_chunk::<16>() {
+        Some((block, others)) => few_pass::<LETTERS>(block) && few_pass::<LETTERS>(others),
+        None => few_pass::<LETTERS>(rest),
+    }
 }
 
-/// Reads all bytes before it returns, so that the compiler can use vectors.
+/// Tests a few bytes, and reads all of them before it returns. A branch for each byte would be slower.
 #[inline(always)]
 const fn few_pass<const LETTERS: bool>(bytes: &[u8]) -> bool {
     let (mut all, mut index) = (true, 0);
     while index < bytes.len() {
         let byte = bytes[index];
-        all &= if LETTERS { is_valid_letter(byte) } else { is_valid_ascii(byte) };
+        all &= if LETTERS {
+            is_valid_letter(byte)
+        } else {
+            is_valid_ascii(byte)
+        };
         index += 1;
     }
     all
