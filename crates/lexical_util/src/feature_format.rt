@@ -31,7 +31,7 @@ pub use crate::feature_format::roles::{Role, Separators};
 /// A view of a format word. It reads the fields of the word, and checks the word.
 ///
 /// Every method works on any word, whether or not the word is [lawful][flags::Rule]. The word may be known only at run
-/// time.
+/// time. Getters of fields have the names of the setters of [`NumberFormatBuilder`], which have examples.
 #[derive(Clone, Copy)]
 pub struct NumberFormat {
     format: u128,

@@ -63,89 +63,90 @@ macro_rules! with_setters {
 }
 
 /// A setter of [`NumberFormatBuilder`][crate::format_builder::NumberFormatBuilder] that takes a `bool`. It
-/// sets one flag, or all flags of one of the nine flag groups. Each variant has the name of its setter.
+/// sets one flag, or all flags of one of the nine flag groups. A variant has the name of its setter,
+/// whose documentation has an example.
 #[derive(Debug, Clone, Copy, PartialEq, Eq, Hash, PartialOrd, Ord)]
 #[non_exhaustive]
 pub enum FlagSetter {
-    /// `required_integer_digits`
+    /// Sets whether the format requires digits before the decimal point.
     RequiredIntegerDigits,
-    /// `required_fraction_digits`
+    /// Sets whether the format requires digits after a decimal point.
     RequiredFractionDigits,
-    /// `required_exponent_digits`
+    /// Sets whether the format requires digits after an exponent character.
     RequiredExponentDigits,
-    /// `required_mantissa_digits`
+    /// Sets whether the format requires a digit in the mantissa of a float.
     RequiredMantissaDigits,
-    /// `no_positive_mantissa_sign`
+    /// Sets whether the format forbids a `+` before an integer or a float.
     NoPositiveMantissaSign,
-    /// `required_mantissa_sign`
+    /// Sets whether the format requires a sign before an integer or a float.
     RequiredMantissaSign,
-    /// `no_exponent_notation`
+    /// Sets whether the format forbids an exponent in a float.
     NoExponentNotation,
-    /// `no_positive_exponent_sign`
+    /// Sets whether the format forbids a `+` in the exponent.
     NoPositiveExponentSign,
-    /// `required_exponent_sign`
+    /// Sets whether the format requires a sign in the exponent.
     RequiredExponentSign,
-    /// `no_exponent_without_fraction`
+    /// Sets whether the format requires a decimal point before an exponent.
     NoExponentWithoutFraction,
-    /// `no_special`
+    /// Sets whether the format forbids all special values.
     NoSpecial,
-    /// `case_sensitive_special`
+    /// Sets whether special values are case-sensitive.
     CaseSensitiveSpecial,
-    /// `no_integer_leading_zeros`
+    /// Sets whether the format forbids leading zeros in an integer.
     NoIntegerLeadingZeros,
-    /// `no_float_leading_zeros`
+    /// Sets whether the format forbids leading zeros in a float.
     NoFloatLeadingZeros,
-    /// `required_exponent_notation`
+    /// Sets whether the format requires an exponent in a float.
     RequiredExponentNotation,
-    /// `case_sensitive_exponent`
+    /// Sets whether the exponent character is case-sensitive.
     CaseSensitiveExponent,
-    /// `case_sensitive_base_prefix`
+    /// Sets whether the base prefix is case-sensitive.
     CaseSensitiveBasePrefix,
-    /// `case_sensitive_base_suffix`
+    /// Sets whether the base suffix is case-sensitive.
     CaseSensitiveBaseSuffix,
-    /// `integer_internal_digit_separator`
+    /// Sets whether the format allows a digit separator between integer digits.
     IntegerInternalDigitSeparator,
-    /// `fraction_internal_digit_separator`
+    /// Sets whether the format allows a digit separator between fraction digits.
     FractionInternalDigitSeparator,
-    /// `exponent_internal_digit_separator`
+    /// Sets whether the format allows a digit separator between exponent digits.
     ExponentInternalDigitSeparator,
-    /// `integer_leading_digit_separator`
+    /// Sets whether the format allows a digit separator before the integer digits.
     IntegerLeadingDigitSeparator,
-    /// `fraction_leading_digit_separator`
+    /// Sets whether the format allows a digit separator before the fraction digits.
     FractionLeadingDigitSeparator,
-    /// `exponent_leading_digit_separator`
+    /// Sets whether the format allows a digit separator before the exponent digits.
     ExponentLeadingDigitSeparator,
-    /// `integer_trailing_digit_separator`
+    /// Sets whether the format allows a digit separator after the integer digits.
     IntegerTrailingDigitSeparator,
-    /// `fraction_trailing_digit_separator`
+    /// Sets whether the format allows a digit separator after the fraction digits.
     FractionTrailingDigitSeparator,
-    /// `exponent_trailing_digit_separator`
+    /// Sets whether the format allows a digit separator after the exponent digits.
     ExponentTrailingDigitSeparator,
-    /// `integer_consecutive_digit_separator`
+    /// Sets whether the format allows consecutive digit separators in the integer part.
     IntegerConsecutiveDigitSeparator,
-    /// `fraction_consecutive_digit_separator`
+    /// Sets whether the format allows consecutive digit separators in the fraction.
     FractionConsecutiveDigitSeparator,
-    /// `exponent_consecutive_digit_separator`
+    /// Sets whether the format allows consecutive digit separators in the exponent.
     ExponentConsecutiveDigitSeparator,
-    /// `special_digit_separator`
+    /// Sets whether the format allows digit separators in special values.
     SpecialDigitSeparator,
-    /// `required_digits`
+    /// Sets or clears all flags that require digits.
     RequiredDigits,
-    /// `internal_digit_separator`
+    /// Sets or clears all flags that allow a digit separator between digits.
     InternalDigitSeparator,
-    /// `leading_digit_separator`
+    /// Sets or clears all flags that allow a digit separator before digits.
     LeadingDigitSeparator,
-    /// `trailing_digit_separator`
+    /// Sets or clears all flags that allow a digit separator after digits.
     TrailingDigitSeparator,
-    /// `consecutive_digit_separator`
+    /// Sets or clears all flags that allow consecutive digit separators.
     ConsecutiveDigitSeparator,
-    /// `digit_separator_flags`
+    /// Sets or clears all flags that allow digit separators, including the flag that allows them in special values.
     DigitSeparatorFlags,
-    /// `integer_digit_separator_flags`
+    /// Sets or clears all flags that allow digit separators in the integer part.
     IntegerDigitSeparatorFlags,
-    /// `fraction_digit_separator_flags`
+    /// Sets or clears all flags that allow digit separators in the fraction.
     FractionDigitSeparatorFlags,
-    /// `exponent_digit_separator_flags`
+    /// Sets or clears all flags that allow digit separators in the exponent.
     ExponentDigitSeparatorFlags,
 }
 

@@ -15,7 +15,7 @@ use lexical_flags::format_flags as flags;
 impl NumberFormat {
     // FLAGS OTHER THAN DIGIT SEPARATOR FLAGS
 
-    /// Returns whether this [flag][super::NumberFormatBuilder::required_integer_digits] is set.
+    /// Returns whether the format requires digits before the decimal point.
     #[must_use]
     #[inline(always)]
     pub const fn required_integer_digits(&self) -> bool
@@ -24,7 +24,7 @@ impl NumberFormat {
         has_any!(self, REQUIRED_INTEGER_DIGITS)
     }
 
-    /// Returns whether this [flag][super::NumberFormatBuilder::required_fraction_digits] is set.
+    /// Returns whether the format requires digits after a decimal point.
     #[must_use]
     #[inline(always)]
     pub const fn required_fraction_digits(&self) -> bool
@@ -33,7 +33,7 @@ impl NumberFormat {
         has_any!(self, REQUIRED_FRACTION_DIGITS)
     }
 
-    /// Returns whether this [flag][super::NumberFormatBuilder::required_exponent_digits] is set.
+    /// Returns whether the format requires digits after an exponent character.
     #[must_use]
     #[inline(always)]
     pub const fn required_exponent_digits(&self) -> bool
@@ -42,7 +42,7 @@ impl NumberFormat {
         has_any!(self, REQUIRED_EXPONENT_DIGITS)
     }
 
-    /// Returns whether this [flag][super::NumberFormatBuilder::required_mantissa_digits] is set.
+    /// Returns whether the format requires a digit in the mantissa of a float.
     #[must_use]
     #[inline(always)]
     pub const fn required_mantissa_digits(&self) -> bool
@@ -51,7 +51,7 @@ impl NumberFormat {
         has_any!(self, REQUIRED_MANTISSA_DIGITS)
     }
 
-    /// Returns whether any flag of this [group][super::NumberFormatBuilder::required_digits] is set.
+    /// Returns whether any of the flags that require digits is set.
     #[must_use]
     #[inline(always)]
     pub const fn required_digits(&self) -> bool
@@ -61,7 +61,7 @@ impl NumberFormat {
         has_any!(self, REQUIRED_DIGITS)
     }
 
-    /// Returns whether this [flag][super::NumberFormatBuilder::no_positive_mantissa_sign] is set.
+    /// Returns whether the format forbids a `+` before an integer or a float.
     #[must_use]
     #[inline(always)]
     pub const fn no_positive_mantissa_sign(&self) -> bool
@@ -70,7 +70,7 @@ impl NumberFormat {
         has_any!(self, NO_POSITIVE_MANTISSA_SIGN)
     }
 
-    /// Returns whether this [flag][super::NumberFormatBuilder::required_mantissa_sign] is set.
+    /// Returns whether the format requires a sign before an integer or a float.
     #[must_use]
     #[inline(always)]
     pub const fn required_mantissa_sign(&self) -> bool
@@ -79,7 +79,7 @@ impl NumberFormat {
         has_any!(self, REQUIRED_MANTISSA_SIGN)
     }
 
-    /// Returns whether this [flag][super::NumberFormatBuilder::no_exponent_notation] is set.
+    /// Returns whether the format forbids an exponent in a float.
     #[must_use]
     #[inline(always)]
     pub const fn no_exponent_notation(&self) -> bool
@@ -88,7 +88,7 @@ impl NumberFormat {
         has_any!(self, NO_EXPONENT_NOTATION)
     }
 
-    /// Returns whether this [flag][super::NumberFormatBuilder::no_positive_exponent_sign] is set.
+    /// Returns whether the format forbids a `+` in the exponent.
     #[must_use]
     #[inline(always)]
     pub const fn no_positive_exponent_sign(&self) -> bool
@@ -97,7 +97,7 @@ impl NumberFormat {
         has_any!(self, NO_POSITIVE_EXPONENT_SIGN)
     }
 
-    /// Returns whether this [flag][super::NumberFormatBuilder::required_exponent_sign] is set.
+    /// Returns whether the format requires a sign in the exponent.
     #[must_use]
     #[inline(always)]
     pub const fn required_exponent_sign(&self) -> bool
@@ -106,7 +106,7 @@ impl NumberFormat {
         has_any!(self, REQUIRED_EXPONENT_SIGN)
     }
 
-    /// Returns whether this [flag][super::NumberFormatBuilder::no_exponent_without_fraction] is set.
+    /// Returns whether the format requires a decimal point before an exponent.
     #[must_use]
     #[inline(always)]
     pub const fn no_exponent_without_fraction(&self) -> bool
@@ -115,7 +115,7 @@ impl NumberFormat {
         has_any!(self, NO_EXPONENT_WITHOUT_FRACTION)
     }
 
-    /// Returns whether this [flag][super::NumberFormatBuilder::no_special] is set.
+    /// Returns whether the format forbids all special values.
     #[must_use]
     #[inline(always)]
     pub const fn no_special(&self) -> bool
@@ -124,8 +124,7 @@ impl NumberFormat {
         has_any!(self, NO_SPECIAL)
     }
 
-    /// Returns whether this [flag][super::NumberFormatBuilder::case_sensitive_special] is set. If so, `NaN` and `nan` are
-    /// different.
+    /// Returns whether special values are case-sensitive.
     #[must_use]
     #[inline(always)]
     pub const fn case_sensitive_special(&self) -> bool
@@ -134,7 +133,7 @@ impl NumberFormat {
         has_any!(self, CASE_SENSITIVE_SPECIAL)
     }
 
-    /// Returns whether this [flag][super::NumberFormatBuilder::no_integer_leading_zeros] is set.
+    /// Returns whether the format forbids leading zeros in an integer.
     #[must_use]
     #[inline(always)]
     pub const fn no_integer_leading_zeros(&self) -> bool
@@ -143,7 +142,7 @@ impl NumberFormat {
         has_any!(self, NO_INTEGER_LEADING_ZEROS)
     }
 
-    /// Returns whether this [flag][super::NumberFormatBuilder::no_float_leading_zeros] is set.
+    /// Returns whether the format forbids leading zeros in a float.
     #[must_use]
     #[inline(always)]
     pub const fn no_float_leading_zeros(&self) -> bool
@@ -152,7 +151,7 @@ impl NumberFormat {
         has_any!(self, NO_FLOAT_LEADING_ZEROS)
     }
 
-    /// Returns whether this [flag][super::NumberFormatBuilder::required_exponent_notation] is set.
+    /// Returns whether the format requires an exponent in a float.
     #[must_use]
     #[inline(always)]
     pub const fn required_exponent_notation(&self) -> bool
@@ -161,7 +160,7 @@ impl NumberFormat {
         has_any!(self, REQUIRED_EXPONENT_NOTATION)
     }
 
-    /// Returns whether this [flag][super::NumberFormatBuilder::case_sensitive_exponent] is set.
+    /// Returns whether the exponent character is case-sensitive.
     #[must_use]
     #[inline(always)]
     pub const fn case_sensitive_exponent(&self) -> bool
@@ -170,7 +169,7 @@ impl NumberFormat {
         has_any!(self, CASE_SENSITIVE_EXPONENT)
     }
 
-    /// Returns whether this [flag][super::NumberFormatBuilder::case_sensitive_base_prefix] is set.
+    /// Returns whether the base prefix is case-sensitive.
     #[must_use]
     #[inline(always)]
     pub const fn case_sensitive_base_prefix(&self) -> bool
@@ -179,7 +178,7 @@ impl NumberFormat {
         has_any!(self, CASE_SENSITIVE_BASE_PREFIX)
     }
 
-    /// Returns whether this [flag][super::NumberFormatBuilder::case_sensitive_base_suffix] is set.
+    /// Returns whether the base suffix is case-sensitive.
     #[must_use]
     #[inline(always)]
     pub const fn case_sensitive_base_suffix(&self) -> bool
@@ -190,7 +189,7 @@ impl NumberFormat {
 
     // DIGIT SEPARATOR FLAGS
 
-    /// Returns whether this [flag][super::NumberFormatBuilder::integer_internal_digit_separator] is set.
+    /// Returns whether the format allows a digit separator between integer digits.
     #[must_use]
     #[inline(always)]
     pub const fn integer_internal_digit_separator(&self) -> bool
@@ -199,7 +198,7 @@ impl NumberFormat {
         has_any!(self, INTEGER_INTERNAL_DIGIT_SEPARATOR)
     }
 
-    /// Returns whether this [flag][super::NumberFormatBuilder::fraction_internal_digit_separator] is set.
+    /// Returns whether the format allows a digit separator between fraction digits.
     #[must_use]
     #[inline(always)]
     pub const fn fraction_internal_digit_separator(&self) -> bool
@@ -208,7 +207,7 @@ impl NumberFormat {
         has_any!(self, FRACTION_INTERNAL_DIGIT_SEPARATOR)
     }
 
-    /// Returns whether this [flag][super::NumberFormatBuilder::exponent_internal_digit_separator] is set.
+    /// Returns whether the format allows a digit separator between exponent digits.
     #[must_use]
     #[inline(always)]
     pub const fn exponent_internal_digit_separator(&self) -> bool
@@ -217,7 +216,7 @@ impl NumberFormat {
         has_any!(self, EXPONENT_INTERNAL_DIGIT_SEPARATOR)
     }
 
-    /// Returns whether this [flag][super::NumberFormatBuilder::integer_leading_digit_separator] is set.
+    /// Returns whether the format allows a digit separator before the integer digits.
     #[must_use]
     #[inline(always)]
     pub const fn integer_leading_digit_separator(&self) -> bool
@@ -226,8 +225,7 @@ impl NumberFormat {
         has_any!(self, INTEGER_LEADING_DIGIT_SEPARATOR)
     }
 
-    /// Returns whether this [flag][super::NumberFormatBuilder::fraction_leading_digit_separator] is set. If so, a digit
-    /// separator is allowed before the fraction digits.
+    /// Returns whether the format allows a digit separator before the fraction digits.
     #[must_use]
     #[inline(always)]
     pub const fn fraction_leading_digit_separator(&self) -> bool
@@ -236,7 +234,7 @@ impl NumberFormat {
         has_any!(self, FRACTION_LEADING_DIGIT_SEPARATOR)
     }
 
-    /// Returns whether this [flag][super::NumberFormatBuilder::exponent_leading_digit_separator] is set.
+    /// Returns whether the format allows a digit separator before the exponent digits.
     #[must_use]
     #[inline(always)]
     pub const fn exponent_leading_digit_separator(&self) -> bool
@@ -245,7 +243,7 @@ impl NumberFormat {
         has_any!(self, EXPONENT_LEADING_DIGIT_SEPARATOR)
     }
 
-    /// Returns whether this [flag][super::NumberFormatBuilder::integer_trailing_digit_separator] is set.
+    /// Returns whether the format allows a digit separator after the integer digits.
     #[must_use]
     #[inline(always)]
     pub const fn integer_trailing_digit_separator(&self) -> bool
@@ -254,7 +252,7 @@ impl NumberFormat {
         has_any!(self, INTEGER_TRAILING_DIGIT_SEPARATOR)
     }
 
-    /// Returns whether this [flag][super::NumberFormatBuilder::fraction_trailing_digit_separator] is set.
+    /// Returns whether the format allows a digit separator after the fraction digits.
     #[must_use]
     #[inline(always)]
     pub const fn fraction_trailing_digit_separator(&self) -> bool
@@ -263,7 +261,7 @@ impl NumberFormat {
         has_any!(self, FRACTION_TRAILING_DIGIT_SEPARATOR)
     }
 
-    /// Returns whether this [flag][super::NumberFormatBuilder::exponent_trailing_digit_separator] is set.
+    /// Returns whether the format allows a digit separator after the exponent digits.
     #[must_use]
     #[inline(always)]
     pub const fn exponent_trailing_digit_separator(&self) -> bool
@@ -272,7 +270,7 @@ impl NumberFormat {
         has_any!(self, EXPONENT_TRAILING_DIGIT_SEPARATOR)
     }
 
-    /// Returns whether this [flag][super::NumberFormatBuilder::integer_consecutive_digit_separator] is set.
+    /// Returns whether the format allows consecutive digit separators in the integer part.
     #[must_use]
     #[inline(always)]
     pub const fn integer_consecutive_digit_separator(&self) -> bool
@@ -281,7 +279,7 @@ impl NumberFormat {
         has_any!(self, INTEGER_CONSECUTIVE_DIGIT_SEPARATOR)
     }
 
-    /// Returns whether this [flag][super::NumberFormatBuilder::fraction_consecutive_digit_separator] is set.
+    /// Returns whether the format allows consecutive digit separators in the fraction.
     #[must_use]
     #[inline(always)]
     pub const fn fraction_consecutive_digit_separator(&self) -> bool
@@ -290,7 +288,7 @@ impl NumberFormat {
         has_any!(self, FRACTION_CONSECUTIVE_DIGIT_SEPARATOR)
     }
 
-    /// Returns whether this [flag][super::NumberFormatBuilder::exponent_consecutive_digit_separator] is set.
+    /// Returns whether the format allows consecutive digit separators in the exponent.
     #[must_use]
     #[inline(always)]
     pub const fn exponent_consecutive_digit_separator(&self) -> bool
@@ -299,7 +297,7 @@ impl NumberFormat {
         has_any!(self, EXPONENT_CONSECUTIVE_DIGIT_SEPARATOR)
     }
 
-    /// Returns whether any flag of this [group][super::NumberFormatBuilder::internal_digit_separator] is set.
+    /// Returns whether any of the flags that allow a digit separator between digits is set.
     #[must_use]
     #[inline(always)]
     pub const fn internal_digit_separator(&self) -> bool
@@ -309,7 +307,7 @@ impl NumberFormat {
         has_any!(self, INTERNAL_DIGIT_SEPARATOR)
     }
 
-    /// Returns whether any flag of this [group][super::NumberFormatBuilder::leading_digit_separator] is set.
+    /// Returns whether any of the flags that allow a digit separator before digits is set.
     #[must_use]
     #[inline(always)]
     pub const fn leading_digit_separator(&self) -> bool
@@ -319,7 +317,7 @@ impl NumberFormat {
         has_any!(self, LEADING_DIGIT_SEPARATOR)
     }
 
-    /// Returns whether any flag of this [group][super::NumberFormatBuilder::trailing_digit_separator] is set.
+    /// Returns whether any of the flags that allow a digit separator after digits is set.
     #[must_use]
     #[inline(always)]
     pub const fn trailing_digit_separator(&self) -> bool
@@ -329,7 +327,7 @@ impl NumberFormat {
         has_any!(self, TRAILING_DIGIT_SEPARATOR)
     }
 
-    /// Returns whether any flag of this [group][super::NumberFormatBuilder::consecutive_digit_separator] is set.
+    /// Returns whether any of the flags that allow consecutive digit separators is set.
     #[must_use]
     #[inline(always)]
     pub const fn consecutive_digit_separator(&self) -> bool
@@ -339,7 +337,7 @@ impl NumberFormat {
         has_any!(self, CONSECUTIVE_DIGIT_SEPARATOR)
     }
 
-    /// Returns whether this [flag][super::NumberFormatBuilder::special_digit_separator] is set.
+    /// Returns whether the format allows digit separators in special values.
     #[must_use]
     #[inline(always)]
     pub const fn special_digit_separator(&self) -> bool
