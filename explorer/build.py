@@ -97,7 +97,6 @@ def data():
         "rules": [demand for _, demand in rows(r"^\| (\d+) \| (.*?) \| `Invalid")],
         "recipes": [*recipes()],
         "limits": re.findall(r"^\| (.*) \| (.*) \|$", limits, re.M)[1:],
-        "texts": "In these examples, " + re.search(r"In the last column, ((?:[^`]*`.`){3})", " ".join(FORMAT.split()))[1] + ".",
         "version": re.search(r'^#define PELTZIVAR_VERSION "(.*)"$', header, re.M)[1],
     }
 
