@@ -33,13 +33,16 @@ mod text;
 pub use note::{MAX_NOTES, Note, notes, notes_beside_reasons, notes_of_fields};
 
 /// The number of slots in the array that [`reasons`] returns.
+#[doc(hidden)]
 pub const MAX_REASONS: usize = 18;
 
 /// The number of slots in the array that [`options_reasons`] returns.
+#[doc(hidden)]
 pub const MAX_OPTIONS_REASONS: usize = 9;
 
 /// A byte of a format word, or a character that options choose.
 #[derive(Debug, Clone, Copy, PartialEq, Eq, Hash)]
+#[non_exhaustive]
 pub enum Byte {
     /// The digit separator.
     DigitSeparator,
@@ -86,7 +89,8 @@ pub struct NamedByte {
 }
 
 /// The cause of a [`Reason`]: the fields that are to blame, with their values.
-#[derive(Debug, Clone, Copy, PartialEq, Eq)]
+#[derive(Debug, Clone, Copy, PartialEq, Eq, Hash)]
+#[non_exhaustive]
 pub enum Cause {
     /// The mantissa radix, or an exponent base or exponent radix that is present, is not between 2 and 36.
     OutOfRange(NamedByte),
@@ -120,7 +124,7 @@ pub enum Cause {
 
 /// A reason why a format word breaks one or more rules, or why it does not accept an exponent character and a decimal
 /// point. A reason *blames* the bits on which it depends (see [`mask`][Self::mask]).
-#[derive(Debug, Clone, Copy, PartialEq, Eq)]
+#[derive(Debug, Clone, Copy, PartialEq, Eq, Hash)]
 pub struct Reason {
     // The first rule that a word breaks because of this reason.
     rule: Option<Rule>,
@@ -145,6 +149,8 @@ struct Characters {
 /// An absent exponent base or exponent radix is never a reason itself, since the mantissa radix is used in its place.
 /// [`Reason::breaks`] returns whether a word breaks a rule because of a reason, and [`Reason::mask`] returns the bits
 /// that a reason blames.
+#[must_use]
+#[doc(hidden)]
 pub const fn reasons(format: u128) -> [Option<Reason>; MAX_REASONS]
     ensures each { result ≡ reason_slots format }
     ensures lawful { Lawful format ↔ NoReason (reason_slots format) }
@@ -194,6 +200,8 @@ pub const fn reasons(format: u128) -> [Option<Reason>; MAX_REASONS]
 /// and only if [`is_valid_options_punctuation`][flags::is_valid_options_punctuation] accepts the two.
 ///
 /// For such a reason, [`Reason::rule`] returns `None`, and [`Reason::mask`] has only bits of the format word.
+#[must_use]
+#[doc(hidden)]
 pub const fn options_reasons(
     format: u128,
     exponent: u8,
