@@ -17,7 +17,7 @@ use Rattle.lexical_base.specs.Digits.{digits_of}
 use Rattle.lexical_flags.specs.Layout as layout
 use Rattle.lexical_flags.specs.Layout.{Flag, bit, IsClean}
 use Rattle.lexical_flags.specs.Record.{Record, raw, effective}
-use Rattle.lexical_flags.specs.Roles.{cased, digits, signs, Disjoint, AreDisjoint, format_roles, other_case}
+use Rattle.lexical_flags.specs.Roles.{cased, digits, signs, Disjoint, other_case}
 use Rattle.lexical_flags.specs.Rules.{IsRadix, IsAbsentOrPunctuation, IsPunctuation, Holds, Lawful, rules_in_order, Shape}
 use Rattle.lexical_flags.specs.Rules.{radix_in_range, absent_or_punctuation, roles_differ, not_both, position_allowed}
 use Rattle.lexical_flags.specs.Rules.{reserved_zero, shape_of, Meets, lacks_position, separator_flags}
@@ -26,7 +26,6 @@ use Rattle.lexical_flags.specs.Additions.Masks.{reserved_mask}
 use Rattle.lexical_flags.specs.contracts.format_flags.all_rules.Rule.{the_type}
 use Rattle.lexical_flags.specs.declared.format_flags.all_rules.Rule.{Rule}
 use Rattle.lexical_flags.specs.declared.format_flags.all_rules.Rule.TheVariants as rules
-use Rattle.lexical_flags.proofs.Masks.{ascends}
 use Rattle.lexical_flags.proofs.RuleFieldLemmas.{byte}
 use Rattle.lexical_flags.proofs.CaseLemmas.{cases_apart, differ_apart, same_clash}
 use Rattle.lexical_flags.proofs.ReservedBits.{reserved_bits}
@@ -42,9 +41,9 @@ use Rattle.lexical_util.specs.declared.reasons.NamedByte.{NamedByte}
 use Rattle.lexical_util.specs.declared.reasons.Cause.{Cause}
 use Rattle.lexical_util.specs.declared.reasons.Cause.TheVariants as causes
 use Rattle.lexical_util.specs.declared.reasons.Reason.{Reason}
-use Rattle.lexical_util.specs.Additions.Reasons.{value_of, named, mask_of_byte, byte_of, case_flag, is_cased, unset_flag, Claim}
+use Rattle.lexical_util.specs.Additions.Reasons.{value_of, named, mask_of_byte, byte_of, is_cased, unset_flag, Claim}
 use Rattle.lexical_util.specs.Additions.Reasons.{has_value, has_flag, has_bits, Has, unset, only_last, mask_of_claim, mask_from}
-use Rattle.lexical_util.specs.Additions.Reasons.{mask_of_claims, mask_of_reason, claims_of, IsTrueOf, Breaks, Blames}
+use Rattle.lexical_util.specs.Additions.Reasons.{mask_of_claims, claims_of, IsTrueOf, Breaks, Blames}
 use Rattle.lexical_util.specs.Additions.Reasons.{BlamesForOptions, if_present, radix_cause, radixes_where, digit_cause}
 use Rattle.lexical_util.specs.Additions.Reasons.{byte_cause, role, clash, format_pairs, options_pairs, causes_of, followers}
 use Rattle.lexical_util.specs.Additions.Reasons.{reason_of, slots, reason_slots, options_causes}
