@@ -5,9 +5,3 @@ use Rattle.lexical_flags.proofs.format_flags.rules.first_broken_flags.Goals as g
 -- soon.
 pub returns-then-not-is_valid_mantissa_sign_flags : goal.returns-then-not-is_valid_mantissa_sign_flags
 returns-then-not-is_valid_mantissa_sign_flags c = search rules
-
--- Search also proves this goal. The answer is given so that the must-fail edit format_error_refuses_every_word.edit
--- fails soon.
-pub returns-then-not-is_valid_exponent_consecutive_flags
-    : goal.returns-then-not-is_valid_exponent_consecutive_flags
-returns-then-not-is_valid_exponent_consecutive_flags c = search rules
