@@ -11,7 +11,7 @@ import sys
 HERE = pathlib.Path(__file__).resolve().parent
 HEADER = HERE.joinpath("peltzivar.h").read_text()
 CODE = " ".join(re.sub(r"/\*.*?\*/|^#.*?$", "", HEADER, flags=re.S | re.M).split())
-STRUCTS = {"peltzivar_word": "_Word", "peltzivar_fields": "_Fields", "peltzivar_edit": "_Edit"}
+STRUCTS = {f"peltzivar_{name.lower()}": f"_{name}" for name in ("Word", "Fields", "Edit", "Separators")}
 TYPES = {"bool": "c_bool", "size_t": "c_size_t", **STRUCTS}
 TYPES |= {f"uint{bits}_t": f"c_uint{bits}" for bits in (8, 32, 64)}
 TYPES |= {name: TYPES[kind] for kind, name in re.findall(r"typedef (\w+) (\w+);", CODE)}
@@ -22,7 +22,7 @@ def defined(name):
 
 
 def enumeration(name, pattern, meaning):
-    members = sorted(re.findall(rf"^    PELTZIVAR_{pattern} = (\d+)", HEADER, re.M), key=lambda it: int(it[1]))
+    members = sorted(re.findall(rf"\bPELTZIVAR_{pattern} = (\d+)", HEADER), key=lambda it: int(it[1]))
     head = ["", "", f"class {name}(IntEnum):", f'    """{meaning}"""', ""]
     return head + [f"    {it} = {number}" for it, number in members]
 
@@ -43,9 +43,11 @@ def part(used):
     yield f"_NEW_FIELDS = ({flags}, {others})"
     yield from (f"_{name} = {defined(name)}" for name in ("FIELD_COUNT", "SOURCE_SIZE", "TEXT_SIZE"))
     for name, pattern, meaning in (
-        ("Setter", r"SET_(\w+)", "The number of each setter. The name of a member is the name of the setter in uppercase."),
+        ("Setter", r"SET_(\w+)", "The number of each setter. A member has the name of the setter in uppercase."),
         ("Rule", r"RULE_(\w+)", "The number of each rule, in the order in which the rules are checked."),
-        ("Error", r"((?!SET_|RULE_|SETTING_)\w+)", "The number of each error, and of success, which is 0."),
+        ("Error", r"((?!SET_|RULE_|PART_|ROLE_)\w+)", "The number of each error, and of success, which is 0."),
+        ("Part", r"PART_(\w+)", "The parts of a number that can have digit separators."),
+        ("Role", r"ROLE_((?!NONE)\w+)", "The roles of a byte in a number."),
     ):
         yield from enumeration(name, pattern, meaning)
     for body, struct in re.findall(r"typedef struct { (.*?) } (\w+);", CODE):

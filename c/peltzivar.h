@@ -30,7 +30,7 @@
  * No function allocates memory, retains a pointer or sets errno. Several threads may call these functions at the same
  * time, provided that no call writes memory that another call reads or writes.
  *
- * From 0.6 on, a setter, a rule or an error has the same number in every version. The SONAME of the shared library
+ * From 0.6 on, a setter, rule, role or error has the same number in every version. The SONAME of the shared library
  * contains the minor version, and changes only if a function, a structure or a result changes. */
 #ifndef PELTZIVAR_H
 #define PELTZIVAR_H
@@ -42,13 +42,10 @@
 #define PELTZIVAR_VERSION "0.6.0"
 #define PELTZIVAR_VERSION_NUMBER 0x000600
 
-/* PELTZIVAR_API marks the functions that the library exports. To link with the DLL of the library on Windows, define
- * PELTZIVAR_SHARED before you include this header. */
+/* To link with the DLL of the library on Windows, define PELTZIVAR_SHARED before you include this header. */
 #ifndef PELTZIVAR_API
 #if defined(_WIN32) && defined(PELTZIVAR_SHARED)
 #define PELTZIVAR_API __declspec(dllimport)
-#elif defined(__GNUC__) && !defined(_WIN32)
-#define PELTZIVAR_API __attribute__((visibility("default")))
 #else
 #define PELTZIVAR_API
 #endif
@@ -92,15 +89,6 @@ typedef struct {
     uint8_t value;
 } peltzivar_edit;
 
-/* The result of peltzivar_parse_edit. */
-typedef uint32_t peltzivar_setting_error;
-enum {
-    PELTZIVAR_SETTING_READ = 0,
-    PELTZIVAR_SETTING_UNKNOWN_NAME = 1,
-    PELTZIVAR_SETTING_BAD_VALUE = 2,
-    PELTZIVAR_SETTING_NO_EQUALS = 3
-};
-
 /* The word of the standard format, which has mantissa radix 10 and requires digits in the mantissa and in the exponent.
  * All its other fields are 0. PELTZIVAR_NEW_FIELDS holds the same fields. The macros that end in _INIT expand to
  * initialisers with the same values, for use where C requires constant expressions, such as at file scope. */
@@ -109,8 +97,7 @@ enum {
 static const peltzivar_word PELTZIVAR_STANDARD = PELTZIVAR_STANDARD_INIT;
 static const peltzivar_fields PELTZIVAR_NEW_FIELDS = PELTZIVAR_NEW_FIELDS_INIT;
 
-/* Sizes of arrays: the number of fields, and the sizes of buffers for any string that peltzivar_source
- * writes, and for any string that another function writes. */
+/* The number of fields, and the sizes of buffers for any string of peltzivar_source, and of any other function. */
 #define PELTZIVAR_FIELD_COUNT 37
 #define PELTZIVAR_SOURCE_SIZE 2048
 #define PELTZIVAR_TEXT_SIZE 256
@@ -164,11 +151,8 @@ PELTZIVAR_API bool peltzivar_flag(peltzivar_word format, peltzivar_setter setter
 
 /* Parses a string of len bytes, which need not be null-terminated. If the string is `0x` followed by 1 to 32
  * hexadecimal digits of either case, writes the word to *out and returns PELTZIVAR_SUCCESS. Otherwise, leaves *out
- * unchanged and returns the first of these errors that applies:
- * - PELTZIVAR_INVALID_DIGIT if the string is not valid UTF-8;
- * - PELTZIVAR_EMPTY if the string is empty, `0` or `0x`;
- * - PELTZIVAR_OVERFLOW if the string begins with `0x` and at least 33 hexadecimal digits;
- * - PELTZIVAR_INVALID_DIGIT in every other case. */
+ * unchanged and returns PELTZIVAR_EMPTY if the string is empty, `0` or `0x`, PELTZIVAR_OVERFLOW if it is UTF-8 and
+ * begins with `0x` and at least 33 hexadecimal digits, and PELTZIVAR_INVALID_DIGIT in every other case. */
 PELTZIVAR_MUST_USE PELTZIVAR_API peltzivar_error peltzivar_parse_word(
     const char *text, size_t len, peltzivar_word *out);
 
@@ -210,19 +194,13 @@ PELTZIVAR_API peltzivar_word peltzivar_pack(const peltzivar_fields *fields);
 /* SETTINGS */
 
 /* Parses a setting, which is a string of the form NAME=VALUE. The string has len bytes and need not be null-terminated.
- * It is split at the first `=`. If the string is a valid setting, writes its edit to *out and returns
- * PELTZIVAR_SETTING_READ, which is 0. Otherwise, leaves *out unchanged and returns the first of these results that
- * applies:
- * - PELTZIVAR_SETTING_UNKNOWN_NAME if the string is not valid UTF-8;
- * - PELTZIVAR_SETTING_NO_EQUALS if the string has no `=`;
- * - PELTZIVAR_SETTING_UNKNOWN_NAME if no setter has the name;
- * - PELTZIVAR_SETTING_BAD_VALUE in every other case.
+ * It is split at the first `=`. If the string is a valid setting, writes its edit to *out and returns true. Otherwise,
+ * returns false and leaves *out unchanged.
  *
  * A flag or a group takes `true` or `false`. A byte takes one ASCII character in single quotes, `0x` followed by one or
  * two hexadecimal digits, or one to three decimal digits. Every byte except mantissa_radix also takes `none`, which
  * makes the byte absent, as 0 does. Spaces are not skipped. The name radix is read as mantissa_radix. */
-PELTZIVAR_MUST_USE PELTZIVAR_API peltzivar_setting_error peltzivar_parse_edit(
-    const char *text, size_t len, peltzivar_edit *out);
+PELTZIVAR_MUST_USE PELTZIVAR_API bool peltzivar_parse_edit(const char *text, size_t len, peltzivar_edit *out);
 
 /* Writes the reason why peltzivar_parse_edit rejects a string, such as "no_special takes `true` or `false`". The string
  * has len bytes, and the buffer `to` has to_len bytes. If peltzivar_parse_edit accepts it, writes an empty string. */
@@ -232,12 +210,10 @@ PELTZIVAR_API size_t peltzivar_setting_error_text(const char *text, size_t len, 
  * this string into an edit that has the same effect. */
 PELTZIVAR_API size_t peltzivar_edit_text(peltzivar_edit edit, char *text, size_t len);
 
-/* Writes the name of a setter, such as "digit_separator". The name is the setter's constant without PELTZIVAR_SET_, in
- * lowercase. */
+/* Writes the name of a setter, such as "digit_separator": its constant in lowercase, without PELTZIVAR_SET_. */
 PELTZIVAR_API size_t peltzivar_setter_name(peltzivar_setter setter, char *text, size_t len);
 
-/* Returns the setter with a given name of len bytes, or PELTZIVAR_NO_SETTER. radix is another name of
- * mantissa_radix. */
+/* Returns the setter with a name of len bytes, or PELTZIVAR_NO_SETTER. radix is another name of mantissa_radix. */
 PELTZIVAR_API peltzivar_setter peltzivar_setter_of_name(const char *name, size_t len);
 
 /* Returns a mask of the bits that a setter writes. The mask is 0 if the setter is unknown. */
@@ -271,7 +247,9 @@ PELTZIVAR_API size_t peltzivar_note_text(const peltzivar_fields *fields, size_t 
 /* Returns a mask of the bits of the fields that a note describes. The mask is 0 if there is no such note. */
 PELTZIVAR_API peltzivar_word peltzivar_note_mask(const peltzivar_fields *fields, size_t index);
 
-/* OPTIONS AND BYTES OF A NUMBER */
+/* OPTIONS AND BYTES OF A NUMBER
+ *
+ * The exponent character and the decimal point of a number are not part of a format. They are options of a parser. */
 
 /* Checks whether an exponent character and a decimal point fit a word. They fit if both are punctuation, if they do not
  * clash with each other, and if neither of them clashes with the digit separator, base prefix or base suffix of the
@@ -285,9 +263,21 @@ PELTZIVAR_API peltzivar_word peltzivar_note_mask(const peltzivar_fields *fields,
 PELTZIVAR_MUST_USE PELTZIVAR_API peltzivar_error peltzivar_check_options(
     peltzivar_word format, uint8_t exponent, uint8_t decimal_point);
 
-/* Return the value of a byte as a digit in the mantissa radix or the exponent radix, or PELTZIVAR_NO_DIGIT. */
+/* Return the value of a byte as a digit in the mantissa radix or the exponent radix, or PELTZIVAR_NO_DIGIT. Letters of
+ * either case are the digits from 10 on. */
 PELTZIVAR_API uint32_t peltzivar_mantissa_digit(peltzivar_word format, uint8_t byte);
 PELTZIVAR_API uint32_t peltzivar_exponent_digit(peltzivar_word format, uint8_t byte);
+
+/* The parts of a number, and where a part may have digit separators: between its digits, before them and after them.
+ * `consecutive` states whether several separators in a row may stand where one may. */
+typedef uint8_t peltzivar_part;
+enum { PELTZIVAR_PART_INTEGER = 0, PELTZIVAR_PART_FRACTION = 1, PELTZIVAR_PART_EXPONENT = 2 };
+typedef struct {
+    bool internal, leading, trailing, consecutive;
+} peltzivar_separators;
+
+/* Returns where a part of a number may have digit separators. If there is no such part, all members are false. */
+PELTZIVAR_API peltzivar_separators peltzivar_separators_of(peltzivar_word format, peltzivar_part part);
 
 /* Returns whether a byte is the digit separator of a word in which at least one digit separator flag is set. */
 PELTZIVAR_API bool peltzivar_is_separator(peltzivar_word format, uint8_t byte);
@@ -297,12 +287,23 @@ PELTZIVAR_API bool peltzivar_is_separator(peltzivar_word format, uint8_t byte);
 PELTZIVAR_API bool peltzivar_is_base_prefix(peltzivar_word format, uint8_t byte);
 PELTZIVAR_API bool peltzivar_is_base_suffix(peltzivar_word format, uint8_t byte);
 
-/* Returns the digit value of a byte if this value is less than the radix, and PELTZIVAR_NO_DIGIT otherwise. Digits have
- * the values 0 to 9, and letters of either case 10 to 35. Every other byte has the value 255. */
-PELTZIVAR_API uint32_t peltzivar_char_to_digit(uint8_t byte, uint32_t radix);
+/* The roles of a byte in a number. */
+typedef uint8_t peltzivar_role;
+enum {
+    PELTZIVAR_ROLE_NONE = 0,
+    PELTZIVAR_ROLE_DIGIT = 1, /* in the mantissa radix or in the exponent radix */
+    PELTZIVAR_ROLE_SIGN = 2, /* + or - */
+    PELTZIVAR_ROLE_SEPARATOR = 3,
+    PELTZIVAR_ROLE_PREFIX = 4,
+    PELTZIVAR_ROLE_SUFFIX = 5,
+    PELTZIVAR_ROLE_EXPONENT = 6,
+    PELTZIVAR_ROLE_POINT = 7
+};
 
-/* Returns the character for a digit, `0` to `9` or `A` to `Z`, or 0 if the digit is 36 or more. */
-PELTZIVAR_API uint8_t peltzivar_digit_to_char(uint32_t digit);
+/* Returns the first role that a byte has in numbers with this exponent character and this decimal point. An option that
+ * is 0 matches no byte. If a word is lawful and the options fit it, no byte has two roles. */
+PELTZIVAR_API peltzivar_role peltzivar_role_of(
+    peltzivar_word format, uint8_t exponent, uint8_t decimal_point, uint8_t byte);
 
 #ifdef __cplusplus
 }
@@ -373,14 +374,11 @@ enum {
      * digit_separator matches only itself. If base_prefix or base_suffix is a letter, it matches both cases of the
      * letter unless case_sensitive_base_prefix or case_sensitive_base_suffix, respectively, is set. */
     PELTZIVAR_RULE_PUNCTUATION_DIFFERS = 7,
-    /* no_exponent_notation and required_exponent_notation are not both set. */
-    PELTZIVAR_RULE_EXPONENT_FLAGS_AGREE = 8,
-    /* no_positive_mantissa_sign and required_mantissa_sign are not both set. */
-    PELTZIVAR_RULE_MANTISSA_SIGN_FLAGS_AGREE = 9,
-    /* no_positive_exponent_sign and required_exponent_sign are not both set. */
-    PELTZIVAR_RULE_EXPONENT_SIGN_FLAGS_AGREE = 10,
-    PELTZIVAR_RULE_SPECIAL_CASE_FLAGS_AGREE = 11, /* no_special and case_sensitive_special are not both set. */
-    PELTZIVAR_RULE_SPECIAL_SEPARATOR_FLAGS_AGREE = 12, /* no_special and special_digit_separator are not both set. */
+    PELTZIVAR_RULE_EXPONENT_FLAGS_AGREE = 8, /* no_exponent_notation or required_exponent_notation is false. */
+    PELTZIVAR_RULE_MANTISSA_SIGN_FLAGS_AGREE = 9, /* no_positive_mantissa_sign or required_mantissa_sign is false. */
+    PELTZIVAR_RULE_EXPONENT_SIGN_FLAGS_AGREE = 10, /* no_positive_exponent_sign or required_exponent_sign is false. */
+    PELTZIVAR_RULE_SPECIAL_CASE_FLAGS_AGREE = 11, /* no_special or case_sensitive_special is false. */
+    PELTZIVAR_RULE_SPECIAL_SEPARATOR_FLAGS_AGREE = 12, /* no_special or special_digit_separator is false. */
     /* The consecutive flag of a part of the number (integer, fraction or exponent) is set only if the internal, leading
      * or trailing flag of the same part is set. */
     PELTZIVAR_RULE_INTEGER_CONSECUTIVE_IS_ALLOWED = 13,

@@ -27,8 +27,8 @@ from pathlib import Path
 from types import SimpleNamespace
 from typing import Any, Dict, Iterable, List, NamedTuple, Optional, Tuple, Type, TypeVar, Union
 
-__all__ = ["STANDARD", "Byte", "Edit", "Error", "Format", "FormatError", "FormatView", "Note", "Reason", "Rule"]
-__all__ += ["Setter", "Value", "notes_of"]
+__all__ = ["STANDARD", "Byte", "Edit", "Error", "Format", "FormatError", "FormatView", "Note", "Part", "Reason", "Role"]
+__all__ += ["Rule", "Separators", "Setter", "Value", "notes_of"]
 
 # Made by make_python.py from peltzivar.h.
 _VERSION = 0x000600
@@ -40,7 +40,7 @@ _TEXT_SIZE = 256
 
 
 class Setter(IntEnum):
-    """The number of each setter. The name of a member is the name of the setter in uppercase."""
+    """The number of each setter. A member has the name of the setter in uppercase."""
 
     REQUIRED_INTEGER_DIGITS = 0
     REQUIRED_FRACTION_DIGITS = 1
@@ -165,6 +165,26 @@ class Error(IntEnum):
     INVALID_POSITIVE_EXPONENT_BREAK = 48
 
 
+class Part(IntEnum):
+    """The parts of a number that can have digit separators."""
+
+    INTEGER = 0
+    FRACTION = 1
+    EXPONENT = 2
+
+
+class Role(IntEnum):
+    """The roles of a byte in a number."""
+
+    DIGIT = 1
+    SIGN = 2
+    SEPARATOR = 3
+    PREFIX = 4
+    SUFFIX = 5
+    EXPONENT = 6
+    POINT = 7
+
+
 class _Word(Structure):
     _fields_ = [
         ("low", c_uint64),
@@ -191,6 +211,15 @@ class _Edit(Structure):
     ]
 
 
+class _Separators(Structure):
+    _fields_ = [
+        ("internal", c_bool),
+        ("leading", c_bool),
+        ("trailing", c_bool),
+        ("consecutive", c_bool),
+    ]
+
+
 _CALLS: Dict[str, Tuple[Any, List[Any]]] = {
     "build": (c_bool, [POINTER(_Edit), c_size_t, POINTER(_Word)]),
     "edit_word": (c_bool, [_Word, POINTER(_Edit), c_size_t, POINTER(_Word)]),
@@ -206,7 +235,7 @@ _CALLS: Dict[str, Tuple[Any, List[Any]]] = {
     "error_text": (c_size_t, [c_uint32, c_size_t, c_char_p, c_size_t]),
     "fields_of": (_Fields, [_Word]),
     "edit_fields": (c_bool, [POINTER(_Fields), POINTER(_Edit), c_size_t]),
-    "parse_edit": (c_uint32, [c_char_p, c_size_t, POINTER(_Edit)]),
+    "parse_edit": (c_bool, [c_char_p, c_size_t, POINTER(_Edit)]),
     "setting_error_text": (c_size_t, [c_char_p, c_size_t, c_char_p, c_size_t]),
     "edit_text": (c_size_t, [_Edit, c_char_p, c_size_t]),
     "setter_mask": (_Word, [c_uint8]),
@@ -218,9 +247,11 @@ _CALLS: Dict[str, Tuple[Any, List[Any]]] = {
     "check_options": (c_uint32, [_Word, c_uint8, c_uint8]),
     "mantissa_digit": (c_uint32, [_Word, c_uint8]),
     "exponent_digit": (c_uint32, [_Word, c_uint8]),
+    "separators_of": (_Separators, [_Word, c_uint8]),
     "is_separator": (c_bool, [_Word, c_uint8]),
     "is_base_prefix": (c_bool, [_Word, c_uint8]),
     "is_base_suffix": (c_bool, [_Word, c_uint8]),
+    "role_of": (c_uint8, [_Word, c_uint8, c_uint8, c_uint8]),
 }
 
 # End
@@ -313,6 +344,15 @@ def _byte(byte: Byte) -> int:
     return operator.index(byte) if 0 <= operator.index(byte) < 256 else -1
 
 
+def _options(exponent: Byte, decimal_point: Byte) -> Tuple[int, int]:
+    """Returns an exponent character and a decimal point as numbers."""
+    options = _byte(exponent), _byte(decimal_point)
+    if min(options) < 0:
+        given = f"{exponent!r}, {decimal_point!r}"
+        raise ValueError(f"an option is an ASCII character or a number from 0 to 255: {given}")
+    return options
+
+
 class Edit:
     """An edit: a setter and its value, parsed from a text NAME=VALUE such as `Edit("digit_separator='_'")`.
 
@@ -326,7 +366,7 @@ class Edit:
     def __init__(self, text: str) -> None:
         self._edit = _Edit()
         setting = text.encode("utf-8", "surrogatepass")
-        if _library.parse_edit(setting, len(setting), self._edit):
+        if not _library.parse_edit(setting, len(setting), self._edit):
             raise ValueError(f"{text}: {_text(_library.setting_error_text, setting, len(setting))}")
 
     @classmethod
@@ -397,6 +437,15 @@ class Note(NamedTuple):
 
     def __str__(self) -> str:
         return self.text
+
+
+class Separators(NamedTuple):
+    """Where a part of a number may have digit separators: between, before and after digits, and several in a row."""
+
+    internal: bool
+    leading: bool
+    trailing: bool
+    consecutive: bool
 
 
 class FormatError(ValueError):
@@ -526,6 +575,11 @@ class FormatView:
         """Returns the value of a byte as a digit of the exponent, or None if it is not one."""
         return self._digit(_library.exponent_digit, byte)
 
+    def separators(self, part: Part) -> Separators:
+        """Returns where a part of a number may have digit separators, such as `separators(Part.FRACTION).internal`."""
+        allowed = _library.separators_of(self._halves(), Part(part))
+        return Separators(allowed.internal, allowed.leading, allowed.trailing, allowed.consecutive)
+
     def is_separator(self, byte: Byte) -> bool:
         """Returns whether a byte is the digit separator, and some flag allows it."""
         return self._is(_library.is_separator, byte)
@@ -537,6 +591,13 @@ class FormatView:
     def is_base_suffix(self, byte: Byte) -> bool:
         """Returns whether the base suffix matches a byte. A letter matches both cases unless it is case-sensitive."""
         return self._is(_library.is_base_suffix, byte)
+
+    def role_of(self, exponent: Byte, decimal_point: Byte, byte: Byte) -> Optional[Role]:
+        """Returns the first role that a byte has in numbers with these options, or None. An option that is 0 matches no
+        byte. If this is a `Format` and the options fit it, no byte has two roles."""
+        options, number = _options(exponent, decimal_point), _byte(byte)
+        role = _library.role_of(self._halves(), *options, number) if number >= 0 else 0
+        return Role(role) if role else None
 
     def edit(self: View, *settings: Union[Edit, str], **fields: Value) -> View:
         """Applies the settings to the word in order, and returns a view of the new word.
@@ -636,11 +697,7 @@ class Format(FormatView):
 
     def check_options(self, exponent: Byte, decimal_point: Byte) -> None:
         """Raises ValueError if an exponent character and a decimal point do not fit the format."""
-        options = _byte(exponent), _byte(decimal_point)
-        if min(options) < 0:
-            given = f"{exponent!r}, {decimal_point!r}"
-            raise ValueError(f"an option is an ASCII character or a number from 0 to 255: {given}")
-        if error := _library.check_options(self._halves(), *options):
+        if error := _library.check_options(self._halves(), *_options(exponent, decimal_point)):
             raise ValueError(_text(_library.error_text, error, 0))
 
 

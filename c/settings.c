@@ -54,7 +54,7 @@ static bool read_line(char *line, size_t number, peltzivar_fields *fields) {
     const char *const value = equals ? trimmed(equals) : "";
     const int len = snprintf(setting, sizeof setting, "%s%s%s", trimmed(line), equals ? "=" : "", value);
     peltzivar_edit edit;
-    if (peltzivar_parse_edit(setting, (size_t)len, &edit) || !peltzivar_edit_fields(fields, &edit, 1)) {
+    if (!peltzivar_parse_edit(setting, (size_t)len, &edit) || !peltzivar_edit_fields(fields, &edit, 1)) {
         peltzivar_setting_error_text(setting, (size_t)len, why, sizeof why);
         printf("line %zu: %s: %s\n", number, setting, why);
         return false;

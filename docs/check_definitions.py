@@ -4,35 +4,120 @@
     docs/check_definitions.py edit_word    prints what the contract of `edit_word` cites, directly or by definitions
     docs/check_definitions.py              names the calls, each with the number of lines that this prints
 
-The status is 1 if a contract reaches a constant of the program, or an addition: a definition in a folder of specs/ or
-in Private.antt. Such definitions serve other calls.
+A contract cites the definitions that the `use` lines of its file bring, and a definition also those of its own file. No
+two definitions have the same name. The status is 1 if a call reaches a constant of the program, or an addition: a
+definition in a folder of specs/ or in Private.antt. Such definitions serve other calls.
 """
+import pathlib
+import re
 import sys
-
-sys.dont_write_bytecode = True
-from definitions import CRATES, FILES, closure, contract, functions, reading_order
 
 CALLS = """edit_word normal_form format_error check build_strict is_built edits_of is_valid_options_punctuation
 options_error migrate""".split()
+TOP = pathlib.Path(__file__).resolve().parent.parent
+USE = re.compile(r"^ *(?:ghost )?(?:unfoldable )?(?:pub )?use Rattle\.([\w.]+?)(?: as (\w+)|\.\{(.*)\})?;?$", re.M)
+DEFINES = re.compile(r"(?:abbrev |unfoldable )?(?:pub )?(?:data |record )?(\S+)(?: \(.*?\))* :(?= |$)")
+FUNCTION = re.compile(r"^ *pub (?:const )?fn (\w+)(.*?)(?: |\n *)\{\}?$", re.M | re.S)
+LEFT_OUT = re.compile(r'"[^"\n]*"|(?:--|//).*|^ *ghost use .*|\b(?:ensures|requires) \w+(?= \{)', re.M)
+WORD = re.compile(r"[^\W\d][\w'-]*×?(?:\.\w+)*")
 
 
-def unfit(item, above):
-    """Returns why a headline call must not reach an item, or nothing."""
-    is_addition = item.file in FILES and (item.file.count(".") > 2 or item.file.endswith(".Private"))
-    kind = "addition" if is_addition else item.file * (item.file in ("constant", "unknown name"))
-    return kind and f"it reaches the {kind} {item.name} by {above.name if above else 'its contract'}"
+def imports(text):
+    """Returns the paths of the names that the `use` lines of a text bring."""
+    found = {}
+    for path, alias, names in USE.findall(text):
+        pairs = [it.partition(" as ") for it in names.split(", ")] if names else [("", "", alias or path.split(".")[-1])]
+        found |= {here or there: f"{path}.{there}" for there, _, here in pairs}
+    return found
+
+
+class File:
+    """A file of definitions: the first comment, the imports, and the lines of each definition."""
+
+    def __init__(self, path):
+        text = path.read_text()
+        self.path, self.imports, self.lines = path.relative_to(TOP), imports(text), {}
+        self.is_addition = path.parent.name != "specs" or path.stem == "Private"
+        self.header, comment, name = re.match(r"(?:--.*\n)*", text)[0].splitlines(), [], ""
+        for line in text.splitlines()[len(self.header):]:
+            if line.startswith("-- "):
+                comment.append(line)
+            elif line and not re.match(r"(unfoldable )?(pub )?(use|mod) ", line):
+                name = found[1] if (found := DEFINES.match(line)) else name
+                self.lines.setdefault(name, []).extend([*comment, line])
+                comment = []
+
+
+FILES = [File(path) for path in sorted(TOP.glob("crates/lexical_*/specs/**/*.antt"))]
+FILE_OF = {name: file for file in FILES for name in file.lines}
+SOURCES = {path.relative_to(TOP): path.read_text() for path in sorted(TOP.glob("crates/lexical_*/src/**/*.rt"))}
+
+
+def cited(text, own, imported):
+    """Returns what a text cites: names of definitions, and the paths of constants of the program."""
+    found = {}
+    for word in WORD.findall(LEFT_OUT.sub("", text)):
+        head, _, rest = word.partition(".")
+        path = f"Own.{head}" if head in own else imported.get(head, "std.")
+        path += rest * path.endswith(".")
+        name = path.split(".")[-1]
+        if "TheConstants" in path:
+            found[path] = True
+        elif ".declared." not in path and "std." not in path and name in FILE_OF:
+            found[name] = True
+    return list(found)
+
+
+def reached_from(starts):
+    """Returns what these names reach, each with the definition by which it is reached first."""
+    reached, waiting = dict.fromkeys(starts, "its contract"), list(starts)
+    for name in waiting:
+        if file := FILE_OF.get(name):
+            names = cited("\n".join(file.lines[name]), file.lines, file.imports)
+            waiting += [it for it in names if it not in reached]
+            reached = dict.fromkeys(names, name) | reached
+    return reached
+
+
+def reading_order():
+    """Returns the files so that each comes after those that it imports."""
+    done, begun = [], set()
+
+    def read(file):
+        begun.add(file)
+        for path in file.imports.values():
+            above = FILE_OF.get(path.split(".")[-1])
+            if above and above not in begun:
+                read(above)
+        done.append(file)
+
+    for file in FILES:
+        if file not in begun:
+            read(file)
+    return done
+
+
+def contracts(call):
+    """Yields the path, the signature with the clauses, and the clauses of each public function with this name."""
+    for path, source in SOURCES.items():
+        for name, text in FUNCTION.findall(source):
+            if name == call:
+                yield path, f"fn {call}{text}", re.split(r"^ *(?=requires|ensures)", text, maxsplit=1, flags=re.M)[-1]
 
 
 def text_of(call):
     """Returns the lines to read for a call, and why its contract is unfit."""
-    found = [it for it in functions() if it.name == call and it.is_public and "/lexical_" in str(it.path)]
-    reached, lines = closure([item for it in found for item in contract(it)]), []
+    found = list(contracts(call))
+    reached = reached_from([it for path, _, clauses in found for it in cited(clauses, {}, imports(SOURCES[path]))])
+    lines = []
     for file in reading_order():
-        names = [name for name in FILES[file].lines if (file, name) in reached]
-        lines += [f"==== {FILES[file].path.relative_to(CRATES.parent)}", *FILES[file].header] if names else []
-        lines += [line for name in names for line in ["", *FILES[file].lines[name]]]
-    lines += [f"==== {it.path.relative_to(CRATES.parent)}\nfn {call}{it.signature}{it.clauses}" for it in found]
-    return lines, [why for it in reached.items() if (why := unfit(*it))] or [] if found else ["no public function"]
+        names = [name for name in file.lines if name in reached]
+        lines += [f"==== {file.path}", *file.header] if names else []
+        lines += [line for name in names for line in ["", *file.lines[name]]]
+    lines += [f"==== {path}\n{text}" for path, text, _ in found]
+    unfit = [f"it reaches {name} by {above}" for name, above in reached.items()
+             if name not in FILE_OF or FILE_OF[name].is_addition]
+    return lines, unfit if found else ["no public function"]
 
 
 def main(calls):

@@ -17,7 +17,6 @@ HERE = pathlib.Path(__file__).resolve().parent
 TOP = HERE.parent
 PAGE = HERE / "index.html"
 FORMAT = (TOP / "docs/FORMAT.md").read_text()
-# The example that reads literals. Without it, the page has no field to try one.
 READER = TOP / "rust/examples/literal"
 SCRIPTS = ("library", "element", "number", "bits", "controls", "code", "report", "literal", "page")
 MOST_BYTES = 250_000
@@ -147,7 +146,6 @@ def compiled():
         crate = ["--edition=2021", "--crate-type=rlib", "--crate-name=peltzivar", f"--out-dir={folder}"]
         output(*rustc, *crate, TOP / "rust/src/lib.rs")
         page = ["--edition=2024", "--crate-type=cdylib", "-Clto=fat", "-Ccodegen-units=1", "-Cstrip=symbols"]
-        page += ["--cfg=reader"] if READER.exists() else []
         output(*rustc, *page, "--extern=peltzivar", "-o", wasm, HERE / "library.rs")
         return wasm.read_bytes()
 

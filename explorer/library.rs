@@ -4,12 +4,12 @@
 #![no_std]
 
 use core::fmt::{self, Display, Write};
+use core::num::NonZeroU8;
 
-use peltzivar::edits::{apply, is_built, normal_form};
+use peltzivar::edits::{apply, edit_word, is_built, normal_form};
 use peltzivar::format_flags::options_error;
-use peltzivar::{Edit, Error, FormatView, NumberFormatBuilder, Rule};
+use peltzivar::{Edit, Error, FlagSetter, Format, FormatView, NumberFormatBuilder, Rule};
 
-#[cfg(reader)]
 #[path = "../rust/examples/literal/reader.rs"]
 mod reader;
 
@@ -78,39 +78,53 @@ pub extern "C" fn explain(low: u64, high: u64, exponent: u8, point: u8) -> usize
 }
 
 /// The names of the parts of a literal, in the order of `reader::Token`.
-#[cfg(reader)]
 const PARTS: &str = "sign special prefix integer point fraction exponent_character exponent_sign exponent_digits suffix";
 
-/// Returns the parts of a literal, or why it is refused: the index of the first wrong byte, which is `null` if the format
-/// or an option is wrong, and the setting to blame.
-#[cfg(reader)]
+/// Returns the parts of a literal. If it is refused, also returns the error, the index of the first wrong byte, which is
+/// `null` if the format or an option is wrong, and the setting to blame.
 #[unsafe(no_mangle)]
 pub extern "C" fn literal(low: u64, high: u64, exponent: u8, point: u8, length: usize) -> usize {
     let word = u128::from(high) << 64 | u128::from(low);
     let options = reader::Options { exponent, point, specials: &[b"NaN", b"inf", b"infinity"] };
-    let read = |format| reader::read(format, Some(&options), text_of(length));
-    answer(|out| match FormatView::new(word).check().map(read) {
-        Ok(Ok(parts)) => {
-            out.write_str(r#"{"parts":"#)?;
-            let present = PARTS.split(' ').zip(parts).filter(|(_, range)| !range.is_empty());
-            list(out, present, |out, (kind, range)| {
-                write!(out, r#"{{"kind":"{kind}","start":{},"end":{}}}"#, range.start, range.end)
-            })?;
-            out.write_str("}")
-        }
-        Ok(Err(refusal)) => {
-            write!(out, r#"{{"error":{},"index":"#, Quoted(refusal.error.description()))?;
+    answer(|out| {
+        let Ok(format) = FormatView::new(word).check() else {
+            return out.write_str(r#"{"parts":[],"error":"not lawful","index":null}"#);
+        };
+        let (parts, _) = reader::scan(format, Some(&options), text_of(length));
+        out.write_str(r#"{"parts":"#)?;
+        let present = PARTS.split(' ').zip(parts).filter(|(_, range)| !range.is_empty());
+        list(out, present, |out, (kind, range)| {
+            write!(out, r#"{{"kind":"{kind}","start":{},"end":{}}}"#, range.start, range.end)
+        })?;
+        if let Err(refusal) = reader::read(format, Some(&options), text_of(length)) {
+            write!(out, r#","error":{},"index":"#, Quoted(refusal.error.description()))?;
             match refusal.error.index() {
                 Some(index) => write!(out, "{index}")?,
                 None => out.write_str("null")?,
             }
-            if let Some(edit) = refusal.edit {
+            let byte = || byte_to_set(format, &options, text_of(length), *refusal.error.index()?);
+            if let Some(edit) = refusal.edit.or_else(byte) {
                 write!(out, r#","setting":{}"#, Quoted(edit))?;
             }
-            out.write_str("}")
         }
-        Err(error) => write!(out, r#"{{"error":{},"index":null}}"#, Quoted(error)),
+        out.write_str("}")
     })
+}
+
+/// Returns an edit that takes the byte at which a text is refused: as the base suffix or prefix if it is a letter, and
+/// otherwise as the digit separator. After it and flags that allow separators, more of the text is accepted.
+fn byte_to_set(format: Format, options: &reader::Options, text: &[u8], index: usize) -> Option<Edit> {
+    let byte = NonZeroU8::new(*text.get(index)?);
+    let edits = match text[index].is_ascii_alphabetic() {
+        true if index + 1 == text.len() => [Edit::BaseSuffix(byte); 2],
+        true => [Edit::BasePrefix(byte); 2],
+        false => [Edit::DigitSeparator(byte), Edit::Flag(FlagSetter::DigitSeparatorFlags, true)],
+    };
+    let edited = Format::new(edit_word(format.word(), &edits)).ok()?;
+    match reader::scan(edited, Some(options), text).1 {
+        Err(error) if error.index() <= Some(&index) => None,
+        _ => Some(edits[0]),
+    }
 }
 
 /// Writes why the exponent character and the decimal point do not fit. An option that fits beside no other one is to

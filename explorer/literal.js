@@ -1,4 +1,4 @@
-/* The field in which a number is tried: its parts are coloured, and its first wrong byte is marked. */
+/* The field in which numbers are tried, one a line: their parts are coloured, and their first wrong bytes are marked. */
 
 /* The parts of a literal, with the names of their colours. */
 const COLOURS = {
@@ -13,48 +13,63 @@ const COLOURS = {
     exponent_digits: "exponent",
     suffix: "base",
 };
+/* How many lines the field shows, and how many of them are read. */
+const [MOST_ROWS, MOST_LITERALS] = [10, 50];
 
 class Trial {
-    constructor(library, links) {
+    constructor(library, { links, edit }) {
         this.library = library;
         this.links = links;
-        find("trial").hidden = !library.hasReader;
-        find("literal").addEventListener("input", () => this.show(this.state));
+        this.edit = edit;
+        find("literal").addEventListener("input", () => this.show(this.state, this.problem));
     }
 
-    /* Reads the typed text in a state, and shows what was read. */
-    show(state) {
+    /* Reads the typed numbers in a state, and shows what was read. With a problem, no number is read. */
+    show(state, problem) {
         this.state = state;
-        if (!this.library.hasReader) return;
-        const text = find("literal").value;
-        const answer = text ? this.library.literal(state, text) : { parts: [] };
-        const bytes = new TextEncoder().encode(text);
-        find("read").replaceChildren(...this.pieces(bytes, answer));
-        find("literal").setAttribute("aria-invalid", String(!answer.parts));
-        find("read-result").replaceChildren(...this.told(bytes, answer));
-        find("read-result").className = answer.parts ? "good" : "bad";
+        this.problem = problem;
+        const lines = find("literal").value.split("\n");
+        find("literal").rows = Math.min(lines.length, MOST_ROWS);
+        const answers = lines.filter(Boolean).slice(0, MOST_LITERALS).map((text) => {
+            return { bytes: new TextEncoder().encode(text), ...this.library.literal(state, text) };
+        });
+        find("literal").setAttribute("aria-invalid", String(answers.some(({ error }) => error)));
+        find("read").replaceChildren(...answers.map((answer) => this.row(answer)));
     }
 
-    /* Returns the parts of a text, or the text with its first wrong character marked. */
-    pieces(bytes, { parts, index }) {
+    row(answer) {
+        const told = element("span", { class: answer.error ? "bad" : "good" }, this.told(answer));
+        return element("li", {}, element("span", { class: "written" }, this.pieces(answer)), " ", told);
+    }
+
+    /* Returns the parts of a text, and after them its first wrong character, which is marked, and the rest. */
+    pieces({ bytes, parts, index = bytes.length, error }) {
         const slice = (start, end) => new TextDecoder().decode(bytes.subarray(start, end));
-        if (parts) {
-            return parts.map(({ kind, start, end }) => {
-                return element("span", { class: COLOURS[kind], title: kind.replace("_", " ") }, slice(start, end));
-            });
-        }
-        if (index === null) return [slice(0)];
+        const read = parts.filter(({ start }) => start < index).map((part) => ({ ...part, end: Math.min(part.end, index) }));
+        const pieces = read.map(({ kind, start, end }) => {
+            return element("span", { class: COLOURS[kind], title: kind.replace("_", " ") }, slice(start, end));
+        });
+        const rest = read.at(-1)?.end ?? 0;
+        if (!error || index === null) return [...pieces, slice(rest)];
         let end = index + 1;
         while ((bytes[end] & 0xc0) === 0x80) end += 1;
-        return [slice(0, index), element("mark", {}, slice(index, end) || "\u00a0"), slice(end)];
+        return [...pieces, slice(rest, index), element("mark", {}, slice(index, end) || "\u00a0"), slice(end)];
     }
 
-    /* Returns what is told of a text, with a link to the control that decides. */
-    told(bytes, { parts, error, index, setting }) {
-        if (parts) return [bytes.length ? "The format accepts it." : ""];
-        const where = index === null ? "" : index < bytes.length ? ` at byte ${index + 1}` : " at the end";
-        if (!setting) return [`${error}${where}.`];
-        const [name, value] = setting.split("=");
-        return [`${error}${where}. More of it is accepted with `, ...this.links([name]), ` = ${value}.`];
+    /* Returns what is told of a text, with a link to the control that decides, and a button that sets it. */
+    told({ bytes, error, index, setting }) {
+        if (!error) return ["accepted"];
+        if (index === null) return [`not read, since ${this.problem}`];
+        const where = index < bytes.length ? `at byte ${index + 1}` : "at the end";
+        const what = `${error.replaceAll("'", "")} ${where}`;
+        if (!setting) return [what];
+        const [name, text] = setting.split("=");
+        const { value } = this.library.parse(name, text);
+        const set = () => {
+            this.edit(name, value);
+            find("literal").focus();
+        };
+        const shown = this.library.setting(this.library.named.get(name), value).replace(`${name}=`, " = ");
+        return [`${what}. More is accepted with `, ...this.links([name]), `${shown} `, button("use", "set it", set)];
     }
 }

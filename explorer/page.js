@@ -28,7 +28,7 @@ class Page {
         };
         this.controls = new Controls(library, edit);
         this.report = new Report(library, data, { use, edit, go: (name) => this.go(name) });
-        this.trial = new Trial(library, (fields) => this.report.links(fields));
+        this.trial = new Trial(library, { links: (fields) => this.report.links(fields), edit });
         this.cells = makeBits(library, (name) => this.controls.boxes.get(name).click());
         this.code = new Code(library);
         this.meanings = meaningsOf(library);
@@ -233,7 +233,16 @@ class Page {
         this.tell("", false);
     }
 
+    /* Shows the state. What has the focus stays at its place on the screen. */
     show() {
+        const focused = document.activeElement;
+        const top = () => focused.getBoundingClientRect().top;
+        const before = top();
+        this.showAll();
+        if (document.activeElement === focused) scrollBy(0, top() - before);
+    }
+
+    showAll() {
         const { word } = this.state;
         this.shown = this.library.explain(this.state);
         const isKept = isRefused(find("word")) && this.told === word;
@@ -245,7 +254,7 @@ class Page {
         this.controls.show(this.state);
         showBits(this.cells, word);
         showNumber(this.library, this.state);
-        this.trial.show(this.state);
+        this.trial.show(this.state, this.shown.error ? "the word is not lawful" : "an option does not fit");
         this.blame(blamed, new Set(this.library.changes(word, this.library.standard).map(({ name }) => name)));
         this.showCode();
     }

@@ -16,7 +16,8 @@ class Report {
     links(fields) {
         return fields.map((name) => {
             if (name === "reserved") return element("code", { "data-field": name }, "reserved bits");
-            return button("link", name, () => this.go(name), { "data-field": name });
+            const title = OPTIONS.find((option) => option.name === name)?.title ?? name;
+            return button("link", title, () => this.go(name), { "data-field": name });
         });
     }
 

@@ -202,11 +202,11 @@ class Walk(unittest.TestCase):
         self.type("#mantissa_radix", "16")
         self.assertEqual(self.value(), "0x0000100078000000000000000000000C")
         self.assertEqual(self.text("#verdict"), "Lawful, but an option does not fit")
-        self.assertEqual(self.texts(".reason .link"), ["exponent"])
+        self.assertEqual(self.texts(".reason .link"), ["exponent character"])
         self.type("#exponent", "p")
         self.assertEqual((self.text("#verdict"), self.texts(".reason")), ("Lawful", []))
         self.type("#point", "p")
-        self.assertEqual(self.texts(".reason .link"), ["exponent", "point"])
+        self.assertEqual(self.texts(".reason .link"), ["exponent character", "decimal point"])
         self.type("#point", ".")
         self.type("#mantissa_radix", "256")
         self.assertIn("mantissa_radix takes a number", self.text("#mantissa_radix-problem"))
@@ -317,6 +317,7 @@ class Walk(unittest.TestCase):
         before = self.run_script(place)
         self.type("#word", "nonsense")
         self.type("#base_prefix", "xyz")
+        self.type("#literal", "1_000")
         self.assertEqual(self.run_script(place), before)
 
     def test_the_normal_form_is_used(self):
@@ -359,23 +360,28 @@ class Walk(unittest.TestCase):
             "sign + required, integer 1\u24239\u24230 or fraction, point , optional, fraction \u242309 or integer, "
             "exponent e optional, its sign + required, its digits 10\u2423 required, special N\u2423a\u2423N optional")
 
-    @unittest.skipUnless((TOP / "rust/examples/literal/reader.rs").exists(), "no reader")
-    def test_a_number_is_tried(self):
+    def test_numbers_are_tried(self):
         self.load("#word=0x00000A000000005F000000020000000C")
-        self.type("#literal", "-0.1_2e5")
-        self.assertEqual(self.texts("#read span"), ["-", "0", ".", "1_2", "e", "5"])
-        self.type("#literal", "1_000")
-        self.assertEqual(self.text("#read mark"), "_")
-        self.click("#read-result .link", "integer_internal_digit_separator")
+        self.type("#literal", "-0.1_2e5\n-1_000\n1\u00e9")
+        self.assertEqual(self.texts("#read li:first-child .written span"), ["-", "0", ".", "1_2", "e", "5"])
+        self.assertEqual(self.texts("#read li:nth-child(2) .written"), ["-1_000"])
+        self.assertEqual(self.texts("#read li:nth-child(2) .written span"), ["-", "1"])
+        self.assertEqual(self.texts("#read mark"), ["_", "\u00e9"])
+        self.click("#read .link", "integer_internal_digit_separator")
         self.assertEqual(self.focused(), "integer_internal_digit_separator")
         self.click("#integer_internal_digit_separator")
-        self.assertEqual(self.text("#read-result"), "The format accepts it.")
+        self.assertEqual(self.texts("#read li > :last-child"), ["accepted", "accepted", "invalid digit found at byte 2"])
         self.click("#no_special")
         self.click("#case_sensitive_special")
-        self.assertIn("special flags set while disabling", self.text("#read-result"))
-        self.click("#no_special")
-        self.type("#literal", "1\u00e9")
-        self.assertEqual(self.text("#read mark"), "\u00e9")
+        self.assertEqual(set(self.texts("#read li > :last-child")), {"not read, since the word is not lawful"})
+
+    def test_a_format_is_found_by_trying_numbers(self):
+        self.type("#literal", "1_0.\n0x1_0\n1__0\n10m")
+        for _ in range(5):
+            self.click("#read .use")
+            self.assertEqual(self.focused(), "literal")
+        self.assertEqual(self.texts("#read .bad"), [])
+        self.assertEqual(self.value(), "0x00000A6D7800005F000002010000000C")
 
     def test_controls_have_names_and_texts_fit_a_phone(self):
         self.assertEqual(self.run_script(
@@ -386,7 +392,13 @@ class Walk(unittest.TestCase):
         self.driver.execute_cdp_cmd("Emulation.setDeviceMetricsOverride", metrics)
         self.addCleanup(self.driver.execute_cdp_cmd, "Emulation.clearDeviceMetricsOverride", {})
         self.load(f"#word={MIXED}")
+        self.type("#literal", 60 * "1" + ",")
         self.assertEqual(self.run_script("return document.documentElement.scrollWidth"), 390)
+        place = "return Math.round(document.querySelector('#base_prefix').getBoundingClientRect().top)"
+        self.find("#base_prefix").send_keys(Keys.CONTROL, "a")
+        before = self.run_script(place)
+        self.find("#base_prefix").send_keys("5")
+        self.assertEqual((self.text("#verdict"), self.run_script(place)), ("Not lawful: 1 reason", before))
 
     def test_nothing_is_requested_and_the_policy_allows_the_page_alone(self):
         requests = "return performance.getEntriesByType('resource').map((it) => it.name)"

@@ -72,7 +72,7 @@ static void test_setters(void) {
         CHECK((peltzivar_edit_text(edit, text, sizeof text) != 0) == is_known);
         peltzivar_edit read = {7, 9};
         if (!is_known) continue;
-        CHECK(peltzivar_parse_edit(text, strlen(text), &read) == PELTZIVAR_SETTING_READ);
+        CHECK(peltzivar_parse_edit(text, strlen(text), &read));
         CHECK(read.setter == setter && read.value == (flags ? 1 : 200));
     }
     CHECK(peltzivar_setter_of_name("radix=", 5) == PELTZIVAR_SET_MANTISSA_RADIX);
@@ -141,6 +141,43 @@ static void test_reasons(void) {
     CHECK(WRITES("", peltzivar_note_text(&fields, 2, text, sizeof text)) && is_word(peltzivar_note_mask(&fields, 2), 0, 0));
 }
 
+/* Returns the character that stands for the role of a byte in the strings of test_roles. */
+static char role_of(peltzivar_word word, uint8_t exponent, uint8_t point, int byte) {
+    const peltzivar_role role = peltzivar_role_of(word, exponent, point, (uint8_t)byte);
+    return role < 8 ? " ds_<>e."[role] : '?';
+}
+
+/* The roles of bytes, and the positions of separators, for words of known meaning. */
+static void test_roles(void) {
+    static const struct {
+        peltzivar_word word;
+        uint8_t exponent, point;
+        const char *bytes, *roles;
+    } rows[] = {
+        {{0xC, 0x00000A0000000000}, 'e', '.', "019+-eE._aF\x80", "dddssee.    "},
+        {{0x800C, 0x00000A0000000000}, 'e', ',', "eE.,", "e  ."},
+        {{0x000000070000000C, 0x000010487800005F}, 'p', '.', "09afAF_xXhHpP.g", "dddddd_<<>>ee. "},
+        {{0x000000070003000C, 0x000010487800005F}, 'p', '.', "xXhH", "<  >"},
+        {{0xC, 0x0A0210000000005F}, 0, 0, "fe_._\x00", "dd    "},
+        {{0x0000000100000000, 0x1402020000000032}, '3', '4', "12j234", "dddddd"},
+        {{0x0000000100000000, 0x0000020000000033}, '3', '3', "3+", "_s"},
+    };
+    for (size_t row = 0; row < sizeof rows / sizeof *rows; row++) {
+        for (size_t i = 0; i < strlen(rows[row].roles); i++) {
+            CHECK(role_of(rows[row].word, rows[row].exponent, rows[row].point, rows[row].bytes[i]) == rows[row].roles[i]);
+        }
+    }
+    for (int part = 0; part < 256; part++) {
+        for (int position = 0; position < 4; position++) {
+            const peltzivar_word word = {1ull << (32 + 3 * position + part % 3), 0};
+            const peltzivar_separators allowed = peltzivar_separators_of(word, (peltzivar_part)part);
+            CHECK(allowed.internal == (part < 3 && position == 0) && allowed.leading == (part < 3 && position == 1));
+            CHECK(allowed.trailing == (part < 3 && position == 2) && allowed.consecutive == (part < 3 && position == 3));
+        }
+    }
+    CHECK(peltzivar_separators_of(words[0], PELTZIVAR_PART_EXPONENT).trailing == false);
+}
+
 /* The word has the separator `_`, the prefix `x`, the suffix `H`, the mantissa radix 16 and the exponent radix 10. */
 static void test_bytes(void) {
     const peltzivar_word word = {0x100010000, 0x0A02104878000000 | '_'};
@@ -150,14 +187,13 @@ static void test_bytes(void) {
         const int upper = byte >= 'a' && byte <= 'z' ? byte - 32 : byte;
         const char *const found = upper ? strchr(digits, upper) : NULL;
         const uint32_t digit = found ? (uint32_t)(found - digits) : PELTZIVAR_NO_DIGIT;
-        CHECK(peltzivar_mantissa_digit(word, byte) == digit && peltzivar_char_to_digit(byte, 16) == digit);
+        CHECK(peltzivar_mantissa_digit(word, byte) == digit);
         CHECK(peltzivar_exponent_digit(word, byte) == (digit < 10 ? digit : PELTZIVAR_NO_DIGIT));
         CHECK(peltzivar_is_separator(word, byte) == (byte == '_') && !peltzivar_is_separator(ZERO, byte));
         CHECK(peltzivar_is_base_prefix(word, byte) == (byte == 'x') && !peltzivar_is_base_prefix(ZERO, byte));
         CHECK(peltzivar_is_base_suffix(word, byte) == (upper == 'H') && !peltzivar_is_base_suffix(ZERO, byte));
-        CHECK(peltzivar_digit_to_char(byte) == (byte < 10 ? '0' + byte : byte < 36 ? 'A' + byte - 10 : 0));
     }
-    CHECK(!peltzivar_is_separator((words[1]), 2) && peltzivar_char_to_digit('!', 256) == 255);
+    CHECK(!peltzivar_is_separator(words[1], 2));
     CHECK(peltzivar_check_options(PELTZIVAR_STANDARD, 'e', '.') == PELTZIVAR_SUCCESS);
     CHECK(peltzivar_check_options(PELTZIVAR_STANDARD, '5', '5') == PELTZIVAR_INVALID_EXPONENT_SYMBOL);
     CHECK(peltzivar_check_options(PELTZIVAR_STANDARD, 'e', '+') == PELTZIVAR_INVALID_DECIMAL_POINT);
@@ -196,24 +232,23 @@ static void test_texts(void) {
 static void test_settings(void) {
     static const struct {
         const char *setting;
-        peltzivar_setting_error error;
         peltzivar_edit edit;
         const char *why;
     } rows[] = {
-        {"radix=0x10", PELTZIVAR_SETTING_READ, {PELTZIVAR_SET_MANTISSA_RADIX, 16}, ""},
-        {"no_special=true", PELTZIVAR_SETTING_READ, {PELTZIVAR_SET_NO_SPECIAL, 1}, ""},
-        {"base_prefix=none", PELTZIVAR_SETTING_READ, {PELTZIVAR_SET_BASE_PREFIX, 0}, ""},
-        {"base_suffix='''", PELTZIVAR_SETTING_READ, {PELTZIVAR_SET_BASE_SUFFIX, '\''}, ""},
-        {"radix", PELTZIVAR_SETTING_NO_EQUALS, {7, 9}, "expected NAME=VALUE"},
-        {"\xFF", PELTZIVAR_SETTING_UNKNOWN_NAME, {7, 9}, "unknown setting name"},
-        {"colour=7", PELTZIVAR_SETTING_UNKNOWN_NAME, {7, 9}, "unknown setting name"},
-        {"no_special=1", PELTZIVAR_SETTING_BAD_VALUE, {7, 9}, "no_special takes `true` or `false`"},
-        {"radix=256", PELTZIVAR_SETTING_BAD_VALUE, {7, 9}, "radix takes a number, 2 to 36 in a lawful format"},
+        {"radix=0x10", {PELTZIVAR_SET_MANTISSA_RADIX, 16}, ""},
+        {"no_special=true", {PELTZIVAR_SET_NO_SPECIAL, 1}, ""},
+        {"base_prefix=none", {PELTZIVAR_SET_BASE_PREFIX, 0}, ""},
+        {"base_suffix='''", {PELTZIVAR_SET_BASE_SUFFIX, '\''}, ""},
+        {"radix", {7, 9}, "expected NAME=VALUE"},
+        {"\xFF", {7, 9}, "unknown setting name"},
+        {"colour=7", {7, 9}, "unknown setting name"},
+        {"no_special=1", {7, 9}, "no_special takes `true` or `false`"},
+        {"radix=256", {7, 9}, "radix takes a number, 2 to 36 in a lawful format"},
     };
     for (size_t row = 0; row < sizeof rows / sizeof *rows; row++) {
         const size_t len = strlen(rows[row].setting);
         peltzivar_edit edit = {7, 9};
-        CHECK(peltzivar_parse_edit(rows[row].setting, len, &edit) == rows[row].error);
+        CHECK(peltzivar_parse_edit(rows[row].setting, len, &edit) == !*rows[row].why);
         CHECK(edit.setter == rows[row].edit.setter && edit.value == rows[row].edit.value);
         CHECK(WRITES(rows[row].why, peltzivar_setting_error_text(rows[row].setting, len, text, sizeof text)));
     }
@@ -228,7 +263,7 @@ static void test_null(void) {
     CHECK(is_word(word, 0x00000A0000000000, 0xC));
     CHECK(peltzivar_edit_word(RESERVED, NULL, 0, &word) && is_word(word, 0x0A0A0A0000000000, 0xC));
     CHECK(peltzivar_parse_word(NULL, 0, &word) == PELTZIVAR_EMPTY);
-    CHECK(peltzivar_parse_edit(NULL, 0, &edit) == PELTZIVAR_SETTING_NO_EQUALS);
+    CHECK(!peltzivar_parse_edit(NULL, 0, &edit) && edit.value == 16);
     CHECK(peltzivar_setter_of_name(NULL, 0) == PELTZIVAR_NO_SETTER);
     CHECK(peltzivar_word_text(ZERO, NULL, 0) == 34 && peltzivar_source(ZERO, NULL, 0) > 40);
     CHECK(peltzivar_description(0, NULL, 0) == 23 && peltzivar_error_text(0, 0, NULL, 0) == 23);
@@ -243,6 +278,7 @@ int main(void) {
     test_fields();
     test_words();
     test_reasons();
+    test_roles();
     test_bytes();
     test_texts();
     test_settings();

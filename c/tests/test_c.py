@@ -13,13 +13,15 @@ C, TOP = TESTS.parent, TESTS.parent.parent
 SHARED = pathlib.Path(os.environ["PELTZIVAR_LIBRARY"]).absolute()
 ARCHIVE = SHARED.with_suffix(".a")
 HEADER = (C / "peltzivar.h").read_text()
+STANDARD = "0x00000A0000000000000000000000000C"
 STRICT = ["-Wall", "-Wextra", "-Wpedantic", "-Wconversion", "-Wshadow", "-Werror", "-I", C]
 SANITIZERS = ["-g", "-fsanitize=address,undefined", "-fno-sanitize-recover=all"]
 COMPILERS = {"gcc": "c99 c11 c17 c2x", "clang": "c99 c11 c17 c2x", "g++": "c++11 c++14 c++17 c++20"}
 COMPILERS |= {"clang++": "c++11 c++14 c++17 c++20"}
 TYPES = {"peltzivar_word": "Word", "peltzivar_fields": "Fields", "peltzivar_edit": "NumberedEdit", "size_t": "usize"}
 TYPES |= {"bool": "bool", "char": "u8", "uint8_t": "u8", "uint32_t": "u32", "peltzivar_setter": "Setter"}
-TYPES |= {"peltzivar_error": "ErrorNumber", "peltzivar_setting_error": "u32"}
+TYPES |= {"peltzivar_error": "ErrorNumber", "peltzivar_part": "u8", "peltzivar_role": "Role"}
+TYPES |= {"peltzivar_separators": "Separators"}
 
 
 def run(*command, **options):
@@ -68,8 +70,9 @@ class Programs(unittest.TestCase):
         on = {f"CARGO_PROFILE_RELEASE_{it}": "true" for it in ("DEBUG_ASSERTIONS", "OVERFLOW_CHECKS")}
         command = ["make", "-s", "--no-print-directory", "-C", C, f"BUILD={build}", "build"]
         self.assertEqual(run(*command, env={**os.environ, **on}), ("", 0))
-        program = self.made("cc", *STRICT, *SANITIZERS, TESTS / "calls.c", build / "release" / ARCHIVE.name)
-        self.assertEqual(run(program), ("", 0))
+        for name, *arguments in (["calls"], ["fuzz", "20000"]):
+            program = self.made("cc", *STRICT, *SANITIZERS, TESTS / f"{name}.c", build / "release" / ARCHIVE.name)
+            self.assertEqual(run(program, *arguments), ("", 0))
 
     @unittest.skipUnless(shutil.which("valgrind"), "valgrind")
     def test_valgrind_finds_nothing(self):
@@ -86,6 +89,7 @@ class Programs(unittest.TestCase):
         program = self.made("cc", *STRICT, *SANITIZERS, C / "example.c", ARCHIVE)
         rows = [
             ("radix=2 base_suffix=57", 0, "0x0000023900000000000000000000000C\nbase_suffix=57\nmantissa_radix=2\n"),
+            ("18446744073709551615 18446744073709551616 1_0 1\x80", 0, f"{STANDARD}\n18446744073709551615 is 18446744073709551615\n18446744073709551616 is not an integer\n1_0 is not an integer\n1\x80 is not an integer\n"),
             ("radix=16 base_suffix='b'", 1, "the base suffix 'b' is a digit in radix 16\n"),
             ("no_special=1", 2, "no_special=1: no_special takes `true` or `false`\n"),
         ]
@@ -109,7 +113,7 @@ class Programs(unittest.TestCase):
             ("# Hexadecimal\nradix = 16\r\n\n base_prefix='x'\ndigit_separator= 95\ninternal_digit_separator =true", 0, "0x000010007800005F000000070000000C"),
             ("required_digits=true\nbase_prefix = 98\n\nmantissa_radix=16", 1, "line 2, 4: the base prefix 'b' is a digit in radix 16"),
             ("radix\nno_special = 1\ncolour=7\n", 1, "line 1: radix: expected NAME=VALUE\nline 2: no_special=1: no_special takes `true` or `false`\nline 3: colour=7: unknown setting name"),
-            ("", 0, "0x00000A0000000000000000000000000C"),
+            ("", 0, STANDARD),
             (f"radix = {'0' * 2000}2", 2, "line 1 is too long"),
         ]
         for settings, status, printed in rows:
@@ -122,7 +126,7 @@ class Programs(unittest.TestCase):
 
 class Header(unittest.TestCase):
     def numbers(self, pattern):
-        return {name: int(number) for name, number in re.findall(rf"^    PELTZIVAR_{pattern} = (\d+)", HEADER, re.M)}
+        return {name: int(number) for name, number in re.findall(rf"\bPELTZIVAR_{pattern} = (\d+)", HEADER)}
 
     def test_setters_have_the_numbers_of_the_tables_of_format(self):
         page = (TOP / "docs/FORMAT.md").read_text()
@@ -132,16 +136,18 @@ class Header(unittest.TestCase):
         numbered = [(name, int(bit)) for bit, name in flags] + [(name, 128 + row) for row, name in enumerate(groups)]
         self.assertEqual(self.numbers(r"SET_(\w+)"), {name.upper(): number for name, number in numbered})
 
-    def test_rules_and_errors_have_the_order_of_the_sources(self):
+    def test_rules_roles_and_errors_have_the_order_of_the_sources(self):
         def variants(path, enum):
             body = re.search(rf"^pub enum {enum} \{{(.*?)^\}}", (TOP / "rust/src" / path).read_text(), re.M | re.S)[1]
             return [in_c(name) for name in re.findall(r"^    (\w+)", body, re.M)]
 
         rules = variants("format_flags/all_rules.rs", "Rule")
         self.assertEqual(self.numbers(r"RULE_(\w+)"), {name: number for number, name in enumerate(rules, 1)})
+        roles = ["NONE", *variants("view/roles.rs", "Role")]
+        self.assertEqual(self.numbers(r"ROLE_(\w+)"), {name: number for number, name in enumerate(roles)})
         errors = ["SUCCESS", *(it for it in variants("error.rs", "Error") if it != "SUCCESS")]
         numbered = {name: number for number, name in enumerate(errors)}
-        self.assertEqual(self.numbers(r"((?!SET_|RULE_|SETTING_)\w+)"), numbered)
+        self.assertEqual(self.numbers(r"((?!SET_|RULE_|PART_|ROLE_)\w+)"), numbered)
 
     def test_declarations_are_those_of_the_library(self):
         sources = " ".join("".join(path.read_text() for path in sorted((TOP / "rust/capi/src").glob("*.rs"))).split())

@@ -30,7 +30,8 @@ class Install(unittest.TestCase):
         self.environment |= {"PKG_CONFIG_PATH": f"{self.prefix}/lib/pkgconfig", "LD_LIBRARY_PATH": f"{self.prefix}/lib"}
 
     def run_in(self, *command, **options):
-        ran = subprocess.run(command, cwd=self.folder, env=self.environment, capture_output=True, text=True, **options)
+        options = {"cwd": self.folder, "env": self.environment, **options}
+        ran = subprocess.run(command, capture_output=True, text=True, **options)
         self.assertEqual(ran.returncode, 0, (command, ran.stdout, ran.stderr))
         return ran.stdout
 
@@ -54,6 +55,13 @@ class Install(unittest.TestCase):
         del self.environment["LD_LIBRARY_PATH"]
         self.environment["PYTHONPATH"] = str(module.parent.parent)
         self.assertEqual(self.run_in(*IMPORT), f"{WORD} {module}\n")
+
+    def test_cargo_alone_builds_the_archive(self):
+        build, compile_it = re.search(r"`(cargo build .*?)`.*?`(cc .*?)`", PAGE, re.S).groups()
+        self.environment.pop("CARGO_TARGET_DIR", None)
+        for command in (build, f"{compile_it} -o '{self.folder}/example'"):
+            self.run_in("bash", "-c", command, cwd=C.parent)
+        self.assertEqual(self.run_in("./example", "radix=16").split()[0], WORD)
 
     def test_uninstall_removes_what_install_wrote(self):
         paths = ["PREFIX=/usr/my own", "LIBDIR=/usr/my own/lib here", f"DESTDIR={self.folder}/a root"]

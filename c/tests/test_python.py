@@ -16,7 +16,7 @@ TESTS = pathlib.Path(__file__).resolve().parent
 TOP = TESTS.parent.parent
 sys.path.insert(0, str(TESTS.parent))
 import peltzivar
-from peltzivar import Edit, Error, Format, FormatError, FormatView, Rule, Setter, notes_of
+from peltzivar import Edit, Error, Format, FormatError, FormatView, Part, Role, Rule, Setter, notes_of
 
 LINES = (TOP / "crates/recorded/data/results.txt").read_text().splitlines()
 PAGE = (TOP / "docs/FORMAT.md").read_text()
@@ -204,6 +204,18 @@ class Words(unittest.TestCase):
         for byte in range(256):
             wanted = None if byte == 0 else chr(byte) if byte < 128 else byte
             self.assertEqual((Edit(f"base_prefix={byte}").value, FormatView.of(base_prefix=byte).base_prefix), (wanted, wanted))
+
+    def test_roles_and_separators(self):
+        view = Format.of(radix=16, base_prefix="x", base_suffix="H", digit_separator="_", internal_digit_separator=True)
+        names = "DIGIT DIGIT SIGN SEPARATOR PREFIX SUFFIX EXPONENT POINT".split()
+        self.assertEqual([view.role_of("p", ".", byte) for byte in "0f+_XhP."], [Role[name] for name in names])
+        self.assertEqual([view.role_of(112, 0, byte) for byte in (112, ".", 0, "\u00e9", 256, "g")], [Role.EXPONENT] + 5 * [None])
+        self.assertRaisesRegex(ValueError, "an option is", view.role_of, "\u00e9", ".", "0")
+        for number, name in FLAGS[18:30]:
+            part, position = name.split("_")[:2]
+            allowed = FormatView(1 << int(number)).separators(Part[part.upper()])
+            self.assertEqual((sum(allowed), getattr(allowed, position)), (1, True))
+        self.assertRaises(ValueError, view.separators, 3)
 
     def test_getters_read_their_bits(self):
         for bit in range(128):

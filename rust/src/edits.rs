@@ -15,7 +15,8 @@ pub(crate) use setters::mask_of;
 pub use setters::{
     field_edits_of, ArgumentKind, Edit, FlagSetter, Setter, ALL_SETTERS, FIELD_COUNT, SETTERS,
 };
-pub use text::{byte_from_decimal, SettingError};
+pub(crate) use text::Fault;
+pub use text::{byte_from_decimal, SettingError, SettingErrorKind};
 
 /// Calls the setter of `edit` on `builder`, and returns the new builder.
 #[must_use]
@@ -53,9 +54,8 @@ const fn apply_flag(
 ///
 /// For all arguments:
 ///
-/// - The result has the fields of the builder [`after`](crate::definitions#after) the writes of all edits
-///   ([`all_writes`](crate::definitions#all_writes)).
-/// - Each value that an edit writes fits its field ([`IsLegal`](crate::definitions#islegal)).
+/// - The result has the fields of the builder `after` the writes of all edits (`all_writes`).
+/// - Each value that an edit writes fits its field (`IsLegal`).
 ///
 /// ```text
 /// ensures fields { result ≡ after builder (all_writes edits.now) }
@@ -105,17 +105,15 @@ pub const fn apply_all(mut builder: NumberFormatBuilder, edits: &[Edit]) -> Numb
 ///
 /// For all arguments:
 ///
-/// - The result is the word as [`edited`](crate::definitions#edited) by the writes of all edits
-///   ([`all_writes`](crate::definitions#all_writes)).
-/// - The fields of the result ([`raw`](crate::definitions#raw)) are the fields of the word, filled
-///   ([`fill`](crate::definitions#fill)), overwritten in order ([`after`](crate::definitions#after)), and trimmed
-///   ([`trim`](crate::definitions#trim)).
-/// - The reserved bits of the result are 0 ([`IsClean`](crate::definitions#isclean)).
+/// - The result is the word as `edited` by the writes of all edits (`all_writes`).
+/// - The fields of the result (`raw`) are the fields of the word, filled (`fill`), overwritten in order
+///   (`after`), and trimmed (`trim`).
+/// - The reserved bits of the result are 0 (`IsClean`).
 /// - No other word whose reserved bits are 0 has these fields.
-/// - Any legal writes ([`IsLegal`](crate::definitions#islegal)) that give each field the same last value as the
-///   edits do ([`SameWrites`](crate::definitions#samewrites)) have the same result as the edits. So edits of
-///   different fields can be in any order, and a group edit is equivalent to the edits of its flags in any order.
-/// - Each value that an edit writes fits its field ([`IsLegal`](crate::definitions#islegal)).
+/// - Any legal writes (`IsLegal`) that give each field the same last value as the edits do (`SameWrites`) have
+///   the same result as the edits. So edits of different fields can be in any order, and a group edit is
+///   equivalent to the edits of its flags in any order.
+/// - Each value that an edit writes fits its field (`IsLegal`).
 ///
 /// ```text
 /// ensures word { result ≡ edited format (all_writes edits.now) }
@@ -150,27 +148,21 @@ pub const fn edit_word(format: u128, edits: &[Edit]) -> u128 {
 ///
 /// For all arguments:
 ///
-/// - The result is the word as edited by an empty list of writes
-///   ([`normal_form_of`](crate::definitions#normal_form_of)).
-/// - The fields of the result ([`raw`](crate::definitions#raw)) are the fields of the word, filled
-///   ([`fill`](crate::definitions#fill)) and trimmed ([`trim`](crate::definitions#trim)).
-/// - The reserved bits of the result are 0 ([`IsClean`](crate::definitions#isclean)).
+/// - The result is the word as edited by an empty list of writes (`normal_form_of`).
+/// - The fields of the result (`raw`) are the fields of the word, filled (`fill`) and trimmed (`trim`).
+/// - The reserved bits of the result are 0 (`IsClean`).
 /// - No other word whose reserved bits are 0 has these fields.
 /// - The normal form of the result is the result itself.
-/// - A word is its own normal form if and only if it is normal ([`IsNormal`](crate::definitions#isnormal)).
-/// - The word and its normal form are equivalent ([`SameFormat`](crate::definitions#sameformat)).
-/// - For each list of flags, the word and its normal form agree on whether any of the flags is set
-///   ([`any_flag`](crate::definitions#any_flag)).
-/// - For each list of flags, the bits of these flags are the same in the word and its normal form
-///   ([`bits_of`](crate::definitions#bits_of)).
-/// - The normal form of a [`Lawful`](crate::definitions#lawful) word is lawful.
-/// - If neither a reserved bit nor a separator is dropped ([`IsClean`](crate::definitions#isclean),
-///   [`SeparatorAllowedOrAbsent`](crate::definitions#separatorallowedorabsent)), the word and its normal form
-///   have the same error ([`IsErrorOf`](crate::definitions#iserrorof)).
-/// - If no separator is dropped, any writes whose values fit their fields
-///   ([`IsLegal`](crate::definitions#islegal)) turn the word and its normal form into the same word
-///   ([`edited`](crate::definitions#edited)).
-/// - The result is normal ([`IsNormal`](crate::definitions#isnormal)).
+/// - A word is its own normal form if and only if it is normal (`IsNormal`).
+/// - The word and its normal form are equivalent (`SameFormat`).
+/// - For each list of flags, the word and its normal form agree on whether any of the flags is set (`any_flag`).
+/// - For each list of flags, the bits of these flags are the same in the word and its normal form (`bits_of`).
+/// - The normal form of a `Lawful` word is lawful.
+/// - If neither a reserved bit nor a separator is dropped (`IsClean`, `SeparatorAllowedOrAbsent`), the word and
+///   its normal form have the same error (`IsErrorOf`).
+/// - If no separator is dropped, any writes whose values fit their fields (`IsLegal`) turn the word and its
+///   normal form into the same word (`edited`).
+/// - The result is normal (`IsNormal`).
 ///
 /// ```text
 /// ensures word { result ≡ normal_form_of format }
@@ -231,14 +223,12 @@ pub const fn normal_form(format: u128) -> u128 {
 ///
 /// For all arguments:
 ///
-/// - The result is `Ok` if and only if the normal form ([`normal_form_of`](crate::definitions#normal_form_of)) is
-///   [`Lawful`](crate::definitions#lawful). An `Ok` holds the normal form.
-/// - A returned word has the fields ([`raw`](crate::definitions#raw)) of the given word, filled
-///   ([`fill`](crate::definitions#fill)) and trimmed ([`trim`](crate::definitions#trim)).
-/// - A returned word is normal ([`IsNormal`](crate::definitions#isnormal)).
-/// - A returned word is equivalent to the given word ([`SameFormat`](crate::definitions#sameformat)).
-/// - An `Err` holds the error of the first rule that the normal form breaks
-///   ([`IsErrorOf`](crate::definitions#iserrorof)).
+/// - The result is `Ok` if and only if the normal form (`normal_form_of`) is `Lawful`. An `Ok` holds the normal
+///   form.
+/// - A returned word has the fields (`raw`) of the given word, filled (`fill`) and trimmed (`trim`).
+/// - A returned word is normal (`IsNormal`).
+/// - A returned word is equivalent to the given word (`SameFormat`).
+/// - An `Err` holds the error of the first rule that the normal form breaks (`IsErrorOf`).
 /// - The result is never `Err(Success)`.
 /// - The result is never `Err(InvalidFlags)`, since reserved bits are dropped.
 ///
@@ -261,10 +251,8 @@ pub const fn migrate(format: u128) -> Result<u128, Error> {
 ///
 /// For all arguments:
 ///
-/// - The result is true if and only if the words have the same normal form
-///   ([`normal_form_of`](crate::definitions#normal_form_of)).
-/// - The result is true if and only if the fields of the words ([`raw`](crate::definitions#raw)) are equivalent
-///   ([`SameFormat`](crate::definitions#sameformat)).
+/// - The result is true if and only if the words have the same normal form (`normal_form_of`).
+/// - The result is true if and only if the fields of the words (`raw`) are equivalent (`SameFormat`).
 ///
 /// ```text
 /// ensures normal_forms { IsTrue result ↔ (normal_form_of a ≡ normal_form_of b) }

@@ -19,11 +19,10 @@ pub use crate::view::FormatView;
 pub use crate::word::STANDARD;
 
 use crate::error::Error;
-use crate::refusal::Refusal;
 
 /// Returns whether the format word `FORMAT` is lawful, that is, whether [`format_error`] returns `Success` for it.
 #[must_use]
-#[inline(always)]
+#[inline]
 pub const fn format_is_valid<const FORMAT: u128>() -> bool {
     NumberFormat::<FORMAT>::new().is_valid()
 }
@@ -31,7 +30,7 @@ pub const fn format_is_valid<const FORMAT: u128>() -> bool {
 /// Returns the error of the first [rule][Rule] that the format word `FORMAT` breaks, or [`Error::Success`] if it breaks
 /// none.
 #[must_use]
-#[inline(always)]
+#[inline]
 pub const fn format_error<const FORMAT: u128>() -> Error {
     NumberFormat::<FORMAT>::new().error()
 }
@@ -72,9 +71,9 @@ impl NumberFormatBuilder {
     #[must_use]
     #[track_caller]
     pub const fn build_or_panic(&self) -> u128 {
-        match self.build_strict() {
-            Ok(word) => word,
-            Err(_) => panic!("{}", Refusal::of(self.build_unchecked()).text()),
+        match self.build_format() {
+            Ok(format) => format.word(),
+            Err(error) => panic!("{}", error.message().text()),
         }
     }
 }

@@ -156,13 +156,12 @@ impl NumberFormatBuilder {
     ///
     /// For all arguments:
     ///
-    /// - The result is the word into which the builder's fields are packed ([`pack`](crate::definitions#pack)).
-    /// - The fields of the result ([`raw`](crate::definitions#raw)) are those of the builder, without a separator
-    ///   that no flag allows ([`trim`](crate::definitions#trim)).
-    /// - The reserved bits of the result are 0 ([`IsClean`](crate::definitions#isclean)).
-    /// - Each byte of the builder is between 0 and 255 ([`HasBytes`](crate::definitions#hasbytes)).
-    /// - A record whose bytes are between 0 and 255 ([`HasBytes`](crate::definitions#hasbytes)) packs into this word
-    ///   if and only if its trimmed fields ([`trim`](crate::definitions#trim)) equal those of the builder.
+    /// - The result is the word into which the builder's fields are packed (`pack`).
+    /// - The fields of the result (`raw`) are those of the builder, without a separator that no flag allows (`trim`).
+    /// - The reserved bits of the result are 0 (`IsClean`).
+    /// - Each byte of the builder is between 0 and 255 (`HasBytes`).
+    /// - A record whose bytes are between 0 and 255 (`HasBytes`) packs into this word if and only if its trimmed
+    ///   fields (`trim`) equal those of the builder.
     ///
     /// ```text
     /// ensures word { result ≡ pack self.now }
@@ -203,12 +202,9 @@ impl NumberFormatBuilder {
     ///
     /// For all arguments:
     ///
-    /// - The result is `Ok` if and only if the packed word ([`pack`](crate::definitions#pack)) is
-    ///   [`Lawful`](crate::definitions#lawful). An `Ok` holds this word.
-    /// - A returned word has the fields ([`raw`](crate::definitions#raw)) of the builder, without a separator that no
-    ///   flag allows ([`trim`](crate::definitions#trim)).
-    /// - An `Err` holds the error of the first rule that the word breaks
-    ///   ([`IsErrorOf`](crate::definitions#iserrorof)).
+    /// - The result is `Ok` if and only if the packed word (`pack`) is `Lawful`. An `Ok` holds this word.
+    /// - A returned word has the fields (`raw`) of the builder, without a separator that no flag allows (`trim`).
+    /// - An `Err` holds the error of the first rule that the word breaks (`IsErrorOf`).
     /// - The result is never `Err(Success)`.
     /// - The result is never `Err(InvalidFlags)`, since the builder sets no reserved bit.
     ///
@@ -233,7 +229,7 @@ impl NumberFormatBuilder {
     ///
     /// For all arguments:
     ///
-    /// - The result is the word into which the builder's fields are packed ([`pack`](crate::definitions#pack)).
+    /// - The result is the word into which the builder's fields are packed (`pack`).
     ///
     /// ```text
     /// ensures { result ≡ pack self.now }
@@ -263,7 +259,7 @@ impl NumberFormatBuilder {
     ///
     /// For all arguments:
     ///
-    /// - The fields of the result are those of the word ([`raw`](crate::definitions#raw)).
+    /// - The fields of the result are those of the word (`raw`).
     ///
     /// ```text
     /// ensures { result ≡ raw word }
@@ -296,8 +292,8 @@ impl NumberFormatBuilder {
     ///
     /// For all arguments:
     ///
-    /// - The fields of the result are those of the word ([`raw`](crate::definitions#raw)), with absent exponent bytes
-    ///   replaced by the mantissa radix ([`fill`](crate::definitions#fill)).
+    /// - The fields of the result are those of the word (`raw`), with absent exponent bytes replaced by the mantissa
+    ///   radix (`fill`).
     ///
     /// ```text
     /// ensures { result ≡ fill (raw format) }

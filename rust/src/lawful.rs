@@ -1,45 +1,40 @@
-//! Checked format words, and the methods that check a word.
+//! Lawful formats, and the methods that check a word.
 
-use core::ops::Deref;
-
-use crate::edits::normal_form;
+use crate::edits::{normal_form, Edit};
 use crate::error::Error;
-use crate::feature_format::NumberFormat;
 use crate::format_builder::NumberFormatBuilder;
+use crate::format_error::{Cause, FormatError};
 use crate::format_flags::{check, options_error};
-use crate::refusal::Refusal;
+use crate::reasons::Note;
 use crate::view::FormatView;
 use crate::word::STANDARD;
 
 /// A lawful format, which is a format word that breaks no [rule][crate::Rule]. A function that parses, writes or checks
 /// numbers can take a `Format` as an argument.
 ///
-/// A `Format` dereferences to its [`FormatView`]. In a `const fn`, call [`view`][Self::view] instead. Formats are
-/// compared and hashed by their words. To find out whether two formats are equivalent, compare their [normal
-/// forms][Self::normal_form].
+/// Formats are compared and hashed by their words. To find out whether two formats are equivalent, compare their
+/// [normal forms][Self::normal_form].
 ///
 /// ```
 /// use peltzivar::{Error, Format};
 ///
-/// fn digits(text: &str, format: impl Into<Format>) -> usize {
-///     let format = format.into();
+/// fn digits(text: &str, format: Format) -> usize {
 ///     text.bytes().filter(|byte| format.mantissa_digit(*byte).is_some()).count()
 /// }
 /// assert_eq!(digits("12fg", Format::default()), 2);
-/// assert_eq!(Format::new(0), Err(Error::InvalidMantissaRadix));
+/// assert_eq!(Format::new(0).map_err(|error| error.code()), Err(Error::InvalidMantissaRadix));
 /// ```
 ///
 /// # Guarantees
 ///
 /// Every `Format` comes from [`Format::new`], which checks all [rules][crate::Rule]. So everything that is proved for
-/// [`Lawful`](crate::definitions#lawful) words holds for the word of every `Format`:
+/// lawful words holds for the word of every `Format`:
 ///
 /// - The mantissa radix, the exponent base and the exponent radix are between 2 and 36.
 /// - The digit separator, the base prefix and the base suffix are absent or [punctuation][crate::Rule]. No byte plays
 ///   two of these roles: digit, sign, separator, prefix, suffix.
 /// - If [`check_options`][Self::check_options] accepts an exponent character and a decimal point, each of them plays
-///   only one role too. For every format, it accepts at least one such pair
-///   ([`SomeOptionsFit`](crate::definitions#someoptionsfit)).
+///   only one role too. For every format, it accepts at least one such pair.
 /// - No two flags contradict each other, and all reserved bits are 0.
 /// - The [normal form][Self::normal_form] is a `Format` too.
 #[derive(Clone, Copy, PartialEq, Eq, PartialOrd, Ord, Hash)]
@@ -52,15 +47,14 @@ impl Format {
     ///
     /// # Errors
     ///
-    /// If the word is not lawful, returns the error of the first rule that it breaks. The error is never
-    /// [`Error::Success`].
-    pub const fn new(word: u128) -> Result<Self, Error> {
+    /// If the word is not lawful, returns an error with the reasons.
+    pub const fn new(word: u128) -> Result<Self, FormatError> {
         // All other functions that return a format call this one.
         match check(word) {
             Ok(word) => Ok(Format {
                 view: FormatView::new(word),
             }),
-            Err(error) => Err(error),
+            Err(error) => Err(FormatError::new(error, Cause::Word(word))),
         }
     }
 
@@ -75,21 +69,21 @@ impl Format {
         const {
             match Format::new(FORMAT) {
                 Ok(format) => format,
-                Err(_) => panic!("{}", Refusal::of(FORMAT).text()),
+                Err(error) => panic!("{}", error.message().text()),
             }
         }
     }
 
     /// Returns the format word.
     #[must_use]
-    #[inline(always)]
+    #[inline]
     pub const fn word(&self) -> u128 {
         self.view.word()
     }
 
     /// Returns the view of the format word.
     #[must_use]
-    #[inline(always)]
+    #[inline]
     pub const fn view(&self) -> FormatView {
         self.view
     }
@@ -108,26 +102,36 @@ impl Format {
     ///
     /// # Errors
     ///
-    /// Returns [`Error::InvalidExponentSymbol`] if the exponent character is a sign, a digit, or a byte that is not
-    /// [allowed ASCII]. Returns [`Error::InvalidDecimalPoint`] if the decimal point is a sign, a digit, or a byte that
-    /// is not allowed ASCII. Returns [`Error::InvalidPunctuation`] if one byte would play two roles.
+    /// The [code][FormatError::code] of the error is [`Error::InvalidExponentSymbol`] if the exponent character is a
+    /// sign, a digit, or a byte that is not [allowed ASCII]. It is [`Error::InvalidDecimalPoint`] if the decimal point
+    /// is one of these. It is [`Error::InvalidPunctuation`] if one byte would play two roles.
     ///
     /// [allowed ASCII]: crate::ascii::is_valid_ascii
-    pub const fn check_options(&self, exponent: u8, decimal_point: u8) -> Result<(), Error> {
+    pub const fn check_options(&self, exponent: u8, decimal_point: u8) -> Result<(), FormatError> {
         match options_error(self.word(), exponent, decimal_point) {
             Error::Success => Ok(()),
-            error => Err(error),
+            error => {
+                let cause = Cause::Options(self.word(), exponent, decimal_point);
+                Err(FormatError::new(error, cause))
+            }
         }
     }
-}
 
-/// Gives a format all methods of its view.
-impl Deref for Format {
-    type Target = FormatView;
+    /// Returns a builder with the fields of the format. An absent exponent base or exponent radix becomes the mantissa
+    /// radix.
+    #[must_use]
+    pub const fn rebuild(&self) -> NumberFormatBuilder {
+        self.view.rebuild()
+    }
 
-    #[inline(always)]
-    fn deref(&self) -> &FormatView {
-        &self.view
+    /// Returns notes on the fields that are set but have no effect on any number, as [`FormatView::notes`] does.
+    pub fn notes(&self) -> impl Iterator<Item = Note> + Clone {
+        self.view.notes()
+    }
+
+    /// Returns the edits that give a new builder the fields of the format, as [`FormatView::edits`] does.
+    pub fn edits(&self) -> impl Iterator<Item = Edit> + Clone {
+        self.view.edits()
     }
 }
 
@@ -138,31 +142,23 @@ impl Default for Format {
     }
 }
 
-/// Converts a view to a format. If the word is not lawful, the conversion does not compile.
-impl<const FORMAT: u128> From<NumberFormat<FORMAT>> for Format {
-    #[inline(always)]
-    fn from(_: NumberFormat<FORMAT>) -> Self {
-        Format::of::<FORMAT>()
-    }
-}
-
 impl TryFrom<u128> for Format {
-    type Error = Error;
+    type Error = FormatError;
 
-    fn try_from(word: u128) -> Result<Self, Error> {
+    fn try_from(word: u128) -> Result<Self, FormatError> {
         Format::new(word)
     }
 }
 
 impl From<Format> for u128 {
-    #[inline(always)]
+    #[inline]
     fn from(format: Format) -> Self {
         format.word()
     }
 }
 
 impl From<Format> for FormatView {
-    #[inline(always)]
+    #[inline]
     fn from(format: Format) -> Self {
         format.view()
     }
@@ -170,20 +166,23 @@ impl From<Format> for FormatView {
 
 impl From<Format> for NumberFormatBuilder {
     /// Returns a builder with exactly the fields of the word, as [`from_word`][NumberFormatBuilder::from_word] does.
-    #[inline(always)]
+    #[inline]
     fn from(format: Format) -> Self {
         NumberFormatBuilder::from_word(format.word())
     }
 }
 
 impl FormatView {
-    /// Returns the word as a [`Format`] if it is lawful.
+    /// Returns the word as a [`Format`] if it is lawful. [`Format::new`] has an error with the reasons.
     ///
     /// # Errors
     ///
     /// If the word is not lawful, returns the error of the first rule that it breaks.
     pub const fn check(&self) -> Result<Format, Error> {
-        Format::new(self.word())
+        match Format::new(self.word()) {
+            Ok(format) => Ok(format),
+            Err(error) => Err(error.code()),
+        }
     }
 }
 
@@ -198,8 +197,8 @@ impl NumberFormatBuilder {
     ///
     /// # Errors
     ///
-    /// If the word is not lawful, returns the error of the first rule that it breaks.
-    pub const fn build_format(&self) -> Result<Format, Error> {
+    /// If the word is not lawful, returns an error with the reasons.
+    pub const fn build_format(&self) -> Result<Format, FormatError> {
         Format::new(self.build_unchecked())
     }
 }

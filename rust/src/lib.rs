@@ -51,11 +51,11 @@
 //! | To | Use |
 //! |---|---|
 //! | write a format as a constant | [`NumberFormatBuilder`] and its [`build_or_panic`][NumberFormatBuilder::build_or_panic] |
-//! | take a checked format as an argument | [`Format`], or `impl Into<Format>` |
+//! | take a checked format as an argument | [`Format`] |
 //! | read numbers | [`FormatView::mantissa_digit`], [`is_separator`][FormatView::is_separator], [`separators`][FormatView::separators], [`role_of`][FormatView::role_of] |
 //! | read the fields of any word, lawful or not | [`FormatView`]; [`NumberFormat`] for a word that is known at compile time |
-//! | parse settings | `str::parse` for each [`Edit`], [`collect`][Iterator::collect] to turn edits into a builder, and [`build_format`][NumberFormatBuilder::build_format] to check it |
-//! | report the problems with a word | [`FormatView::reasons`], [`Reason::mask`], [`FormatView::notes`] |
+//! | parse settings | `str::parse` for each [`Edit`], or [`Edit::flag`] and [`Edit::byte`]; [`collect`][Iterator::collect] to turn edits into a builder, and [`build_format`][NumberFormatBuilder::build_format] to check it |
+//! | report the problems with a word | [`FormatError`], [`FormatView::reasons`], [`Reason::mask`], [`FormatView::notes`] |
 //! | derive a format from another | [`NumberFormatBuilder::from`], or [`edits::edit_word`] |
 //! | compare two formats | [`Format::normal_form`], [`edits::same_format`] |
 //! | store words as text | `Display` and `FromStr` of [`Format`] and [`FormatView`] |
@@ -79,7 +79,7 @@
 //!
 //! The library is written in Rattle, which is Rust with contracts. A prover verified that every function meets its
 //! contract. From this code, a program in the repository generated the files that begin with `Made by`. In the
-//! documentation, the sections named `Proved` state contracts, and [`definitions`] defines their terms.
+//! documentation, the sections named `Proved` state contracts. `specs/` in the repository defines their terms.
 //!
 //! The following parts are written by hand: [`Format`], [`NumberFormat`], the iterators and conversions,
 //! `Display`, `FromStr` and `Debug` of words, `build_or_panic`, and the private modules `decimal`, `lanes` and
@@ -92,8 +92,6 @@ pub mod ascii;
 mod chunks;
 mod debug;
 mod decimal;
-#[cfg(doc)]
-pub mod definitions;
 #[allow(clippy::redundant_pattern_matching, reason = "as it is proved")]
 pub mod digit;
 #[allow(
@@ -106,13 +104,13 @@ pub mod error;
 pub mod feature_format;
 pub mod format;
 pub mod format_builder;
+mod format_error;
 pub mod format_flags;
 mod lanes;
 mod lawful;
 mod lists;
 mod numeral;
 pub mod reasons;
-mod refusal;
 pub mod source;
 mod text;
 mod view;
@@ -122,13 +120,15 @@ pub mod word;
 pub mod word_text;
 
 #[doc(no_inline)]
-pub use edits::{Edit, FlagSetter, Setter, SettingError};
+pub use edits::{Edit, FlagSetter, Setter, SettingError, SettingErrorKind};
 #[doc(no_inline)]
 pub use error::Error;
 #[doc(no_inline)]
 pub use feature_format::NumberFormat;
 #[doc(no_inline)]
 pub use format_builder::NumberFormatBuilder;
+#[doc(inline)]
+pub use format_error::FormatError;
 #[doc(no_inline)]
 pub use format_flags::{Part, Rule};
 #[doc(inline)]
@@ -137,7 +137,3 @@ pub use lawful::Format;
 pub use reasons::{Note, Reason};
 #[doc(inline)]
 pub use view::{FormatView, Role, Separators};
-
-#[cfg(doctest)]
-#[doc = include_str!("../README.md")]
-struct Readme;

@@ -15,6 +15,7 @@ macro_rules! has_any {
     };
 }
 
+mod bytes;
 mod getters;
 mod roles;
 
@@ -73,10 +74,9 @@ impl FormatView {
     ///
     /// For all arguments:
     ///
-    /// - The result is the error of the first rule that the word breaks, or `Success`
-    ///   ([`IsErrorOf`](crate::definitions#iserrorof)).
-    /// - The result is `Success` if and only if the word is [`Lawful`](crate::definitions#lawful).
-    /// - No other error satisfies [`IsErrorOf`](crate::definitions#iserrorof).
+    /// - The result is the error of the first rule that the word breaks, or `Success` (`IsErrorOf`).
+    /// - The result is `Success` if and only if the word is `Lawful`.
+    /// - No other error satisfies `IsErrorOf`.
     ///
     /// ```text
     /// ensures first { IsErrorOf self.now result }
@@ -107,14 +107,6 @@ impl FormatView {
 
     // BYTES
 
-    /// Returns the [digit separator][NumberFormatBuilder::digit_separator], or 0 if it is absent. The byte is returned
-    /// even if no flag allows digit separators.
-    #[must_use]
-    #[inline(always)]
-    pub const fn digit_separator(&self) -> u8 {
-        flags::digit_separator(self.format)
-    }
-
     /// Returns whether the digit separator byte is not 0.
     #[must_use]
     #[inline(always)]
@@ -122,25 +114,11 @@ impl FormatView {
         has_any!(self, DIGIT_SEPARATOR)
     }
 
-    /// Returns the [base prefix][NumberFormatBuilder::base_prefix], or 0 if it is absent.
-    #[must_use]
-    #[inline(always)]
-    pub const fn base_prefix(&self) -> u8 {
-        flags::base_prefix(self.format)
-    }
-
     /// Returns whether the base prefix byte is not 0.
     #[must_use]
     #[inline(always)]
     pub const fn has_base_prefix(&self) -> bool {
         has_any!(self, BASE_PREFIX)
-    }
-
-    /// Returns the [base suffix][NumberFormatBuilder::base_suffix], or 0 if it is absent.
-    #[must_use]
-    #[inline(always)]
-    pub const fn base_suffix(&self) -> u8 {
-        flags::base_suffix(self.format)
     }
 
     /// Returns whether the base suffix byte is not 0.
@@ -234,8 +212,8 @@ impl FormatView {
     ///
     /// For all arguments:
     ///
-    /// - The fields of the result are those of the word ([`raw`](crate::definitions#raw)), with absent exponent bytes
-    ///   replaced by the mantissa radix ([`fill`](crate::definitions#fill)).
+    /// - The fields of the result are those of the word (`raw`), with absent exponent bytes replaced by the mantissa
+    ///   radix (`fill`).
     ///
     /// ```text
     /// ensures { result ≡ fill (raw self.now) }

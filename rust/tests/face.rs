@@ -5,7 +5,7 @@ use peltzivar::edits::{apply_all, edits_of, same_format};
 use peltzivar::format::{format_error, options_error, NumberFormatBuilder};
 use peltzivar::format::{BASE_PREFIX_SHIFT, BASE_SUFFIX_SHIFT, STANDARD};
 use peltzivar::reasons::{notes, reasons};
-use peltzivar::{Edit, Error, FlagSetter, Format, FormatView, NumberFormat, Rule};
+use peltzivar::{Edit, Error, FlagSetter, Format, FormatView, Rule};
 use std::fmt::{Debug, Display, LowerHex, UpperHex};
 use std::hash::{DefaultHasher, Hash, Hasher};
 use std::num::NonZeroU8;
@@ -17,7 +17,7 @@ const _: () = {
     const fn is_word<T>()
     where
         T: Copy + Default + Ord + Hash + Debug + Display + LowerHex + UpperHex,
-        T: FromStr + From<NumberFormat<STANDARD>> + Into<u128> + Send + Sync,
+        T: FromStr + Into<u128> + Send + Sync,
     {
     }
     is_word::<FormatView>();
@@ -31,7 +31,7 @@ const _: () = {
     );
     assert!(
         FORMAT.check_options(b'e', b'.').is_ok()
-            && matches!(Format::new(0), Err(Error::InvalidMantissaRadix))
+            && matches!(Format::new(0), Err(error) if matches!(error.code(), Error::InvalidMantissaRadix))
     );
 };
 
@@ -83,18 +83,20 @@ fn a_format_is_a_word_without_error() {
         } else {
             Err(error)
         };
-        assert_eq!(Format::new(word).map(u128::from), wanted, "{word:#034X}");
+        let format = Format::new(word);
+        assert_eq!(
+            format.map_err(Error::from).map(u128::from),
+            wanted,
+            "{word:#034X}"
+        );
         assert_eq!(view.check().map(|format| format.word()), wanted);
-        assert_eq!(Format::try_from(word), view.check());
-        assert_eq!(format!("{view}").parse(), view.check());
+        assert_eq!(Format::try_from(word), format);
+        assert_eq!(format!("{view}").parse(), format);
     }
-    assert_eq!(
-        Format::from(NumberFormat::<STANDARD>::new()),
-        Format::default()
-    );
+    assert_eq!(Format::of::<STANDARD>(), Format::default());
     assert_eq!(Format::default().word(), STANDARD);
     const HEXADECIMAL: u128 = 0x00001000_00000000_00000000_0000000C;
-    let format = Format::from(NumberFormat::<HEXADECIMAL>::new());
+    let format = Format::of::<HEXADECIMAL>();
     assert_eq!(format.word(), HEXADECIMAL);
     let built = NumberFormatBuilder::from_word(HEXADECIMAL).build_format();
     assert_eq!(built, Ok(format));
@@ -128,10 +130,11 @@ fn a_format_has_a_normal_form_that_is_one_too() {
         let normal = format.normal_form();
         assert_eq!(Format::new(normal.word()), Ok(normal));
         assert!(same_format(normal.word(), format.word()) && normal.normal_form() == normal);
-        assert_eq!(
-            (FormatView::from(format), *format),
-            (format.view(), format.view())
+        assert_eq!(FormatView::from(format), format.view());
+        assert!(
+            format.notes().eq(format.view().notes()) && format.edits().eq(format.view().edits())
         );
+        assert_eq!(format.rebuild(), format.view().rebuild());
         assert_eq!(format.to_string(), format.view().to_string());
         let builder = NumberFormatBuilder::from(format);
         assert_eq!(builder, NumberFormatBuilder::from_word(format.word()));
@@ -149,7 +152,8 @@ fn a_format_has_a_normal_form_that_is_one_too() {
                 Error::Success => Ok(()),
                 error => Err(error),
             };
-            assert_eq!(format.check_options(exponent, point), wanted);
+            let checked = format.check_options(exponent, point);
+            assert_eq!(checked.map_err(Error::from), wanted);
         }
     }
 }
@@ -234,6 +238,87 @@ fn an_unlawful_constant_stops_with_its_reason() {
     }
 }
 
+/// An error displays the first reason, or its code if there is no reason.
+#[test]
+fn an_error_states_its_cause() {
+    let new = NumberFormatBuilder::new();
+    let separator = new
+        .digit_separator(NonZeroU8::new(b'_'))
+        .internal_digit_separator(true);
+    let format = Format::default();
+    #[rustfmt::skip]
+    let rows = [
+        (new.mantissa_radix(37).build_format().err(), Error::InvalidMantissaRadix, 1,
+            "the mantissa radix 37 is not between 2 and 36"),
+        (Format::new(0x00000A2B_00000000_00000000_8000003C).err(), Error::InvalidBaseSuffix, 3,
+            "the base suffix '+' is a sign (+ or -)"),
+        (separator.base_prefix(NonZeroU8::new(b'_')).build_format().err(), Error::InvalidPunctuation, 1,
+            "the digit separator '_' and the base prefix '_' are the same"),
+        ("0x0".parse::<Format>().err(), Error::InvalidMantissaRadix, 1,
+            "the mantissa radix 0 is not between 2 and 36"),
+        ("0x1 2".parse::<Format>().err(), Error::InvalidDigit(3), 0, "lexical parse error: 'invalid digit found' at index 3"),
+        ("".parse::<Format>().err(), Error::Empty(0), 0, "lexical parse error: 'the string to parse was empty' at index 0"),
+        (format.check_options(b'e', b'e').err(), Error::InvalidPunctuation, 0,
+            "lexical number format error: 'invalid punctuation: multiple characters overlap'"),
+    ];
+    for (error, code, count, printed) in rows {
+        let error = error.expect(printed);
+        assert_eq!(
+            (error.code(), error.reasons().count()),
+            (code, count),
+            "{printed}"
+        );
+        assert_eq!(
+            (error.to_string(), Error::from(error)),
+            (printed.into(), code)
+        );
+        assert_eq!(
+            format!("{error:?}"),
+            format!("FormatError {{ code: {code:?}, message: \"{printed}\" }}")
+        );
+    }
+    let word = FormatView::new(0x2525252B_2B00002B_00001E00_80004DF0);
+    let error = Format::new(word.word()).unwrap_err();
+    assert!(error.reasons().eq(word.reasons()) && error == Format::new(word.word()).unwrap_err());
+    assert_ne!(error, Format::new(0).unwrap_err());
+}
+
+/// Absent bytes of a format are `None`.
+#[test]
+fn absent_bytes_are_none() {
+    let byte = NonZeroU8::new;
+    let builder = NumberFormatBuilder::new()
+        .base_prefix(byte(b'x'))
+        .base_suffix(byte(b'h'));
+    let separated = builder
+        .digit_separator(byte(b'_'))
+        .internal_digit_separator(true);
+    for (builder, bytes) in [
+        (NumberFormatBuilder::new(), [None; 3]),
+        (builder, [None, byte(b'x'), byte(b'h')]),
+        (separated, [byte(b'_'), byte(b'x'), byte(b'h')]),
+    ] {
+        let format = builder.build_format().expect("a lawful format");
+        assert_eq!(
+            [
+                format.digit_separator(),
+                format.base_prefix(),
+                format.base_suffix()
+            ],
+            bytes
+        );
+        let view = builder.view();
+        assert_eq!(
+            [
+                view.digit_separator(),
+                view.base_prefix(),
+                view.base_suffix()
+            ],
+            bytes
+        );
+    }
+}
+
 #[test]
 fn words_are_parsed() {
     #[rustfmt::skip]
@@ -250,10 +335,27 @@ fn words_are_parsed() {
         (" 0xC", Err(Error::InvalidDigit(0))),
         ("0xC\n", Err(Error::InvalidDigit(3))),
         ("0x1g", Err(Error::InvalidDigit(3))),
+        ("0x00000A00_00000000_00000000_0000000C", Ok(STANDARD)),
+        ("0x0_0_C", Ok(0xC)),
+        ("0x_C", Err(Error::InvalidDigit(2))),
+        ("0xC_", Err(Error::InvalidDigit(3))),
+        ("0xC__C", Err(Error::InvalidDigit(3))),
+        ("0xC_g", Err(Error::InvalidDigit(3))),
+        ("0xC_Cg", Err(Error::InvalidDigit(5))),
+        ("0_xC", Err(Error::InvalidDigit(1))),
+        ("_0xC", Err(Error::InvalidDigit(0))),
+        ("0x00000000_00000000_00000000_00000000_0", Err(Error::Overflow(38))),
+        ("0x00000000_00000000_00000000_00000000_", Err(Error::InvalidDigit(37))),
+        ("0xC_\u{E9}", Err(Error::InvalidDigit(3))),
     ];
     for (text, word) in rows {
         assert_eq!(text.parse::<FormatView>().map(u128::from), word, "{text}");
-        assert_eq!(text.parse(), word.and_then(Format::new), "{text}");
+        let format = text.parse::<Format>().map_err(Error::from);
+        assert_eq!(
+            format,
+            word.and_then(|word| FormatView::new(word).check()),
+            "{text}"
+        );
     }
     let view = FormatView::new(0xAB);
     assert_eq!(

@@ -38,18 +38,16 @@ const OPTIONS: Options = Options {
     specials: &[b"NaN", b"inf"],
 };
 
-/// Reads a text. The parts of a literal are in order, and no byte is between them.
+/// Reads a text. The parts are in order, and no byte is between them. Those of a literal end with the text.
 fn read(format: Format, options: Option<&Options>, text: &[u8]) -> Result<Parts, Refusal> {
     let result = reader::read(format, options, text);
+    let (parts, mut end) = (reader::scan(format, options, text).0, 0);
+    for part in parts.iter().filter(|part| !part.is_empty()) {
+        assert_eq!(part.start, end, "{text:?}: {parts:?}");
+        end = part.end;
+    }
     match &result {
-        Ok(parts) => {
-            let mut end = 0;
-            for part in parts.iter().filter(|part| !part.is_empty()) {
-                assert_eq!(part.start, end, "{text:?}: {parts:?}");
-                end = part.end;
-            }
-            assert_eq!(end, text.len(), "{text:?}: {parts:?}");
-        }
+        Ok(read) => assert_eq!((read, end), (&parts, text.len()), "{text:?}"),
         Err(refusal) => assert!(refusal.error.index() <= Some(&text.len()), "{refusal:?}"),
     }
     result
@@ -202,6 +200,27 @@ fn errors_are_those_of_the_rows() {
         read(exponential, None, b"1").is_ok(),
         "an integer has no exponent"
     );
+}
+
+#[test]
+fn parts_before_an_error_are_known() {
+    for (settings, text, wanted) in [
+        ("no_exponent_notation=true", "-12.5e3", "- 12 . 5"),
+        (
+            "digit_separator=95 special_digit_separator=true",
+            "12_3.4",
+            "12",
+        ),
+        ("no_special=true", "+inf", "+"),
+    ] {
+        let (parts, error) = reader::scan(format(settings), Some(&OPTIONS), text.as_bytes());
+        let present = parts.into_iter().filter(|part| !part.is_empty());
+        assert!(
+            present.map(|part| &text[part]).eq(wanted.split(' ')),
+            "{text}"
+        );
+        assert!(error.is_err(), "{text}");
+    }
 }
 
 /// Returns the format of a recipe, and its options unless it is a format of integers.

@@ -1,7 +1,7 @@
 //! Compares the plain Rust with results that `lexical-util` 1.0.7 returned. `crates/recorded/src/reading.rt` describes
 //! their lines.
 
-#[path = "rows/errors.rs"]
+#[path = "known/rows/errors.rs"]
 #[allow(dead_code)]
 mod errors;
 
@@ -62,10 +62,11 @@ fn keeps_digit(byte: u8, radix: u32, digit: &str) -> Option<bool> {
 
 fn keeps_fields(view: FormatView, flags: &str, numbers: &[&str]) -> Option<bool> {
     let numbers: Option<Vec<u32>> = numbers.iter().map(|number| number.parse().ok()).collect();
+    let number = |byte: Option<NonZeroU8>| byte.map_or(0, |byte| byte.get().into());
     let read = [
-        view.digit_separator().into(),
-        view.base_prefix().into(),
-        view.base_suffix().into(),
+        number(view.digit_separator()),
+        number(view.base_prefix()),
+        number(view.base_suffix()),
         view.mantissa_radix(),
         view.exponent_base(),
         view.exponent_radix(),

@@ -1,15 +1,17 @@
 //! What a caller relies on beyond results: the view whose word is a const argument is the view at run time, the types
-//! have their traits, and a format that is not lawful stops the program with its first reason.
+//! have their traits, and a panic names its caller.
 
 use peltzivar::format::{NumberFormatBuilder, STANDARD};
 use peltzivar::{
-    Edit, Error, FlagSetter, Format, FormatView, Note, NumberFormat, Reason, Rule, SettingError,
+    Edit, Error, FlagSetter, Format, FormatError, FormatView, Note, NumberFormat, Part, Reason,
+    Rule, SettingError, SettingErrorKind,
 };
 use std::error::Error as StdError;
 use std::fmt::{Debug, Display};
 use std::hash::Hash;
 use std::num::NonZeroU8;
 use std::panic;
+use std::sync::atomic::{AtomicU32, Ordering};
 
 const fn is_value<T: Copy + Debug + Eq + Hash + Send + Sync + Unpin>() {}
 const fn is_shown<T: Display>() {}
@@ -21,6 +23,7 @@ const _: () = {
     is_value::<Error>();
     is_value::<FlagSetter>();
     is_value::<Format>();
+    is_value::<FormatError>();
     is_value::<FormatView>();
     is_value::<Note>();
     is_value::<NumberFormat<STANDARD>>();
@@ -28,10 +31,12 @@ const _: () = {
     is_value::<Reason>();
     is_value::<Rule>();
     is_value::<SettingError>();
+    is_value::<SettingErrorKind>();
     is_shown::<Edit>();
     is_shown::<FlagSetter>();
     is_shown::<Note>();
     is_error::<Error>();
+    is_error::<FormatError>();
     is_error::<Reason>();
     is_error::<SettingError>();
     is_ordered::<Edit>();
@@ -41,10 +46,24 @@ const _: () = {
 };
 
 macro_rules! same {
-    ($constant:ident $view:ident; $($NAME:ident $get:ident,)*; $($name:ident,)*) => {
+    ($constant:ident $view:ident; $($NAME:ident $get:ident,)*; $($name:ident,)*; $($check:ident,)*) => {
         $(assert_eq!(NumberFormat::<W>::$NAME, $view.$get(), "{} of {W:#034X}", stringify!($NAME));
         assert_eq!($constant.$get(), $view.$get(), "{} of {W:#034X}", stringify!($get));)*
         $(assert_eq!($constant.$name(), $view.$name(), "{} of {W:#034X}", stringify!($name));)*
+        $(assert_eq!($constant.$check(), $view.$check(), "{} of {W:#034X}", stringify!($check));)*
+        if let Ok(format) = Format::new(W) {
+            $(assert_eq!(format.$get(), $view.$get(), "{} of {W:#034X}", stringify!($get));)*
+            $(assert_eq!(format.$name(), $view.$name(), "{} of {W:#034X}", stringify!($name));)*
+        }
+    };
+}
+
+/// Compares the bytes of both views and of the format, if there is one. An absent byte of the constant view is 0.
+macro_rules! same_bytes {
+    ($constant:ident $view:ident; $($NAME:ident $get:ident,)*) => {
+        $(let byte = $view.$get();
+        assert_eq!([NumberFormat::<W>::$NAME, $constant.$get()], [byte.map_or(0, NonZeroU8::get); 2]);
+        assert_eq!(Format::new(W).map_or(byte, |format| format.$get()), byte);)*
     };
 }
 
@@ -55,9 +74,25 @@ fn views_are_same<const W: u128>() {
     assert_eq!((constant.view(), FormatView::from(constant), FormatView::from(W)), (view, view, view));
     assert_eq!((view.word(), u128::from(view)), (W, W));
     assert_eq!(NumberFormat::<W>::rebuild(), view.rebuild());
+    macro_rules! roles_of {
+        ($view:ident, $byte:ident) => {
+            (
+                [$view.is_digit($byte), $view.is_separator($byte), $view.is_base_prefix($byte)],
+                [$view.is_base_suffix($byte), $view.is_exponent_character(b'e', $byte)],
+                [$view.mantissa_digit($byte), $view.exponent_digit($byte)],
+                $view.role_of(b'e', b'.', $byte),
+            )
+        };
+    }
     for byte in 0..=255 {
-        let read = [constant.is_digit(byte), constant.is_base_prefix(byte), constant.is_base_suffix(byte)];
-        assert_eq!(read, [view.is_digit(byte), view.is_base_prefix(byte), view.is_base_suffix(byte)], "{byte}");
+        assert_eq!(roles_of!(constant, byte), roles_of!(view, byte), "{byte}");
+        if let Ok(format) = Format::new(W) {
+            assert_eq!(roles_of!(format, byte), roles_of!(view, byte), "{byte}");
+        }
+    }
+    for part in [Part::Integer, Part::Fraction, Part::Exponent] {
+        assert_eq!(constant.separators(part), view.separators(part));
+        assert_eq!(Format::new(W).map_or(view.separators(part), |it| it.separators(part)), view.separators(part));
     }
     same! { constant view;
         REQUIRED_INTEGER_DIGITS required_integer_digits,
@@ -96,18 +131,21 @@ fn views_are_same<const W: u128>() {
         EXPONENT_CONSECUTIVE_DIGIT_SEPARATOR exponent_consecutive_digit_separator,
         CONSECUTIVE_DIGIT_SEPARATOR consecutive_digit_separator,
         SPECIAL_DIGIT_SEPARATOR special_digit_separator,
-        DIGIT_SEPARATOR digit_separator,
-        BASE_PREFIX base_prefix,
-        BASE_SUFFIX base_suffix,
         MANTISSA_RADIX mantissa_radix,
         RADIX radix,
         EXPONENT_BASE exponent_base,
         EXPONENT_RADIX exponent_radix,
         ;
-        is_valid, error, is_valid_radix, error_radix, has_digit_separator, has_base_prefix,
-        has_base_suffix, radix2, radix4, radix8, flags, interface_flags, digit_separator_flags,
-        exponent_flags, integer_digit_separator_flags, fraction_digit_separator_flags,
-        exponent_digit_separator_flags,
+        has_digit_separator, has_base_prefix, has_base_suffix, radix2, radix4, radix8, flags,
+        interface_flags, digit_separator_flags, exponent_flags, integer_digit_separator_flags,
+        fraction_digit_separator_flags, exponent_digit_separator_flags,
+        ;
+        is_valid, error, is_valid_radix, error_radix,
+    }
+    same_bytes! { constant view;
+        DIGIT_SEPARATOR digit_separator,
+        BASE_PREFIX base_prefix,
+        BASE_SUFFIX base_suffix,
     }
 }
 
@@ -132,19 +170,16 @@ fn both_views_are_the_same() {
     views_are_same::<{ u128::MAX / 0x1_0000_0000_0000_0001 }>();
 }
 
+/// A panic names the line that called `build_or_panic`.
 #[test]
-fn a_format_that_is_not_lawful_panics_with_its_first_reason() {
-    let new = NumberFormatBuilder::new();
-    let separator = new.digit_separator(NonZeroU8::new(b'5'));
-    #[rustfmt::skip]
-    let rows = [
-        (new.mantissa_radix(0), "'invalid radix for mantissa digits': the mantissa radix 0 is not between 2 and 36"),
-        (separator.internal_digit_separator(true),
-            "'invalid digit separator: must be ASCII and not a digit or a `+/-` sign': the digit separator '5' is a digit in radix 10"),
-    ];
-    for (builder, wanted) in rows {
-        let payload = panic::catch_unwind(|| builder.build_or_panic()).expect_err(wanted);
-        let text = payload.downcast_ref::<String>().map(String::as_str);
-        assert_eq!(text, Some(wanted));
-    }
+fn build_or_panic_blames_its_caller() {
+    static LINE: AtomicU32 = AtomicU32::new(0);
+    panic::set_hook(Box::new(|info| {
+        let line = info.location().map_or(0, |at| at.line());
+        LINE.store(line, Ordering::SeqCst);
+    }));
+    let builder = NumberFormatBuilder::new().mantissa_radix(1);
+    let (line, result) = (line!(), panic::catch_unwind(|| builder.build_or_panic()));
+    assert!(result.is_err());
+    assert_eq!(LINE.load(Ordering::SeqCst), line);
 }

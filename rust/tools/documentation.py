@@ -1,18 +1,15 @@
 """The part of erase.py that changes the documentation of the library, so that it does not mention the Rattle sources.
 
-PROVED lists the calls whose documentation shows their clauses, with a sentence for each clause. A name between
-backquotes becomes a link if the page `definitions` has it. PHRASES are removed or replaced, and no match of FOREIGN may
-remain. The first lines of a flag's constant, getter and variant are made from the first line of its setter.
+PROVED lists the calls whose documentation shows their clauses, with a sentence for each clause. PHRASES are removed or
+replaced, and no match of FOREIGN may remain. The first lines of a flag's constant, getter and variant are made from the
+first line of its setter.
 """
 import functools
 import pathlib
 import re
-import sys
 import textwrap
 
 CRATES = pathlib.Path(__file__).resolve().parent.parent.parent / "crates"
-sys.path.append(str(CRATES.parent / "docs"))
-import definitions as model
 
 # For each file, the calls whose documentation shows their clauses, and a sentence for each clause.
 PROVED = {
@@ -168,53 +165,6 @@ FOREIGN = re.compile(
     r"\.rt\b|\.antt\b|[Ii]n plain Rust|\bcrates? (above|below)|not proved|has no such|[Ss]earch|\bword::"
 )
 
-# Names of Rattle's standard library that clauses and definitions use, each with its meaning.
-STD = {
-    "ℕ": "The type of the natural numbers.",
-    "Bool": "The type of the truth values `true` and `false`.",
-    "List": "`[]` is the empty list, `x ∷ xs` is `x` followed by `xs`, and `xs ++ ys` is `xs` followed by `ys`.",
-    "Option": "As in Rust: `None`, or `Some value`.",
-    "≡": "`x ≡ y` holds if `x` equals `y`, and `x ≢ y` if it does not.",
-    "↔": "`A ↔ B` holds if each of `A` and `B` follows from the other.",
-    "→": "`A → B` holds if `B` follows from `A`, and `(x : T) → A` holds if `A` holds for every `x` of the type `T`."
-    " Between types, it is the type of functions.",
-    "×": "`A × B` holds if both `A` and `B` hold. Its two parts are `.0` and `.1`.",
-    "⊎": "`A ⊎ B` holds if `A` or `B` holds.",
-    "⊤": "`⊤` always holds.",
-    "⊥": "`⊥` never holds.",
-    "λ": "`λ x. t` is the function that returns `t` for `x`.",
-    "+": "`a + b` is the sum. `*`, `/`, `%` and `^` are multiplication, integer division, remainder and power.",
-    "-": "`a - b` is the difference, or 0 if `b` is larger.",
-    "<": "`a < b` holds if `a` is less than `b`, and `a ≤ b` if it is at most `b`.",
-    "==": "`x == y` is the truth value of `x ≡ y` for numbers, and `beq x y` is that for truth values.",
-    "&&": "`a && b` is true if both are true, `a || b` is true if either is true, and `not a` is true if `a` is false.",
-    "if": "`if b then x else y` is `x` if `b` is true, and `y` otherwise.",
-    "nat_le": "`nat_le a b` is the truth value of `a ≤ b`, and `nat_lt a b` is that of `a < b`.",
-    "min": "`min a b` is the smaller of two numbers.",
-    "IsTrue": "`IsTrue b` holds if `b` is `true`, and `IsFalse b` holds if it is `false`.",
-    "OkIff": "`OkIff result P x` holds if `result` is `Ok x` and `P` holds, or if it is an `Err` and `P` does not.",
-    "IfOk": "`IfOk result P` holds if `result` is an `Err`, or if it is `Ok x` and `P` holds for `x`.",
-    "IfErr": "`IfErr result P` holds if `result` is an `Ok`, or if it is `Err x` and `P` holds for `x`.",
-    "All": "`All P xs` holds if `P` holds for each entry of `xs`. `AllByRecursion P xs` is equivalent.",
-    "AllZip": "`AllZip P xs ys` holds if both lists have the same length and `P` holds for the two entries at each"
-    " index.",
-    "length": "`length xs` is the number of entries of `xs`.",
-    "take": "`take n xs` is the list of the first `n` entries of `xs`.",
-    "range_with_len": "`range_with_len start n` is the list of the `n` numbers from `start` up.",
-    "map": "`map f xs` is the list of `f x` for each `x` in `xs`.",
-    "flat_map": "`flat_map f xs` joins the lists `f x` for each `x` in `xs`.",
-    "filter": "`filter p xs` lists each `x` in `xs` for which `p x` is true.",
-    "filter_map": "`filter_map f xs` lists the `y` of each `f x` that is `Some y`, for `x` in `xs`.",
-    "list_any": "`list_any p xs` is true if `p x` is true for some `x` in `xs`, and `list_all p xs` if it is true for"
-    " each.",
-    "sum_by": "`sum_by f xs` is the sum of `f x` for each `x` in `xs`.",
-    "last_or": "`last_or option xs` is `Some x` if `x` is the last entry of `xs`, or `option` if `xs` is empty.",
-    "position": "`position p xs` is `Some i` if `p` is first true for the entry at index `i`, or `None`.",
-    "unwrap_or": "`unwrap_or option x` is the value in `option`, or `x` if it is `None`.",
-    "codes": "`codes text` is the list of the bytes of `text`.",
-}  # fmt: skip
-
-
 class Unfit(Exception):
     """A table of this file does not fit the sources."""
 
@@ -326,84 +276,6 @@ def proved(file, name, clauses):
     names = [it or "" for it in re.findall(r"^ *ensures(?: (\w+))? \{", clauses, re.M)]
     if names != list(sentences):
         raise Unfit(f"{file}: {name} has the clauses {names}, and PROVED has sentences for {list(sentences)}")
-    linked = (re.sub(r"`(\w+)`", lambda it: link(it[1]), text) for text in sentences.values())
-    items = "\n".join("\n".join(textwrap.wrap(f"- {it}", 110, subsequent_indent="  ")) for it in linked)
+    items = "\n".join("\n".join(textwrap.wrap(f"- {it}", 110, subsequent_indent="  ")) for it in sentences.values())
     clauses = textwrap.dedent(clauses.strip("\n").rstrip())
     return f"\n# Proved\n\nFor all arguments:\n\n{items}\n\n```text\n{clauses}\n```"
-
-
-def shown():
-    """Returns the definitions of the page, file by file, in reading order."""
-    starts = []
-    for function in model.functions():
-        crate, _, *place = function.path.relative_to(CRATES).parts
-        file = "/".join(place)
-        if function.name in PROVED.get(file, ()) and function.is_public and crate in LIBRARIES:
-            starts += model.contract(function)
-    reached, waiting = dict.fromkeys(it for it in starts if it.file != "type"), []
-    waiting = list(reached)
-    for item in waiting:
-        new = [it for it in dict.fromkeys(model.cites(item)) if it not in reached and it.file != "type"]
-        reached |= dict.fromkeys(new)
-        waiting += new
-    if strange := [it.name for it in reached if it.file not in model.FILES and it.file != "std"]:
-        raise Unfit(f"no definition has the name {', '.join(strange)}")
-    lines = {file: model.FILES[file].lines for file in model.reading_order()}
-    files = {file: [it for it in names if model.Item(file, it) in reached] for file, names in lines.items()}
-    unknown = {it.name.strip("◌") for it in reached if it.file == "std"} - known_std()
-    if unknown:
-        raise Unfit(f"STD does not have the meaning of {', '.join(sorted(unknown))}")
-    return {file: names for file, names in files.items() if names}
-
-
-LIBRARIES = ["lexical_base", "lexical_flags", "lexical_builder", "lexical_util"]
-
-
-def known_std():
-    """Returns the names of STD, and the names that its sentences explain."""
-    texts = " ".join(STD.values())
-    words = (re.findall(r"\w+|\S+", code) for code in re.findall(r"`([^`]+)`", texts))
-    return {"if◌then◌else", *STD}.union(*words)
-
-
-def link(name):
-    """Returns a name as a link to its part of the page, or as code if the page does not have it."""
-    return f"[`{name}`](crate::definitions#{name.lower()})" if name in all_names() else f"`{name}`"
-
-
-def all_names(cache=[]):
-    if not cache:
-        cache.append({name for names in shown().values() for name in names})
-        if len({name.lower() for name in cache[0]}) < len(cache[0]):
-            raise Unfit("two definitions differ only in case, so a link is ambiguous")
-    return cache[0]
-
-
-def part(file, name):
-    """Returns the part of a definition: its sentence and its text, which is shortened if it is long."""
-    lines = model.FILES[file].lines[name]
-    words = " ".join(line[3:] for line in lines if line.startswith("-- "))
-    if not words or FOREIGN.search(words):
-        raise Unfit(f"{file}: the comment of {name} is not one for the page: {words}")
-    code = [line for line in lines if not line.startswith("-- ")]
-    code = code if len(code) < 20 else [*code[:6], "  ..", code[-1]]
-    code = [re.sub(r"^(abbrev |unfoldable )?pub ", "", re.sub(r"^  pub ", "  ", line)) for line in code]
-    return "\n".join([f"## `{name}`", "", words, "", "```text", *code, "```"])
-
-
-def definitions():
-    """Returns the text of the module `definitions`: all definitions that the shown clauses cite."""
-    head = (
-        "This module has the definitions that the clauses in the `Proved` sections use, directly or through other\n"
-        "definitions.\n\n"
-        "`f x` is `f` applied to `x`. `.now` is the value behind a reference. In a clause, a builder is the record of\n"
-        "its fields. Names such as `edits.Flag` or `rules.PunctuationDiffers` are variants of `Edit`, `FlagSetter`,\n"
-        "`Rule` or `Error`. A name after `layout.` is the name of a flag or a byte."
-    )
-    parts = [head]
-    for file, names in shown().items():
-        title = " ".join(line[3:] for line in model.FILES[file].header).rstrip(".") or file
-        parts += [f"# {title}", *(part(file, it) for it in names)]
-    rows = "\n".join(f"| `{name}` | {text} |".replace("||", "\\|\\|") for name, text in STD.items())
-    parts += [f"# Names of Rattle's standard library\n\n| Name | Meaning |\n|---|---|\n{rows}"]
-    return "\n".join(f"//! {line}".rstrip() for line in "\n\n".join(parts).split("\n")) + "\n"

@@ -40,9 +40,9 @@ PLACES = {
     "numfmt": ("numfmt/src", "peltzivar", "std"),
 }
 
-# Files without a counterpart in plain Rust: roots and tests, which are written by hand, laws, examples, and a type that
-# core has.
-WRITTEN_ANEW = ("format_builder/non_zero.rt", "tests.rt")
+# Files without a counterpart in plain Rust: roots and getters of bytes, which are written by hand, tests, laws, examples,
+# and a type that core has.
+WRITTEN_ANEW = ("feature_format/bytes.rt", "format_builder/non_zero.rt", "tests.rt", "tests/rows.rt")
 LEFT_OUT = re.compile(rf"(lib|main|laws|examples)\.rt|{'|'.join(WRITTEN_ANEW)}|laws/.*")
 
 # In plain Rust `format` and `feature_format` are written by hand and take the word as a const argument, as in
@@ -50,8 +50,23 @@ LEFT_OUT = re.compile(rf"(lib|main|laws|examples)\.rt|{'|'.join(WRITTEN_ANEW)}|l
 MODULES = {"format": "word", "feature_format": "view"}
 VIEW = ("NumberFormat", "FormatView")
 
-# Tables of tests that plain Rust copies, and the folder of the copies.
-COPIED = {"lexical_tests/src/rows/*.rt": "tests/rows"}
+# Tests and their tables that plain Rust copies, and the folder of the copies. The other tests are only for Rattle.
+COPIED = {
+    "lexical_tests/src/rows/*.rt": "tests/known/rows",
+    "lexical_tests/src/*.rt": "tests/known",
+    "numfmt/src/tests/rows.rt": "numfmt/tests/program",
+}
+NOT_COPIED = {"lib.rt", "example.rt", "proved_callers.rt", "values.rt"}
+
+# The forms of tests in Rattle, and in plain Rust.
+TESTS = [
+    ("rattlefmt::skip", "rustfmt::skip"),
+    ("(rt: HostRuntime)", "()"),
+    (" -> Result<(), Fail>", ""),
+    ("    Ok(())\n", ""),
+    ("use std::test::Fail;\n", ""),
+    ("assert!(rt;", "assert!("),
+]
 
 # Texts that plain Rust replaces: the file, the text, and the replacement. The text and its replacement have the same number of lines.
 COMPARED = "#[derive(Clone, Copy, PartialEq, Eq, Hash)]"
@@ -81,7 +96,6 @@ SUBSTITUTIONS = [
 
 # Texts that plain Rust replaces in every file, wherever they occur.
 EVERYWHERE = [
-    ("#[rattlefmt::skip]", "#[rustfmt::skip]"),
     (".as_chunks::<", ".split_chunks::<"),
     ("fn fmt<W: fmt::Write>(&self, f: &mut fmt::Formatter<W>)", "fn fmt(&self, f: &mut fmt::Formatter<'_>)"),
 ]
@@ -100,14 +114,14 @@ HIDDEN = {
     "format_flags/rules.rt": "clashes options_error radix_error_impl format_error_impl check",
     "format_builder.rt": "from_parts to_parts with_flags",
     "edits/setters.rt": "FIELD_COUNT SETTERS ALL_SETTERS with_byte argument_byte field_edits_of",
-    "edits/text.rt": "SettingError::* from_text byte_from_decimal",
+    "edits/text.rt": "from_text byte_from_decimal",
     "reasons.rt": "MAX_REASONS CANDIDATE_COUNT reasons reasons_of",
     "reasons/note.rt": "MAX_NOTES notes notes_of_fields",
     "reasons/text.rt": "text",
 }
 
 # Enums that may grow.
-GROWING = {"Error", "Class", "Rule", "Reason", "Note", "FlagSetter"}
+GROWING = {"Error", "Class", "Rule", "Reason", "Note", "FlagSetter", "SettingErrorKind"}
 
 # Traits that a type also derives in plain Rust.
 DERIVED = {
@@ -115,7 +129,6 @@ DERIVED = {
     "Rule": "PartialOrd, Ord",
     "Reason": "Hash",
     "Note": "Hash",
-    "SettingError": "Hash",
     "FlagSetter": "PartialOrd, Ord",
     "Edit": "PartialOrd, Ord",
     "Setter": "PartialOrd, Ord",
@@ -403,7 +416,7 @@ def modules_of(folder):
     """Returns the modules of the sources that a root of plain Rust has, and the modules without counterpart."""
     text = "".join(path.read_text() for path in RUST.joinpath(folder).glob("*.rs") if path.stem in ("lib", "main"))
     sources = {made: name for name, made in MODULES.items()} if folder == LIBRARY[0] else {}
-    return {sources.get(name, name) for name in re.findall(r"^(?:pub )?mod (\w+);", text, re.M)} | {"laws", "examples"}
+    return {sources.get(name, name) for name in re.findall(r"^(?:pub )?mod (\w+);", text, re.M)} | {"laws", "examples", "tests"}
 
 
 def made_files():
@@ -429,10 +442,12 @@ def made_files():
             head = f"{MADE} from crates/{crate}/src/{name}: change that file.\n\n"
             files[RUST.joinpath(folder, first, *rest)] = laid_out(head + text)
     for pattern, folder in COPIED.items():
-        for path in sorted(CRATES.glob(pattern)):
+        for path in sorted(it for it in CRATES.glob(pattern) if it.name not in NOT_COPIED):
             text = f"{MADE} from crates/{path.relative_to(CRATES)}: change that file.\n\n{path.read_text()}"
-            text = renamed(text.replace("rattlefmt::skip", "rustfmt::skip"), "peltzivar", "std")
-            files[RUST.joinpath(folder, path.stem).with_suffix(".rs")] = laid_out(text)
+            for old, new in TESTS:
+                text = text.replace(old, new)
+            text = re.sub(r"format!\(in rt\.alloc\(\); ([^)]*)\)\?", r"format!(\1)", text)
+            files[RUST.joinpath(folder, path.stem).with_suffix(".rs")] = laid_out(renamed(text, "peltzivar", "std"))
     for file, old, _ in SUBSTITUTIONS:
         if not any(path.name == file.replace(".rt", ".rs") or path.stem == MODULES.get(file[:-3]) for path in files):
             raise Refused(f"{file} is no source, and this is to stand in it: {old}")
@@ -441,8 +456,6 @@ def made_files():
             raise Refused(f"no source has this text of EVERYWHERE: {old}")
     if unused := attributes.unused() + comments.unused():
         raise Refused(f"rows of tables that stand for nothing: {', '.join(unused)}")
-    head = f"{MADE} from crates/*/specs: change those files.\n\n"
-    files[RUST / "src/definitions.rs"] = laid_out(head + documentation.definitions())
     return files
 
 

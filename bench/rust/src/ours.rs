@@ -26,6 +26,10 @@ pub fn migrate(cases: &[u64]) -> u64 {
 
 // VIEWS
 
+fn byte_of(byte: Option<NonZeroU8>) -> u64 {
+    byte.map_or(0, |byte| byte.get().into())
+}
+
 macro_rules! getters {
     ({ $($Flag:ident $flag:ident $get:ident $CONST:ident;)* } $groups:tt) => {
         with_getters! { views ($($flag $CONST)*) }
@@ -42,7 +46,7 @@ macro_rules! views {
                 let (view, mut bits) = (FormatView::new(word), 0u64);
                 $(bits = bits << 1 | view.$flag() as u64;)*
                 $(bits = bits << 1 | view.$truth() as u64;)*
-                fold.with(bits)$(.with(view.$byte() as u64))*$(.with(view.$radix() as u64))*
+                fold.with(bits)$(.with(byte_of(view.$byte())))*$(.with(view.$radix() as u64))*
             })
         }
 
@@ -62,6 +66,6 @@ pub fn few_getters(cases: &[u64]) -> u64 {
         } else {
             view.mantissa_radix()
         };
-        fold.with(radix as u64).with(view.digit_separator() as u64)
+        fold.with(radix as u64).with(byte_of(view.digit_separator()))
     })
 }

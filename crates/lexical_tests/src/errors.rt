@@ -41,7 +41,7 @@ fn width_and_fill_do_not_change_a_text(rt: HostRuntime) -> Result<(), Fail> {
 fn outcomes_are_ordered_by_rank_and_then_by_index(rt: HostRuntime) {
     for (less, greater) in &ORDERED {
         assert!(rt;
-            less < greater && !(greater < less) && less != greater,
+            [less < greater, greater < less, less == greater] == [true, false, false],
             "{greater}"
         );
     }

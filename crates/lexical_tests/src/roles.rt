@@ -1,7 +1,5 @@
-//! Tests of the roles of bytes.
-
 use crate::rows::roles::{AFFIXED, BYTES, DIGITS, ROLES, SEPARATORS};
-use lexical_util::feature_format::NumberFormat;
+use lexical_util::format::NumberFormat;
 use lexical_util::format_flags::Part;
 
 #[test]

@@ -25,7 +25,8 @@ pub(crate) use setters::mask_of;
 pub use setters::{
     ALL_SETTERS, ArgumentKind, Edit, FIELD_COUNT, FlagSetter, SETTERS, Setter, field_edits_of,
 };
-pub use text::{SettingError, byte_from_decimal};
+pub(crate) use text::Fault;
+pub use text::{SettingError, SettingErrorKind, byte_from_decimal};
 
 /// Calls the setter of `edit` on `builder`, and returns the new builder.
 #[inline(always)]

@@ -22,6 +22,7 @@ macro_rules! has_any {
     };
 }
 
+mod bytes;
 mod getters;
 mod roles;
 
@@ -132,15 +133,6 @@ impl NumberFormat {
 
     // BYTES
 
-    /// Returns the [digit separator][NumberFormatBuilder::digit_separator], or 0 if it is absent. The byte is returned
-    /// even if no flag allows digit separators.
-    #[inline(always)]
-    pub const fn digit_separator(&self) -> u8
-        ensures { result ≡ (raw self.now).byte layout.digit_separator }
-    {
-        flags::digit_separator(self.format)
-    }
-
     /// Returns whether the digit separator byte is not 0.
     #[inline(always)]
     pub const fn has_digit_separator(&self) -> bool
@@ -149,28 +141,12 @@ impl NumberFormat {
         has_any!(self, DIGIT_SEPARATOR)
     }
 
-    /// Returns the [base prefix][NumberFormatBuilder::base_prefix], or 0 if it is absent.
-    #[inline(always)]
-    pub const fn base_prefix(&self) -> u8
-        ensures { result ≡ (raw self.now).byte layout.base_prefix }
-    {
-        flags::base_prefix(self.format)
-    }
-
     /// Returns whether the base prefix byte is not 0.
     #[inline(always)]
     pub const fn has_base_prefix(&self) -> bool
         ensures { IsTrue result ↔ ((raw self.now).byte layout.base_prefix ≢ 0) }
     {
         has_any!(self, BASE_PREFIX)
-    }
-
-    /// Returns the [base suffix][NumberFormatBuilder::base_suffix], or 0 if it is absent.
-    #[inline(always)]
-    pub const fn base_suffix(&self) -> u8
-        ensures { result ≡ (raw self.now).byte layout.base_suffix }
-    {
-        flags::base_suffix(self.format)
     }
 
     /// Returns whether the base suffix byte is not 0.

@@ -1,11 +1,37 @@
 //! Calls that check options, and that read the bytes of a number.
 
 use crate::numbers::{error_number, ErrorNumber, Word};
-use peltzivar::{digit, format_flags};
+use peltzivar::{format_flags, Part};
 
-/// The result for a byte that is not a digit. The result 255 would be ambiguous, since 255 is a digit in any radix
-/// above 255.
+/// The result for a byte that is not a digit.
 const NO_DIGIT: u32 = u32::MAX;
+
+/// The parts of a number in the order of their numbers.
+const PARTS: [Part; 3] = [Part::Integer, Part::Fraction, Part::Exponent];
+
+/// The number of a role: 0 for no role, and otherwise the index of a [`peltzivar::Role`] plus 1.
+type Role = u8;
+
+/// Where a part of a number may have digit separators.
+#[repr(C)]
+#[derive(Default)]
+pub struct Separators {
+    internal: bool,
+    leading: bool,
+    trailing: bool,
+    consecutive: bool,
+}
+
+impl From<peltzivar::Separators> for Separators {
+    fn from(allowed: peltzivar::Separators) -> Separators {
+        Separators {
+            internal: allowed.internal,
+            leading: allowed.leading,
+            trailing: allowed.trailing,
+            consecutive: allowed.consecutive,
+        }
+    }
+}
 
 #[unsafe(no_mangle)]
 pub extern "C" fn peltzivar_check_options(
@@ -22,18 +48,25 @@ pub extern "C" fn peltzivar_check_options(
 
 #[unsafe(no_mangle)]
 pub extern "C" fn peltzivar_mantissa_digit(format: Word, byte: u8) -> u32 {
-    peltzivar_char_to_digit(byte, format.view().mantissa_radix())
+    format.view().mantissa_digit(byte).unwrap_or(NO_DIGIT)
 }
 
 #[unsafe(no_mangle)]
 pub extern "C" fn peltzivar_exponent_digit(format: Word, byte: u8) -> u32 {
-    peltzivar_char_to_digit(byte, format.view().exponent_radix())
+    format.view().exponent_digit(byte).unwrap_or(NO_DIGIT)
+}
+
+#[unsafe(no_mangle)]
+pub extern "C" fn peltzivar_separators_of(format: Word, part: u8) -> Separators {
+    let part = PARTS.get(usize::from(part));
+    part.map_or(Separators::default(), |part| {
+        format.view().separators(*part).into()
+    })
 }
 
 #[unsafe(no_mangle)]
 pub extern "C" fn peltzivar_is_separator(format: Word, byte: u8) -> bool {
-    let view = format.view();
-    view.digit_separator_flags() != 0 && byte != 0 && byte == view.digit_separator()
+    format.view().is_separator(byte)
 }
 
 #[unsafe(no_mangle)]
@@ -47,15 +80,12 @@ pub extern "C" fn peltzivar_is_base_suffix(format: Word, byte: u8) -> bool {
 }
 
 #[unsafe(no_mangle)]
-pub extern "C" fn peltzivar_char_to_digit(byte: u8, radix: u32) -> u32 {
-    digit::char_to_digit(byte, radix).unwrap_or(NO_DIGIT)
-}
-
-#[unsafe(no_mangle)]
-pub extern "C" fn peltzivar_digit_to_char(digit: u32) -> u8 {
-    if digit < 36 {
-        digit::digit_to_char(digit)
-    } else {
-        0
-    }
+pub extern "C" fn peltzivar_role_of(
+    format: Word,
+    exponent: u8,
+    decimal_point: u8,
+    byte: u8,
+) -> Role {
+    let role = format.view().role_of(exponent, decimal_point, byte);
+    role.map_or(0, |role| role as Role + 1)
 }

@@ -83,17 +83,8 @@ pub const NO_SETTER: Setter = 255;
 
 const FIRST_GROUP: Setter = 128;
 
-const GROUPS: [FlagSetter; 9] = [
-    FlagSetter::RequiredDigits,
-    FlagSetter::InternalDigitSeparator,
-    FlagSetter::LeadingDigitSeparator,
-    FlagSetter::TrailingDigitSeparator,
-    FlagSetter::ConsecutiveDigitSeparator,
-    FlagSetter::DigitSeparatorFlags,
-    FlagSetter::IntegerDigitSeparatorFlags,
-    FlagSetter::FractionDigitSeparatorFlags,
-    FlagSetter::ExponentDigitSeparatorFlags,
-];
+/// The groups, which follow the 31 flags in the list of all setters.
+const GROUPS: &[FlagSetter] = FlagSetter::ALL.split_at(31).1;
 
 /// An edit as the number of its setter and a value.
 #[repr(C)]
@@ -143,127 +134,39 @@ impl NumberedEdit {
 
 impl From<Edit> for NumberedEdit {
     fn from(edit: Edit) -> NumberedEdit {
-        let value = match edit {
-            Edit::Flag(_, value) => u8::from(value),
-            Edit::MantissaRadix(radix) | Edit::Radix(radix) => radix,
-            Edit::DigitSeparator(byte)
-            | Edit::BasePrefix(byte)
-            | Edit::BaseSuffix(byte)
-            | Edit::ExponentBase(byte)
-            | Edit::ExponentRadix(byte) => byte_or_zero(byte),
-        };
         let mut groups = (FIRST_GROUP..).zip(GROUPS);
         let group =
-            groups.find(|(_, group)| matches!(edit, Edit::Flag(setter, _) if setter == *group));
+            groups.find(|(_, group)| matches!(edit, Edit::Flag(setter, _) if setter == **group));
         NumberedEdit {
             setter: group.map_or(edit.mask().trailing_zeros() as Setter, |(number, _)| number),
-            value,
+            value: edit.argument_byte(),
         }
     }
 }
 
-/// The rules in the order of their numbers, which begin with 1.
-const RULES: [Rule; 16] = [
-    Rule::MantissaRadixInRange,
-    Rule::ExponentBaseInRange,
-    Rule::ExponentRadixInRange,
-    Rule::DigitSeparatorIsPunctuation,
-    Rule::BasePrefixIsPunctuation,
-    Rule::BaseSuffixIsPunctuation,
-    Rule::PunctuationDiffers,
-    Rule::ExponentFlagsAgree,
-    Rule::MantissaSignFlagsAgree,
-    Rule::ExponentSignFlagsAgree,
-    Rule::SpecialCaseFlagsAgree,
-    Rule::SpecialSeparatorFlagsAgree,
-    Rule::IntegerConsecutiveIsAllowed,
-    Rule::FractionConsecutiveIsAllowed,
-    Rule::ExponentConsecutiveIsAllowed,
-    Rule::ReservedBitsAreZero,
-];
-
 /// Returns the rules that a word breaks because of a reason. Bit n is the rule with the number n.
 pub fn broken_rules(reason: Reason) -> u32 {
-    let numbered = (1..).zip(RULES);
-    let broken = numbered.filter(|(_, rule)| reason.breaks(*rule));
+    let numbered = (1..).zip(Rule::ALL);
+    let broken = numbered.filter(|(_, rule)| reason.breaks(**rule));
     broken.fold(0, |bits, (number, _)| bits | 1 << number)
 }
 
-/// The number that C uses for an [`Error`]: 0 for success, then the parse errors, then the other errors.
+/// The number that C uses for an [`Error`]: 0 for success, and otherwise the rank plus 1.
 pub type ErrorNumber = u32;
-
-/// The parse errors, which have an index. The first has the number 1.
-const PARSE_ERRORS: [fn(usize) -> Error; 19] = [
-    Error::Overflow,
-    Error::Underflow,
-    Error::InvalidDigit,
-    Error::Empty,
-    Error::EmptyMantissa,
-    Error::EmptyExponent,
-    Error::EmptyInteger,
-    Error::EmptyFraction,
-    Error::InvalidPositiveMantissaSign,
-    Error::MissingMantissaSign,
-    Error::InvalidExponent,
-    Error::InvalidPositiveExponentSign,
-    Error::MissingExponentSign,
-    Error::ExponentWithoutFraction,
-    Error::InvalidLeadingZeros,
-    Error::MissingExponent,
-    Error::MissingSign,
-    Error::InvalidPositiveSign,
-    Error::InvalidNegativeSign,
-];
-
-/// The other errors. The first has the number after the last parse error.
-const OTHER_ERRORS: [Error; 29] = [
-    Error::InvalidMantissaRadix,
-    Error::InvalidExponentBase,
-    Error::InvalidExponentRadix,
-    Error::InvalidDigitSeparator,
-    Error::InvalidDecimalPoint,
-    Error::InvalidExponentSymbol,
-    Error::InvalidBasePrefix,
-    Error::InvalidBaseSuffix,
-    Error::InvalidPunctuation,
-    Error::InvalidExponentFlags,
-    Error::InvalidMantissaSign,
-    Error::InvalidExponentSign,
-    Error::InvalidSpecial,
-    Error::InvalidConsecutiveIntegerDigitSeparator,
-    Error::InvalidConsecutiveFractionDigitSeparator,
-    Error::InvalidConsecutiveExponentDigitSeparator,
-    Error::InvalidFlags,
-    Error::InvalidNanString,
-    Error::NanStringTooLong,
-    Error::InvalidInfString,
-    Error::InfStringTooLong,
-    Error::InvalidInfinityString,
-    Error::InfinityStringTooLong,
-    Error::InfinityStringTooShort,
-    Error::InvalidFloatParseAlgorithm,
-    Error::InvalidRadix,
-    Error::InvalidFloatPrecision,
-    Error::InvalidNegativeExponentBreak,
-    Error::InvalidPositiveExponentBreak,
-];
 
 /// Returns the number of an error or of success.
 pub fn error_number(error: Error) -> ErrorNumber {
-    let index = error.index().copied().unwrap_or(0);
-    let parse = PARSE_ERRORS.iter().position(|it| it(index) == error);
-    let other = || OTHER_ERRORS.iter().position(|it| *it == error);
-    let place = parse.or_else(|| Some(PARSE_ERRORS.len() + other()?));
-    place.map_or(0, |place| place as u32 + 1)
+    match error {
+        Error::Success => 0,
+        _ => ErrorNumber::from(error.rank()) + 1,
+    }
 }
 
 /// Returns the error with a number. A parse error holds `index`.
 pub fn error_of(number: ErrorNumber, index: usize) -> Option<Error> {
-    let Some(place) = (number as usize).checked_sub(1) else {
+    let Some(rank) = number.checked_sub(1) else {
         return Some(Error::Success);
     };
-    match PARSE_ERRORS.get(place) {
-        Some(error) => Some(error(index)),
-        None => OTHER_ERRORS.get(place - PARSE_ERRORS.len()).copied(),
-    }
+    let error = Error::from_rank(u8::try_from(rank).ok()?, index)?;
+    (error_number(error) == number).then_some(error)
 }

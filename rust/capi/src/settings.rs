@@ -3,25 +3,11 @@
 use crate::arguments::{input, write_text, Out};
 use crate::numbers::{edit_of, NumberedEdit, Setter, Word, NO_SETTER};
 use core::str::from_utf8;
-use peltzivar::Edit;
+use peltzivar::{Edit, SettingError};
 
-/// Why a string is not a setting, with the numbers of C. 0 is a setting.
-#[repr(u32)]
-#[derive(Clone, Copy)]
-enum Refusal {
-    UnknownName = 1,
-    BadValue = 2,
-    NoEquals = 3,
-}
-
-/// Parses a setting. A name that is not UTF-8 is the name of no setter.
-fn parsed(setting: &[u8]) -> Result<Edit, Refusal> {
-    let setting = from_utf8(setting).map_err(|_| Refusal::UnknownName)?;
-    let (name, value) = setting.split_once('=').ok_or(Refusal::NoEquals)?;
-    Edit::from_setting(name, value).map_err(|error| match error.name() {
-        Some(_) => Refusal::BadValue,
-        None => Refusal::UnknownName,
-    })
+/// Parses a setting. A string that is not UTF-8 is read as one with an unknown name.
+fn parsed(setting: &[u8]) -> Result<Edit, SettingError> {
+    from_utf8(setting).unwrap_or("=").parse()
 }
 
 #[unsafe(no_mangle)]
@@ -29,14 +15,12 @@ pub unsafe extern "C" fn peltzivar_parse_edit(
     text: *const u8,
     len: usize,
     out: Out<NumberedEdit>,
-) -> u32 {
-    match parsed(input(text, len)) {
-        Ok(edit) => {
-            out.write(edit.into());
-            0
-        }
-        Err(refusal) => refusal as u32,
+) -> bool {
+    let edit = parsed(input(text, len));
+    if let Ok(edit) = edit {
+        out.write(edit.into());
     }
+    edit.is_ok()
 }
 
 #[unsafe(no_mangle)]
@@ -46,9 +30,7 @@ pub unsafe extern "C" fn peltzivar_setting_error_text(
     to: *mut u8,
     to_len: usize,
 ) -> usize {
-    // A string that is not UTF-8 is read as one with an unknown name.
-    let setting = from_utf8(input(text, len)).unwrap_or("=");
-    write_text(to, to_len, setting.parse::<Edit>().err())
+    write_text(to, to_len, parsed(input(text, len)).err())
 }
 
 #[unsafe(no_mangle)]

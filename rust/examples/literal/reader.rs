@@ -3,7 +3,7 @@
 
 use core::{num::NonZeroU8, ops::Range};
 use peltzivar::edits::edit_word;
-use peltzivar::{Edit, Error, Error::*, FlagSetter, Format, FormatView, Part};
+use peltzivar::{Edit, Error, Error::*, FlagSetter, Format, Part};
 
 /// The properties of numbers that a format does not define.
 pub struct Options<'a> {
@@ -44,49 +44,46 @@ pub struct Refusal {
 /// Finds the parts of `text`, which may be any bytes. Without options, only an integer is a literal. [`Format::of`]
 /// returns a format that is known at compile time.
 pub fn read(format: Format, options: Option<&Options>, text: &[u8]) -> Result<Parts, Refusal> {
-    parts(format, options, text).map_err(|error| {
-        let flags = FlagSetter::ALL.iter().take(31);
-        let flips = flags.map(|flag| Edit::Flag(*flag, !flag.is_set(format.word())));
-        let byte = error.index().and_then(|index| text.get(*index));
-        let digit = byte.and_then(|byte| char::from(*byte).to_digit(36));
-        let radix = digit.map_or(0, |digit| digit as u8 + 1);
-        let radixes = [
-            Edit::MantissaRadix(radix),
-            Edit::ExponentRadix(NonZeroU8::new(radix)),
-        ];
-        let helps = |edit: &Edit| {
-            let edited = Format::new(edit_word(format.word(), &[*edit]));
-            edited.is_ok_and(|edited| match parts(edited, options, text) {
-                Ok(_) => true,
-                Err(other) => other.index() > error.index(),
-            })
-        };
-        let edit = flips.chain(radixes).find(helps);
-        Refusal { error, edit }
-    })
+    let (parts, result) = scan(format, options, text);
+    let Err(error) = result else { return Ok(parts) };
+    let flags = FlagSetter::ALL.iter().take(31);
+    let flips = flags.map(|flag| Edit::Flag(*flag, !flag.is_set(format.word())));
+    let byte = error.index().and_then(|index| text.get(*index));
+    let digit = byte.and_then(|byte| char::from(*byte).to_digit(36));
+    let radix = digit.map_or(0, |digit| digit as u8 + 1);
+    let radixes = [
+        Edit::MantissaRadix(radix),
+        Edit::ExponentRadix(NonZeroU8::new(radix)),
+    ];
+    let helps = |edit: &Edit| {
+        let edited = Format::new(edit_word(format.word(), &[*edit]));
+        edited.is_ok_and(|edited| match scan(edited, options, text) {
+            (_, Ok(())) => true,
+            (_, Err(other)) => other.index() > error.index(),
+        })
+    };
+    let edit = flips.chain(radixes).find(helps);
+    Err(Refusal { error, edit })
 }
 
-fn parts(format: Format, options: Option<&Options>, text: &[u8]) -> Result<Parts, Error> {
-    if let Some(options) = options {
-        format.check_options(options.exponent, options.point)?;
-    }
+type Scan = (Parts, Result<(), Error>);
+
+/// Finds the parts of `text`. If it is not a literal, returns the parts that were read before the error, and the error.
+pub fn scan(format: Format, options: Option<&Options>, text: &[u8]) -> Scan {
     let mut reader = Reader {
-        format: format.view(),
+        format,
         options,
         text,
         at: 0,
         parts: Parts::default(),
     };
-    reader.sign()?;
-    let start = reader.at;
-    let Err(error) = reader.number() else {
-        return Ok(reader.parts);
-    };
-    reader.special(start).ok_or(error)
+    let fit = options.map_or(Ok(()), |it| format.check_options(it.exponent, it.point));
+    let result = fit.map_err(Error::from).and_then(|()| reader.literal());
+    (reader.parts, result)
 }
 
 struct Reader<'a> {
-    format: FormatView,
+    format: Format,
     options: Option<&'a Options<'a>>,
     text: &'a [u8],
     /// The index of the next byte.
@@ -134,6 +131,13 @@ impl Reader<'_> {
         self.parts[token as usize] = self.at..self.at + length;
         self.at += length;
         length > 0
+    }
+
+    fn literal(&mut self) -> Result<(), Error> {
+        self.sign()?;
+        let start = self.at;
+        self.number()
+            .or_else(|error| self.special(start).ok_or(error))
     }
 
     fn sign(&mut self) -> Result<(), Error> {
@@ -221,24 +225,25 @@ impl Reader<'_> {
             refuse_if!(count > 0 && !is_allowed => InvalidDigit(separators));
             refuse_if!(count > 1 && !allowed.consecutive => InvalidDigit(separators + 1));
             refuse_if!(count > 0 && first.is_none() && !is_digit => InvalidDigit(self.at));
+            first = first.or(is_digit.then_some(self.at));
+            self.at += usize::from(is_digit);
+            self.parts[token as usize] = start..self.at;
             if !is_digit {
-                self.parts[token as usize] = start..self.at;
                 return Ok(first);
             }
-            first = first.or(Some(self.at));
-            self.at += 1;
         }
     }
 
-    /// Returns the parts of a text whose bytes from `start` on are a special value.
-    fn special(&self, start: usize) -> Option<Parts> {
+    /// Takes a special value: the bytes from `start` on.
+    fn special(&mut self, start: usize) -> Option<()> {
         let (text, options) = (&self.text[start..], self.options?);
         let is_special = |own: &&[u8]| self.letters(own).eq(self.letters(text));
-        let is_found = options.specials.iter().any(is_special);
-        let mut parts = Parts::default();
-        parts[Token::Sign as usize] = 0..start;
-        parts[Token::Special as usize] = start..self.text.len();
-        (is_found && !self.format.no_special()).then_some(parts)
+        let is_found = options.specials.iter().any(is_special) && !self.format.no_special();
+        is_found.then(|| {
+            self.parts = Parts::default();
+            self.parts[Token::Sign as usize] = 0..start;
+            self.parts[Token::Special as usize] = start..self.text.len();
+        })
     }
 
     /// Returns the bytes of a special value that count.

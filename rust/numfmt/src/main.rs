@@ -1,6 +1,6 @@
 //! `numfmt` shows, edits, compares, checks, explains and migrates number formats, and prints them as Rust code. This
-//! file and `tests` are written by hand. `rust/tools/erase.py` generates the other files from `crates/numfmt`, whose
-//! `src/main.rt` describes the commands.
+//! file is written by hand. `rust/tools/erase.py` generates the other files from `crates/numfmt`, whose `src/main.rt`
+//! describes the commands.
 //!
 //! In two cases, std makes the exit status differ from the proved program's. If memory runs out, this program aborts.
 //! Standard output that is closed or read-only is treated as `/dev/null`.
@@ -9,8 +9,6 @@
 mod answer;
 #[allow(clippy::ptr_arg, reason = "as it is proved")]
 mod program;
-#[cfg(test)]
-mod tests;
 mod word;
 
 use std::env;

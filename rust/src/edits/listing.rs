@@ -13,9 +13,8 @@ use crate::format_flags as flags;
 /// For all arguments:
 ///
 /// - The result is true if and only if the reserved bits are 0 and the digit separator is absent or allowed by a
-///   flag ([`IsBuilt`](crate::definitions#isbuilt)).
-/// - The result is true if and only if setter calls on a new builder can build the word
-///   ([`IsBuiltByWrites`](crate::definitions#isbuiltbywrites)).
+///   flag (`IsBuilt`).
+/// - The result is true if and only if setter calls on a new builder can build the word (`IsBuiltByWrites`).
 ///
 /// ```text
 /// ensures rule { IsTrue result ↔ IsBuilt format }
@@ -56,21 +55,15 @@ const fn is_separator_allowed_or_absent(format: u128) -> bool {
 ///
 /// For all arguments:
 ///
-/// - The edits in the array make the writes that the word needs
-///   ([`needed_writes`](crate::definitions#needed_writes)), followed by the other writes
-///   ([`other_writes`](crate::definitions#other_writes)). There is one edit for each write
-///   ([`IsEditOf`](crate::definitions#iseditof)).
-/// - The returned number is the number of writes that the word needs
-///   ([`needed_writes`](crate::definitions#needed_writes)).
-/// - Each value that an edit writes fits its field ([`IsLegal`](crate::definitions#islegal)).
-/// - The needed writes, applied to a new builder ([`after`](crate::definitions#after),
-///   [`new_record`](crate::definitions#new_record)), give the fields ([`raw`](crate::definitions#raw)) of the
-///   word.
-/// - All writes, applied to a new builder, also give the fields ([`raw`](crate::definitions#raw)) of the word.
-/// - Packing these fields ([`pack`](crate::definitions#pack)) gives the word if and only if a builder can build
-///   the word ([`IsBuilt`](crate::definitions#isbuilt)).
-/// - No list of legal writes ([`IsLegal`](crate::definitions#islegal)) with fewer entries than the returned
-///   number builds the word from a new builder.
+/// - The edits in the array make the writes that the word needs (`needed_writes`), followed by the other writes
+///   (`other_writes`). There is one edit for each write (`IsEditOf`).
+/// - The returned number is the number of writes that the word needs (`needed_writes`).
+/// - Each value that an edit writes fits its field (`IsLegal`).
+/// - The needed writes, applied to a new builder (`after`, `new_record`), give the fields (`raw`) of the word.
+/// - All writes, applied to a new builder, also give the fields (`raw`) of the word.
+/// - Packing these fields (`pack`) gives the word if and only if a builder can build the word (`IsBuilt`).
+/// - No list of legal writes (`IsLegal`) with fewer entries than the returned number builds the word from a new
+///   builder.
 ///
 /// ```text
 /// ensures list { AllZip IsEditOf (needed_writes (raw format) ++ other_writes (raw format)) result.0 }

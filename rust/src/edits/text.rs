@@ -11,26 +11,45 @@ use core::fmt;
 ///
 /// The error message never repeats any part of the string, since the string may come from an untrusted file.
 #[derive(Debug, Clone, Copy, PartialEq, Eq, Hash)]
-pub enum SettingError {
-    /// The string has no `=`.
-    #[doc(hidden)]
+pub struct SettingError(pub(crate) Fault);
+
+// What is wrong with a string that is not a setting. `BadValue` has the setter that does not take the value.
+#[derive(Debug, Clone, Copy, PartialEq, Eq, Hash)]
+pub(crate) enum Fault {
     NoEquals,
-    /// No setter has the name before the `=`.
-    #[doc(hidden)]
     UnknownName,
-    /// The setter does not take the value.
-    #[doc(hidden)]
     BadValue(Setter),
 }
 
+/// What is wrong with a string that is not a setting.
+#[derive(Debug, Clone, Copy, PartialEq, Eq, Hash)]
+#[non_exhaustive]
+pub enum SettingErrorKind {
+    /// The string has no `=`.
+    NoEquals,
+    /// No setter has the name.
+    UnknownName,
+    /// The setter does not take the value.
+    BadValue,
+}
+
 impl SettingError {
-    /// Returns the name of the setter that does not take the value. Returns `None` if the string has no `=`, or if no
-    /// setter has the name.
+    /// Returns what is wrong.
+    #[must_use]
+    pub const fn kind(&self) -> SettingErrorKind {
+        match self.0 {
+            Fault::NoEquals => SettingErrorKind::NoEquals,
+            Fault::UnknownName => SettingErrorKind::UnknownName,
+            Fault::BadValue(_) => SettingErrorKind::BadValue,
+        }
+    }
+
+    /// Returns the name of the setter that does not take the value. Returns `None` for any other kind of error.
     #[must_use]
     pub const fn name(&self) -> Option<&'static str> {
-        match self {
-            SettingError::NoEquals | SettingError::UnknownName => None,
-            SettingError::BadValue(setter) => Some(setter.name()),
+        match self.0 {
+            Fault::NoEquals | Fault::UnknownName => None,
+            Fault::BadValue(setter) => Some(setter.name()),
         }
     }
 }
@@ -38,12 +57,10 @@ impl SettingError {
 /// Prints the error message, such as ``no_special takes `true` or `false` `` or `unknown setting name`.
 impl fmt::Display for SettingError {
     fn fmt(&self, f: &mut fmt::Formatter<'_>) -> fmt::Result {
-        match self {
-            SettingError::NoEquals => f.write_str("expected NAME=VALUE"),
-            SettingError::UnknownName => f.write_str("unknown setting name"),
-            SettingError::BadValue(setter) => {
-                write!(f, "{} takes {}", setter.name(), taken(*setter))
-            }
+        match self.0 {
+            Fault::NoEquals => f.write_str("expected NAME=VALUE"),
+            Fault::UnknownName => f.write_str("unknown setting name"),
+            Fault::BadValue(setter) => write!(f, "{} takes {}", setter.name(), taken(setter)),
         }
     }
 }
@@ -86,22 +103,56 @@ impl Setter {
         };
         match byte {
             Some(byte) => Ok(self.with_byte(byte)),
-            None => Err(SettingError::BadValue(self)),
+            None => Err(self.refusal()),
         }
+    }
+
+    // Returns the error for a value that the setter does not take.
+    const fn refusal(self) -> SettingError {
+        SettingError(Fault::BadValue(self))
+    }
+}
+
+// Returns the setter with a name.
+fn setter_named(name: &str) -> Result<Setter, SettingError> {
+    match Setter::from_name(name) {
+        Some(setter) => Ok(setter),
+        None => Err(SettingError(Fault::UnknownName)),
     }
 }
 
 impl Edit {
+    /// Returns the edit that calls the flag setter or group setter `name` with `flag`.
+    ///
+    /// # Errors
+    ///
+    /// Returns a [`SettingError`] if no setter has the name, or if the setter takes a byte.
+    pub fn flag(name: &str, flag: bool) -> Result<Edit, SettingError> {
+        match setter_named(name)? {
+            Setter::Flag(setter) => Ok(Edit::Flag(setter, flag)),
+            setter => Err(setter.refusal()),
+        }
+    }
+
+    /// Returns the edit that calls the byte setter `name` with `byte`. If the byte may be absent, 0 means absent.
+    ///
+    /// # Errors
+    ///
+    /// Returns a [`SettingError`] if no setter has the name, or if the setter takes a flag.
+    pub fn byte(name: &str, byte: u8) -> Result<Edit, SettingError> {
+        match setter_named(name)? {
+            setter @ Setter::Flag(_) => Err(setter.refusal()),
+            setter => Ok(setter.with_byte(byte)),
+        }
+    }
+
     /// Parses `value` as the argument of the setter `name`, as [`Setter::parse`] does.
     ///
     /// # Errors
     ///
     /// Returns a [`SettingError`] if no setter has the name, or if the setter does not take the value.
     pub fn from_setting(name: &str, value: &str) -> Result<Edit, SettingError> {
-        match Setter::from_name(name) {
-            Some(setter) => setter.parse(value),
-            None => Err(SettingError::UnknownName),
-        }
+        setter_named(name)?.parse(value)
     }
 
     /// Parses `text` as `NAME=VALUE`, split at the first `=`.
@@ -116,7 +167,7 @@ impl Edit {
     pub fn from_text(text: &str) -> Result<Edit, SettingError> {
         match text.split_once('=') {
             Some((name, value)) => Edit::from_setting(name, value),
-            None => Err(SettingError::NoEquals),
+            None => Err(SettingError(Fault::NoEquals)),
         }
     }
 }

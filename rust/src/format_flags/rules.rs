@@ -242,11 +242,10 @@ const fn is_disjoint_from_format_roles(format: u128, byte: u8, case_sensitive: b
 ///
 /// For all arguments:
 ///
-/// - The result is true if and only if both bytes fit the format ([`OptionsFit`](crate::definitions#optionsfit)).
-/// - For a [`Lawful`](crate::definitions#lawful) word, the result is true if and only if both bytes are allowed
-///   ASCII, and no byte plays two roles ([`OptionsHaveOneRole`](crate::definitions#optionshaveonerole)).
-/// - For each [`Lawful`](crate::definitions#lawful) word there is a pair of bytes that fits
-///   ([`SomeOptionsFit`](crate::definitions#someoptionsfit)).
+/// - The result is true if and only if both bytes fit the format (`OptionsFit`).
+/// - For a `Lawful` word, the result is true if and only if both bytes are allowed ASCII, and no byte plays two
+///   roles (`OptionsHaveOneRole`).
+/// - For each `Lawful` word there is a pair of bytes that fits (`SomeOptionsFit`).
 ///
 /// ```text
 /// ensures accepted { IsTrue result ↔ OptionsFit format exponent decimal_point }

@@ -62,7 +62,8 @@ impl FormatView {
     #[must_use]
     #[inline(always)]
     pub const fn is_separator(&self, byte: u8) -> bool {
-        flags::is_separator_allowed(self.format) && is_byte(self.digit_separator(), true, byte)
+        let own = flags::digit_separator(self.format);
+        flags::is_separator_allowed(self.format) && is_byte(own, true, byte)
     }
 
     /// Returns whether `byte` is the base prefix. A base prefix that is a letter matches both cases unless
@@ -70,7 +71,8 @@ impl FormatView {
     #[must_use]
     #[inline(always)]
     pub const fn is_base_prefix(&self, byte: u8) -> bool {
-        is_byte(self.base_prefix(), self.case_sensitive_base_prefix(), byte)
+        let own = flags::base_prefix(self.format);
+        is_byte(own, self.case_sensitive_base_prefix(), byte)
     }
 
     /// Returns whether `byte` is the base suffix. A base suffix that is a letter matches both cases unless
@@ -78,7 +80,8 @@ impl FormatView {
     #[must_use]
     #[inline(always)]
     pub const fn is_base_suffix(&self, byte: u8) -> bool {
-        is_byte(self.base_suffix(), self.case_sensitive_base_suffix(), byte)
+        let own = flags::base_suffix(self.format);
+        is_byte(own, self.case_sensitive_base_suffix(), byte)
     }
 
     /// Returns whether `byte` is the exponent character `exponent`, which options choose. An exponent character that is

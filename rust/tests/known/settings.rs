@@ -1,112 +1,30 @@
-//! Settings by setter, name and text.
+//! Settings as text.
 
-use peltzivar::edits::{byte_from_decimal, ArgumentKind, Edit, FlagSetter, Setter, SettingError};
+use peltzivar::edits::{ArgumentKind, Edit, FlagSetter, Setter};
+use peltzivar::SettingErrorKind::{BadValue, NoEquals, UnknownName};
 use std::num::NonZeroU8;
 
-/// Flag setters and group setters come first, then byte setters.
-#[test]
-fn setters_have_their_names() {
-    let bytes = [
-        "digit_separator",
-        "base_prefix",
-        "base_suffix",
-        "mantissa_radix",
-        "radix",
-        "exponent_base",
-        "exponent_radix",
-    ];
-    let flags = FlagSetter::ALL.iter().map(|setter| setter.name());
-    let names: Vec<&str> = flags.chain(bytes).collect();
-    assert_eq!(Edit::NAMES, names);
-    for (setter, name) in Setter::ALL.iter().zip(names) {
-        assert_eq!(
-            (setter.name(), Setter::from_name(name)),
-            (name, Some(*setter))
-        );
-    }
-    for name in ["", "digit", "radix ", "RADIX"] {
-        assert_eq!(Setter::from_name(name), None, "{name}");
-    }
-}
-
-/// All 1,872 edits: each has the text `NAME=VALUE`, and is parsed from it.
+/// All 1,872 edits: each is printed as `NAME=VALUE`, and is parsed from this text.
 #[test]
 fn edits_are_read_back() {
-    let mut count = 0;
-    for setter in Setter::ALL {
-        let last = if setter.kind() == ArgumentKind::Flag {
-            1
-        } else {
-            255
-        };
-        for byte in 0..=last {
+    assert_eq!((FlagSetter::ALL.len(), Setter::ALL.len()), (40, 47));
+    for (setter, name) in Setter::ALL.iter().zip(Edit::NAMES) {
+        let is_flag = setter.kind() == ArgumentKind::Flag;
+        for byte in 0..=if is_flag { 1 } else { 255 } {
             let edit = setter.with_byte(byte);
             let value = match (setter.kind(), byte) {
                 (ArgumentKind::Flag, _) => (byte == 1).to_string(),
                 (ArgumentKind::OptionalByte, 0) => "none".to_string(),
                 _ => byte.to_string(),
             };
-            assert_eq!((edit.setter(), edit.argument_byte()), (*setter, byte));
-            assert_eq!(edit.to_string(), format!("{}={value}", setter.name()));
-            assert_eq!(edit.to_string().parse(), Ok(edit));
+            assert_eq!(edit.to_string(), format!("{name}={value}"));
+            assert_eq!(Edit::from_setting(name, &value), Ok(edit));
             assert_eq!(
-                (setter.parse(&value), edit.mask()),
+                (edit.to_string().parse(), edit.mask()),
                 (Ok(edit), setter.mask())
             );
-            count += 1;
         }
     }
-    assert_eq!(count, 80 + 7 * 256);
-}
-
-#[test]
-fn an_edit_has_the_bits_that_it_writes() {
-    #[rustfmt::skip]
-    let rows = [
-        (Edit::Flag(FlagSetter::SpecialDigitSeparator, false), 1 << 44),
-        (Edit::Flag(FlagSetter::RequiredDigits, true), 0xF),
-        (Edit::DigitSeparator(None), 0xFF << 64),
-        (Edit::BasePrefix(None), 0xFF << 88),
-        (Edit::BaseSuffix(None), 0xFF << 96),
-        (Edit::MantissaRadix(0), 0xFF << 104),
-        (Edit::Radix(0), 0xFF << 104),
-        (Edit::ExponentBase(None), 0xFF << 112),
-        (Edit::ExponentRadix(None), 0xFF << 120),
-    ];
-    for (edit, mask) in rows {
-        assert_eq!(edit.mask(), mask, "{edit}");
-    }
-}
-
-#[test]
-fn settings_are_read() {
-    const BAD_FLAG: SettingError = SettingError::BadValue(Setter::Flag(FlagSetter::NoSpecial));
-    #[rustfmt::skip]
-    let rows = [
-        ("no_special=true", Ok(Edit::Flag(FlagSetter::NoSpecial, true))),
-        ("digit_separator_flags=false", Ok(Edit::Flag(FlagSetter::DigitSeparatorFlags, false))),
-        ("mantissa_radix=016", Ok(Edit::MantissaRadix(16))),
-        ("radix=0", Ok(Edit::Radix(0))),
-        ("base_prefix=120", Ok(Edit::BasePrefix(NonZeroU8::new(b'x')))),
-        ("base_suffix=none", Ok(Edit::BaseSuffix(None))),
-        ("exponent_base=0", Ok(Edit::ExponentBase(None))),
-        ("exponent_radix=255", Ok(Edit::ExponentRadix(NonZeroU8::new(255)))),
-        ("digit_separator='='", Ok(Edit::DigitSeparator(NonZeroU8::new(b'=')))),
-        ("", Err(SettingError::NoEquals)),
-        ("no_special", Err(SettingError::NoEquals)),
-        ("colour", Err(SettingError::NoEquals)),
-        ("=", Err(SettingError::UnknownName)),
-        ("no_special =true", Err(SettingError::UnknownName)),
-        ("no_special=1", Err(BAD_FLAG)),
-        ("no_special=256", Err(BAD_FLAG)),
-        ("no_special='1'", Err(BAD_FLAG)),
-        ("no_special=true=true", Err(BAD_FLAG)),
-    ];
-    for (text, edit) in rows {
-        assert_eq!(Edit::from_text(text), edit, "{text}");
-        assert_eq!(text.parse(), edit, "{text}");
-    }
-    assert_eq!(Edit::from_setting("radix", "8"), Ok(Edit::Radix(8)));
 }
 
 /// A byte is a character between quotes, hexadecimal digits after `0x`, or decimal digits.
@@ -114,25 +32,18 @@ fn settings_are_read() {
 fn each_byte_setter_reads_the_same_values() {
     #[rustfmt::skip]
     let bytes = [
-        ("'_'", 0x5F), ("'''", 0x27), ("' '", 0x20), ("'\0'", 0), ("'\x7F'", 0x7F),
+        ("'_'", 0x5F), ("'''", 0x27), ("' '", 0x20), ("'='", 0x3D), ("'\0'", 0), ("'\x7F'", 0x7F),
         ("0x5F", 0x5F), ("0x5f", 0x5F), ("0x0", 0), ("0xff", 255), ("0x10", 16),
         ("0", 0), ("16", 16), ("016", 16), ("255", 255),
     ];
     #[rustfmt::skip]
-    let bad = [
-        "''", "'", "'ab'", "'_", "_'", "\"_\"", "'\u{E9}'", "\u{E9}", "'_' ", " '_'", "x", "_",
+    let refused = [
+        "''", "'", "'ab'", "'_", "_'", "\"_\"", "'\u{E9}'", "\u{E9}", "'_' ", " '_'", "x", "_", "true",
         "0x", "0X5F", "0xg1", "0x1g", "0x-1", "0x_", "x5F", "5F", "-1", "+1", "1_0", "", " 1", "NONE",
-    ];
-    let large = [
-        "0x100",
-        "0x05F",
-        "256",
-        "0016",
-        "99999999999999999999",
-        "0xFFFFFFFFFFFFFFFFFFFFFFFFFFFFFFFFF",
+        "0x100", "0x05F", "256", "0016", "99999999999999999999", "0xFFFFFFFFFFFFFFFFFFFFFFFFFFFFFFFFF",
     ];
     for setter in &Setter::ALL[40..] {
-        let read = |value| Edit::from_setting(setter.name(), value);
+        let read = |value| format!("{}={value}", setter.name()).parse();
         for (value, byte) in bytes {
             assert_eq!(
                 read(value),
@@ -140,70 +51,76 @@ fn each_byte_setter_reads_the_same_values() {
                 "{setter:?} {value}"
             );
         }
-        let refused = Err(SettingError::BadValue(*setter));
-        for value in bad.iter().chain(&large) {
-            assert_eq!(read(value), refused, "{setter:?} {value}");
+        for value in refused {
+            assert!(read(value).is_err(), "{setter:?} {value}");
         }
-        let absent = match setter.kind() {
-            ArgumentKind::OptionalByte => Ok(setter.with_byte(0)),
-            _ => refused,
-        };
-        assert_eq!(read("none"), absent, "{setter:?}");
+        let is_optional = setter.kind() == ArgumentKind::OptionalByte;
+        assert_eq!(
+            read("none").ok(),
+            is_optional.then_some(setter.with_byte(0)),
+            "{setter:?}"
+        );
     }
 }
 
-#[test]
-fn a_byte_in_decimal_has_one_to_three_digits() {
-    for (text, byte) in [("0", 0), ("007", 7), ("8", 8), ("255", 255)] {
-        assert_eq!(byte_from_decimal(text), Some(byte), "{text}");
-    }
-    for text in [
-        "", "256", "800", "0008", "-1", "+1", "1e", "'8'", "0x8", "none",
-    ] {
-        assert_eq!(byte_from_decimal(text), None, "{text}");
-    }
-}
-
-/// The sentence of a refused value names the setter, and what it takes.
+/// The sentence of a refused setting, which names the setter and what it takes.
 #[test]
 fn a_refused_setting_has_a_sentence() {
-    const FLAG: &str = "`true` or `false`";
-    const RADIX: &str = "a number, 2 to 36 in a lawful format";
-    const OPTIONAL_RADIX: &str = "a number, 2 to 36 in a lawful format, or `none`";
-    const CHARACTER: &str = "a character such as '_', a number from 0 to 255, or `none`";
+    const FLAG: &str = "no_special takes `true` or `false`";
     #[rustfmt::skip]
     let rows = [
-        ("no_special=1", "no_special", FLAG),
-        ("required_digits=", "required_digits", FLAG),
-        ("exponent_digit_separator_flags=none", "exponent_digit_separator_flags", FLAG),
-        ("digit_separator=_", "digit_separator", CHARACTER),
-        ("base_prefix=0x100", "base_prefix", CHARACTER),
-        ("base_suffix=''", "base_suffix", CHARACTER),
-        ("mantissa_radix=none", "mantissa_radix", RADIX),
-        ("radix=256", "radix", RADIX),
-        ("exponent_base=ten", "exponent_base", OPTIONAL_RADIX),
-        ("exponent_radix=0010", "exponent_radix", OPTIONAL_RADIX),
+        ("no_special=1", Some("no_special"), FLAG),
+        ("no_special=", Some("no_special"), FLAG),
+        ("no_special=none", Some("no_special"), FLAG),
+        ("no_special='1'", Some("no_special"), FLAG),
+        ("no_special=true=true", Some("no_special"), FLAG),
+        ("digit_separator=_", Some("digit_separator"),
+            "digit_separator takes a character such as '_', a number from 0 to 255, or `none`"),
+        ("base_prefix=0x100", Some("base_prefix"), "base_prefix takes a character such as '_', a number from 0 to 255, or `none`"),
+        ("base_suffix=''", Some("base_suffix"), "base_suffix takes a character such as '_', a number from 0 to 255, or `none`"),
+        ("mantissa_radix=none", Some("mantissa_radix"), "mantissa_radix takes a number, 2 to 36 in a lawful format"),
+        ("radix=256", Some("radix"), "radix takes a number, 2 to 36 in a lawful format"),
+        ("exponent_base=ten", Some("exponent_base"), "exponent_base takes a number, 2 to 36 in a lawful format, or `none`"),
+        ("exponent_radix=0010", Some("exponent_radix"), "exponent_radix takes a number, 2 to 36 in a lawful format, or `none`"),
+        ("radix", None, "expected NAME=VALUE"),
+        ("", None, "expected NAME=VALUE"),
+        ("=7", None, "unknown setting name"),
+        ("no_special =true", None, "unknown setting name"),
+        ("RADIX=7", None, "unknown setting name"),
     ];
-    for (text, name, takes) in rows {
-        let error = Edit::from_text(text).unwrap_err();
-        assert_eq!(error.name(), Some(name), "{text}");
-        assert_eq!(error.to_string(), format!("{name} takes {takes}"));
-    }
-    for setter in FlagSetter::ALL {
-        let error = Edit::from_setting(setter.name(), "yes").unwrap_err();
-        assert_eq!(error.to_string(), format!("{} takes {FLAG}", setter.name()));
-    }
-    for (text, sentence) in [
-        ("radix", "expected NAME=VALUE"),
-        ("", "expected NAME=VALUE"),
-        ("colour=7", "unknown setting name"),
-        ("=7", "unknown setting name"),
-    ] {
-        let error = Edit::from_text(text).unwrap_err();
+    for (text, name, sentence) in rows {
+        let error = text.parse::<Edit>().unwrap_err();
         assert_eq!(
-            (error.name(), error.to_string()),
-            (None, sentence.to_string()),
+            (error.name(), &*error.to_string()),
+            (name, sentence),
             "{text}"
         );
+        let kind = match sentence {
+            "expected NAME=VALUE" => NoEquals,
+            "unknown setting name" => UnknownName,
+            _ => BadValue,
+        };
+        assert_eq!(error.kind(), kind, "{text}");
+    }
+}
+
+#[test]
+fn edits_are_made_of_values() {
+    let byte = NonZeroU8::new;
+    #[rustfmt::skip]
+    let rows = [
+        (Edit::flag("no_special", true), Ok(Edit::Flag(FlagSetter::NoSpecial, true))),
+        (Edit::flag("required_digits", false), Ok(Edit::Flag(FlagSetter::RequiredDigits, false))),
+        (Edit::byte("base_prefix", b'x'), Ok(Edit::BasePrefix(byte(b'x')))),
+        (Edit::byte("exponent_base", 0), Ok(Edit::ExponentBase(None))),
+        (Edit::byte("radix", 0), Ok(Edit::Radix(0))),
+        (Edit::byte("mantissa_radix", 255), Ok(Edit::MantissaRadix(255))),
+        (Edit::flag("base_prefix", true), Err((BadValue, Some("base_prefix")))),
+        (Edit::byte("no_special", 1), Err((BadValue, Some("no_special")))),
+        (Edit::flag("no-special", true), Err((UnknownName, None))),
+        (Edit::byte("base_prefix ", b'x'), Err((UnknownName, None))),
+    ];
+    for (edit, wanted) in rows {
+        assert_eq!(edit.map_err(|error| (error.kind(), error.name())), wanted);
     }
 }

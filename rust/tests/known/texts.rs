@@ -1,47 +1,51 @@
-//! Words as text and as Rust code.
+//! `{:?}` of words and builders, and builder expressions.
 
-use peltzivar::edits::{Edit, Setter};
-use peltzivar::error::Error;
-use peltzivar::format::NumberFormatBuilder;
+use peltzivar::format::{NonZeroU8, NumberFormat, NumberFormatBuilder};
 use peltzivar::source::BuilderExpression;
-use peltzivar::word_text::{parse_word, word_text};
+use peltzivar::{Edit, Format, FormatView};
+use std::fmt::Debug;
 
+const WORD: u128 = 0x22231068_7800005F_00000001_8A000408;
+
+const FIELDS: &str = "required_exponent_digits: false, no_special: true, integer_internal_digit_separator: true, \
+    digit_separator: '_', base_prefix: 'x', base_suffix: 'h', mantissa_radix: 16, exponent_base: 35, exponent_radix: 34";
+
+const BROKEN: &str = "broken_rules: [BasePrefixIsPunctuation, BaseSuffixIsPunctuation";
+
+/// A word, the fields that differ from a new builder's, and what is wrong. A builder has no reserved bits, and prints a
+/// separator that no flag allows it to pack.
 #[test]
-fn a_word_is_parsed_from_its_text() {
-    let zeros = format!("0x{:032}", 0);
-    let texts = [
-        ("0x0", Ok(0)),
-        ("0xaBcDeF", Ok(0xABCDEF)),
-        (&format!("{zeros}0"), Err(Error::Overflow(34))),
-        (&format!("{zeros}x"), Err(Error::InvalidDigit(34))),
-        (&format!("{zeros}0x"), Err(Error::Overflow(34))),
-        ("", Err(Error::Empty(0))),
-        ("0", Err(Error::Empty(1))),
-        ("0x", Err(Error::Empty(2))),
-        ("12", Err(Error::InvalidDigit(0))),
-        (" 0x1", Err(Error::InvalidDigit(0))),
-        ("00x1", Err(Error::InvalidDigit(1))),
-        ("0X1", Err(Error::InvalidDigit(1))),
-        ("0xg", Err(Error::InvalidDigit(2))),
-        ("0x12 4", Err(Error::InvalidDigit(4))),
-        ("0x1\u{e9}", Err(Error::InvalidDigit(3))),
+fn a_word_and_its_fields_are_printed() {
+    let kept = NumberFormatBuilder::new().digit_separator(NonZeroU8::new(b'\''));
+    let hexadecimal = FormatView::new(1 << 108 | 0xC);
+    #[rustfmt::skip]
+    let rows: [(&dyn Debug, String); 6] = [
+        (&FormatView::new(WORD),
+            format!("FormatView {{ word: {WORD:#034X}, {FIELDS}, reserved_bits: 0x8A000000, {BROKEN}, ReservedBitsAreZero] }}")),
+        (&NumberFormat::<WORD>::new(),
+            format!("NumberFormat {{ word: {WORD:#034X}, {FIELDS}, reserved_bits: 0x8A000000, {BROKEN}, ReservedBitsAreZero] }}")),
+        (&NumberFormatBuilder::rebuild(WORD),
+            format!("NumberFormatBuilder {{ word: {:#034X}, {FIELDS}, {BROKEN}] }}", WORD & !0x8A000000)),
+        (&kept, r"NumberFormatBuilder { word: 0x00000A0000000000000000000000000C, digit_separator: '\'' }".into()),
+        (&Format::default(), "Format { word: 0x00000A0000000000000000000000000C }".into()),
+        (&hexadecimal.check(), "Ok(Format { word: 0x0000100000000000000000000000000C, mantissa_radix: 16 })".into()),
     ];
-    for (text, word) in texts {
-        assert_eq!(parse_word(text), word, "{text}");
+    for (value, text) in rows {
+        assert_eq!(format!("{value:?}"), text);
     }
-    for word in [0, 0xC, 0x0A0A0A00_0000005F_00000001_8000000C, u128::MAX] {
-        let text = word_text(word);
-        let text = core::str::from_utf8(&text).unwrap();
-        assert_eq!(text, format!("0x{word:032X}"));
-        assert_eq!(parse_word(text), Ok(word));
+    for (byte, text) in [
+        (9, "9"),
+        (32, "32"),
+        (126, "'~'"),
+        (127, "127"),
+        (255, "255"),
+    ] {
+        let printed = format!("{:?}", FormatView::new(0xC | 10 << 104 | byte << 96));
+        assert!(
+            printed.contains(&format!(", base_suffix: {text}")),
+            "{printed}"
+        );
     }
-}
-
-#[test]
-fn an_expression_is_printed_whatever_the_width() {
-    let code = "NumberFormatBuilder::new().no_special(true).mantissa_radix(16).build_unchecked()";
-    let expression = BuilderExpression(0x00001000_00000000_00000000_0000040C);
-    assert_eq!(format!("{expression:->200.3}"), code);
 }
 
 /// Returns the builder that makes the calls of an expression, or `None` if it is not one.
@@ -59,11 +63,16 @@ fn builder_of(code: &str) -> Option<NumberFormatBuilder> {
     calls.split('.').skip(1).map(edit).collect()
 }
 
+/// The expressions of the new builder, and of words in which a bit is flipped, or all bits but one.
 #[test]
 fn an_expression_is_read_back() {
-    let set = |setter: &Setter| [1, 16, 255].map(|byte| setter.mask() & (u128::MAX / 255 * byte));
-    let words = Setter::ALL.iter().flat_map(set);
-    for word in words.flat_map(|word| [word, word ^ 0xC, !word]) {
+    let code = "NumberFormatBuilder::new().no_special(true).mantissa_radix(16).build_unchecked()";
+    let expression = BuilderExpression(0x00001000_00000000_00000000_0000040C);
+    assert_eq!(format!("{expression:->200.3}"), code);
+    for word in (0..128)
+        .map(|bit| 0xC ^ 1 << bit)
+        .flat_map(|word| [word, !word])
+    {
         let code = BuilderExpression(word).to_string();
         assert_eq!(
             builder_of(&code),

@@ -424,21 +424,19 @@ pub const fn field_edits_of(format: u128) -> [Edit; FIELD_COUNT]
     ensures { result ≡ field_edits (raw format) }
 {
     macro_rules! edits_of_fields {
-        (($view:ident, $base:ident, $radix:ident)
+        (($view:ident, $format:ident)
             { $($Flag:ident $flag:ident $FLAG:ident;)* } $groups:tt) => {
             [
                 $(Edit::Flag(FlagSetter::$Flag, $view.$flag()),)*
-                Edit::DigitSeparator(NonZeroU8::new($view.digit_separator())),
-                Edit::BasePrefix(NonZeroU8::new($view.base_prefix())),
-                Edit::BaseSuffix(NonZeroU8::new($view.base_suffix())),
+                Edit::DigitSeparator(NonZeroU8::new(flags::digit_separator($format))),
+                Edit::BasePrefix(NonZeroU8::new(flags::base_prefix($format))),
+                Edit::BaseSuffix(NonZeroU8::new(flags::base_suffix($format))),
                 Edit::MantissaRadix($view.mantissa_radix() as u8),
-                Edit::ExponentBase(NonZeroU8::new($base)),
-                Edit::ExponentRadix(NonZeroU8::new($radix)),
+                Edit::ExponentBase(NonZeroU8::new(flags::raw_exponent_base($format))),
+                Edit::ExponentRadix(NonZeroU8::new(flags::raw_exponent_radix($format))),
             ]
         };
     }
     let view = NumberFormat::new(format);
-    let base = flags::raw_exponent_base(format);
-    let radix = flags::raw_exponent_radix(format);
-    with_setters!(edits_of_fields(view, base, radix))
+    with_setters!(edits_of_fields(view, format))
 }

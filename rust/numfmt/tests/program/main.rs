@@ -2,6 +2,9 @@
 //! one: `NUMFMT=$PWD/crates/numfmt/out/numfmt cargo test --test program`.
 #![cfg(unix)]
 
+mod rows;
+
+use rows::{ANSWERS, EDITS, REFUSALS, STANDARD_FIELDS};
 use std::ffi::{OsStr, OsString};
 use std::fs::{self, File};
 use std::os::unix::ffi::OsStrExt;
@@ -22,28 +25,28 @@ fn run<A: AsRef<OsStr>>(args: &[A]) -> (Option<i32>, String) {
 }
 
 #[test]
-fn prints_the_answer_and_ends_with_its_status() {
-    let seven_lines = fs::read_to_string(format!("{TOP}/crates/numfmt/stdout")).unwrap();
-    assert_eq!(run::<&str>(&[]), (Some(0), seven_lines));
-    for (args, status, text) in [
-        (&["same", "0x0", "0x0"][..], 0, "same\n"),
-        (&["same", "0x0", "0xC"], 1, "different\n"),
-        (&["show", "0xG"], 2, "numfmt: bad word\n"),
-        (&[""], 2, "numfmt: unknown command\n"),
-    ] {
-        assert_eq!(run(args), (Some(status), text.to_string()), "{args:?}");
+fn prints_the_text_of_each_row_and_ends_with_its_status() {
+    assert_eq!(run::<&str>(&[]), (Some(0), STANDARD_FIELDS.to_string()));
+    for (line, text, status) in ANSWERS.into_iter().chain(REFUSALS) {
+        let args: Vec<&str> = line.split(' ').collect();
+        assert_eq!(run(&args), (Some(status.into()), text.into()), "{line}");
+    }
+    for (edit, text) in EDITS {
+        let printed = run(&["edit", "0x100000000000", edit]);
+        assert_eq!(printed, (Some(0), text.into()), "{edit}");
     }
 }
 
 /// The edits are counted before the word is read.
 #[test]
 fn takes_at_most_64_edits() {
-    let mut args = ["radix=1"; 67];
-    args[0] = "edit";
+    let mut args = ["radix=16"; 67];
+    (args[0], args[1]) = ("edit", "0x00000A0000000000000000000000000C");
+    let edited = "0x0A0A100000000000000000000000000C\n".into();
+    assert_eq!(run(&args[..66]), (Some(0), edited));
     args[1] = "0x";
-    let refused = |reason| (Some(2), format!("numfmt: {reason}\n"));
-    assert_eq!(run(&args), refused("too many edits"));
-    assert_eq!(run(&args[..66]), refused("bad word"));
+    let refused = "numfmt: too many edits\n".into();
+    assert_eq!(run(&args), (Some(2), refused));
 }
 
 #[test]
@@ -80,7 +83,7 @@ fn shown_arguments(line: &str) -> Option<Vec<&str>> {
 #[test]
 fn prints_what_the_pages_show() {
     let mut runs = 0;
-    for page in ["README", "docs/CALLING", "docs/FORMAT", "docs/MIGRATING"] {
+    for page in ["README", "docs/CALLING", "docs/FORMAT", "docs/RUST"] {
         let text = fs::read_to_string(format!("{TOP}/{page}.md")).unwrap();
         let mut lines = text.lines().peekable();
         while let Some(line) = lines.next() {

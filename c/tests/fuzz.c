@@ -1,0 +1,136 @@
+/* Calls the functions of peltzivar.h with random words, edits, strings and buffers, and checks that their results agree.
+ * The argument is the number of cases. */
+#include "peltzivar.h"
+
+#include <stdio.h>
+#include <stdlib.h>
+#include <string.h>
+
+#define CHECK(condition) \
+    do { \
+        if (!(condition)) printf("case %lu, line %d: %s\n", number, __LINE__, #condition), exit(1); \
+    } while (0)
+
+/* Calls a function that writes a string: to `text`, and to memory of a random size. */
+#define WRITE(function, ...) \
+    do { \
+        const size_t room = (size_t)(draw() % 64), whole = function(__VA_ARGS__, text, sizeof text); \
+        char *const part = malloc(room ? room : 1); \
+        CHECK(part && function(__VA_ARGS__, part, room) == whole && whole == strlen(text)); \
+        CHECK(!room || (strlen(part) == (whole < room ? whole : room - 1) && !strncmp(part, text, strlen(part)))); \
+        free(part); \
+    } while (0)
+
+static unsigned long number;
+static uint64_t state = 0x9E3779B97F4A7C15;
+static char text[PELTZIVAR_SOURCE_SIZE];
+
+static uint64_t draw(void) {
+    state ^= state << 13, state ^= state >> 7, state ^= state << 17;
+    return state;
+}
+
+static bool is_same(peltzivar_word a, peltzivar_word b) {
+    return a.low == b.low && a.high == b.high;
+}
+
+/* Returns an edit. Most of its setters are known. */
+static peltzivar_edit draw_edit(void) {
+    static const uint8_t bytes[] = {64, 88, 96, 104, 112, 120};
+    static const uint8_t values[] = "\0\0\1\2\12\20\44\45xXeE_'.,+-09aAzZ~\177\200\377";
+    const uint64_t all = draw(), setters[] = {bytes[all % 6], bytes[all % 6], all % 45, all % 45, 128 + all % 10, all % 256};
+    const peltzivar_edit edit = {(uint8_t)setters[draw() % 6], values[draw() % (sizeof values - 1)]};
+    return edit;
+}
+
+/* Returns a word that edits build, sometimes with other bits. */
+static peltzivar_word draw_word(void) {
+    peltzivar_word word = PELTZIVAR_STANDARD;
+    for (uint64_t count = draw() % 12; count > 0; count--) {
+        const peltzivar_edit edits[] = {draw_edit(), draw_edit()};
+        const peltzivar_word before = word;
+        CHECK(peltzivar_edit_word(word, edits, 2, &word) || is_same(word, before));
+    }
+    if (draw() % 4 == 0) word.low ^= draw() & draw() & draw();
+    if (draw() % 4 == 0) word.high ^= draw() & draw() & draw();
+    return word;
+}
+
+static void test_word(peltzivar_word word) {
+    const peltzivar_word normal = peltzivar_normal_form(word);
+    const peltzivar_fields filled = peltzivar_fields_of(word);
+    peltzivar_edit edits[PELTZIVAR_FIELD_COUNT];
+    peltzivar_word other = {1, 2};
+    WRITE(peltzivar_word_text, word);
+    CHECK(!peltzivar_parse_word(text, strlen(text), &other) && is_same(other, word));
+    CHECK(peltzivar_same_format(word, normal) && is_same(peltzivar_normal_form(normal), normal));
+    CHECK(is_same(peltzivar_pack(&filled), normal) && peltzivar_is_built(normal));
+    const peltzivar_error error = peltzivar_migrate(word, &other);
+    CHECK(error == peltzivar_check(normal) && (error || is_same(other, normal)));
+    WRITE(peltzivar_error_text, error, 7);
+    WRITE(peltzivar_source, word);
+    CHECK(peltzivar_build(edits, peltzivar_edits_of(word, edits), &other));
+    CHECK(is_same(other, word) == peltzivar_is_built(word));
+}
+
+/* Each word with the bits of a reason breaks a rule. A lawful word has no reason. */
+static void test_reasons(peltzivar_word word) {
+    size_t count = 0;
+    WRITE(peltzivar_reason_text, word, count);
+    while (*text) {
+        const peltzivar_word mask = peltzivar_reason_mask(word, count), rest = draw_word();
+        const peltzivar_word other = {(word.low & mask.low) | (rest.low & ~mask.low), (word.high & mask.high) | (rest.high & ~mask.high)};
+        CHECK(peltzivar_check(other) && peltzivar_reason_rules(word, count) >> 1);
+        count++;
+        WRITE(peltzivar_reason_text, word, count);
+    }
+    CHECK((count == 0) == !peltzivar_check(word) && !peltzivar_reason_rules(word, count));
+    const peltzivar_fields fields = peltzivar_fields_of(word);
+    for (count = 0; count < 4; count++) {
+        WRITE(peltzivar_note_text, &fields, count);
+        const peltzivar_word mask = peltzivar_note_mask(&fields, count);
+        CHECK(!*text == !(mask.low || mask.high));
+    }
+}
+
+/* The role of a byte agrees with the other calls. */
+static void test_roles(peltzivar_word word) {
+    const uint8_t exponent = draw_edit().value, point = draw_edit().value, byte = draw_edit().value;
+    const peltzivar_role role = peltzivar_role_of(word, exponent, point, byte);
+    const bool is_digit = peltzivar_mantissa_digit(word, byte) < 36 || peltzivar_exponent_digit(word, byte) < 36;
+    CHECK(role <= PELTZIVAR_ROLE_POINT && is_digit == (role == PELTZIVAR_ROLE_DIGIT));
+    if (peltzivar_check(word) || peltzivar_check_options(word, exponent, point)) return;
+    CHECK(peltzivar_is_separator(word, byte) == (role == PELTZIVAR_ROLE_SEPARATOR));
+    CHECK(peltzivar_is_base_prefix(word, byte) == (role == PELTZIVAR_ROLE_PREFIX));
+    CHECK(peltzivar_is_base_suffix(word, byte) == (role == PELTZIVAR_ROLE_SUFFIX));
+    CHECK((byte == point) == (role == PELTZIVAR_ROLE_POINT) && (byte != exponent || role == PELTZIVAR_ROLE_EXPONENT));
+}
+
+/* A setting in which bytes may change is parsed if and only if it has no error. */
+static void test_settings(void) {
+    const peltzivar_edit edit = draw_edit();
+    peltzivar_edit read = {7, 9};
+    WRITE(peltzivar_setter_name, edit.setter);
+    CHECK(!*text || peltzivar_setter_of_name(text, strlen(text)) == edit.setter);
+    WRITE(peltzivar_edit_text, edit);
+    const size_t len = strlen(text);
+    for (uint64_t count = draw() % 3; count > 0 && len; count--) text[draw() % len] = (char)draw();
+    char *const setting = malloc(len + 1);
+    memcpy(setting, text, len);
+    const bool is_read = peltzivar_parse_edit(setting, len, &read);
+    WRITE(peltzivar_setting_error_text, setting, len);
+    CHECK(is_read == !*text && (is_read || (read.setter == 7 && read.value == 9)));
+    free(setting);
+}
+
+int main(int argc, char **argv) {
+    const unsigned long cases = argc > 1 ? strtoul(argv[1], NULL, 10) : 1000;
+    for (number = 0; number < cases; number++) {
+        const peltzivar_word word = draw_word();
+        test_word(word);
+        test_reasons(word);
+        test_roles(word);
+        test_settings();
+    }
+    return 0;
+}

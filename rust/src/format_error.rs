@@ -1,0 +1,181 @@
+//! The error that explains why a word, a text or options are rejected.
+
+use core::fmt;
+
+use crate::digit::digit_to_char;
+use crate::error::{Error, Piece, ShortText};
+use crate::reasons::{reasons, Reason, CANDIDATE_COUNT};
+
+/// Why a word is not a [`Format`][crate::Format], why a text is not one, or why a format does not accept options.
+///
+/// `Display` prints the first of the [`reasons`][Self::reasons]. If there are none, it prints the
+/// [`code`][Self::code].
+///
+/// ```
+/// use core::num::NonZeroU8;
+/// use peltzivar::{Error, NumberFormatBuilder};
+///
+/// let builder = NumberFormatBuilder::new().mantissa_radix(16).base_prefix(NonZeroU8::new(b'b'));
+/// let error = builder.build_format().unwrap_err();
+/// assert_eq!(error.to_string(), "the base prefix 'b' is a digit in radix 16");
+/// assert_eq!(error.code(), Error::InvalidBasePrefix);
+/// ```
+#[derive(Clone, Copy, PartialEq, Eq, Hash)]
+pub struct FormatError {
+    code: Error,
+    cause: Cause,
+}
+
+/// What is rejected.
+#[derive(Clone, Copy, PartialEq, Eq, Hash)]
+pub(crate) enum Cause {
+    /// A text that is not a word.
+    Text,
+    /// A word that is not lawful.
+    Word(u128),
+    /// An exponent character and a decimal point beside a word.
+    Options(u128, u8, u8),
+}
+
+impl FormatError {
+    pub(crate) const fn new(code: Error, cause: Cause) -> Self {
+        FormatError { code, cause }
+    }
+
+    /// Returns the error as `lexical-util` has it. It is the error of the first [rule][crate::Rule] that the word
+    /// breaks, the parse error of the text, or the error of the options. It is never [`Error::Success`].
+    #[must_use]
+    pub const fn code(&self) -> Error {
+        self.code
+    }
+
+    /// Returns the reasons why the word is not lawful, as [`FormatView::reasons`][crate::FormatView::reasons] does. The
+    /// iterator is empty if a text or options are rejected.
+    pub fn reasons(&self) -> impl Iterator<Item = Reason> + Clone {
+        self.candidates().into_iter().flatten()
+    }
+
+    const fn candidates(&self) -> [Option<Reason>; CANDIDATE_COUNT] {
+        match self.cause {
+            Cause::Word(word) => reasons(word),
+            Cause::Text | Cause::Options(..) => [None; CANDIDATE_COUNT],
+        }
+    }
+
+    /// Returns the text of a panic: the description of the error, a colon, and the first reason as a sentence.
+    pub(crate) const fn message(&self) -> Message {
+        let mut message = Message::new().with(self.code.description());
+        let (reasons, mut index) = (self.candidates(), 0);
+        while index < reasons.len() {
+            if let Some(reason) = reasons[index] {
+                message = message.with(": ").with_sentence(reason.text());
+                break;
+            }
+            index += 1;
+        }
+        message
+    }
+}
+
+impl core::error::Error for FormatError {}
+
+impl fmt::Display for FormatError {
+    fn fmt(&self, f: &mut fmt::Formatter<'_>) -> fmt::Result {
+        match self.reasons().next() {
+            Some(reason) => fmt::Display::fmt(&reason, f),
+            None => fmt::Display::fmt(&self.code, f),
+        }
+    }
+}
+
+/// Writes the code, and what `Display` prints.
+impl fmt::Debug for FormatError {
+    fn fmt(&self, f: &mut fmt::Formatter<'_>) -> fmt::Result {
+        let mut text = f.debug_struct("FormatError");
+        text.field("code", &self.code);
+        text.field("message", &format_args!("\"{self}\""));
+        text.finish()
+    }
+}
+
+/// Returns the [`code`][FormatError::code].
+impl From<FormatError> for Error {
+    fn from(error: FormatError) -> Self {
+        error.code
+    }
+}
+
+/// Text of at most 512 bytes that a `const fn` can build.
+pub(crate) struct Message {
+    bytes: [u8; 512],
+    length: usize,
+}
+
+impl Message {
+    const fn new() -> Self {
+        Message {
+            bytes: [0; 512],
+            length: 0,
+        }
+    }
+
+    pub(crate) const fn text(&self) -> &str {
+        match core::str::from_utf8(self.bytes.split_at(self.length).0) {
+            Ok(text) => text,
+            Err(_) => "",
+        }
+    }
+
+    const fn with(mut self, text: &str) -> Self {
+        let mut index = 0;
+        while index < text.len() {
+            self = self.with_byte(text.as_bytes()[index]);
+            index += 1;
+        }
+        self
+    }
+
+    const fn with_byte(mut self, byte: u8) -> Self {
+        if self.length < self.bytes.len() {
+            self.bytes[self.length] = byte;
+            self.length += 1;
+        }
+        self
+    }
+
+    const fn with_sentence(self, text: ShortText) -> Self {
+        let ShortText(first, second, third, fourth) = text;
+        self.with_piece(first)
+            .with_piece(second)
+            .with_piece(third)
+            .with_piece(fourth)
+    }
+
+    const fn with_piece(self, piece: Piece) -> Self {
+        match piece {
+            Piece::Words(words) => self.with(words),
+            Piece::Number(number) => self.with_digits(number as u128, 10),
+            Piece::Hexadecimal(number) => self.with("0x").with_digits(number, 16),
+            Piece::QuotedByte(name, byte) if byte.is_ascii_graphic() && byte != b'\'' => self
+                .with("the ")
+                .with(name)
+                .with(" '")
+                .with_byte(byte)
+                .with("'"),
+            Piece::NumberedByte(name, byte) | Piece::QuotedByte(name, byte) => self
+                .with("the ")
+                .with(name)
+                .with(" ")
+                .with_digits(byte as u128, 10),
+        }
+    }
+
+    const fn with_digits(self, number: u128, radix: u128) -> Self {
+        let text = if number < radix {
+            self
+        } else {
+            self.with_digits(number / radix, radix)
+        };
+        text.with_byte(digit_to_char((number % radix) as u32))
+    }
+}
