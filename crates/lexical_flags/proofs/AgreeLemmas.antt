@@ -11,10 +11,13 @@ use Rattle.lexical_flags.specs.Rules.{IsFirstError, Holds, flag_rules, lacks_pos
 -- The masks of the flags that exclude the flag 1 or 8 bits above them, and of the lowest separator flag of each part.
 abbrev next : ℕ
 next = 1168
+
 abbrev eighth : ℕ
 eighth = 64
+
 abbrev last : ℕ
 last = 1024
+
 abbrev internal : ℕ
 internal = 30064771072
 
@@ -75,5 +78,19 @@ agree word fits none =
     let four = at 4 (omega arith) in let six = at 6 (omega arith) in let seven = at 7 (omega arith) in
     let ten = at 10 (omega arith) in let integer = at 32 (omega arith) in let fraction = at 33 (omega arith) in
     let exponent = at 34 (omega arith) in
-    inr (six.0.1 refl, inr (four.0.0 refl, inr (seven.0.0 refl, inr (ten.0.0 refl, inr (ten.1.0 refl,
-    inr (integer.1.1 refl, inr (fraction.1.1 refl, inr (exponent.1.1 refl, refl))))))))
+    inr (
+      six.0.1 refl,
+      inr (
+        four.0.0 refl,
+        inr (
+          seven.0.0 refl,
+          inr (
+            ten.0.0 refl,
+            inr (
+              ten.1.0 refl,
+              inr (integer.1.1 refl, inr (fraction.1.1 refl, inr (exponent.1.1 refl, refl))),
+            ),
+          ),
+        ),
+      ),
+    )

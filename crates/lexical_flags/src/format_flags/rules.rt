@@ -462,7 +462,8 @@ const fn first_broken_punctuation(format: u128) -> Error
 const fn flags_agree(format: u128) -> bool
     ensures { IsTrue result → IsFirstError flag_rules format Error.Success }
 {
-    let excluded = format >> 1 & (NO_POSITIVE_MANTISSA_SIGN | NO_POSITIVE_EXPONENT_SIGN | NO_SPECIAL)
+    let excluded = format >> 1
+        & (NO_POSITIVE_MANTISSA_SIGN | NO_POSITIVE_EXPONENT_SIGN | NO_SPECIAL)
         | format >> 8 & NO_EXPONENT_NOTATION
         | format >> 34 & NO_SPECIAL;
     let positions = format | format >> 3 | format >> 6;
