@@ -56,10 +56,14 @@ IsAbsentOrPunctuation-from r counts byte text digits_apart signs_apart =
       ]
     ]
 
+-- The mantissa radix in place of a mantissa radix of 0 is the mantissa radix.
+pub mantissa_itself : (radix : ℕ) → IsRadix radix ↔ IsRadix (effective radix radix)
+mantissa_itself radix = (λ h. grind (arith, nat_tests), λ h. grind (arith, nat_tests))
+
 -- A lawful word satisfies every rule.
 pub Holds-from_lawful : (rule : Rule) (word : ℕ) → Lawful word → Holds rule word
 unfolding Holds Lawful
-Holds-from_lawful rules.MantissaRadixInRange word h = h.mantissa_radix
+Holds-from_lawful rules.MantissaRadixInRange word h = (mantissa_itself _).0 h.mantissa_radix
 Holds-from_lawful rules.ExponentBaseInRange word h = h.exponent_base
 Holds-from_lawful rules.ExponentRadixInRange word h = h.exponent_radix
 Holds-from_lawful rules.DigitSeparatorIsPunctuation word h =
@@ -121,7 +125,7 @@ Lawful-from_all word h =
     let prefix : IsAbsentOrPunctuation r (r.byte layout.base_prefix) = h rules.BasePrefixIsPunctuation in
     let suffix : IsAbsentOrPunctuation r (r.byte layout.base_suffix) = h rules.BaseSuffixIsPunctuation in
     record {
-      mantissa_radix = h rules.MantissaRadixInRange;
+      mantissa_radix = (mantissa_itself _).1 (h rules.MantissaRadixInRange);
       exponent_base = h rules.ExponentBaseInRange;
       exponent_radix = h rules.ExponentRadixInRange;
       flags = recursion_from_All (λ rule. Holds rule word) flag_rules (λ i d inside. h _);

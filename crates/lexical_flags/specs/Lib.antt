@@ -1,5 +1,4 @@
 pub mod Layout
-pub mod Parts
 pub mod Record
 pub mod Pairs
 pub mod Constants

@@ -1,23 +1,19 @@
 -- The rules, and the error of the first rule that a word breaks.
-use Rattle.std.specs.Prelude.{ℕ, Bool, false, not, ◌≡◌, ◌≤◌, ◌⊎◌, ◌&&◌, ◌||◌, IsTrue, IsFalse, List, [], ◌∷◌, ◌++◌}
+use Rattle.std.specs.Prelude.{ℕ, Bool, false, not, map, ◌≡◌, ◌≤◌, ◌⊎◌, ◌&&◌, ◌||◌, ⊤, IsTrue, IsFalse, List, [], ◌∷◌, ◌++◌}
 use Rattle.std.specs.List.{AllByRecursion}
 use Rattle.lexical_base.specs.Ascii.{allowed_ascii}
 use Rattle.lexical_base.specs.declared.error.Error.{Error}
 use Rattle.lexical_base.specs.declared.error.Error.TheVariants as errors
-use Rattle.lexical_flags.specs.Layout.{no_exponent_notation, required_exponent_notation, no_positive_mantissa_sign}
-use Rattle.lexical_flags.specs.Layout.{required_mantissa_sign, no_positive_exponent_sign, required_exponent_sign}
-use Rattle.lexical_flags.specs.Layout.{no_special, case_sensitive_special, special_digit_separator}
-use Rattle.lexical_flags.specs.Layout.{integer_consecutive_digit_separator, integer_internal_digit_separator}
-use Rattle.lexical_flags.specs.Layout.{integer_leading_digit_separator, integer_trailing_digit_separator}
-use Rattle.lexical_flags.specs.Layout.{fraction_consecutive_digit_separator, fraction_internal_digit_separator}
-use Rattle.lexical_flags.specs.Layout.{fraction_leading_digit_separator, fraction_trailing_digit_separator}
-use Rattle.lexical_flags.specs.Layout.{exponent_consecutive_digit_separator, exponent_internal_digit_separator}
-use Rattle.lexical_flags.specs.Layout.{exponent_leading_digit_separator, exponent_trailing_digit_separator}
 use Rattle.lexical_flags.specs.Layout as layout
 use Rattle.lexical_flags.specs.declared.format_flags.all_rules.Rule.{Rule}
 use Rattle.lexical_flags.specs.declared.format_flags.all_rules.Rule.TheVariants as rules
-use Rattle.lexical_flags.specs.Layout.{IsClean}
-use Rattle.lexical_flags.specs.Record.{Record, raw, effective_exponent_base, effective_exponent_radix}
+use Rattle.lexical_flags.specs.Layout.{IsClean, Flag, Byte}
+use Rattle.lexical_flags.specs.Layout.{no_exponent_notation, required_exponent_notation, no_positive_mantissa_sign}
+use Rattle.lexical_flags.specs.Layout.{required_mantissa_sign, no_positive_exponent_sign, required_exponent_sign}
+use Rattle.lexical_flags.specs.Layout.{no_special, case_sensitive_special, special_digit_separator}
+use Rattle.lexical_flags.specs.declared.format_flags.parts.Part.{Part}
+use Rattle.lexical_flags.specs.declared.format_flags.parts.Part.TheVariants as parts
+use Rattle.lexical_flags.specs.Record.{Record, raw, effective, effective_exponent_base, effective_exponent_radix}
 use Rattle.lexical_flags.specs.Roles.{AreDisjoint, digits, signs, format_roles, five_roles}
 
 -- `IsRadix radix` holds if `radix` is between 2 and 36, inclusive.
@@ -36,62 +32,64 @@ IsAbsentOrPunctuation r byte = (byte ≡ 0) ⊎ IsPunctuation r byte
 abbrev pub IsTextOrNone : ℕ → Type 0
 IsTextOrNone byte = (byte ≡ 0) ⊎ IsTrue (allowed_ascii byte)
 
--- `lacks_position consecutive internal leading trailing` is true if `consecutive` is true and the others are false.
-abbrev pub lacks_position : Bool → Bool → Bool → Bool → Bool
-lacks_position consecutive internal leading trailing = consecutive && not (internal || leading || trailing)
+-- `separator_flags part` lists the flags for internal, leading, trailing and consecutive digit separators in `part`.
+abbrev pub separator_flags : Part → List Flag
+separator_flags parts.Integer = layout.integer_digit_separator_flags
+separator_flags parts.Fraction = layout.fraction_digit_separator_flags
+separator_flags parts.Exponent = layout.exponent_digit_separator_flags
 
--- `contradict rule r` is true if the flags of `r` that `rule` reads contradict each other.
-abbrev pub contradict : Rule → Record → Bool
-contradict rules.ExponentFlagsAgree r = r.flag no_exponent_notation && r.flag required_exponent_notation
-contradict rules.MantissaSignFlagsAgree r = r.flag no_positive_mantissa_sign && r.flag required_mantissa_sign
-contradict rules.ExponentSignFlagsAgree r = r.flag no_positive_exponent_sign && r.flag required_exponent_sign
-contradict rules.SpecialCaseFlagsAgree r = r.flag no_special && r.flag case_sensitive_special
-contradict rules.SpecialSeparatorFlagsAgree r = r.flag no_special && r.flag special_digit_separator
-contradict rules.IntegerConsecutiveIsAllowed r =
-    lacks_position (r.flag integer_consecutive_digit_separator) (r.flag integer_internal_digit_separator)
-    (r.flag integer_leading_digit_separator) (r.flag integer_trailing_digit_separator)
-contradict rules.FractionConsecutiveIsAllowed r =
-    lacks_position (r.flag fraction_consecutive_digit_separator) (r.flag fraction_internal_digit_separator)
-    (r.flag fraction_leading_digit_separator) (r.flag fraction_trailing_digit_separator)
-contradict rules.ExponentConsecutiveIsAllowed r =
-    lacks_position (r.flag exponent_consecutive_digit_separator) (r.flag exponent_internal_digit_separator)
-    (r.flag exponent_leading_digit_separator) (r.flag exponent_trailing_digit_separator)
-contradict _ r = false
+-- `Shape` is the type of what a rule demands of the fields that are its arguments.
+pub data Shape : Type 0 where
+  radix_in_range : Byte → Shape
+  absent_or_punctuation : Byte → Shape
+  roles_differ : Shape
+  not_both : Flag → Flag → Shape
+  position_allowed : Part → Shape
+  reserved_zero : Shape
 
--- `Demands rule r` holds if the fields of `r` satisfy `rule`. Only `Holds` covers the rule for reserved bits.
-abbrev pub Demands : Rule → Record → Type 0
-Demands rules.MantissaRadixInRange r = IsRadix (r.byte layout.mantissa_radix)
-Demands rules.ExponentBaseInRange r = IsRadix (effective_exponent_base r)
-Demands rules.ExponentRadixInRange r = IsRadix (effective_exponent_radix r)
-Demands rules.DigitSeparatorIsPunctuation r = IsAbsentOrPunctuation r (r.byte layout.digit_separator)
-Demands rules.BasePrefixIsPunctuation r = IsAbsentOrPunctuation r (r.byte layout.base_prefix)
-Demands rules.BaseSuffixIsPunctuation r = IsAbsentOrPunctuation r (r.byte layout.base_suffix)
-Demands rules.PunctuationDiffers r = AreDisjoint (format_roles r)
-Demands rule r = IsFalse (contradict rule r)
+-- `meaning rule` is what `rule` demands, and the error of a word whose first broken rule is `rule`.
+abbrev pub meaning : Rule → Shape × Error
+meaning rules.MantissaRadixInRange = (radix_in_range layout.mantissa_radix, errors.InvalidMantissaRadix)
+meaning rules.ExponentBaseInRange = (radix_in_range layout.exponent_base, errors.InvalidExponentBase)
+meaning rules.ExponentRadixInRange = (radix_in_range layout.exponent_radix, errors.InvalidExponentRadix)
+meaning rules.DigitSeparatorIsPunctuation = (absent_or_punctuation layout.digit_separator, errors.InvalidDigitSeparator)
+meaning rules.BasePrefixIsPunctuation = (absent_or_punctuation layout.base_prefix, errors.InvalidBasePrefix)
+meaning rules.BaseSuffixIsPunctuation = (absent_or_punctuation layout.base_suffix, errors.InvalidBaseSuffix)
+meaning rules.PunctuationDiffers = (roles_differ, errors.InvalidPunctuation)
+meaning rules.ExponentFlagsAgree = (not_both no_exponent_notation required_exponent_notation, errors.InvalidExponentFlags)
+meaning rules.MantissaSignFlagsAgree = (not_both no_positive_mantissa_sign required_mantissa_sign, errors.InvalidMantissaSign)
+meaning rules.ExponentSignFlagsAgree = (not_both no_positive_exponent_sign required_exponent_sign, errors.InvalidExponentSign)
+meaning rules.SpecialCaseFlagsAgree = (not_both no_special case_sensitive_special, errors.InvalidSpecial)
+meaning rules.SpecialSeparatorFlagsAgree = (not_both no_special special_digit_separator, errors.InvalidSpecial)
+meaning rules.IntegerConsecutiveIsAllowed = (position_allowed parts.Integer, errors.InvalidConsecutiveIntegerDigitSeparator)
+meaning rules.FractionConsecutiveIsAllowed = (position_allowed parts.Fraction, errors.InvalidConsecutiveFractionDigitSeparator)
+meaning rules.ExponentConsecutiveIsAllowed = (position_allowed parts.Exponent, errors.InvalidConsecutiveExponentDigitSeparator)
+meaning rules.ReservedBitsAreZero = (reserved_zero, errors.InvalidFlags)
+
+abbrev pub shape_of : Rule → Shape
+shape_of rule = (meaning rule).0
+
+abbrev pub error_of : Rule → Error
+error_of rule = (meaning rule).1
+
+-- `lacks_position values` is true if the last of four values is true and the others are false.
+abbrev pub lacks_position : List Bool → Bool
+lacks_position (internal ∷ leading ∷ trailing ∷ consecutive ∷ []) = consecutive && not (internal || leading || trailing)
+lacks_position _ = false
+
+-- `Meets shape r` holds if the fields of `r` are as `shape` demands. Reserved bits belong to no field.
+abbrev pub Meets : Shape → Record → Type 0
+Meets (radix_in_range byte) r = IsRadix (effective (r.byte byte) (r.byte layout.mantissa_radix))
+Meets (absent_or_punctuation byte) r = IsAbsentOrPunctuation r (r.byte byte)
+Meets roles_differ r = AreDisjoint (format_roles r)
+Meets (not_both a b) r = IsFalse (r.flag a && r.flag b)
+Meets (position_allowed part) r = IsFalse (lacks_position (map r.flag (separator_flags part)))
+Meets reserved_zero r = ⊤
 
 -- `Holds rule word` holds if `word` satisfies `rule`.
 unfoldable pub Holds : Rule → ℕ → Type 0
 Holds rules.ReservedBitsAreZero word = IsClean word
-Holds rule word = Demands rule (raw word)
-
--- `error_of rule` is the error of a word whose first broken rule is `rule`.
-abbrev pub error_of : Rule → Error
-error_of rules.MantissaRadixInRange = errors.InvalidMantissaRadix
-error_of rules.ExponentBaseInRange = errors.InvalidExponentBase
-error_of rules.ExponentRadixInRange = errors.InvalidExponentRadix
-error_of rules.DigitSeparatorIsPunctuation = errors.InvalidDigitSeparator
-error_of rules.BasePrefixIsPunctuation = errors.InvalidBasePrefix
-error_of rules.BaseSuffixIsPunctuation = errors.InvalidBaseSuffix
-error_of rules.PunctuationDiffers = errors.InvalidPunctuation
-error_of rules.ExponentFlagsAgree = errors.InvalidExponentFlags
-error_of rules.MantissaSignFlagsAgree = errors.InvalidMantissaSign
-error_of rules.ExponentSignFlagsAgree = errors.InvalidExponentSign
-error_of rules.SpecialCaseFlagsAgree = errors.InvalidSpecial
-error_of rules.SpecialSeparatorFlagsAgree = errors.InvalidSpecial
-error_of rules.IntegerConsecutiveIsAllowed = errors.InvalidConsecutiveIntegerDigitSeparator
-error_of rules.FractionConsecutiveIsAllowed = errors.InvalidConsecutiveFractionDigitSeparator
-error_of rules.ExponentConsecutiveIsAllowed = errors.InvalidConsecutiveExponentDigitSeparator
-error_of rules.ReservedBitsAreZero = errors.InvalidFlags
+Holds rule word = Meets (shape_of rule) (raw word)
 
 -- `radix_rules` lists the radix rules, in order.
 abbrev pub radix_rules : List Rule
@@ -106,9 +104,8 @@ punctuation_rules =
 abbrev pub flag_rules : List Rule
 flag_rules =
     rules.ExponentFlagsAgree ∷ rules.MantissaSignFlagsAgree ∷ rules.ExponentSignFlagsAgree ∷
-    rules.SpecialCaseFlagsAgree ∷ rules.SpecialSeparatorFlagsAgree ∷
-    rules.IntegerConsecutiveIsAllowed ∷ rules.FractionConsecutiveIsAllowed ∷
-    rules.ExponentConsecutiveIsAllowed ∷ []
+    rules.SpecialCaseFlagsAgree ∷ rules.SpecialSeparatorFlagsAgree ∷ rules.IntegerConsecutiveIsAllowed ∷
+    rules.FractionConsecutiveIsAllowed ∷ rules.ExponentConsecutiveIsAllowed ∷ []
 
 -- `rules_in_order` lists all rules, in order.
 abbrev pub rules_in_order : List Rule
@@ -118,8 +115,7 @@ rules_in_order = radix_rules ++ punctuation_rules ++ flag_rules ++ rules.Reserve
 abbrev pub ErrorUnless : Type 0 → Error → (Error → Type 0) → Error → Type 0
 ErrorUnless demand own next error = ((demand → ⊥) × (error ≡ own)) ⊎ (demand × next error)
 
--- `IsFirstError rules word error` holds if `error` is the error of the first of `rules` that `word` breaks, or
--- `Success` if `word` satisfies them all.
+-- `IsFirstError rules word error` holds if `error` is that of the first of `rules` that `word` breaks, or `Success`.
 abbrev pub IsFirstError : List Rule → ℕ → Error → Type 0
 IsFirstError [] word error = error ≡ errors.Success
 IsFirstError (rule ∷ rules) word error = ErrorUnless (Holds rule word) (error_of rule) (IsFirstError rules word) error

@@ -1,6 +1,6 @@
 -- Lemmas that a reason of a word is true of each word with the same bits under its mask, which also breaks its rule.
 use Rattle.std.proofs.Common.{ℕ, ◌≡◌, ◌≢◌, ◌==◌, ◌&&◌, ◌||◌, ◌⊎◌, inl, inr, ◌<◌, ◌*◌, ◌-◌, ◌^◌, bit_and, bit_or, mod-lt, Some}
-use Rattle.std.proofs.Common.{None, Bool, true, false}
+use Rattle.std.proofs.Common.{None, Bool, true, false, List, [], ◌∷◌, map}
 use Rattle.std.proofs.Common.{IsTrue, not, if◌then◌else◌, refl, ap, sym, subst, ◌∙◌, arith}
 use Rattle.std.specs.Bool.{⊤, IsFalse}
 use Rattle.std.specs.List.{AllByRecursion}
@@ -12,17 +12,18 @@ use lib.Bits.{and_self, and_zero_l}
 use Rattle.lexical_base.specs.Ascii.{ByteSet, between, allowed_ascii, letters}
 use Rattle.lexical_base.specs.Digits.{digits_of}
 use Rattle.lexical_flags.specs.Layout as layout
-use Rattle.lexical_flags.specs.Layout.{Byte, shift}
+use Rattle.lexical_flags.specs.Layout.{Byte, Flag, shift}
 use Rattle.lexical_flags.specs.Record.{Record, raw, effective, effective_exponent_radix}
 use Rattle.lexical_flags.specs.Roles.{cased, digits, signs, are_disjoint, Disjoint, other_case}
 use Rattle.lexical_flags.specs.Roles.{separator, prefix, suffix}
 use Rattle.lexical_flags.specs.Rules.{IsRadix, IsTextOrNone, IsAbsentOrPunctuation, IsPunctuation, Holds}
-use Rattle.lexical_flags.specs.Rules.{lacks_position}
-use Rattle.lexical_flags.specs.Additions.RuleFields.{FlagShape, both_set, only_set, no_flags, flag_shape, flags_of_shape}
+use Rattle.lexical_flags.specs.Rules.{separator_flags, lacks_position}
+use Rattle.lexical_flags.specs.Rules.{Shape, not_both, position_allowed, shape_of}
+use Rattle.lexical_flags.specs.Additions.RuleFields.{flags_of}
 use Rattle.lexical_flags.specs.Additions.Masks.{byte_mask, reserved_mask}
 use Rattle.lexical_flags.specs.declared.format_flags.all_rules.Rule.{Rule}
 use Rattle.lexical_flags.specs.declared.format_flags.all_rules.Rule.TheVariants as rules
-use Rattle.lexical_flags.proofs.RuleFieldLemmas.{are_in, byte, flag, has_shape, shape_same}
+use Rattle.lexical_flags.proofs.RuleFieldLemmas.{byte, flag, flags_agree, map_same, SameFlag}
 use Rattle.lexical_flags.proofs.RoleLemmas.{no_digit}
 use Rattle.lexical_flags.proofs.CaseLemmas.{cases_apart, differ_apart, same_clash}
 use Rattle.lexical_flags.proofs.ReservedBits.{reserved_bits}
@@ -33,7 +34,7 @@ use Rattle.lexical_util.specs.declared.edits.setters.Edit.TheVariants as edits
 use Rattle.lexical_util.specs.declared.edits.setters.FlagSetter.TheVariants as setters
 use Rattle.lexical_util.specs.declared.reasons.Reason.TheVariants as reasons
 use Rattle.lexical_util.specs.Additions.Reasons.{Blames, all_reasons, candidates, candidates_of, mantissa_candidate}
-use Rattle.lexical_util.specs.Additions.Reasons.{Has, separator_edit, prefix_edit, suffix_edit}
+use Rattle.lexical_util.specs.Additions.Reasons.{Has, contradict, separator_edit, prefix_edit, suffix_edit}
 use Rattle.lexical_util.proofs.AllReasons.{all_candidates, each_reason}
 use Rattle.lexical_util.specs.Additions.EditMasks.{argument_byte, mask_of_edit}
 use Rattle.lexical_util.proofs.ReasonLemmas.{not_true}
@@ -49,7 +50,8 @@ of_option : (P : ℕ → Type 0) (b : ℕ) → P b → P (byte_of_option (option
 of_option P b h = subst P (sym (byte_of_option_back b)) h
 
 -- If the mantissa radix is out of range, then it is out of range in the other word too.
-mantissa_out : (m : ℕ) (k : ℕ) → k ≡ m → IsTrue (not (between 2 36 m)) → (IsRadix m → ⊥) × (IsRadix k → ⊥)
+mantissa_out : (m : ℕ) (k : ℕ) → k ≡ m → IsTrue (not (between 2 36 m))
+    → (IsRadix m → ⊥) × (IsRadix (effective k k) → ⊥)
 mantissa_out m k same out = grind (arith, nat_tests)
 
 -- If an exponent byte is present and out of range, then it is out of range in the other word too.
@@ -185,8 +187,8 @@ clash_facts ac a bc b clash = (
 
 clash_cases : (ac : Bool) (a : ℕ) (bc : Bool) (b : ℕ) → b ≢ a → b ≡ other_case a → (IsTrue (ac && bc) → ⊥)
     → Disjoint (cased ac a) (cased bc b) → ⊥
-clash_cases ac a bc b differ other not_both apart =
-    not_both ((cases_apart a ac b bc (λ same. differ (sym same)) (is_letter a b differ other) other).1 apart)
+clash_cases ac a bc b differ other one_folds apart =
+    one_folds ((cases_apart a ac b bc (λ same. differ (sym same)) (is_letter a b differ other) other).1 apart)
 
 clash_same : (ac : Bool) (a : ℕ) (bc : Bool) (b : ℕ) → a < 256 → a ≢ 0 → b ≡ a → Disjoint (cased ac a) (cased bc b) → ⊥
 clash_same ac a bc b below some same apart =
@@ -199,7 +201,7 @@ byte_below word b = mod-lt _ (pow_pos 8)
 -- If a part of the number lacks a position, then the flag for consecutive separators is set and the other three are
 -- not.
 lacks_parts : (consecutive internal leading trailing : Bool)
-    → lacks_position consecutive internal leading trailing ≡ true
+    → (consecutive && not (internal || leading || trailing)) ≡ true
     → (consecutive ≡ true) × (internal ≡ false) × (leading ≡ false) × (trailing ≡ false)
 lacks_parts true false false false h = (refl, refl, refl, refl)
 lacks_parts true true leading trailing h = cc
@@ -241,11 +243,11 @@ cases_blame : (ac bc dc ec unset : Bool) (a b k l : ℕ) → k ≡ a → l ≡ b
     → (Disjoint (cased ac a) (cased bc b) → ⊥) → unset ≡ false → (IsTrue (dc && ec) → ⊥)
     → (((k ≡ a) × ⊤) × ((l ≡ b) × ⊤) × ((unset ≡ false) × ⊤) × (b ≢ a) × (b ≡ other_case a))
     × (Disjoint (cased dc k) (cased ec l) → ⊥)
-cases_blame ac bc dc ec unset a b k l k_is l_is test clash off not_both =
+cases_blame ac bc dc ec unset a b k l k_is l_is test clash off one_folds =
     let facts = other_bytes ac a bc b test clash in (
       ((k_is, tt), (l_is, tt), (off, tt), facts.0, facts.1),
       clash_cases dc k ec l (λ same. facts.0 (sym l_is ∙ same ∙ k_is)) (l_is ∙ facts.1
-          ∙ ap other_case (sym k_is)) not_both,
+          ∙ ap other_case (sym k_is)) one_folds,
     )
 
 -- If one of two flags is not set, then they are not both set.
@@ -363,25 +365,40 @@ module _ (word other : ℕ) where
       (facts.0, λ apart. facts.1 (assumption apart))
 
 -- `HasShape shape s` holds if each flag in `shape` has its value there, as a reason with these flags states.
-abbrev HasShape : FlagShape → Record → Type 0
-HasShape (both_set a b) s = ((s.flag a ≡ true) × ⊤) × ((s.flag b ≡ true) × ⊤)
-HasShape (only_set c i l t) s =
+abbrev HasPositions : List Flag → Record → Type 0
+HasPositions (i ∷ l ∷ t ∷ c ∷ []) s =
     ((s.flag c ≡ true) × ⊤)
     × (((s.flag i ≡ false) × ⊤) × (((s.flag l ≡ false) × ⊤) × (((s.flag t ≡ false) × ⊤) × ⊤)))
-HasShape no_flags s = ⊥
+HasPositions _ s = ⊥
 
-shape_facts : (shape : FlagShape) (s : Record) → IsTrue (has_shape shape s) → HasShape shape s
-shape_facts (both_set a b) s h = let parts = and_parts _ _ h in ((parts.0, tt), (parts.1, tt))
-shape_facts (only_set c i l t) s h =
+abbrev HasShape : Shape → Record → Type 0
+HasShape (not_both a b) s = ((s.flag a ≡ true) × ⊤) × ((s.flag b ≡ true) × ⊤)
+HasShape (position_allowed part) s = HasPositions (separator_flags part) s
+HasShape _ s = ⊥
+
+position_facts : (fs : List Flag) (s : Record) → IsTrue (lacks_position (map s.flag fs)) → HasPositions fs s
+position_facts (i ∷ l ∷ t ∷ c ∷ []) s h =
     let parts = lacks_parts _ _ _ _ h in ((parts.0, tt), ((parts.1, tt), ((parts.2, tt), ((parts.3, tt), tt))))
-shape_facts no_flags s h = true≢false (sym h)
+position_facts _ s h = true≢false (sym h)
+
+shape_facts : (shape : Shape) (s : Record) → IsTrue (contradict shape s) → HasShape shape s
+shape_facts (not_both a b) s h = let parts = and_parts _ _ h in ((parts.0, tt), (parts.1, tt))
+shape_facts (position_allowed part) s h = position_facts (separator_flags part) s h
+shape_facts _ s h = true≢false (sym h)
+
+-- If two words agree in the flags of a shape, then both contradict it or neither does.
+contradict_same : (v w : ℕ) (shape : Shape) → AllByRecursion (SameFlag v w) (flags_of shape)
+    → contradict shape (raw v) ≡ contradict shape (raw w)
+contradict_same v w (not_both a b) (on, (other, none)) = λ i. on i && other i
+contradict_same v w (position_allowed part) same = ap lacks_position (map_same v w (separator_flags part) same)
+contradict_same v w _ same = refl
 
 -- If the flags of a word break a rule, then the same flags of the other word break it.
-shape_blame : (word other mask : ℕ) → bit_and word mask ≡ bit_and other mask → (shape : FlagShape)
-    → are_in mask (flags_of_shape shape) ≡ true → IsTrue (has_shape shape (raw word))
-    → HasShape shape (raw other) × (IsFalse (has_shape shape (raw other)) → ⊥)
-shape_blame word other mask same shape inside h =
-    let on = sym (shape_same word other mask same shape inside) ∙ h in
+shape_blame : (word other : ℕ) (shape : Shape) → AllByRecursion (SameFlag word other) (flags_of shape)
+    → IsTrue (contradict shape (raw word))
+    → HasShape shape (raw other) × (IsFalse (contradict shape (raw other)) → ⊥)
+shape_blame word other shape same h =
+    let on = sym (contradict_same word other shape same) ∙ h in
     (shape_facts shape (raw other) on, λ off. true≢false (sym on ∙ off))
 
 -- If reserved bits are set in a word, then the reason with these bits is true of the other word.
@@ -472,4 +489,5 @@ blame word other =
         ),
       )
       each rules.ReservedBitsAreZero = (λ h same. reserved_blame word other h same, tt)
-      each rule = (λ h same. shape_blame word other _ same (flag_shape rule) refl h, tt)
+      each rule =
+          (λ h same. shape_blame word other (shape_of rule) (flags_agree word other _ same (flags_of (shape_of rule)) refl) h, tt)

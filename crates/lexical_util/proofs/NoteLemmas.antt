@@ -9,7 +9,7 @@ use Rattle.std.proofs.lemmas.Bool.Decides.{nat_tests}
 use Rattle.lexical_flags.specs.Record.{Record, set_byte, raw, fill, pack, word_of, separator_allowed}
 use Rattle.lexical_flags.specs.Roles.{Disjoint, AreDisjoint, cased, other_case, separator, prefix, suffix, exponent}
 use Rattle.lexical_flags.specs.Roles.{point, format_roles}
-use Rattle.lexical_flags.specs.Rules.{IsPunctuation, Demands, Holds}
+use Rattle.lexical_flags.specs.Rules.{IsPunctuation, Meets, shape_of, Holds}
 use Rattle.lexical_flags.specs.declared.format_flags.all_rules.Rule.{Rule}
 use Rattle.lexical_flags.specs.declared.format_flags.all_rules.Rule.TheVariants as rules
 use Rattle.lexical_flags.specs.Options.{OptionsFit}
@@ -63,12 +63,12 @@ same_options s v w alike fields e p =
 
 -- If the demands of a rule on two records are equal, then the words with these records both satisfy the rule, or both
 -- break it.
-Holds-alike : (s : Record) (v w : ℕ) → ReplacesFields s v w → (rule : Rule) → Demands rule (raw v) ≡ Demands rule s
+Holds-alike : (s : Record) (v w : ℕ) → ReplacesFields s v w → (rule : Rule) → Meets (shape_of rule) (raw v) ≡ Meets (shape_of rule) s
     → Holds rule v ↔ Holds rule w
 unfolding Holds
 Holds-alike s v w like rules.ReservedBitsAreZero demands = like.clean
 Holds-alike s v w like rule demands =
-    let same : Demands rule (raw v) ≡ Demands rule (raw w) = demands ∙ ap (Demands rule) (sym like.fields_are) in
+    let same : Meets (shape_of rule) (raw v) ≡ Meets (shape_of rule) (raw w) = demands ∙ ap (Meets (shape_of rule)) (sym like.fields_are) in
     (λ h. subst (λ X. X) same h, λ h. subst (λ X. X) (sym same) h)
 
 -- `prefix_off r` and `suffix_off r` are `r` without the case flag of the prefix and of the suffix.
@@ -79,13 +79,13 @@ abbrev pub suffix_off : Record → Record
 suffix_off r = set_flags r (layout.case_sensitive_base_suffix ∷ []) false
 
 Demands-prefix : (r : Record) → prefix r ≡ prefix (prefix_off r) → (rule : Rule)
-    → Demands rule r ≡ Demands rule (prefix_off r)
+    → Meets (shape_of rule) r ≡ Meets (shape_of rule) (prefix_off r)
 unfolding IsPunctuation
 Demands-prefix r same rules.PunctuationDiffers = ap (λ A. AreDisjoint (separator r ∷ A ∷ suffix r ∷ [])) same
 Demands-prefix r same _ = refl
 
 Demands-suffix : (r : Record) → suffix r ≡ suffix (suffix_off r) → (rule : Rule)
-    → Demands rule r ≡ Demands rule (suffix_off r)
+    → Meets (shape_of rule) r ≡ Meets (shape_of rule) (suffix_off r)
 unfolding IsPunctuation
 Demands-suffix r same rules.PunctuationDiffers = ap (λ A. AreDisjoint (separator r ∷ prefix r ∷ A ∷ [])) same
 Demands-suffix r same _ = refl
@@ -122,7 +122,7 @@ pub without_separator_flags : (v w : ℕ) → ReplacesFields (set_flags (raw v) 
     → SameOtherRules v w
 unfolding IsPunctuation
 without_separator_flags v w like =
-    let keeps : (rule : Rule) → Demands rule (raw v) ≡ Demands rule (set_flags (raw v) digit_separator_flags false)
+    let keeps : (rule : Rule) → Meets (shape_of rule) (raw v) ≡ Meets (shape_of rule) (set_flags (raw v) digit_separator_flags false)
     → Holds rule v ↔ Holds rule w = Holds-alike _ v w like in
     record {
       rules = (

@@ -31,7 +31,7 @@ none_applies ((false, reason) ∷ list) =
     let rest = none_applies list in (λ h. (refl, rest.0 h), λ h. rest.1 h.1)
 
 -- A radix is in range if and only if it is not out of range.
-in_range : (radix : ℕ) → IsRadix radix ↔ (IsFalse (not (between 2 36 radix)) × ⊤)
+in_range : (radix : ℕ) → IsRadix (effective radix radix) ↔ (IsFalse (not (between 2 36 radix)) × ⊤)
 in_range radix = grind (arith, nat_tests)
 
 -- An effective exponent byte is in range if and only if neither of its two candidates applies.
@@ -76,7 +76,7 @@ with_nothing same = (λ p. (same.0 p, tt), λ q. same.1 q.0)
 pub no_candidate : (rule : Rule) (word : ℕ)
     → Holds rule word ↔ AllByRecursion (λ c. IsFalse c.0) (candidates_of rule word)
 unfolding Holds
-no_candidate rules.MantissaRadixInRange word = in_range _
+no_candidate rules.MantissaRadixInRange word = in_range ((raw word).byte layout.mantissa_radix)
 no_candidate rules.ExponentBaseInRange word =
     exponent_in_range ((raw word).byte layout.exponent_base) ((raw word).byte layout.mantissa_radix)
 no_candidate rules.ExponentRadixInRange word =

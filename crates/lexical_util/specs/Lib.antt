@@ -10,7 +10,6 @@ pub use Rattle.lexical_base.specs.Digits
 pub use Rattle.lexical_base.specs.Outcomes
 pub use Rattle.lexical_base.specs.OutcomeOrder
 pub use Rattle.lexical_flags.specs.Layout
-pub use Rattle.lexical_flags.specs.Parts
 pub use Rattle.lexical_flags.specs.Record
 pub use Rattle.lexical_flags.specs.Constants
 pub use Rattle.lexical_flags.specs.Common

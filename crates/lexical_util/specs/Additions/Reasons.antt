@@ -9,7 +9,9 @@ use Rattle.lexical_base.specs.Digits.{digits_of}
 use Rattle.lexical_flags.specs.Layout as layout
 use Rattle.lexical_flags.specs.Record.{Record, raw}
 use Rattle.lexical_flags.specs.Roles.{are_disjoint, digits, signs, separator, prefix, suffix, other_case}
-use Rattle.lexical_flags.specs.Rules.{Holds, IsRadix, IsTextOrNone, contradict, punctuation_rules, flag_rules}
+use Rattle.lexical_flags.specs.Rules.{separator_flags}
+use Rattle.lexical_flags.specs.Rules.{Holds, IsRadix, IsTextOrNone, punctuation_rules, flag_rules}
+use Rattle.lexical_flags.specs.Rules.{Shape, not_both, position_allowed, shape_of, lacks_position}
 use Rattle.lexical_flags.specs.Additions.RuleFields.{mask_read}
 use Rattle.lexical_flags.specs.Additions.Masks.{byte_mask, reserved_mask}
 use Rattle.lexical_flags.specs.declared.format_flags.all_rules.Rule.{Rule}
@@ -210,6 +212,12 @@ flag_reason rules.IntegerConsecutiveIsAllowed = reasons.NeedsPosition setters.In
 flag_reason rules.FractionConsecutiveIsAllowed = reasons.NeedsPosition setters.FractionConsecutiveDigitSeparator
 flag_reason _ = reasons.NeedsPosition setters.ExponentConsecutiveDigitSeparator
 
+-- `contradict shape r` is true if `r` does not meet a shape of flags.
+abbrev pub contradict : Shape → Record → Bool
+contradict (not_both a b) r = r.flag a && r.flag b
+contradict (position_allowed part) r = lacks_position (map r.flag (separator_flags part))
+contradict _ r = false
+
 -- `candidates_of rule word` lists the candidates for the reasons why `word` breaks `rule`.
 abbrev pub candidates_of : Rule → ℕ → List (Candidate Reason)
 candidates_of rules.MantissaRadixInRange word = mantissa_candidate (raw word) ∷ []
@@ -233,7 +241,7 @@ candidates_of rules.PunctuationDiffers word =
     ∷ []
 candidates_of rules.ReservedBitsAreZero word =
     let bits = bit_and word reserved_mask in (not (bits == 0), reasons.ReservedBits bits) ∷ []
-candidates_of rule word = (contradict rule (raw word), flag_reason rule) ∷ []
+candidates_of rule word = (contradict (shape_of rule) (raw word), flag_reason rule) ∷ []
 
 -- `reasons_of rule word` lists the reasons why `word` breaks `rule`. It is empty if `word` satisfies the rule.
 abbrev pub reasons_of : Rule → ℕ → List Reason
