@@ -34,10 +34,10 @@ other_case-twice : (byte : ℕ) → other_case (other_case byte) ≡ byte
 other_case-twice byte = grind (arith, nat_tests)
 
 -- If two bytes differ and are not the two cases of a letter, or if one is absent, then their roles are disjoint.
-pub differ_apart : (a_counts : Bool) (a : ℕ) (b_counts : Bool) (b : ℕ)
+present_apart : (a_counts : Bool) (a : ℕ) (b_counts : Bool) (b : ℕ)
     → (a ≢ 0 → b ≢ 0 → (a ≢ b) × (b ≢ other_case a))
     → Disjoint (cased a_counts a) (cased b_counts b)
-differ_apart a_counts a b_counts b differ = Disjoint-from _ _ (λ byte below is_a is_b.
+present_apart a_counts a b_counts b differ = Disjoint-from _ _ (λ byte below is_a is_b.
     let of_a = cased-cases a_counts a byte is_a in
     let of_b = cased-cases b_counts b byte is_b in
     let apart = differ of_a.0 of_b.0 in
@@ -52,6 +52,10 @@ differ_apart a_counts a b_counts b differ = Disjoint-from _ _ (λ byte below is_
       ]
     ])
 
+pub differ_apart : (a_counts : Bool) (a : ℕ) (b_counts : Bool) (b : ℕ) → (a ≢ 0 → (a ≢ b) × (b ≢ other_case a))
+    → Disjoint (cased a_counts a) (cased b_counts b)
+differ_apart a_counts a b_counts b differ = present_apart a_counts a b_counts b (λ some _. differ some)
+
 -- The two cases of a letter agree in all bits except 0x20.
 other_case-bits : (byte : ℕ) → byte < 256 → bit_or (other_case byte) 32 ≡ bit_or byte 32
 other_case-bits byte below =
@@ -60,7 +64,7 @@ other_case-bits byte below =
 -- If two bytes differ in a bit other than 0x20, then their roles are disjoint.
 pub other_bits_apart : (a_counts : Bool) (a : ℕ) (b_counts : Bool) (b : ℕ) → a < 256
     → (b ≢ 0 → bit_or a 32 ≢ bit_or b 32) → Disjoint (cased a_counts a) (cased b_counts b)
-other_bits_apart a_counts a b_counts b below differ = differ_apart a_counts a b_counts b (λ _ some. (
+other_bits_apart a_counts a b_counts b below differ = present_apart a_counts a b_counts b (λ _ some. (
   λ same. differ some (ap (λ n. bit_or n 32) same),
   λ other. differ some (sym (ap (λ n. bit_or n 32) other ∙ other_case-bits a below)),
 ))
