@@ -114,6 +114,13 @@ pub const fn is_valid_radix(radix: u32) -> bool {
     radix >= 2 && radix <= 36
 }
 
+// Returns whether an exponent byte, or the mantissa radix if the byte is 0, is between 2 and 36. Both are read before
+// one of them is chosen, so that the compiler needs no branch.
+#[inline(always)]
+const fn is_valid_own_radix(own: u8, mantissa_radix: u32) -> bool {
+    is_valid_radix(if own == 0 { mantissa_radix } else { own as u32 })
+}
+
 // Returns whether the mantissa radix is between 2 and 36.
 #[inline(always)]
 pub(crate) const fn is_valid_mantissa_radix(format: u128) -> bool {
@@ -123,13 +130,13 @@ pub(crate) const fn is_valid_mantissa_radix(format: u128) -> bool {
 // Returns whether the exponent base, or the mantissa radix if the exponent base is 0, is between 2 and 36.
 #[inline(always)]
 pub(crate) const fn is_valid_exponent_base(format: u128) -> bool {
-    is_valid_radix(exponent_base(format))
+    is_valid_own_radix(raw_exponent_base(format), mantissa_radix(format))
 }
 
 // Returns whether the exponent radix, or the mantissa radix if the exponent radix is 0, is between 2 and 36.
 #[inline(always)]
 pub(crate) const fn is_valid_exponent_radix(format: u128) -> bool {
-    is_valid_radix(exponent_radix(format))
+    is_valid_own_radix(raw_exponent_radix(format), mantissa_radix(format))
 }
 
 // PUNCTUATION

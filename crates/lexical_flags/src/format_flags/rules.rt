@@ -9,7 +9,7 @@ ghost use Rattle.std.specs.Result.{OkIff};
 ghost use Rattle.lexical_base.specs.Ascii.{letters};
 ghost use Rattle.lexical_flags.specs.Layout as layout;
 ghost use Rattle.lexical_flags.specs.Layout.{IsClean};
-ghost use Rattle.lexical_flags.specs.Record.{raw, separator_allowed};
+ghost use Rattle.lexical_flags.specs.Record.{effective, raw, separator_allowed};
 ghost use Rattle.lexical_flags.specs.Roles.{Disjoint, cased, other_case, digits, format_roles};
 ghost use Rattle.lexical_flags.specs.Additions.RuleFields.{clashes};
 ghost use Rattle.lexical_flags.specs.Options.{OptionsFit, IsOptionsError, OptionsHaveOneRole, SomeOptionsFit};
@@ -153,6 +153,15 @@ pub const fn is_valid_radix(radix: u32) -> bool
     radix >= 2 && radix <= 36
 }
 
+// Returns whether an exponent byte, or the mantissa radix if the byte is 0, is between 2 and 36. Both are read before
+// one of them is chosen, so that the compiler needs no branch.
+#[inline(always)]
+const fn is_valid_own_radix(own: u8, mantissa_radix: u32) -> bool
+    ensures { IsTrue result ↔ IsRadix (effective own mantissa_radix) }
+{
+    is_valid_radix(if own == 0 { mantissa_radix } else { own as u32 })
+}
+
 // Returns whether the mantissa radix is between 2 and 36.
 #[inline(always)]
 pub(crate) const fn is_valid_mantissa_radix(format: u128) -> bool
@@ -166,7 +175,7 @@ pub(crate) const fn is_valid_mantissa_radix(format: u128) -> bool
 pub(crate) const fn is_valid_exponent_base(format: u128) -> bool
     ensures { IsTrue result ↔ Holds rules.ExponentBaseInRange format }
 {
-    is_valid_radix(exponent_base(format))
+    is_valid_own_radix(raw_exponent_base(format), mantissa_radix(format))
 }
 
 // Returns whether the exponent radix, or the mantissa radix if the exponent radix is 0, is between 2 and 36.
@@ -174,7 +183,7 @@ pub(crate) const fn is_valid_exponent_base(format: u128) -> bool
 pub(crate) const fn is_valid_exponent_radix(format: u128) -> bool
     ensures { IsTrue result ↔ Holds rules.ExponentRadixInRange format }
 {
-    is_valid_radix(exponent_radix(format))
+    is_valid_own_radix(raw_exponent_radix(format), mantissa_radix(format))
 }
 
 // PUNCTUATION

@@ -11,11 +11,11 @@ returns-else-base-eq0-clause-lawful c lawful =
     (Lawful-exponent_base c.args.format lawful) c.if-base-eq0.false
 
 -- Search also proves these goals. The answers are given so that the must-fail edit
--- exponent_base_returns_the_raw_byte.edit fails soon.
+-- exponent_base_reads_the_exponent_radix.edit fails soon.
 pub returns-then-base-eq0-clause-value : goal.returns-then-base-eq0-clause-value
 returns-then-base-eq0-clause-value c =
     let none : part c.args.format 112 8 ≡ 0 = sym (exponent_base_part c.args.format) ∙ c.if-base-eq0.true in
-    rw none c.mantissa_radix-radix.ensures.value
+    rw none c.mantissa_radix.ensures.value
 
 pub returns-then-base-eq0-clause-lawful : goal.returns-then-base-eq0-clause-lawful
-returns-then-base-eq0-clause-lawful c = c.mantissa_radix-radix.ensures.lawful
+returns-then-base-eq0-clause-lawful c = c.mantissa_radix.ensures.lawful
