@@ -50,9 +50,9 @@ class Library {
         return { ...rest, normal: BigInt(normal), reasons: reasons.map(named), notes: notes.map(named) };
     }
 
-    /* Returns {parts} of a number, each with its kind, start and end. If the number is refused, these are the parts that
-     * were read, and {error, index, setting} has the index of the first wrong byte and a setting with which more is read. The index
-     * is null if no number is read, since the word is not lawful or an option does not fit. */
+    /* Returns {parts} of a number, each with its kind, start and end, and {refusing}: settings that refuse it. If it is
+     * refused, these are the parts that were read, and {error, index, setting} has the index of the first wrong byte and
+     * a setting with which more is read. The index is null if the word is not lawful or an option does not fit. */
     literal({ word, exponent, point }, text) {
         return this.call("literal", text, word & HALF, word >> 64n, exponent, point);
     }

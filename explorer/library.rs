@@ -80,8 +80,8 @@ pub extern "C" fn explain(low: u64, high: u64, exponent: u8, point: u8) -> usize
 /// The names of the parts of a literal, in the order of `reader::Token`.
 const PARTS: &str = "sign special prefix integer point fraction exponent_character exponent_sign exponent_digits suffix";
 
-/// Returns the parts of a literal. If it is refused, also returns the error, the index of the first wrong byte, which is
-/// `null` if the format or an option is wrong, and the setting to blame.
+/// Returns the parts of a literal, and the settings of one flag that refuse it. If it is refused, returns the error, the
+/// index of the first wrong byte, which is `null` if the format or an option is wrong, and the setting to blame.
 #[unsafe(no_mangle)]
 pub extern "C" fn literal(low: u64, high: u64, exponent: u8, point: u8, length: usize) -> usize {
     let word = u128::from(high) << 64 | u128::from(low);
@@ -96,18 +96,31 @@ pub extern "C" fn literal(low: u64, high: u64, exponent: u8, point: u8, length: 
         list(out, present, |out, (kind, range)| {
             write!(out, r#"{{"kind":"{kind}","start":{},"end":{}}}"#, range.start, range.end)
         })?;
-        if let Err(refusal) = reader::read(format, Some(&options), text_of(length)) {
-            write!(out, r#","error":{},"index":"#, Quoted(refusal.error.description()))?;
-            match refusal.error.index() {
-                Some(index) => write!(out, "{index}")?,
-                None => out.write_str("null")?,
-            }
-            let byte = || byte_to_set(format, &options, text_of(length), *refusal.error.index()?);
-            if let Some(edit) = refusal.edit.or_else(byte) {
-                write!(out, r#","setting":{}"#, Quoted(edit))?;
-            }
+        let Err(refusal) = reader::read(format, Some(&options), text_of(length)) else {
+            out.write_str(r#","refusing":"#)?;
+            list(out, refusing(format, &options, text_of(length)), |out, edit| write!(out, "{}", Quoted(edit)))?;
+            return out.write_str("}");
+        };
+        write!(out, r#","error":{},"index":"#, Quoted(refusal.error.description()))?;
+        match refusal.error.index() {
+            Some(index) => write!(out, "{index}")?,
+            None => out.write_str("null")?,
+        }
+        let byte = || byte_to_set(format, &options, text_of(length), *refusal.error.index()?);
+        if let Some(edit) = refusal.edit.or_else(byte) {
+            write!(out, r#","setting":{}"#, Quoted(edit))?;
         }
         out.write_str("}")
+    })
+}
+
+/// Returns the edits of one flag after which a literal is refused.
+fn refusing(format: Format, options: &reader::Options, text: &[u8]) -> impl Iterator<Item = Edit> {
+    let flags = FlagSetter::ALL.iter().take(31);
+    let flips = flags.map(move |flag| Edit::Flag(*flag, !flag.is_set(format.word())));
+    flips.filter(move |edit| {
+        let edited = Format::new(edit_word(format.word(), &[*edit]));
+        edited.is_ok_and(|edited| reader::scan(edited, Some(options), text).1.is_err())
     })
 }
 

@@ -38,8 +38,15 @@ class Trial {
     }
 
     row(answer) {
-        const told = element("span", { class: answer.error ? "bad" : "good" }, this.told(answer));
+        const told = answer.error ? element("span", { class: "bad" }, this.told(answer)) : this.accepted(answer);
         return element("li", {}, element("span", { class: "written" }, this.pieces(answer)), " ", told);
+    }
+
+    /* Returns that a number is accepted, and behind it the settings that reject it. */
+    accepted({ refusing }) {
+        const links = refusing.flatMap((setting) => [...this.links([setting.split("=")[0]]), ` = ${setting.split("=")[1]} `]);
+        const settings = element("p", {}, "Rejected with ", links.length ? links : "no flag");
+        return element("details", {}, element("summary", { class: "good" }, "accepted"), settings);
     }
 
     /* Returns the parts of a text, and after them its first wrong character, which is marked, and the rest. */
@@ -56,9 +63,8 @@ class Trial {
         return [...pieces, slice(rest, index), element("mark", {}, slice(index, end) || "\u00a0"), slice(end)];
     }
 
-    /* Returns what is told of a text, with a link to the control that decides, and a button that sets it. */
+    /* Returns what is told of a rejected text, with a link to the control that decides, and a button that sets it. */
     told({ bytes, error, index, setting }) {
-        if (!error) return ["accepted"];
         if (index === null) return [`not read, since ${this.problem}`];
         const where = index < bytes.length ? `at byte ${index + 1}` : "at the end";
         const what = `${error.replaceAll("'", "")} ${where}`;
@@ -67,9 +73,10 @@ class Trial {
         const { value } = this.library.parse(name, text);
         const set = () => {
             this.edit(name, value);
-            find("literal").focus();
+            (find("read").querySelector(".use") ?? find("literal")).focus();
         };
         const shown = this.library.setting(this.library.named.get(name), value).replace(`${name}=`, " = ");
-        return [`${what}. More is accepted with `, ...this.links([name]), `${shown} `, button("use", "set it", set)];
+        const use = button("use", "set it", set, { "aria-label": `set it: ${name}${shown}` });
+        return [`${what}. More is accepted with `, ...this.links([name]), `${shown} `, use];
     }
 }

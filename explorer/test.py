@@ -194,8 +194,6 @@ class Walk(unittest.TestCase):
         self.click("#changes li:first-child .back")
         self.assertEqual(self.value(), "0x00000A0000000000000000000000340C")
         self.assertEqual(self.run_script("return document.activeElement.title"), "back to no_special=false")
-        self.click("#standard")
-        self.assertEqual(self.value(), STANDARD)
 
     def test_bytes_and_options_are_typed(self):
         self.type("#base_prefix", "x")
@@ -239,9 +237,8 @@ class Walk(unittest.TestCase):
         self.find("#no_special").send_keys(Keys.CONTROL, "y")
         self.wait(lambda: state() == both)
         self.assertFalse(self.find("#redo").is_enabled())
-        self.type("#word", "0xC" + Keys.ENTER)
         self.driver.back()
-        self.wait(lambda: state() == both)
+        self.wait(lambda: state()[0] == "0x0000100000000000000000000000000C")
 
     def test_fields_are_found_and_formats_compared(self):
         self.type("#filter", "leading zeros")
@@ -324,7 +321,6 @@ class Walk(unittest.TestCase):
         self.assertEqual(self.text("#normal code"), "0x0A0A0A0000000000000000000000000C")
         self.click("#normal .use")
         self.assertEqual(self.value(), "0x0A0A0A0000000000000000000000000C")
-        self.assertEqual(self.value("#exponent_radix"), "10")
 
     def test_recipes_bring_word_and_exponent_character(self):
         Select(self.find("#recipe")).select_by_value("JSON")
@@ -371,17 +367,21 @@ class Walk(unittest.TestCase):
         self.assertEqual(self.focused(), "integer_internal_digit_separator")
         self.click("#integer_internal_digit_separator")
         self.assertEqual(self.texts("#read li > :last-child"), ["accepted", "accepted", "invalid digit found at byte 2"])
+        self.click("#read summary")
         self.click("#no_special")
         self.click("#case_sensitive_special")
         self.assertEqual(set(self.texts("#read li > :last-child")), {"not read, since the word is not lawful"})
 
     def test_a_format_is_found_by_trying_numbers(self):
         self.type("#literal", "1_0.\n0x1_0\n1__0\n10m")
-        for _ in range(5):
-            self.click("#read .use")
-            self.assertEqual(self.focused(), "literal")
-        self.assertEqual(self.texts("#read .bad"), [])
+        self.find("#read .use").send_keys(Keys.ENTER)
+        for _ in range(4):
+            self.driver.switch_to.active_element.send_keys(Keys.ENTER)
+        self.assertEqual((self.focused(), self.texts("#read .bad")), ("literal", []))
         self.assertEqual(self.value(), "0x00000A6D7800005F000002010000000C")
+        self.click("#read summary")
+        self.click("#read .link", "required_mantissa_sign")
+        self.assertEqual(self.focused(), "required_mantissa_sign")
 
     def test_controls_have_names_and_texts_fit_a_phone(self):
         self.assertEqual(self.run_script(

@@ -1,6 +1,10 @@
-//! This module has all items related to number formats, as in `lexical-util`. These are the items of
-//! [`format_builder`][crate::format_builder] and [`format_flags`][crate::format_flags], and the types that read a
-//! format word.
+//! This module has all items for number formats, as in `lexical-util`: the builder, the types that read a format word,
+//! and the functions that read or check one.
+//!
+//! It also has a `u128` for each field. For a flag, this is the flag's bit, with the name of the setter in capitals, such
+//! as `NO_SPECIAL`. For a flag group, as `REQUIRED_DIGITS`, and for a byte, as `BASE_PREFIX`, it is a mask. A byte also
+//! has a shift, such as `BASE_PREFIX_SHIFT`. The masks of several fields are `FLAG_MASK`, `RADIX_MASK`,
+//! `INTERFACE_FLAG_MASK`, `EXPONENT_FLAG_MASK` and those that end in `DIGIT_SEPARATOR_FLAG_MASK`.
 //!
 //! For a word that is known only at run time, use [`FormatView`], or [`Format`] if the word must be lawful. The
 //! prebuilt formats of `lexical-util` are not included. To copy one, see `examples/recipes.rs`.
@@ -11,6 +15,13 @@ pub use crate::feature_format::NumberFormat;
 pub use crate::format_builder::*;
 #[doc(no_inline)]
 pub use crate::format_flags::*;
+#[doc(inline)]
+pub use crate::format_flags::{
+    base_prefix, base_suffix, digit_separator, exponent_base, exponent_radix, is_clean,
+    is_digit_of_either_radix, is_separator_allowed, is_valid_base_prefix, is_valid_base_suffix,
+    is_valid_digit_separator, is_valid_exponent_flags, is_valid_options_punctuation,
+    is_valid_punctuation, is_valid_radix, mantissa_radix, radix_from_flags,
+};
 #[doc(no_inline)]
 pub use crate::lawful::Format;
 #[doc(no_inline)]

@@ -73,7 +73,7 @@
 //! - The functions of [`ascii`] that test whole slices are not `const`, and `build` is not deprecated.
 //! - The prebuilt formats of `lexical-util`, such as `JSON`, are not included. To copy one, see `examples/recipes.rs`.
 //!
-//! [`Format`], [`FormatView`], [`edits`], [`reasons`] and [`source`] are new.
+//! [`Format`], [`FormatView`], [`FormatError`], [`edits`], [`Reason`], [`Note`] and [`source`] are new.
 //!
 //! # What is proved
 //!
@@ -105,11 +105,13 @@ pub mod feature_format;
 pub mod format;
 pub mod format_builder;
 mod format_error;
+#[doc(hidden)]
 pub mod format_flags;
 mod lanes;
 mod lawful;
 mod lists;
 mod numeral;
+#[doc(hidden)]
 pub mod reasons;
 pub mod source;
 mod text;
@@ -129,11 +131,11 @@ pub use feature_format::NumberFormat;
 pub use format_builder::NumberFormatBuilder;
 #[doc(inline)]
 pub use format_error::FormatError;
-#[doc(no_inline)]
+#[doc(inline)]
 pub use format_flags::{Part, Rule};
 #[doc(inline)]
 pub use lawful::Format;
-#[doc(no_inline)]
+#[doc(inline)]
 pub use reasons::{Note, Reason};
 #[doc(inline)]
 pub use view::{FormatView, Role, Separators};

@@ -1,5 +1,5 @@
-//! The rows of setters and of outcomes, for macros that write what is wanted of each. `bench/` has this file as a
-//! module too.
+//! The rows of setters and of outcomes, for macros that write what is wanted of each. `bench/` and `rust/tests/twins.rs`
+//! have this file as a module too.
 
 /// Calls a macro with its arguments in parentheses, if there are any, and two blocks of rows.
 ///
@@ -55,6 +55,13 @@ macro_rules! with_setters {
                 ExponentDigitSeparatorFlags exponent_digit_separator_flags;
             }
         }
+    };
+}
+
+/// Calls a macro as `with_getters` does, with its arguments and the getter and the constant of each flag in parentheses.
+macro_rules! flag_getters {
+    (($then:ident $args:tt) { $($Flag:ident $flag:ident $get:ident $CONST:ident;)* } $groups:tt) => {
+        with_getters! { $then ($args $($flag $CONST)*) }
     };
 }
 
@@ -158,4 +165,4 @@ macro_rules! with_outcomes {
 }
 
 #[allow(unused_imports)]
-pub(crate) use {with_getters, with_outcomes, with_setters};
+pub(crate) use {flag_getters, with_getters, with_outcomes, with_setters};
