@@ -14,8 +14,6 @@ MODULES = ["ascii", "digit", "error", "feature_format", "format", "format_builde
 
 # The functions that differ on purpose, as they are in the library.
 HERE = {
-    "is_valid_ascii_slice": ("", "&[u8]", "bool"),
-    "is_valid_letter_slice": ("", "&[u8]", "bool"),
     "NumberFormatBuilder::build_strict": ("const ", "&NumberFormatBuilder", "Result<u128, Error>"),
 }
 

@@ -75,7 +75,7 @@ def law_names():
 LAWS = law_names()
 
 
-def plain(words, file):
+def plain(words):
     """The words of a source without ghost items."""
     kept, at, laws = [], 0, set()
     while at < len(words):
@@ -86,8 +86,6 @@ def plain(words, file):
             at = until(words, at, ";") + 1
         elif ahead[:3] == ["#", "[", "tactic"] or ahead[:4] == ["#", "!", "[", "tactic"]:
             at = close(words, at + ahead.index("["))
-        elif any(ahead[: len(item.split())] == item.split() for name, item in erase.ITEMS if name == file):
-            at = close(words, until(words, at, "{"))
         elif ahead[:3] == ["impl", "Model", "for"]:
             at = close(words, until(words, at, "{"))
         elif word == "use" and "laws" in words[at : until(words, at, ";", "{")]:
@@ -110,55 +108,24 @@ def plain(words, file):
     return kept
 
 
-ITEM = ["fn", "const", "enum", "struct", "trait", "type"]
-
-
-def with_attributes(words, name):
-    """The words with the attributes of the tables HIDDEN, GROWING and DERIVED."""
-    hidden, found, derived, variants = erase.HIDDEN.get(name, "").split(), [], None, set()
-    for at, word in enumerate(words):
-        if words[at : at + 2] == ["pub", "enum"] and f"{words[at + 2]}::*" in hidden:
-            start = at + 4
-            while words[start] != "}":
-                variants.add(start)
-                start = until(words, start, ",", "}")
-                start += words[start] == ","
-        found += ["#", "[", "doc", "(", "hidden", ")", "]"] * (at in variants)
-        if words[at : at + 3] == ["#", "[", "derive"]:
-            derived = len(found) + 4
-        if word == "pub" and words[at + 1] in ITEM:
-            kind, item = (words[at + 1], words[at + 2]) if words[at + 2] != "fn" else ("fn", words[at + 3])
-            more = erase.DERIVED.get(item, "").split(", ") if kind in ("enum", "struct") else [""]
-            if more != [""]:
-                end = close(found, derived - 1) - 1
-                found[end:end] = [it for name in more for it in (",", name)]
-            found += ["#", "[", "doc", "(", "hidden", ")", "]"] * (item in hidden)
-            found += ["#", "[", "non_exhaustive", "]"] * (kind == "enum" and item in erase.GROWING)
-        found.append(word)
-    return words_of(" ".join(found).replace("# [ doc ( inline ) ] ", "") + "\n")
-
-
 def wanted_words(path, place):
     """The words that the generated file of a source must have."""
     text = path.read_text()
-    for file, old, new in erase.SUBSTITUTIONS:
-        if file == path.name:
-            text = text.replace(old, new)
-    for old, new in erase.EVERYWHERE:
+    rows = [(old, new) for file, old, new in erase.REPLACED + erase.ATTRIBUTES if file == path.name]
+    for old, new in rows + erase.EVERYWHERE:
         text = text.replace(old, new)
     folder, root, std = place
-    words = plain(words_of(text), path.name)
+    words = plain(words_of(text))
     for at, word in enumerate(words):
         if words[at + 1 : at + 3] == [":", ":"]:
             words[at] = root if re.fullmatch("lexical_(base|flags|builder|util)", word) else std if word == "std" else word
         if words[at - 3 : at] == [root, ":", ":"]:
             words[at] = erase.MODULES.get(words[at], words[at])
         words[at] = erase.VIEW[1] if words[at] == erase.VIEW[0] else words[at]
-    is_library = place == erase.LIBRARY
-    return with_attributes(words, str(path).rpartition("/src/")[2]) if is_library else words
+    return words
 
 
-IMPORT = re.compile(r"(?:# \[ [^\]]* \] )*(?:pub (?:\( \w+ \) )?)?(?:use [^;]*|mod \w+) ;")
+IMPORT = re.compile(r"(?:# \[ [^\]]* \] )*(?:pub (?:\( \w+ \) )?)?(?<!\S)(?:use [^;]*|mod \w+) ;")
 
 
 def import_of(text):
@@ -172,8 +139,8 @@ def import_of(text):
 
 
 def normal(words):
-    """The imports, sorted, and the other words without what rustfmt and the eraser add."""
-    text = " ".join(words).replace("# [ must_use ] ", "")
+    """The imports, sorted, and the other words without what rustfmt adds."""
+    text = " ".join(words)
     imports = sorted(import_of(it) for it in IMPORT.findall(text))
     rest = re.sub(r" +", " ", re.sub(r", (?=[)\]}])", "", IMPORT.sub("", text)))
     return imports, rest.split()
@@ -181,30 +148,20 @@ def normal(words):
 
 def same_words(wanted, made):
     """Returns whether two lists of words are equal, except for braces around an arm of a `match`."""
-    at, added = 0, []
+    at, depth, added = 0, 0, []
     for index, word in enumerate(made):
-        if at < len(wanted) and wanted[at] == word and not (word == "}" and added and added[-1] == depth_of(made, index)):
+        depth -= word == "}"
+        if word == "}" and added and added[-1] == depth:
+            added.pop()
+            at += wanted[at : at + 1] == [","]
+        elif wanted[at : at + 1] == [word]:
             at += 1
         elif word == "{" and made[index - 2 : index] == ["=", ">"]:
-            added.append(depth_of(made, index))
-        elif word == "}" and added and added[-1] == depth_of(made, index):
-            added.pop()
-            at += at < len(wanted) and wanted[at] == ","
+            added.append(depth)
         else:
             return False
+        depth += word == "{"
     return at == len(wanted) and not added
-
-
-def depth_of(words, index, cache={}):
-    """Returns the number of open braces around the brace at an index."""
-    if cache.get("words") is not words:
-        depth, depths = 0, []
-        for word in words:
-            depth -= word == "}"
-            depths.append(depth)
-            depth += word == "{"
-        cache.update(words=words, depths=depths)
-    return cache["depths"][index]
 
 
 def are_same(wanted, made):
@@ -218,7 +175,7 @@ def pairs():
         top = erase.CRATES / crate / "src"
         for path in sorted(top.rglob("*.rt")):
             name = path.relative_to(top)
-            if not erase.LEFT_OUT.fullmatch(str(name)):
+            if not erase.LEFT_OUT.fullmatch(str(name)) and str(name) not in erase.BY_HAND:
                 first, *rest = name.with_suffix(".rs").parts
                 if crate == "lexical_util":
                     first = erase.MODULES.get(first.removesuffix(".rs"), first.removesuffix(".rs")) + first[-3:] * first.endswith(".rs")

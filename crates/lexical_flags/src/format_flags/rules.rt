@@ -54,7 +54,7 @@ const fn larger(a: u32, b: u32) -> u32
 ///
 /// The case of a letter does not matter: in radix 16, both `f` and `F` are digits. If the exponent radix is 0, the
 /// mantissa radix replaces it. The exponent base does not affect the result. `format` need not be [lawful][Rule].
-/// `lexical-util` has no such function.
+#[must_use]
 #[inline(always)]
 pub const fn is_digit(format: u128, byte: u8) -> bool
     ensures { IsTrue result ↔ IsTrue (digits (raw format) byte) }
@@ -146,6 +146,7 @@ const fn exponent_is_case_sensitive(format: u128) -> bool
 // RADIXES
 
 /// Returns whether `radix` is between 2 and 36, inclusive.
+#[must_use]
 #[inline(always)]
 pub const fn is_valid_radix(radix: u32) -> bool
     ensures { IsTrue result ↔ IsRadix radix }
@@ -186,6 +187,7 @@ pub(crate) const fn is_valid_exponent_radix(format: u128) -> bool
 ///
 /// The flags do not affect the result: a digit is rejected even if no flag allows a separator, and 0 is accepted even
 /// if a flag allows one.
+#[must_use]
 #[inline(always)]
 pub const fn is_valid_digit_separator(format: u128) -> bool
     ensures { IsTrue result ↔ Holds rules.DigitSeparatorIsPunctuation format }
@@ -197,6 +199,7 @@ pub const fn is_valid_digit_separator(format: u128) -> bool
 ///
 /// A byte of 0 is *absent*. *Punctuation* is any byte that [`is_valid_ascii`][lexical_base::ascii::is_valid_ascii]
 /// accepts, except signs (`+` and `-`) and [digits][is_digit] of `format`.
+#[must_use]
 #[inline(always)]
 pub const fn is_valid_base_prefix(format: u128) -> bool
     ensures { IsTrue result ↔ Holds rules.BasePrefixIsPunctuation format }
@@ -208,6 +211,7 @@ pub const fn is_valid_base_prefix(format: u128) -> bool
 ///
 /// A byte of 0 is *absent*. *Punctuation* is any byte that [`is_valid_ascii`][lexical_base::ascii::is_valid_ascii]
 /// accepts, except signs (`+` and `-`) and [digits][is_digit] of `format`.
+#[must_use]
 #[inline(always)]
 pub const fn is_valid_base_suffix(format: u128) -> bool
     ensures { IsTrue result ↔ Holds rules.BaseSuffixIsPunctuation format }
@@ -222,6 +226,7 @@ pub const fn is_valid_base_suffix(format: u128) -> bool
 /// [`CASE_SENSITIVE_BASE_SUFFIX`] is set. So the prefix `h` and the suffix `H` count as different only if both flags
 /// are set. The digit separator is always case-sensitive. `lexical-util` compares the raw bytes, so it accepts the
 /// prefix `h` with the suffix `H` regardless of the flags.
+#[must_use]
 #[inline(always)]
 pub const fn is_valid_punctuation(format: u128) -> bool
     ensures { IsTrue result ↔ Holds rules.PunctuationDiffers format }
@@ -243,6 +248,8 @@ pub const fn is_valid_punctuation(format: u128) -> bool
 /// Returns which pairs of the digit separator, the base prefix and the base suffix clash, that is, match the same byte.
 /// The pairs are, in this order: separator and prefix, separator and suffix, prefix and suffix. A word breaks
 /// [`Rule::PunctuationDiffers`] if and only if some entry is `true`.
+#[must_use]
+#[doc(hidden)]
 #[tactic(auto, unfolding(crate::specs::Roles::Disjoint))]
 pub const fn clashes(format: u128) -> [bool; 3]
     ensures { result ≡ clashes (raw format) }
@@ -283,8 +290,6 @@ const fn is_disjoint_from_format_roles(format: u128, byte: u8, case_sensitive: b
 /// least one pair. With such a pair, no byte has two meanings in a number. `lexical-util` compares the raw bytes, so a
 /// letter matches only its own case there.
 ///
-/// In plain Rust:
-///
 /// ```
 /// use peltzivar::format::{is_valid_options_punctuation, STANDARD};
 ///
@@ -292,6 +297,12 @@ const fn is_disjoint_from_format_roles(format: u128, byte: u8, case_sensitive: b
 /// assert!(!is_valid_options_punctuation(STANDARD, b'5', b'.')); // a digit
 /// assert!(!is_valid_options_punctuation(STANDARD, b'.', b'.')); // one byte for both
 /// ```
+///
+/// # Proved of the source
+///
+/// - For a lawful format, the result is true if and only if both bytes are allowed ASCII, and no byte plays two roles.
+/// - Each lawful format accepts at least one pair of bytes.
+#[must_use]
 #[inline(always)]
 #[tactic(auto)]
 pub const fn is_valid_options_punctuation(format: u128, exponent: u8, decimal_point: u8) -> bool
@@ -318,8 +329,8 @@ pub const fn is_valid_options_punctuation(format: u128, exponent: u8, decimal_po
 /// 3. Otherwise, if the two match the same byte, or if either matches the same byte as the digit separator, the base
 ///    prefix or the base suffix, the result is `InvalidPunctuation`. [`is_valid_options_punctuation`] describes which
 ///    letters match both cases.
-///
-/// `lexical-util` has no such function.
+#[must_use]
+#[doc(hidden)]
 pub const fn options_error(format: u128, exponent: u8, decimal_point: u8) -> Error
     ensures first { IsOptionsError format exponent decimal_point result }
     ensures accepted { (result ≡ Error.Success) ↔ OptionsFit format exponent decimal_point }
@@ -348,6 +359,7 @@ const fn first_options_error(format: u128, exponent: u8, decimal_point: u8) -> E
 
 /// Returns `false` if both [`NO_EXPONENT_NOTATION`] and [`REQUIRED_EXPONENT_NOTATION`] are set in
 /// `format`, and `true` otherwise.
+#[must_use]
 #[inline(always)]
 pub const fn is_valid_exponent_flags(format: u128) -> bool
     ensures { IsTrue result ↔ Holds rules.ExponentFlagsAgree format }
@@ -415,7 +427,7 @@ pub(crate) const fn is_valid_exponent_consecutive_flags(format: u128) -> bool
 }
 
 /// Returns whether all reserved bits of `format` are 0. The reserved bits hold neither a flag nor a byte.
-/// `lexical-util` has no such function.
+#[must_use]
 #[inline(always)]
 pub const fn is_clean(format: u128) -> bool
     ensures { IsTrue result ↔ IsClean format }
@@ -424,7 +436,7 @@ pub const fn is_clean(format: u128) -> bool
 }
 
 /// Returns whether any flag of `format` allows a digit separator, in a number or in a special value (NaN or infinity).
-/// `lexical-util` has no such function.
+#[must_use]
 #[inline(always)]
 #[tactic(auto, using(crate::proofs::FlagBits::separator_flag_set, crate::proofs::FlagBits::no_separator_flag_set))]
 pub const fn is_separator_allowed(format: u128) -> bool
@@ -517,6 +529,8 @@ const fn first_broken(format: u128) -> Error
 ///
 /// The radixes are tested in this order: the mantissa radix, the exponent base, the exponent radix. If the exponent
 /// base or the exponent radix is 0, the mantissa radix is tested instead.
+#[must_use]
+#[doc(hidden)]
 #[inline(always)]
 #[tactic(auto)]
 pub const fn radix_error_impl(format: u128) -> Error
@@ -562,6 +576,8 @@ pub const fn radix_error_impl(format: u128) -> Error
 /// 16. All reserved bits are 0: `InvalidFlags`.
 ///
 /// `lexical-util` compares raw bytes in the seventh rule, and has no rule for reserved bits.
+#[must_use]
+#[doc(hidden)]
 pub const fn format_error_impl(format: u128) -> Error
     ensures first { IsErrorOf format result }
     ensures lawful { (result ≡ Error.Success) ↔ Lawful format }
@@ -579,6 +595,7 @@ pub const fn format_error_impl(format: u128) -> Error
 ///
 /// If `format` is not lawful, returns the error of the first rule that it breaks, as [`format_error_impl`] does. This
 /// error is never `Success`.
+#[doc(hidden)]
 #[inline(always)]
 pub const fn check(format: u128) -> Result<u128, Error>
     ensures lawful { OkIff result (Lawful format) format }

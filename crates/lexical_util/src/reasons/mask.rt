@@ -12,6 +12,7 @@ use lexical_flags::format_flags::Rule;
 
 impl Reason {
     /// Returns the first rule that a word breaks because of this reason.
+    #[must_use]
     pub const fn rule(&self) -> Rule
         ensures { result ≡ rule_of_reason self.now }
     {
@@ -31,6 +32,7 @@ impl Reason {
     /// Returns whether a word breaks `rule` because of this reason. If the mantissa radix is out of range and the
     /// exponent base or the exponent radix is absent, the rule for the absent byte is broken too. Every other reason
     /// explains only one broken rule.
+    #[must_use]
     pub const fn breaks(&self, rule: Rule) -> bool
         ensures { IsTrue result ↔ Breaks self.now rule }
     {
@@ -57,6 +59,7 @@ impl Reason {
     /// The mask has the bits of every byte and every flag in the variant. For [`Reason::NeedsPosition`], it has the
     /// bits of all flags that allow digit separators in the same part of the number. In a word that was built from
     /// settings, a setting is to blame if its [`Edit::mask`] and this mask share a bit that no later setting overrides.
+    #[must_use]
     pub const fn mask(&self) -> u128
         ensures { result ≡ mask_of_reason self.now }
     {

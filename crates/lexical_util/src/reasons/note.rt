@@ -21,13 +21,15 @@ use lexical_builder::format_builder::{NonZeroU8, NumberFormatBuilder};
 use lexical_flags::format_flags as flags;
 
 /// The maximum number of notes on a format word.
+#[doc(hidden)]
 pub const MAX_NOTES: usize = 3;
 
 /// A note on a field that is set but has no effect on any number. The rules may still read the field.
 ///
 /// Only the fields that the variants name can have a note. For example, an exponent flag has no note, even if the
 /// format forbids exponents.
-#[derive(Debug, Clone, Copy, PartialEq, Eq)]
+#[derive(Debug, Clone, Copy, PartialEq, Eq, Hash)]
+#[non_exhaustive]
 pub enum Note {
     /// The digit separator is set, but no flag allows one. Packing the fields of a builder drops the separator, and the
     /// normal form has none.
@@ -42,6 +44,7 @@ pub enum Note {
 
 impl Note {
     /// Returns the mask of the bits of a format word that the note describes.
+    #[must_use]
     pub const fn mask(&self) -> u128
         ensures { result ≡ mask_of_note self.now }
     {
@@ -60,6 +63,8 @@ impl Note {
 /// Returns the notes on a format word, each in its own slot. A slot without a note is `None`.
 ///
 /// A note is not an error, so a lawful word may have notes. A field that a reason [blames][Reason] has no note.
+#[must_use]
+#[doc(hidden)]
 pub const fn notes(format: u128) -> [Option<Note>; MAX_NOTES]
     ensures each { result ≡ map if_applicable (notes_beside format (raw format)) }
 
@@ -90,6 +95,8 @@ pub const fn notes(format: u128) -> [Option<Note>; MAX_NOTES]
 /// Returns the notes on the fields of a builder, as [`notes`] does for a format word.
 ///
 /// A digit separator that no flag allows has a note, although the builder does not pack it.
+#[must_use]
+#[doc(hidden)]
 pub const fn notes_of_fields(builder: &NumberFormatBuilder) -> [Option<Note>; MAX_NOTES]
     ensures { result ≡ map if_applicable (notes_beside (pack builder.now) builder.now) }
 {

@@ -7,6 +7,8 @@ use std::fmt;
 
 impl Reason {
     /// Returns the reason as a sentence without a full stop, such as `the base prefix 'b' is a digit in radix 16`.
+    #[must_use]
+    #[doc(hidden)]
     pub const fn text(&self) -> ShortText {
         match self {
             Reason::MantissaRadixOutOfRange(radix, _, _) => {
@@ -54,6 +56,8 @@ impl Reason {
 impl Note {
     /// Returns the note as a sentence without a full stop, such as `no number can have the digit separator '_': no flag
     /// allows one`.
+    #[must_use]
+    #[doc(hidden)]
     pub const fn text(&self) -> ShortText {
         match self {
             Note::SeparatorWithoutFlag(edit) => ShortText(
